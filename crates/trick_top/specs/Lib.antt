@@ -1,0 +1,12 @@
+-- Times in tics, and when a job is due.
+pub mod Time
+-- What a job does to the memory, and all jobs of one tic.
+pub mod Running
+-- One tic, the tics of a frame, and one turn.
+pub mod Turn
+-- The run from its start to its last turn.
+pub mod Run
+-- What the executive keeps between two turns.
+pub mod Going
+-- The text of a checkpoint.
+pub mod Checkpoint

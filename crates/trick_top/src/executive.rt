@@ -1,0 +1,86 @@
+ghost use Rattle.std.specs.Prelude.{◌≡◌, ◌<◌, ◌≤◌, ◌+◌, ◌^◌, length};
+ghost use Rattle.trick_top.specs.Run.{IsFinal};
+ghost use Rattle.trick_top.specs.Running.{apply, due_of};
+ghost use Rattle.trick_top.specs.Time.{is_due};
+ghost use Rattle.trick_top.specs.Turn.{after_tic, after_turn, frame_end};
+ghost use Rattle.trick_top.specs.Going.{IsGoing};
+
+use crate::counting::Counting;
+use crate::memory::Memory;
+use crate::state::{Mode, State};
+use trick_lang::{Cell, Cells, Scalar, wrap};
+
+/// The last tic at which a job is due.
+const LAST_TIC: u64 = 1_000_000_000_000_000;
+
+/// The tics of a software frame.
+const FRAME_LENGTH: u64 = 1_000_000;
+
+fn run_job(simulation: &Counting, memory: &mut Memory)
+    requires { length memory.old ≡ 1 }
+    ensures { memory.new ≡ apply simulation.now memory.old }
+{
+    let cell = Cell(0);
+    let sum = i128::from(memory.get(cell)) + i128::from(simulation.amount);
+    memory.set(cell, wrap(Scalar::Long, sum));
+}
+
+fn is_due(simulation: &Counting, tic: u64) -> bool
+    requires { 0 < simulation.now.cycle }
+    ensures { result ≡ is_due (due_of simulation.now) tic }
+{
+    tic <= LAST_TIC && tic % simulation.cycle == 0
+}
+
+fn run_tic(simulation: &Counting, state: &mut State)
+    requires cycle { 0 < simulation.now.cycle }
+    requires memory { length state.old.memory ≡ 1 }
+    requires tic { state.old.tic + 1 < 2 ^ 64 }
+    ensures { state.new ≡ after_tic simulation.now state.old }
+{
+    if is_due(simulation, state.tic) {
+        run_job(simulation, &mut state.memory);
+    }
+    state.tic += 1;
+}
+
+/// The first tic behind the frame that a tic is in.
+fn frame_end(tic: u64) -> u64
+    requires { tic + 1000000 < 2 ^ 64 }
+    ensures { result ≡ frame_end tic }
+{
+    (tic / FRAME_LENGTH + 1) * FRAME_LENGTH
+}
+
+/// Runs the tics that the frame has left.
+fn run_turn(simulation: &Counting, state: &mut State)
+    requires cycle { 0 < simulation.now.cycle }
+    requires going { IsGoing state.old }
+    requires goes_on { state.old.tic < state.old.limit }
+    requires limit { state.old.limit ≤ 10 ^ 15 + 1 }
+    ensures turn { state.new ≡ after_turn simulation.now state.old }
+    ensures going { IsGoing state.new }
+    ensures forward { state.old.tic < state.new.tic }
+    ensures limit { state.new.limit ≡ state.old.limit }
+    ensures mode { state.new.mode ≡ state.old.mode }
+{
+    let end = frame_end(state.tic).min(state.limit);
+    'tics: while state.tic < end {
+        run_tic(simulation, state);
+    }
+    state.turn += 1;
+}
+
+/// The run that is to stop after a tic, to its last turn: at most 10^15 tics. Takes no memory.
+pub(crate) fn run(simulation: &Counting, stop: u64) -> State
+    requires cycle { 0 < simulation.now.cycle }
+    requires stop { stop ≤ 10 ^ 15 }
+    ensures { IsFinal simulation.now stop result }
+{
+    let mut state = State::start(stop);
+    'turns: while state.tic < state.limit {
+        run_turn(simulation, &mut state);
+    }
+    state.mode = Mode::Shutdown;
+    state
+}

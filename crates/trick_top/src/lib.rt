@@ -1,0 +1,7 @@
+//! The top call: all that the program does, over any shelf of files and any sink of printed lines.
+#![tactic(auto)]
+
+mod counting;
+mod executive;
+mod memory;
+mod state;
