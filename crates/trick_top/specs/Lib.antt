@@ -10,3 +10,8 @@ pub mod Run
 pub mod Going
 -- The text of a checkpoint.
 pub mod Checkpoint
+-- How a command ends: statuses and printed lines.
+pub mod Verdict
+-- The words of the command line.
+pub mod Words
+pub mod Said
