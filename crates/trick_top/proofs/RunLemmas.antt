@@ -1,9 +1,9 @@
 -- One tic more, and one turn more.
 use Rattle.std.proofs.Common.{◌≡◌, ℕ, suc, ◌+◌, ◌<◌, ◌≤◌, ℤ, List, [], ◌∷◌, length, true, false, if◌then◌else◌, refl, sym, ap, subst, ◌∙◌, arith, inl, inr, Some, None}
 use Rattle.std.specs.Prelude.{Option, ◌⊎◌, min}
+use Rattle.trick_cycle.specs.Due.{is_due_at}
 use Rattle.trick_top.specs.Run.{after_turns, IsOver}
 use Rattle.trick_top.specs.Running.{serial, apply, effect, overwritten, due_of}
-use Rattle.trick_top.specs.Time.{is_due}
 use Rattle.trick_top.specs.Turn.{after_tic, after_tics, after_turn, frame_end, tics_left}
 use Rattle.trick_top.specs.declared.counting.Counting.{Counting}
 use Rattle.trick_top.specs.declared.state.Mode.TheVariants as mode
@@ -17,7 +17,7 @@ length-overwritten (None ∷ stores) (old ∷ memory) = ap suc (length-overwritt
 
 length-serial : (simulation : Counting) (memory : List ℤ) (tic : ℕ) → length (serial simulation memory tic) ≡ length memory
 length-serial simulation memory tic =
-    elim (is_due (due_of simulation) tic) as (λ due. length (if due then apply simulation memory else memory) ≡ length memory) [
+    elim (is_due_at (due_of simulation) tic) as (λ due. length (if due then apply simulation memory else memory) ≡ length memory) [
       | true ↦ length-overwritten (effect simulation memory) memory
       | false ↦ refl
     ]

@@ -15,3 +15,12 @@ pub mod Verdict
 -- The words of the command line.
 pub mod Words
 pub mod Said
+-- Tokens by kind and bytes.
+pub mod Piece
+-- The words that are no names.
+pub mod Keywords
+-- The pieces of an S_define of one counting class, and of an input of one stop line.
+pub mod Form
+-- Which texts describe a counting simulation, and when it stops.
+pub mod Counting
+pub mod Seen

@@ -2,9 +2,11 @@
 -- cell; here there is one cell, and one job, which adds an amount to it.
 use Rattle.std.specs.List.{slice_index_or}
 use Rattle.std.specs.Prelude.{ℕ, ℤ, pos, ◌+ℤ◌, List, [], ◌∷◌, Option, Some, None, if◌then◌else◌}
+use Rattle.trick_cycle.specs.Due.{is_due_at}
+use Rattle.trick_cycle.specs.declared.Due.{Due}
 use Rattle.trick_lang.specs.Wrap.{wrap}
 use Rattle.trick_lang.specs.declared.scalar.Scalar.TheVariants.{Long}
-use Rattle.trick_top.specs.Time.{Due, is_due, last_tic}
+use Rattle.trick_top.specs.Time.{last_tic}
 use Rattle.trick_top.specs.declared.counting.Counting.{Counting}
 
 -- the number of a cell; past the last cell it is 0
@@ -32,4 +34,4 @@ due_of simulation = record { start = 0; cycle = simulation.cycle; stop = last_ti
 
 -- the memory after the jobs that are due at a tic
 abbrev pub serial : Counting → List ℤ → ℕ → List ℤ
-serial simulation memory tic = if is_due (due_of simulation) tic then apply simulation memory else memory
+serial simulation memory tic = if is_due_at (due_of simulation) tic then apply simulation memory else memory

@@ -1,17 +1,15 @@
 ghost use Rattle.std.specs.Prelude.{◌≡◌, ◌<◌, ◌≤◌, ◌+◌, ◌^◌, length};
+ghost use Rattle.trick_cycle.specs.Due.{IsInRange};
 ghost use Rattle.trick_top.specs.Run.{IsFinal};
 ghost use Rattle.trick_top.specs.Running.{apply, due_of};
-ghost use Rattle.trick_top.specs.Time.{is_due};
 ghost use Rattle.trick_top.specs.Turn.{after_tic, after_turn, frame_end};
-ghost use Rattle.trick_top.specs.Going.{IsGoing};
+ghost use Rattle.trick_top.specs.Going.{HasCycle, IsGoing};
 
 use crate::counting::Counting;
 use crate::memory::Memory;
 use crate::state::{Mode, State};
+use trick_cycle::{Due, MAX_TICS, is_due, laws};
 use trick_lang::{Cell, Cells, Scalar, wrap};
-
-/// The last tic at which a job is due.
-const LAST_TIC: u64 = 1_000_000_000_000_000;
 
 /// The tics of a software frame.
 const FRAME_LENGTH: u64 = 1_000_000;
@@ -25,20 +23,27 @@ fn run_job(simulation: &Counting, memory: &mut Memory)
     memory.set(cell, wrap(Scalar::Long, sum));
 }
 
-fn is_due(simulation: &Counting, tic: u64) -> bool
-    requires { 0 < simulation.now.cycle }
-    ensures { result ≡ is_due (due_of simulation.now) tic }
+/// When the job is due: from tic 0 on.
+fn due(simulation: &Counting) -> Due
+    requires { HasCycle simulation.now }
+    ensures due { result ≡ due_of simulation.now }
+    ensures range { IsInRange result }
 {
-    tic <= LAST_TIC && tic % simulation.cycle == 0
+    Due {
+        start: 0,
+        cycle: simulation.cycle,
+        stop: MAX_TICS,
+    }
 }
 
 fn run_tic(simulation: &Counting, state: &mut State)
-    requires cycle { 0 < simulation.now.cycle }
+    requires cycle { HasCycle simulation.now }
     requires memory { length state.old.memory ≡ 1 }
     requires tic { state.old.tic + 1 < 2 ^ 64 }
     ensures { state.new ≡ after_tic simulation.now state.old }
 {
-    if is_due(simulation, state.tic) {
+    laws::due_test_is_exact();
+    if is_due(due(simulation), state.tic) {
         run_job(simulation, &mut state.memory);
     }
     state.tic += 1;
@@ -54,7 +59,7 @@ fn frame_end(tic: u64) -> u64
 
 /// Runs the tics that the frame has left.
 fn run_turn(simulation: &Counting, state: &mut State)
-    requires cycle { 0 < simulation.now.cycle }
+    requires cycle { HasCycle simulation.now }
     requires going { IsGoing state.old }
     requires goes_on { state.old.tic < state.old.limit }
     requires limit { state.old.limit ≤ 10 ^ 15 + 1 }
@@ -73,7 +78,7 @@ fn run_turn(simulation: &Counting, state: &mut State)
 
 /// The run that is to stop after a tic, to its last turn: at most 10^15 tics. Takes no memory.
 pub(crate) fn run(simulation: &Counting, stop: u64) -> State
-    requires cycle { 0 < simulation.now.cycle }
+    requires cycle { HasCycle simulation.now }
     requires stop { stop ≤ 10 ^ 15 }
     ensures { IsFinal simulation.now stop result }
 {

@@ -4,7 +4,13 @@
 mod checkpoint;
 mod counting;
 mod executive;
+mod input;
+mod keyword;
 mod memory;
+mod piece;
+mod read;
+mod refusal;
+mod s_define;
 mod state;
 mod verdict;
 mod words;

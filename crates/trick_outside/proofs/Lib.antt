@@ -1,0 +1,7 @@
+pub mod CauseLemmas
+pub mod WriteLemmas
+pub mod DoesLemmas
+pub mod GetLemmas
+pub mod FileLemmas
+pub mod ContentLemmas
+pub mod PutLemmas

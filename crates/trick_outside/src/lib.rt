@@ -1,0 +1,13 @@
+//! What lies outside a run, as traits: a shelf of files and a sink of bytes; calls on them that
+//! every layer above uses; and small forms of both in memory, for tests.
+#![tactic(auto)]
+
+mod print;
+mod shelf;
+mod sink;
+mod steps;
+
+pub use print::{Printed, put};
+pub use shelf::{Got, Shelf, Wrote};
+pub use sink::{Sink, Taken1};
+pub use steps::{Stop, append, create, get, write_file};

@@ -1,0 +1,37 @@
+-- The tics of a number of seconds: a million tics are a second.
+use Rattle.std.specs.List.{after_first, before_first, list_any}
+use Rattle.std.specs.Prelude.{◌≡◌, ℕ, ◌*◌, ◌^◌, ◌<◌, Bool, true, false, List, ◌++◌, length, ◌==◌, if◌then◌else◌}
+use Rattle.std.specs.Str.Parse.{digits_value}
+use Rattle.trick_text.specs.Numbers.{whole_value}
+use Rattle.trick_text.specs.declared.token.TokenKind.{TokenKind}
+use Rattle.trick_text.specs.declared.token.TokenKind.TheVariants.{Name, Whole, Decimal, Text, Mark}
+
+-- the kinds of token that are numbers
+abbrev pub is_number : TokenKind → Bool
+is_number Name = false
+is_number Whole = true
+is_number Decimal = true
+is_number Text = false
+is_number Mark = false
+
+abbrev pub is_point : ℕ → Bool
+is_point b = b == 46
+
+-- how many digits stand behind the point; none where there is no point
+abbrev pub places : List ℕ → ℕ
+places bytes = length (after_first is_point bytes)
+
+-- the digits before the point and those behind it, as one number; the whole number where there is
+-- no point
+abbrev pub numerator : List ℕ → ℕ
+numerator bytes = if list_any is_point bytes then digits_value 10 (before_first is_point bytes ++ after_first is_point bytes) else whole_value bytes
+
+-- The value of a number is its numerator divided by ten to the power of its places.
+
+-- the value times one million is exactly n
+abbrev pub IsTics : List ℕ → ℕ → Type 0
+IsTics bytes n = n * 10 ^ places bytes ≡ numerator bytes * 10 ^ 6
+
+-- the value times one million is above the limit of tics
+abbrev pub IsTooLarge : List ℕ → Type 0
+IsTooLarge bytes = 10 ^ 15 * 10 ^ places bytes < numerator bytes * 10 ^ 6

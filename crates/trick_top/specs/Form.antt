@@ -1,0 +1,47 @@
+-- The two texts of this milestone: the pieces of each, in order. White space and comments may stand
+-- between two pieces, as the tokens of a text leave them out.
+use Rattle.std.specs.List.{slice_index_or}
+use Rattle.std.specs.Prelude.{ℕ, List, [], ◌∷◌, codes}
+use Rattle.trick_top.specs.Piece.{Piece, mark, quoted, word}
+
+-- what the writer of an S_define of one counting class chooses
+pub record Names : Type 0 where
+  pub class : List ℕ
+  pub member : List ℕ
+  pub method : List ℕ
+  pub amount : Piece
+  pub cycle : Piece
+  pub object : List ℕ
+
+-- class CLASS : public Trick::SimObject { public: long MEMBER; void METHOD() { MEMBER += AMOUNT; }
+-- CLASS() { (CYCLE, "scheduled") METHOD(); } }; CLASS OBJECT;
+abbrev pub s_define_pieces : Names → List Piece
+s_define_pieces names =
+    word (codes "class") ∷ word names.class ∷ mark (codes ":") ∷ word (codes "public") ∷ word (codes "Trick") ∷ mark (codes "::") ∷ word (codes "SimObject") ∷ mark (codes "{")
+    ∷ word (codes "public") ∷ mark (codes ":")
+    ∷ word (codes "long") ∷ word names.member ∷ mark (codes ";")
+    ∷ word (codes "void") ∷ word names.method ∷ mark (codes "(") ∷ mark (codes ")") ∷ mark (codes "{")
+    ∷ word names.member ∷ mark (codes "+=") ∷ names.amount ∷ mark (codes ";") ∷ mark (codes "}")
+    ∷ word names.class ∷ mark (codes "(") ∷ mark (codes ")") ∷ mark (codes "{")
+    ∷ mark (codes "(") ∷ names.cycle ∷ mark (codes ",") ∷ quoted (codes "\"scheduled\"") ∷ mark (codes ")") ∷ word names.method ∷ mark (codes "(") ∷ mark (codes ")") ∷ mark (codes ";") ∷ mark (codes "}")
+    ∷ mark (codes "}") ∷ mark (codes ";")
+    ∷ word names.class ∷ word names.object ∷ mark (codes ";") ∷ []
+
+-- trick.stop(TIME)
+abbrev pub input_pieces : Piece → List Piece
+input_pieces time = word (codes "trick") ∷ mark (codes ".") ∷ word (codes "stop") ∷ mark (codes "(") ∷ time ∷ mark (codes ")") ∷ []
+
+-- the piece at a place; past the end it is no piece of a text
+abbrev pub piece_at : List Piece → ℕ → Piece
+piece_at pieces place = slice_index_or pieces place (word [])
+
+-- what was chosen, from the pieces
+abbrev pub names_in : List Piece → Names
+names_in pieces = record {
+  class = (piece_at pieces 1).bytes;
+  member = (piece_at pieces 11).bytes;
+  method = (piece_at pieces 14).bytes;
+  amount = piece_at pieces 20;
+  cycle = piece_at pieces 28;
+  object = (piece_at pieces 40).bytes;
+}
