@@ -1,2 +1,5 @@
 pub mod RunLemmas
 pub mod PieceLemmas
+pub mod SimulatedLemmas
+pub mod GoneLemmas
+pub mod PrintedLemmas

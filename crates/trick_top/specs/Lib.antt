@@ -24,3 +24,9 @@ pub mod Form
 -- Which texts describe a counting simulation, and when it stops.
 pub mod Counting
 pub mod Seen
+-- How a command may go on a shelf.
+pub mod Outcome
+-- How its verdict is printed.
+pub mod Printed
+-- What each status says.
+pub mod Status

@@ -1,5 +1,7 @@
 -- How a command ends, with the status and the printed line of each end.
 use Rattle.std.specs.Prelude.{ℕ, List, ◌++◌, codes, decimal}
+use Rattle.trick_top.specs.declared.refusal.Refusal.TheVariants as refusal
+use Rattle.trick_top.specs.declared.refusal.Refusal.{Refusal}
 use Rattle.trick_top.specs.declared.verdict.Source.{Source}
 use Rattle.trick_top.specs.declared.verdict.Source.TheVariants.{SDefine, Input}
 use Rattle.trick_top.specs.declared.verdict.Verdict as declared
@@ -47,3 +49,8 @@ verdict_of (declared_verdict.TextRefused source) = TextRefused source
 verdict_of (declared_verdict.Ended turn tic) = Ended turn tic
 verdict_of declared_verdict.ShelfFault = ShelfFault
 verdict_of declared_verdict.OutOfMemory = OutOfMemory
+
+-- the verdict on a text that was not read
+abbrev pub refused_text : Refusal → Source → Verdict
+refused_text refusal.NotInProfile source = TextRefused source
+refused_text refusal.OutOfMemory source = OutOfMemory

@@ -80,7 +80,8 @@ fn run_turn(simulation: &Counting, state: &mut State)
 pub(crate) fn run(simulation: &Counting, stop: u64) -> State
     requires cycle { HasCycle simulation.now }
     requires stop { stop ≤ 10 ^ 15 }
-    ensures { IsFinal simulation.now stop result }
+    ensures ends { IsFinal simulation.now stop result }
+    ensures memory { length result.memory ≡ 1 }
 {
     let mut state = State::start(stop);
     'turns: while state.tic < state.limit {

@@ -1,9 +1,11 @@
 //! The top call: all that the program does, over any shelf of files and any sink of printed lines.
 #![tactic(auto)]
 
+mod alone;
 mod checkpoint;
 mod counting;
 mod executive;
+mod finish;
 mod input;
 mod keyword;
 mod memory;
@@ -14,3 +16,5 @@ mod s_define;
 mod state;
 mod verdict;
 mod words;
+
+pub use alone::tricks_alone;

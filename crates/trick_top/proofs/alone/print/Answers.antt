@@ -1,0 +1,5 @@
+use Rattle.trick_top.proofs.alone.print.Goals as goal
+use Rattle.trick_top.specs.Printed.{no_line}
+
+pub returns-in-Err : goal.returns-in-Err
+returns-in-Err g c = no_line c.print_line-in-Err.ensures
