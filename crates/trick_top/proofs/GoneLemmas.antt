@@ -1,5 +1,5 @@
 -- How a command goes on a shelf.
-use Rattle.std.proofs.Common.{◌≡◌, ℕ, ◌≤◌, List, [], ◌∷◌, ◌++◌, None, Some, arith}
+use Rattle.std.proofs.Common.{◌≡◌, ℕ, List, [], ◌∷◌, ◌++◌, None, Some}
 use Rattle.std.specs.Prelude.{Option}
 use Rattle.trick_outside.proofs.CauseLemmas.{rose_late}
 use Rattle.trick_outside.proofs.DoesLemmas.{Joins}

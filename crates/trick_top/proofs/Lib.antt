@@ -3,3 +3,7 @@ pub mod PieceLemmas
 pub mod SimulatedLemmas
 pub mod GoneLemmas
 pub mod PrintedLemmas
+pub mod StatusLemmas
+pub mod RowLemmas
+pub mod CompleteLemmas
+pub mod TopLemmas

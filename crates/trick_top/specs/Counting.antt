@@ -1,5 +1,5 @@
 -- Which texts describe a counting simulation, and which one.
-use Rattle.std.specs.Prelude.{◌≡◌, ◌≢◌, ◌⊎◌, ℕ, ◌≤◌, false, true, List, ◌++◌, All, codes, map}
+use Rattle.std.specs.Prelude.{◌≡◌, ◌≢◌, ℕ, ◌≤◌, false, true, List, ◌++◌, All, codes, map}
 use Rattle.trick_text.specs.Numbers.{whole_value}
 use Rattle.trick_text.specs.Seconds.{IsTics, is_number}
 use Rattle.trick_text.specs.Tokens.{AreAllTokens}

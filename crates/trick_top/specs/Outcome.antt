@@ -1,6 +1,6 @@
 -- How a command may go on a shelf: a case for each row of the table of statuses, with what the shelf
 -- was asked and answered, what was written, and the verdict.
-use Rattle.std.specs.Prelude.{◌≡◌, ℕ, List, [], ◌∷◌, Option, Some, None, codes}
+use Rattle.std.specs.Prelude.{ℕ, List, [], ◌∷◌, Option, Some, None, codes}
 use Rattle.trick_outside.specs.Answers.{Asked}
 use Rattle.trick_outside.specs.Causes.{Rose}
 use Rattle.trick_outside.specs.Files.{Write, Create, Append, IsPartOf}

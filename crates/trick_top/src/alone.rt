@@ -1,9 +1,13 @@
-ghost use Rattle.std.specs.Prelude.{◌≡◌, None, Some};
+ghost use Rattle.std.specs.Prelude.{◌≡◌, ◌⊎◌, ℕ, None, Some};
 ghost use Rattle.trick_outside.specs.Causes.{Rose};
+ghost use Rattle.trick_top.specs.Counting.{IsCounting, IsStop};
 ghost use Rattle.trick_top.specs.Outcome.{HasGone, HasSimulated, IsWanted};
 ghost use Rattle.trick_top.specs.Printed.{Prints};
-ghost use Rattle.trick_top.specs.Verdict.{line_of, refused_text, verdict_of};
-ghost use Rattle.trick_top.specs.Words.{Serial};
+ghost use Rattle.trick_top.specs.Status.{EndsWith, Finds, HoldsSame, IsRefusal, MissesFile, Refuses, RefusesText, RunsToEnd, TookLine};
+ghost use Rattle.trick_top.specs.Verdict.{Usage, line_of, refused_text, verdict_of};
+ghost use Rattle.trick_top.specs.Words.{AreRefused, Serial};
+ghost use Rattle.trick_top.specs.declared.counting.Counting.{Counting};
+ghost use Rattle.trick_top.specs.declared.verdict.Source.{Source};
 
 use crate::executive::run;
 use crate::finish::write_final;
@@ -126,6 +130,27 @@ pub fn tricks_alone<F: Shelf, O: Sink>(
     ensures row { (command : _) × (verdict : _) × IsWanted words.now command
         × HasGone F.Shelf shelf.old shelf.new command verdict
         × Prints (Rose (O.failures out.old) (O.failures out.new)) (O.holds out.old) (O.holds out.new) verdict result }
+
+    // What each status says.
+    ensures done { result ≡ 0 → RunsToEnd F.Shelf shelf.old shelf.new words.now (O.holds out.old) (O.holds out.new) }
+    ensures usage { result ≡ 1 → AreRefused words.now }
+    ensures usage_line { result ≡ 1 → TookLine (O.holds out.old) (O.holds out.new) (line_of Usage) }
+    ensures text_refused { result ≡ 2 → RefusesText F.Shelf shelf.old shelf.new words.now (O.holds out.old) (O.holds out.new) }
+    ensures shelf_fault { result ≡ 5 → Rose (F.failures shelf.old) (F.failures shelf.new) }
+    ensures sink_fault { result ≡ 8 → Rose (O.failures out.old) (O.failures out.new) }
+    ensures no_file { result ≡ 9 → MissesFile F.Shelf shelf.old shelf.new words.now (O.holds out.old) (O.holds out.new) }
+    ensures refused_same { IsRefusal result → HoldsSame (F.holds shelf.old) (F.holds shelf.new) }
+
+    // When each comes. Want of memory is free, and a failed sink decides over all else.
+    ensures usage_all { AreRefused words.now → EndsWith result 1 }
+    ensures no_file_all { (s_define input : _) → Finds F.Shelf shelf.old words.now s_define input → (s_define ≡ None) ⊎ (input ≡ None)
+        → ¬ Rose (F.failures shelf.old) (F.failures shelf.new) → EndsWith result 9 }
+    ensures text_refused_all { (source : Source) (s_define input : _) → Finds F.Shelf shelf.old words.now (Some s_define) (Some input)
+        → Refuses source s_define input → ¬ Rose (F.failures shelf.old) (F.failures shelf.new) → EndsWith result 2 }
+    ensures complete { (s_define input : _) (simulation : Counting) (stop : ℕ) → Finds F.Shelf shelf.old words.now (Some s_define) (Some input)
+        → IsCounting s_define simulation → IsStop input stop
+        → ¬ Rose (F.failures shelf.old) (F.failures shelf.new) → ¬ Rose (O.failures out.old) (O.failures out.new)
+        → (result ≡ 0) ⊎ (result ≡ 6) }
 {
     let verdict = decide(alloc, words, shelf);
     print(alloc, verdict, out)
