@@ -1,0 +1,1 @@
+trick.stop(3.0)

@@ -1,0 +1,37 @@
+//! The program `tricks`: the words of the command line, the folder that it is run in and standard
+//! output, handed to the top call. All that matters is decided there.
+#![tactic(auto)]
+
+mod folder;
+mod standard_output;
+
+use crate::folder::Folder;
+use crate::standard_output::StandardOutput;
+use std::alloc::Global;
+use std::process::ExitCode;
+use std::rt::Env;
+use std::{env, io};
+use trick_base::Word;
+use trick_top::tricks_alone;
+
+/// The words of the command line, without the program's name.
+fn read_words<R: Env + AllocGlobal>(rt: &R, alloc: Global) -> io::Result<Vec<Word>> {
+    let mut words = Vec::new(alloc);
+    for word in env::args(rt)?.skip(1) {
+        words.push(Word::from_vec(word.into_bytes()))?;
+    }
+    Ok(words)
+}
+
+fn main(rt: HostRuntime) -> ExitCode {
+    let alloc = rt.alloc();
+    let words = match read_words(&rt, alloc) {
+        Ok(words) => words,
+        Err(error) if error.kind() == io::ErrorKind::OutOfMemory => return ExitCode::from(6),
+        // Words that are no text ask for no command.
+        Err(_) => Vec::new(alloc),
+    };
+    let mut shelf = Folder::new(&rt);
+    let mut out = StandardOutput::new(&rt);
+    ExitCode::from(tricks_alone(alloc, &words, &mut shelf, &mut out))
+}
