@@ -1,10 +1,13 @@
 -- `Does`, one call after another.
-use Rattle.std.proofs.Common.{◌≡◌, List, [], ◌++◌, refl, sym, ◌∙◌, ap, Some, Ok, Err, IsOk, arith}
+use Rattle.std.proofs.Common.{ℕ, ◌≡◌, List, [], ◌++◌, refl, sym, ◌∙◌, ap, Some, Ok, Err, IsOk, arith}
 use Rattle.std.specs.Prelude.{Result, IsErrOf}
+use Rattle.std.specs.FinMap.{get}
+use Rattle.trick_outside.proofs.ContentLemmas.{partly_written}
+use Rattle.trick_outside.specs.Content.{IsTidy, IsPartly}
 use Rattle.trick_outside.proofs.WriteLemmas.{all_written-append, part_of_early, part_of_late}
 use Rattle.trick_outside.specs.Answers.{Asked}
 use Rattle.trick_outside.specs.Does.{Does}
-use Rattle.trick_outside.specs.Files.{Write, all_written}
+use Rattle.trick_outside.specs.Files.{Files, Write, all_written}
 use Rattle.trick_outside.specs.declared.shelf.Shelf.{Ghosts}
 use Rattle.trick_outside.specs.declared.steps.Stop.TheVariants.{Shelf}
 use Rattle.trick_outside.specs.declared.steps.Stop.{Stop}
@@ -90,3 +93,16 @@ pub does_fail : {S T U : Type 0} {shelf : Ghosts S} {old new : S} {first : Resul
     → Does shelf old new first writes → first ≡ Err e → result ≡ Err f → f ≡ e → Does shelf old new result writes
 does_fail {first = first} result e f did at is same =
     does_as result did (λ ok. absurd (not_ok result f is ok)) (handed_on first result e f at is same)
+
+-- what is held where it is done
+pub does_all : {S T : Type 0} {shelf : Ghosts S} {old new : S} {result : Result T Stop} {writes : List Write} → Does shelf old new result writes → IsOk result
+    → (files : Files) → shelf.holds old ≡ Some files → shelf.holds new ≡ Some (all_written writes files)
+does_all did ok files e = did.written.left files e ∙ ap (λ p. Some (all_written p files)) (did.written.whole ok)
+
+-- whether it is done or not, a file that is made at most once is as it was, or a prefix of what all
+-- of the calls make
+pub does_partly : {S T : Type 0} {shelf : Ghosts S} {old new : S} {result : Result T Stop} {writes : List Write} → Does shelf old new result writes → (name : List ℕ) → IsTidy name writes
+    → (files : Files) → shelf.holds old ≡ Some files
+    → (now : Files) × (shelf.holds new ≡ Some now) × IsPartly (get files name) (get now name) (get (all_written writes files) name)
+does_partly {writes = writes} did name tidy files e =
+    (all_written did.written.part files, did.written.left files e, partly_written name did.written.part writes files tidy did.written.is_part)

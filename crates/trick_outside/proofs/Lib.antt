@@ -4,4 +4,5 @@ pub mod DoesLemmas
 pub mod GetLemmas
 pub mod FileLemmas
 pub mod ContentLemmas
+pub mod KeptLemmas
 pub mod PutLemmas

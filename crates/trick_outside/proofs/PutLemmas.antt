@@ -1,44 +1,45 @@
--- A line that is put piece after piece.
+-- Bytes that are put piece after piece.
 use Rattle.std.proofs.Common.{◌≡◌, ℕ, ◌+◌, ◌≤◌, List, [], ◌++◌, length, take, drop, sym, ◌∙◌, ap, Some, append_assoc, append-nil, arith, ◌-◌, length-drop}
-use Rattle.std.proofs.lemmas.List.{take-append-drop}
 use Rattle.std.proofs.Math.Seq.{take-add}
-use Rattle.std.proofs.lemmas.List.{take_all}
+use Rattle.std.proofs.lemmas.List.{take-append-drop, take_all}
 use Rattle.std.specs.Prelude.{Option}
 use Rattle.trick_outside.specs.Puts.{Puts}
 
--- the first bytes of the line were taken
-pub record IsPutting (old new : Option (List ℕ)) (line : List ℕ) (at : ℕ) : Type 0 where
-  pub within : at ≤ length line
-  pub taken : (bytes : List ℕ) → old ≡ Some bytes → new ≡ Some (bytes ++ take at line)
+-- the first `at` bytes were taken, and the count of faults has not fallen
+pub record IsPutting (old new : Option (List ℕ)) (before now : ℕ) (bytes : List ℕ) (at : ℕ) : Type 0 where
+  pub within : at ≤ length bytes
+  pub taken : (held : List ℕ) → old ≡ Some held → new ≡ Some (held ++ take at bytes)
+  pub later : before ≤ now
 
-pub putting_first : (old : Option (List ℕ)) (line : List ℕ) → IsPutting old old line 0
-putting_first old line = record { within = omega arith; taken = λ bytes e. e ∙ ap Some (sym (append-nil bytes)) }
-
-pub putting_more : (old mid new : Option (List ℕ)) (line piece : List ℕ) (at count : ℕ) → IsPutting old mid line at → piece ≡ drop at line → count ≤ length piece
-    → ((bytes : List ℕ) → mid ≡ Some bytes → new ≡ Some (bytes ++ take count piece)) → IsPutting old new line (at + count)
-putting_more old mid new line piece at count so is fits more =
-    let fact : length piece ≡ length line - at = ap length is ∙ length-drop at line in
+-- the sink took `count` bytes of a piece, which is what was left of the bytes
+pub putting_more : {old mid new : Option (List ℕ)} {before then now : ℕ} {bytes piece : List ℕ} {at : ℕ} (count : ℕ) → IsPutting old mid before then bytes at
+    → piece ≡ drop at bytes → count ≤ length piece → ((held : List ℕ) → mid ≡ Some held → new ≡ Some (held ++ take count piece)) → then ≤ now
+    → IsPutting old new before now bytes (at + count)
+putting_more {bytes = bytes} {piece = piece} {at = at} count so is fits more later =
+    let left : length piece ≡ length bytes - at = ap length is ∙ length-drop at bytes in
     record {
       within = (let w = so.within in omega arith);
-      taken = λ bytes e. more (bytes ++ take at line) (so.taken bytes e)
-          ∙ ap Some (append_assoc bytes (take at line) (take count piece)
-          ∙ ap (λ p. bytes ++ (take at line ++ take count p)) is
-          ∙ ap (λ p. bytes ++ p) (sym (take-add at count line)));
+      taken = λ held e. more (held ++ take at bytes) (so.taken held e)
+          ∙ ap Some (append_assoc held (take at bytes) (take count piece)
+          ∙ ap (λ p. held ++ (take at bytes ++ take count p)) is
+          ∙ ap (λ p. held ++ p) (sym (take-add at count bytes)));
+      later = (let l = so.later in omega arith);
     }
 
-pub putting_all : (old new : Option (List ℕ)) (IsDone : Type 0) (line : List ℕ) (at : ℕ) → IsPutting old new line at → length line ≤ at → Puts old new IsDone line
-putting_all old new IsDone line at so all =
-    let whole : take at line ≡ line = take_all at line all in
-    let now : (bytes : List ℕ) → old ≡ Some bytes → new ≡ Some (bytes ++ line) = λ bytes e. so.taken bytes e ∙ ap (λ p. Some (bytes ++ p)) whole in
-    record { done = λ d bytes e. now bytes e; part = λ bytes e. (line, ([], sym (append-nil line)), now bytes e) }
+-- all of the bytes were taken
+pub putting_all : {old new : Option (List ℕ)} {before now : ℕ} {bytes : List ℕ} {at : ℕ} (IsDone : Type 0) → IsPutting old new before now bytes at → length bytes ≤ at → Puts old new IsDone bytes
+putting_all {old = old} {new = new} {bytes = bytes} {at = at} IsDone so all =
+    let whole : (held : List ℕ) → old ≡ Some held → new ≡ Some (held ++ bytes) = λ held e. so.taken held e ∙ ap (λ p. Some (held ++ p)) (take_all at bytes all) in
+    record { done = λ d held e. whole held e; part = λ held e. (bytes, ([], sym (append-nil bytes)), whole held e) }
 
-pub putting_part : (old mid new : Option (List ℕ)) (IsDone : Type 0) (line : List ℕ) (at : ℕ) → IsPutting old mid line at → (IsDone → ⊥)
-    → ((bytes : List ℕ) → mid ≡ Some bytes → new ≡ Some (bytes ++ [])) → Puts old new IsDone line
-putting_part old mid new IsDone line at so never none = record {
+-- it stopped at a write that took nothing
+pub putting_part : {old mid new : Option (List ℕ)} {before now : ℕ} {bytes : List ℕ} {at : ℕ} (IsDone : Type 0) → IsPutting old mid before now bytes at → (IsDone → ⊥)
+    → ((held : List ℕ) → mid ≡ Some held → new ≡ Some (held ++ [])) → Puts old new IsDone bytes
+putting_part {bytes = bytes} {at = at} IsDone so never none = record {
   done = λ d. absurd (never d);
-  part = λ bytes e. (
-    take at line,
-    (drop at line, sym (take-append-drop at line)),
-    none (bytes ++ take at line) (so.taken bytes e) ∙ ap Some (append-nil (bytes ++ take at line)),
+  part = λ held e. (
+    take at bytes,
+    (drop at bytes, sym (take-append-drop at bytes)),
+    none (held ++ take at bytes) (so.taken held e) ∙ ap Some (append-nil (held ++ take at bytes)),
   );
 }

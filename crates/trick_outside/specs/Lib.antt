@@ -14,3 +14,7 @@ pub mod Content
 pub mod Taken
 -- What a sink takes of a text that is put piece after piece.
 pub mod Puts
+-- Which calls of a form in memory are to fail.
+pub mod FaultPlan
+-- What the forms in memory stand for.
+pub mod Kept

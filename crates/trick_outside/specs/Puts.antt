@@ -6,4 +6,5 @@ use Rattle.trick_outside.specs.Files.{IsPrefix}
 -- where the sink tells what it holds.
 pub record Puts (old new : Option (List ℕ)) (IsDone : Type 0) (bytes : List ℕ) : Type 0 where
   pub done : IsDone → (taken : List ℕ) → old ≡ Some taken → new ≡ Some (taken ++ bytes)
-  pub part : (taken : List ℕ) → old ≡ Some taken → (part : List ℕ) × IsPrefix part bytes × (new ≡ Some (taken ++ part))
+  pub part : (taken : List ℕ) → old ≡ Some taken
+      → (part : List ℕ) × IsPrefix part bytes × (new ≡ Some (taken ++ part))

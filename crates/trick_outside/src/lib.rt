@@ -2,12 +2,20 @@
 //! every layer above uses; and small forms of both in memory, for tests.
 #![tactic(auto)]
 
+mod fault_plan;
+mod memory_shelf;
+mod memory_sink;
 mod print;
 mod shelf;
 mod sink;
 mod steps;
 
+pub use memory_shelf::MemoryShelf;
+pub use memory_sink::MemorySink;
 pub use print::{Printed, put};
 pub use shelf::{Got, Shelf, Wrote};
 pub use sink::{Sink, Taken1};
 pub use steps::{Stop, append, create, get, write_file};
+
+#[cfg(test)]
+mod tests;

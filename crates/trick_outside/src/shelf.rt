@@ -50,7 +50,8 @@ pub trait Shelf {
     /// only where the count of faults rose in this call, or stands at its end.
     fn get(&mut self, alloc: Global, name: &Word) -> Got
         ensures answer { asked self.old (told_by name.now result) self.new }
-        ensures held { (files : Files) → holds self.old ≡ Some files → AreOf files (told_by name.now result) }
+        ensures held { (files : Files) → holds self.old ≡ Some files
+            → AreOf files (told_by name.now result) }
         ensures same { Writes (holds self.old) (holds self.new) (Unit {0}) [] }
         ensures cause { HasCause (failures self.old) (failures self.new) (result ≡ Got.Failed) };
 
@@ -58,7 +59,8 @@ pub trait Shelf {
     /// name has what it had or an empty file. Every other name stays as it was.
     fn create(&mut self, name: &Word) -> Wrote
         ensures answer { asked self.old [] self.new }
-        ensures written { Writes (holds self.old) (holds self.new) (result ≡ Wrote.Done) (Create name.now ∷ []) }
+        ensures written { Writes (holds self.old) (holds self.new) (result ≡ Wrote.Done)
+            (Create name.now ∷ []) }
         ensures cause { HasCause (failures self.old) (failures self.new) (result ≡ Wrote.Failed) };
 
     /// Adds these bytes at the end of the file of that name, which it makes where there is none.
@@ -66,7 +68,8 @@ pub trait Shelf {
     /// it was.
     fn append(&mut self, name: &Word, bytes: &[u8]) -> Wrote
         ensures answer { asked self.old [] self.new }
-        ensures written { Writes (holds self.old) (holds self.new) (result ≡ Wrote.Done) (Append name.now bytes.now ∷ []) }
+        ensures written { Writes (holds self.old) (holds self.new) (result ≡ Wrote.Done)
+            (Append name.now bytes.now ∷ []) }
         ensures cause { HasCause (failures self.old) (failures self.new) (result ≡ Wrote.Failed) };
 
     /// The count of faults.
@@ -77,6 +80,6 @@ pub trait Shelf {
     ghost asked_none: { (shelf : Self) → asked shelf [] shelf };
 
     /// Answers that are given one after another are given.
-    ghost asked_join: { (first second third : Self) (early late : List Asked) → asked first early second
-        → asked second late third → asked first (early ++ late) third };
+    ghost asked_join: { (first second third : Self) (early late : List Asked)
+        → asked first early second → asked second late third → asked first (early ++ late) third };
 }

@@ -1,4 +1,4 @@
-ghost use Rattle.std.specs.Prelude.{◌∷◌, []};
+ghost use Rattle.std.specs.Prelude.{◌≡◌, ◌↔◌, ◌∷◌, [], IsErrOf, IsOk};
 ghost use Rattle.trick_outside.specs.Does.{Does};
 ghost use Rattle.trick_outside.specs.Files.{Create, Append};
 ghost use Rattle.trick_outside.specs.Gets.{Gets};
@@ -16,6 +16,20 @@ pub enum Stop {
     Memory,
 }
 
+impl Wrote {
+    /// The answer as a result, for `?`.
+    pub fn into_result(self) -> Result<(), Stop>
+        ensures done { IsOk result ↔ (self ≡ Wrote.Done) }
+        ensures failed { IsErrOf result Stop.Shelf ↔ (self ≡ Wrote.Failed) }
+    {
+        match self {
+            Wrote::Done => Ok(()),
+            Wrote::Failed => Err(Stop::Shelf),
+            Wrote::OutOfMemory => Err(Stop::Memory),
+        }
+    }
+}
+
 /// The file of that name, as the shelf's own `get` answers.
 pub fn get<F: Shelf>(shelf: &mut F, alloc: Global, name: &Word) -> Got
     ensures { Gets F.Shelf shelf.old shelf.new name.now result }
@@ -27,27 +41,20 @@ pub fn get<F: Shelf>(shelf: &mut F, alloc: Global, name: &Word) -> Got
 pub fn create<F: Shelf>(shelf: &mut F, name: &Word) -> Result<(), Stop>
     ensures { Does F.Shelf shelf.old shelf.new result (Create name.now ∷ []) }
 {
-    match shelf.create(name) {
-        Wrote::Done => Ok(()),
-        Wrote::Failed => Err(Stop::Shelf),
-        Wrote::OutOfMemory => Err(Stop::Memory),
-    }
+    shelf.create(name).into_result()
 }
 
 /// Adds these bytes at the end of the file of that name, which it makes where there is none.
 pub fn append<F: Shelf>(shelf: &mut F, name: &Word, bytes: &[u8]) -> Result<(), Stop>
     ensures { Does F.Shelf shelf.old shelf.new result (Append name.now bytes.now ∷ []) }
 {
-    match shelf.append(name, bytes) {
-        Wrote::Done => Ok(()),
-        Wrote::Failed => Err(Stop::Shelf),
-        Wrote::OutOfMemory => Err(Stop::Memory),
-    }
+    shelf.append(name, bytes).into_result()
 }
 
 /// Writes a file with these bytes, in place of one that is there.
 pub fn write_file<F: Shelf>(shelf: &mut F, name: &Word, bytes: &[u8]) -> Result<(), Stop>
-    ensures { Does F.Shelf shelf.old shelf.new result (Create name.now ∷ Append name.now bytes.now ∷ []) }
+    ensures { Does F.Shelf shelf.old shelf.new result
+        (Create name.now ∷ Append name.now bytes.now ∷ []) }
 {
     create(shelf, name)?;
     append(shelf, name, bytes)?;

@@ -1,7 +1,7 @@
 -- How a command goes on a shelf.
 use Rattle.std.proofs.Common.{◌≡◌, ℕ, List, [], ◌∷◌, ◌++◌, None, Some}
 use Rattle.std.specs.Prelude.{Option}
-use Rattle.trick_outside.proofs.CauseLemmas.{rose_late}
+use Rattle.trick_outside.proofs.CauseLemmas.{rose_earlier}
 use Rattle.trick_outside.proofs.DoesLemmas.{Joins}
 use Rattle.trick_outside.proofs.GetLemmas.{went_get, went_gets, went_nothing, went_then}
 use Rattle.trick_outside.specs.Answers.{told_by}
@@ -49,5 +49,5 @@ gone_on {shelf = shelf} {old = old} {next = next} {new = new} name other first s
       answers = (told_by name first ++ told_by other second) ++ [];
       writes = run.writes;
       went = went_then join both run.went;
-      outcome = rw (found, found_too) (simulated (later_rise (rose_late (shelf.failures old) (shelf.failures next) (shelf.failures new) both.later) run.simulated));
+      outcome = rw (found, found_too) (simulated (later_rise (rose_earlier (shelf.failures old) (shelf.failures next) (shelf.failures new) both.later) run.simulated));
     }
