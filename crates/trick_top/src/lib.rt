@@ -18,3 +18,6 @@ mod verdict;
 mod words;
 
 pub use alone::tricks_alone;
+
+#[cfg(test)]
+mod tests;

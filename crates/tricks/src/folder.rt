@@ -126,3 +126,49 @@ impl<R: Files> Shelf for Folder<'_, R> {
 
     ghost asked_join = { λ _ _ _ _ _ _ _. tt };
 }
+
+#[cfg(test)]
+mod tests {
+    use super::*;
+    use std::fs::File;
+    use std::test::Fail;
+
+    #[test]
+    fn a_folder_holds_files(rt: HostRuntime) -> Result<(), Fail> {
+        let alloc = rt.alloc();
+        let mut folder = Folder::new(&rt);
+        let name = Word::from_bytes(alloc, b"a.chk")?;
+        assert!(rt; matches!(folder.get(alloc, &name), Got::Missing));
+        assert_eq!(rt; folder.create(&name), Wrote::Done);
+        assert_eq!(rt; folder.append(&name, b"one;\n"), Wrote::Done);
+        assert_eq!(rt; folder.append(&name, b"two;\n"), Wrote::Done);
+        assert!(rt;
+            matches!(folder.get(alloc, &name), Got::Found(bytes) if bytes.as_slice() == b"one;\ntwo;\n".as_slice())
+        );
+        assert_eq!(rt; folder.create(&name), Wrote::Done);
+        assert!(rt; matches!(folder.get(alloc, &name), Got::Found(bytes) if bytes.is_empty()));
+        assert_eq!(rt; folder.faults(), 0);
+
+        // Names of no file of the folder: they are missing, and cannot be made.
+        for other in ["", ".", "..", "../a.chk", "/a.chk", "./a.chk", "a\0"] {
+            let faults = folder.faults();
+            let other = Word::from_bytes(alloc, other.as_bytes())?;
+            assert!(rt; matches!(folder.get(alloc, &other), Got::Missing));
+            assert_eq!(rt; folder.faults(), faults);
+            assert_eq!(rt; folder.create(&other), Wrote::Failed);
+            assert_eq!(rt; folder.append(&other, b"one"), Wrote::Failed);
+            assert_eq!(rt; folder.faults(), faults + 2);
+        }
+
+        // A folder is no file, and a file may have so many bytes and no more.
+        fs::create_dir(&rt, "b")?;
+        File::create(&rt, "c")?.set_len(FILE_LIMIT + 1)?;
+        for other in [b"b", b"c"] {
+            let faults = folder.faults();
+            let other = Word::from_bytes(alloc, other)?;
+            assert!(rt; matches!(folder.get(alloc, &other), Got::Failed));
+            assert_eq!(rt; folder.faults(), faults + 1);
+        }
+        Ok(())
+    }
+}

@@ -36,3 +36,16 @@ impl<R: Print> Sink for StandardOutput<'_, R> {
         self.faults
     }
 }
+
+#[cfg(test)]
+mod tests {
+    use super::*;
+
+    #[test]
+    fn a_line_is_taken(rt: HostRuntime) {
+        let mut out = StandardOutput::new(&rt);
+        assert_eq!(rt; out.write(b"a line\n"), Taken1::Took(7));
+        assert_eq!(rt; out.write(b""), Taken1::Took(0));
+        assert_eq!(rt; out.faults(), 0);
+    }
+}

@@ -1,0 +1,28 @@
+# make demo      proves, builds and runs the counter example, and shows its final checkpoint
+# make test      the gate: every proof, every edit that must fail, every test, the program
+# make tricks    the program, at build/tricks
+# make install   the program, at $(PREFIX)/bin/tricks
+
+PREFIX ?= /usr/local
+
+.PHONY: demo test tricks install clean
+
+demo: tricks
+	rm -rf build/demo && mkdir -p build/demo && cp examples/counter/* build/demo
+	cd build/demo && ../tricks serial counter.S_define counter_input.py && cat final.chk
+
+test:
+	rt ci
+
+# `rt run` builds what it runs. With no words the program prints its usage and ends with status 1,
+# so what tells is that the program is there afterwards.
+tricks:
+	mkdir -p build && rm -f build/tricks crates/tricks/out/tricks
+	cd crates/tricks && rt run >../../build/build.log 2>&1; test -x out/tricks || { tail -n 20 ../../build/build.log; exit 1; }
+	cp crates/tricks/out/tricks build/tricks
+
+install: tricks
+	install -D build/tricks $(DESTDIR)$(PREFIX)/bin/tricks
+
+clean:
+	rm -rf build crates/*/out
