@@ -1,0 +1,21 @@
+//! A value behind a turn: one pass at a time has the value, and all that was ever done behind the lock is one list, its
+//! history.
+#![tactic(auto)]
+
+mod claim;
+mod keeps;
+mod lock;
+mod pass;
+mod rule;
+mod turn;
+mod view;
+
+pub use claim::Claim;
+pub use keeps::{Adds, Keeps, Nothing};
+pub use lock::TurnLock;
+pub use pass::Pass;
+pub use turn::Turn;
+pub use view::View;
+
+#[cfg(test)]
+mod tests;
