@@ -1,6 +1,6 @@
 -- A number of seconds in tics.
 use Rattle.std.proofs.Common.{◌≡◌, ℕ, zero, suc, ◌+◌, ◌-◌, ◌*◌, ◌^◌, ◌<◌, ◌≤◌, Bool, true, false, cond, Option, Some, None, List, [], ◌∷◌, ◌++◌, ◌⊎◌, length, take, drop, min, subst, if◌then◌else◌, arith, refl, sym, ap, ◌∙◌, inl, inr}
-use Rattle.std.proofs.Math.Nat.{mul-le-mul_left, mul-le-mul_right, mul_assoc, mul_comm, pow-le-pow_right, one-le-pow}
+use Rattle.std.proofs.Math.Nat.{mul-le-mul_right, mul_comm, pow-le-pow_right, one-le-pow}
 use Rattle.std.proofs.Math.Logic.{⊎_elim}
 use Rattle.std.proofs.lemmas.Bool.{and_parts, cases_lt, cases_order, eq-eqb, eqb-true, eqb-false, ltb-false, ltb-true, ne_eqb, not-true}
 use Rattle.std.proofs.lemmas.Bool.Decides.{nat_tests}
@@ -59,6 +59,7 @@ module _ (numerator places : ℕ) (a : Amount) (is : IsAmount numerator places a
         where
           below : n < a.tics → ⊥
           below l = let next : n + 1 ≤ a.tics = omega arith in let k : (n + 1) * 10 ^ places ≤ a.tics * 10 ^ places = mul-le-mul_right (10 ^ places) next in omega (arith, e, is.total, ten_positive places)
+
           beyond : a.tics < n → ⊥
           beyond l = let next : a.tics + 1 ≤ n = omega arith in let k : (a.tics + 1) * 10 ^ places ≤ n * 10 ^ places = mul-le-mul_right (10 ^ places) next in omega (arith, e, is.total, is.small)
 

@@ -1,5 +1,5 @@
 -- What is known of a number that stands at the front of a text.
-use Rattle.std.proofs.Common.{◌≡◌, ℕ, zero, suc, ◌+◌, ◌-◌, ◌<◌, ◌≤◌, Bool, true, false, not, cond, List, [], ◌∷◌, Option, Some, None, length, take, drop, arith, refl, sym, ap, ◌∙◌, subst, if◌then◌else◌}
+use Rattle.std.proofs.Common.{◌≡◌, ℕ, suc, ◌+◌, ◌<◌, ◌≤◌, Bool, true, false, cond, List, [], ◌∷◌, Option, Some, None, take, drop, arith, refl, sym, ap, ◌∙◌, subst, if◌then◌else◌}
 use Rattle.std.proofs.lemmas.Bool.{and_parts, leb-true, eqb-true}
 use Rattle.std.proofs.lemmas.Bool.Decides.{nat_tests}
 use Rattle.std.specs.Char.{digit_value, is_ascii_digit, is_ascii_hexdigit}
@@ -12,7 +12,7 @@ use Rattle.trick_text.specs.declared.token.Style.{Style}
 use Rattle.trick_text.specs.declared.token.TokenKind.{TokenKind}
 use Rattle.trick_text.specs.declared.token.TokenKind.TheVariants.{Name, Whole, Decimal, Text, Mark}
 use Rattle.trick_text.specs.Numbers.{whole_value, whole_limit}
-use Rattle.trick_text.specs.Pieces.{begins, is_white, is_in_line, begins_line_comment, begins_block_comment, block_comment, before_close, begins_name, name_front, begins_number, number_front, is_quote, text_front, begins_mark, mark_len, front, whole_front, decimal_front, hexadecimal_digits}
+use Rattle.trick_text.specs.Pieces.{begins, is_white, begins_line_comment, begins_block_comment, block_comment, before_close, begins_name, name_front, begins_number, number_front, is_quote, text_front, begins_mark, front, whole_front, decimal_front, hexadecimal_digits}
 use Rattle.trick_text.specs.Seconds.{is_number, is_point}
 
 -- the first branch or the second, where the other cannot be
@@ -69,7 +69,7 @@ module _ (kind : TokenKind) (n : ℕ) (number : is_number kind ≡ true) where
   unfolding front
   number_here style [] e = absurd (no_bad kind 0 n e)
   number_here style (b ∷ bs) e =
-      let past_white = else_branch (is_white b) _ _ _ e (no_blank kind 1 n) in
+      let past_white = else_branch (is_white b) _ _ _ e (no_blank kind _ n) in
       let past_line = else_branch (begins_line_comment style (b ∷ bs)) _ _ _ past_white (no_blank kind _ n) in
       let past_block = else_branch (begins_block_comment style (b ∷ bs)) _ _ _ past_line (no_comment (before_close (drop 2 (b ∷ bs)))) in
       let past_name = else_branch (begins_name b) _ _ _ past_block (no_name (b ∷ bs)) in

@@ -1,5 +1,5 @@
 -- A text has no other tokens, and no tokens past its first fault.
-use Rattle.std.proofs.Common.{◌≡◌, ◌≢◌, ℕ, zero, suc, ◌+◌, ◌-◌, ◌<◌, ◌≤◌, List, [], ◌∷◌, Some, All, length, drop, slice_get, arith, refl, sym, ap, ◌∙◌, subst, add-one}
+use Rattle.std.proofs.Common.{◌≡◌, ◌≢◌, ℕ, zero, suc, ◌+◌, ◌≤◌, List, [], ◌∷◌, Some, All, length, drop, slice_get, arith, refl, sym, ap, ◌∙◌, subst}
 use Rattle.std.proofs.lemmas.List.{at_drop_all}
 use Rattle.trick_text.specs.declared.fault.TextFault.{TextFault}
 use Rattle.trick_text.specs.declared.fault.TextFault.TheVariants as faults
@@ -9,7 +9,7 @@ use Rattle.trick_text.specs.declared.token.Style.{Style}
 use Rattle.trick_text.specs.declared.token.Token as declared
 use Rattle.trick_text.specs.declared.token.TokenKind.{TokenKind}
 use Rattle.trick_text.specs.Pieces.{front}
-use Rattle.trick_text.specs.Tokens.{line_of, AreBlanks, nothing, blank, IsToken, IsTokenOf, AreTokens, AreAllTokens, StopsAt, IsRefused}
+use Rattle.trick_text.specs.Tokens.{line_of, AreBlanks, nothing, blank, IsToken, IsTokenOf, AreTokens, AreAllTokens, LiesIn, StopsAt, IsRefused}
 
 module _ (style : Style) (text : List ℕ) where
   -- white space and comments, seen from their front
@@ -78,6 +78,7 @@ module _ (style : Style) (text : List ℕ) where
     where
       no_blank : (n : ℕ) → BadByte m ≡ Blank n → ⊥
       no_blank n f = cc
+
       none : (kind : TokenKind) (n : ℕ) → BadByte m ≡ Token kind n → ⊥
       none kind n f = cc
 
@@ -86,6 +87,7 @@ module _ (style : Style) (text : List ℕ) where
     where
       no_blank : (n : ℕ) → OpenComment ≡ Blank n → ⊥
       no_blank n f = cc
+
       none : (kind : TokenKind) (n : ℕ) → OpenComment ≡ Token kind n → ⊥
       none kind n f = cc
 
@@ -94,6 +96,7 @@ module _ (style : Style) (text : List ℕ) where
     where
       no_blank : (n : ℕ) → LongNumber ≡ Blank n → ⊥
       no_blank n f = cc
+
       none : (kind : TokenKind) (n : ℕ) → LongNumber ≡ Token kind n → ⊥
       none kind n f = cc
 
@@ -119,6 +122,55 @@ module _ (style : Style) (text : List ℕ) where
   refused_has_none (faults.LongNumber at) ts ne r q = stopped_has_none at _ ts r (long_is_end at r.here) q
   refused_has_none faults.OutOfMemory ts ne r q = ne refl
 
+  -- two faults stop at one place, at one piece
+  same_stop : (i j : ℕ) (p q : Piece) → StopsAt style text i p → StopsAt style text j q → IsEnd i → IsEnd j → (i ≡ j) × (p ≡ q)
+  same_stop i j p q s t a b =
+      let e = (same_walk 0 _ _ s.before.0 t.before.0 s.before.1 t.before.1 a b).1 in
+      (e, sym s.here ∙ ap (λ k. front style (drop k text)) e ∙ t.here)
+
+  bad_width : (m n : ℕ) → BadByte m ≡ BadByte n → m ≡ n
+  bad_width m n e = cc
+
+  bad_not_open : (m : ℕ) → BadByte m ≡ OpenComment → ⊥
+  bad_not_open m e = cc
+
+  bad_not_long : (m : ℕ) → BadByte m ≡ LongNumber → ⊥
+  bad_not_long m e = cc
+
+  open_not_long : OpenComment ≡ LongNumber → ⊥
+  open_not_long e = cc
+
+  bad_and_open : (i n j : ℕ) → StopsAt style text i (BadByte n) → StopsAt style text j OpenComment → ⊥
+  bad_and_open i n j s t = bad_not_open n (same_stop i j _ _ s t (bad_is_end i n s.here) (open_is_end j t.here)).1
+
+  bad_and_long : (i n j : ℕ) → StopsAt style text i (BadByte n) → StopsAt style text j LongNumber → ⊥
+  bad_and_long i n j s t = bad_not_long n (same_stop i j _ _ s t (bad_is_end i n s.here) (long_is_end j t.here)).1
+
+  open_and_long : (i j : ℕ) → StopsAt style text i OpenComment → StopsAt style text j LongNumber → ⊥
+  open_and_long i j s t = open_not_long (same_stop i j _ _ s t (open_is_end i s.here) (long_is_end j t.here)).1
+
+  pub one_fault : (f g : TextFault) → f ≢ faults.OutOfMemory → g ≢ faults.OutOfMemory → IsRefused style text f → IsRefused style text g → f ≡ g
+  one_fault faults.OutOfMemory g a b r s = absurd (a refl)
+  one_fault f faults.OutOfMemory a b r s = absurd (b refl)
+  one_fault (faults.LongText l) (faults.LongText m) a b r s = ap (λ k. faults.LongText k) (r.1 ∙ sym s.1)
+  one_fault (faults.LongText l) (faults.BadByte m) a b r s = absurd (omega (arith, r.0, s.2.short))
+  one_fault (faults.LongText l) (faults.OpenComment m) a b r s = absurd (omega (arith, r.0, s.short))
+  one_fault (faults.LongText l) (faults.LongNumber m) a b r s = absurd (omega (arith, r.0, s.short))
+  one_fault (faults.BadByte l) (faults.LongText m) a b r s = absurd (omega (arith, s.0, r.2.short))
+  one_fault (faults.OpenComment l) (faults.LongText m) a b r s = absurd (omega (arith, s.0, r.short))
+  one_fault (faults.LongNumber l) (faults.LongText m) a b r s = absurd (omega (arith, s.0, r.short))
+  one_fault (faults.BadByte l) (faults.BadByte m) a b r s =
+      let same = same_stop r.0 s.0 _ _ r.2 s.2 (bad_is_end r.0 r.1 r.2.here) (bad_is_end s.0 s.1 s.2.here) in
+      ap (λ k. faults.BadByte k) (omega (arith, r.3, s.3, same.0, bad_width _ _ same.1))
+  one_fault (faults.BadByte l) (faults.OpenComment m) a b r s = absurd (bad_and_open r.0 r.1 m r.2 s)
+  one_fault (faults.BadByte l) (faults.LongNumber m) a b r s = absurd (bad_and_long r.0 r.1 m r.2 s)
+  one_fault (faults.OpenComment l) (faults.BadByte m) a b r s = absurd (bad_and_open s.0 s.1 l s.2 r)
+  one_fault (faults.OpenComment l) (faults.OpenComment m) a b r s = ap (λ k. faults.OpenComment k) (same_stop l m _ _ r s (open_is_end l r.here) (open_is_end m s.here)).0
+  one_fault (faults.OpenComment l) (faults.LongNumber m) a b r s = absurd (open_and_long l m r s)
+  one_fault (faults.LongNumber l) (faults.BadByte m) a b r s = absurd (bad_and_long s.0 s.1 l s.2 r)
+  one_fault (faults.LongNumber l) (faults.OpenComment m) a b r s = absurd (open_and_long m l s r)
+  one_fault (faults.LongNumber l) (faults.LongNumber m) a b r s = ap (λ k. faults.LongNumber k) (same_stop l m _ _ r s (long_is_end l r.here) (long_is_end m s.here)).0
+
   same_some : (t u : declared.Token) → Some t ≡ Some u → t ≡ u
   same_some t u e = cc
 
@@ -131,6 +183,11 @@ module _ (style : Style) (text : List ℕ) where
   all_are i j [] p k d h = absurd (omega arith)
   all_are i j (t ∷ ts) p zero d h = (style, p.1)
   all_are i j (t ∷ ts) p (suc k) d h = all_are t.end j ts p.2 k d (omega arith)
+
+  pub all_lie : (i j : ℕ) (ts : List declared.Token) → AreTokens style text i ts j → All (LiesIn text) ts
+  all_lie i j [] p k d h = absurd (omega arith)
+  all_lie i j (t ∷ ts) p zero d h = (p.1.forward, p.1.inside)
+  all_lie i j (t ∷ ts) p (suc k) d h = all_lie t.end j ts p.2 k d (omega arith)
 
   rise : {i j : ℕ} → AreBlanks style text i j → i ≤ j
   rise nothing = omega arith

@@ -1,13 +1,12 @@
 -- What stands at the front of a text, by the three styles.
 use Rattle.std.specs.Char.{is_ascii_alphabetic, is_ascii_alphanumeric, is_ascii_digit, is_ascii_graphic, is_ascii_hexdigit}
 use Rattle.std.specs.List.{list_any, prefix_len, starts_with}
-use Rattle.std.specs.Prelude.{ℕ, ◌<◌, ◌≤◌, ◌+◌, Bool, true, false, ◌&&◌, ◌||◌, not, List, [], ◌∷◌, take, drop, Option, Some, None, option_map, nat_eq, nat_le, nat_lt, ◌==◌, codes, if◌then◌else◌}
+use Rattle.std.specs.Prelude.{ℕ, ◌<◌, ◌≤◌, ◌+◌, Bool, false, ◌&&◌, ◌||◌, not, List, [], ◌∷◌, take, drop, Option, Some, None, option_map, nat_eq, nat_le, nat_lt, ◌==◌, codes, if◌then◌else◌}
 use Rattle.trick_text.specs.Numbers.{whole_value, whole_limit}
 use Rattle.trick_text.specs.declared.piece.Piece.{Piece}
 use Rattle.trick_text.specs.declared.piece.Piece.TheVariants.{Blank, Token, BadByte, OpenComment, LongNumber}
 use Rattle.trick_text.specs.declared.token.Style.{Style}
 use Rattle.trick_text.specs.declared.token.Style.TheVariants.{SDefine, Input, Command}
-use Rattle.trick_text.specs.declared.token.TokenKind.{TokenKind}
 use Rattle.trick_text.specs.declared.token.TokenKind.TheVariants.{Name, Whole, Decimal, Text, Mark}
 
 -- these bytes come next
@@ -54,7 +53,10 @@ is_in_name b = is_ascii_alphanumeric b || (b == 95)
 
 -- a name of at most 64 bytes; the 65th is bad
 unfoldable pub name_front : List ℕ → Piece
-name_front text = let n = prefix_len is_in_name text in if nat_lt 64 n then BadByte 64 else Token Name n
+name_front text =
+    let n = prefix_len is_in_name text in
+    if nat_lt 64 n then BadByte 64
+    else Token Name n
 
 abbrev pub begins_digit : List ℕ → Bool
 begins_digit [] = false
@@ -98,7 +100,10 @@ is_in_text quote b = not (b == quote) && not (b == 10)
 
 -- behind a quote: up to the same quote on the same line
 unfoldable pub text_front : ℕ → List ℕ → Piece
-text_front quote after = let n = prefix_len (is_in_text quote) after in if begins (quote ∷ []) (drop n after) then Token Text (n + 2) else BadByte 0
+text_front quote after =
+    let n = prefix_len (is_in_text quote) after in
+    if begins (quote ∷ []) (drop n after) then Token Text (n + 2)
+    else BadByte 0
 
 -- three bytes that are one mark
 abbrev pub triples : List (List ℕ)
@@ -107,8 +112,9 @@ triples = codes "<<=" ∷ codes ">>=" ∷ []
 -- two bytes that are one mark
 abbrev pub pairs : List (List ℕ)
 pairs =
-    codes "::" ∷ codes "##" ∷ codes "%{" ∷ codes "==" ∷ codes "!=" ∷ codes "<=" ∷ codes ">=" ∷ codes "&&" ∷ codes "||" ∷ codes "<<" ∷ codes ">>"
-    ∷ codes "+=" ∷ codes "-=" ∷ codes "*=" ∷ codes "/=" ∷ codes "%=" ∷ codes "&=" ∷ codes "|=" ∷ codes "^=" ∷ codes "++" ∷ codes "--" ∷ []
+    codes "::" ∷ codes "##" ∷ codes "%{" ∷ codes "==" ∷ codes "!=" ∷ codes "<=" ∷ codes ">="
+    ∷ codes "&&" ∷ codes "||" ∷ codes "<<" ∷ codes ">>" ∷ codes "+=" ∷ codes "-=" ∷ codes "*="
+    ∷ codes "/=" ∷ codes "%=" ∷ codes "&=" ∷ codes "|=" ∷ codes "^=" ∷ codes "++" ∷ codes "--" ∷ []
 
 -- one of these comes next
 abbrev pub begins_one : List (List ℕ) → List ℕ → Bool
@@ -116,7 +122,10 @@ begins_one marks text = list_any (λ mark. begins mark text) marks
 
 -- how long the longest mark is that comes next
 unfoldable pub mark_len : List ℕ → ℕ
-mark_len text = if begins_one triples text then 3 else if begins_one pairs text then 2 else 1
+mark_len text =
+    if begins_one triples text then 3
+    else if begins_one pairs text then 2
+    else 1
 
 -- a visible ASCII byte, but for the single quote
 abbrev pub begins_mark : ℕ → Bool
@@ -126,7 +135,7 @@ begins_mark b = is_ascii_graphic b && not (b == 39)
 unfoldable pub front : Style → List ℕ → Piece
 front style [] = BadByte 0
 front style (b ∷ bs) =
-    if is_white b then Blank 1
+    if is_white b then Blank (prefix_len is_white (b ∷ bs))
     else if begins_line_comment style (b ∷ bs) then Blank (prefix_len is_in_line (b ∷ bs))
     else if begins_block_comment style (b ∷ bs) then block_comment (before_close (drop 2 (b ∷ bs)))
     else if begins_name b then name_front (b ∷ bs)

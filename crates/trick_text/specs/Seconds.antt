@@ -24,9 +24,12 @@ places bytes = length (after_first is_point bytes)
 -- the digits before the point and those behind it, as one number; the whole number where there is
 -- no point
 abbrev pub numerator : List ℕ → ℕ
-numerator bytes = if list_any is_point bytes then digits_value 10 (before_first is_point bytes ++ after_first is_point bytes) else whole_value bytes
+numerator bytes =
+    if list_any is_point bytes then digits_value 10 (before_first is_point bytes ++ after_first is_point bytes)
+    else whole_value bytes
 
--- The value of a number is its numerator divided by ten to the power of its places.
+-- The value of a number is its numerator divided by ten to the power of its places. So that no
+-- fraction is left, both sides of a fact are given times that power.
 
 -- the value times one million is exactly n
 abbrev pub IsTics : List ℕ → ℕ → Type 0

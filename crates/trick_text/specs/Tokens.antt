@@ -31,6 +31,10 @@ pub record IsToken (style : Style) (text : List ℕ) (t : Token) : Type 0 where
 abbrev pub IsTokenOf : List ℕ → Token → Type 0
 IsTokenOf text t = (style : Style) × IsToken style text t
 
+-- it has a byte at least, and all of its bytes stand in the text
+abbrev pub LiesIn : List ℕ → Token → Type 0
+LiesIn text t = (t.start < t.end) × (t.end ≤ length text)
+
 -- white space and comments alone, one after the other, from i up to j
 pub data AreBlanks (style : Style) (text : List ℕ) : ℕ → ℕ → Type 0 where
   nothing : {i : ℕ} → AreBlanks style text i i

@@ -14,18 +14,21 @@ pub fn begins(text: &[u8], bytes: &[u8]) -> bool
     text.starts_with(bytes)
 }
 
+/// Whether the byte is white space.
 pub fn is_white(byte: u8) -> bool
     ensures { result ≡ is_white byte }
 {
     byte == b' ' || byte == b'\t' || byte == b'\r' || byte == b'\n'
 }
 
+/// Whether a name may begin with the byte.
 pub fn begins_name(byte: u8) -> bool
     ensures { result ≡ begins_name byte }
 {
     byte.is_ascii_alphabetic() || byte == b'_'
 }
 
+/// Whether a digit comes next.
 pub fn begins_digit(text: &[u8]) -> bool
     ensures { result ≡ begins_digit text.now }
 {
@@ -45,6 +48,7 @@ pub fn begins_number(text: &[u8]) -> bool
     }
 }
 
+/// Whether a string may stand between two of the byte.
 pub fn is_quote(style: Style, byte: u8) -> bool
     ensures { result ≡ is_quote style byte }
 {
@@ -54,11 +58,19 @@ pub fn is_quote(style: Style, byte: u8) -> bool
     }
 }
 
-/// A visible byte, but for the single quote.
+/// Whether the byte is visible and no single quote.
 pub fn begins_mark(byte: u8) -> bool
     ensures { result ≡ begins_mark byte }
 {
     byte.is_ascii_graphic() && byte != b'\''
+}
+
+/// How many bytes of white space stand at the front.
+pub fn white_len(text: &[u8]) -> usize
+    ensures len { result ≡ prefix_len is_white text.now }
+    ensures within { result ≤ length text.now }
+{
+    text.iter().take_while(|byte| is_white(**byte)).count()
 }
 
 /// How many bytes stand before the line's end.

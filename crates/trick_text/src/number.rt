@@ -26,7 +26,8 @@ fn digit_value(byte: u8) -> u8
 /// The number that digits of this base stand for, where it is not above the limit.
 pub fn digits_value(base: u8, digits: &[u8], limit: u64) -> Option<u64>
     requires base { 1 ≤ base }
-    ensures value { MatchOption result (limit < digits_value base digits.now) (λ n. n ≡ digits_value base digits.now) }
+    ensures value { MatchOption result (limit < digits_value base digits.now)
+        (λ n. n ≡ digits_value base digits.now) }
     ensures limit { IfSome result (λ n. n ≤ limit) }
 {
     let limit_wide = u128::from(limit);

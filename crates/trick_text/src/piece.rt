@@ -2,7 +2,10 @@ ghost use Rattle.std.specs.List.{prefix_len};
 ghost use Rattle.std.specs.Prelude.{◌≡◌, ◌+◌, ◌∷◌, ◌<◌, ◌≤◌, ◌^◌, true, IfSome, drop, length};
 ghost use Rattle.trick_text.specs.Pieces.{Within, before_close, begins_block_comment, begins_line_comment, begins_number, begins_one, front, hexadecimal_digits, is_in_name, mark_len, name_front, number_front, pairs, text_front, triples, whole_front};
 
-use crate::bytes::*;
+use crate::bytes::{
+    begins, begins_mark, begins_name, begins_number, digits_len, hexadecimal_len, is_quote,
+    is_white, line_len, name_len, quoted_len, white_len,
+};
 use crate::number::{WHOLE_LIMIT, whole_value};
 use crate::token::{Style, TokenKind};
 
@@ -174,7 +177,7 @@ pub fn front(style: Style, text: &[u8]) -> Piece
         return Piece::BadByte(0);
     };
     if is_white(*first) {
-        Piece::Blank(1)
+        Piece::Blank(white_len(text))
     } else if begins_line_comment(style, text) {
         Piece::Blank(line_len(text))
     } else if begins_block_comment(style, text) {

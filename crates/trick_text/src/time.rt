@@ -27,7 +27,8 @@ pub struct Amount {
 impl Amount {
     // Whether there are more tics than a time may have.
     fn is_above(&self) -> bool
-        ensures { result ≡ (nat_lt TIC_LIMIT self.now.tics || ((self.now.tics == TIC_LIMIT) && not self.now.is_exact)) }
+        ensures { result ≡ (nat_lt TIC_LIMIT self.now.tics
+            || ((self.now.tics == TIC_LIMIT) && not self.now.is_exact)) }
     {
         self.tics > TIC_LIMIT || (self.tics == TIC_LIMIT && !self.is_exact)
     }
@@ -105,8 +106,11 @@ pub fn seconds(token: &Token, text: &[u8]) -> Result<u64, TimeFault>
     ensures limit { IfOk result (λ n. n ≤ TIC_LIMIT) }
     ensures found { (n : ℕ) → n ≤ TIC_LIMIT → IsTics (spelling text.now token.now) n → result ≡ Ok n }
 
-    ensures too_large { IsErrOf result (TimeFault.TimeTooLarge token.now.line) ↔ IsTooLarge (spelling text.now token.now) }
-    ensures inexact { IsErrOf result (TimeFault.InexactTime token.now.line) ↔ (¬ IsTooLarge (spelling text.now token.now) × ((n : ℕ) → ¬ IsTics (spelling text.now token.now) n)) }
+    ensures too_large { IsErrOf result (TimeFault.TimeTooLarge token.now.line)
+        ↔ IsTooLarge (spelling text.now token.now) }
+    ensures inexact { IsErrOf result (TimeFault.InexactTime token.now.line)
+        ↔ (¬ IsTooLarge (spelling text.now token.now)
+        × ((n : ℕ) → ¬ IsTics (spelling text.now token.now) n)) }
 {
     let line = token.line;
     match amount_of(token.spelling(text)) {

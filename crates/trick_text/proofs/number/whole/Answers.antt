@@ -1,4 +1,4 @@
-use Rattle.std.proofs.Common.{◌≡◌, ◌-◌, ◌≤◌, drop, arith, ap, ◌∙◌, subst}
+use Rattle.std.proofs.Common.{◌-◌, ◌≤◌, drop, arith, ap, ◌∙◌}
 use Rattle.std.proofs.lemmas.Bool.{some_since}
 use Rattle.trick_text.specs.declared.piece.Piece.TheVariants.{Token}
 use Rattle.trick_text.specs.Numbers.{whole_value, whole_limit}

@@ -32,17 +32,17 @@ loop-rest-preserved c =
       lines = s.lines;
       line = s.line_is;
       so_far = elim c.match-front.branch [
-        in-Blank w ↦
-          let is = ap (front style) (sym l.invariant.here) ∙ sym w.in-Blank.ensures.is ∙ ap Blank (sym w.len-is) in
-          subst (λ v. AreTokens style text 0 v.items (l.at + n)) (sym w.out-is) (blank_more style text l.out.items 0 l.at n l.invariant.so_far is)
-      | in-Token+in_ok-push-in-Token w ↦
-          let m = w.in-Token.n in
-          let width : (l.at + m) - l.at ≡ m = omega arith in
-          let is = ap (front style) (sym l.invariant.here) ∙ sym w.in-Token.ensures.is ∙ ap (Token w.in-Token.kind) (sym width) in
-          let inside : l.at + m ≤ length text = omega (arith, w.in-Token.ensures.within.1) in
-          let more = token_more style text l.out.items 0 _ l.invariant.so_far (record { longest = is; forward = omega (arith, w.in-Token.ensures.within.0); inside = inside; line = l.invariant.line }) in
-          let items = ap (λ v. v.items) w.out-is ∙ w.in_ok-push-in-Token.ensures.items in
-          let at_end : l.at + m ≡ l.at + n = ap (λ k. l.at + k) (sym w.len-is) in
-          subst (λ ts. AreTokens style text 0 ts (l.at + n)) (sym items) (subst (AreTokens style text 0 _) at_end more)
+        | in-Blank w ↦
+            let is = ap (front style) (sym l.invariant.here) ∙ sym w.in-Blank.ensures.is ∙ ap Blank (sym w.len-is) in
+            subst (λ v. AreTokens style text 0 v.items (l.at + n)) (sym w.out-is) (blank_more style text l.out.items 0 l.at n l.invariant.so_far is)
+        | in-Token+in_ok-push-in-Token w ↦
+            let m = w.in-Token.n in
+            let width : (l.at + m) - l.at ≡ m = omega arith in
+            let is = ap (front style) (sym l.invariant.here) ∙ sym w.in-Token.ensures.is ∙ ap (Token w.in-Token.kind) (sym width) in
+            let inside : l.at + m ≤ length text = omega (arith, w.in-Token.ensures.within.1) in
+            let more = token_more style text l.out.items 0 _ l.invariant.so_far (record { longest = is; forward = omega (arith, w.in-Token.ensures.within.0); inside = inside; line = l.invariant.line }) in
+            let items = ap (λ v. v.items) w.out-is ∙ w.in_ok-push-in-Token.ensures.items in
+            let at_end : l.at + m ≡ l.at + n = ap (λ k. l.at + k) (sym w.len-is) in
+            subst (λ ts. AreTokens style text 0 ts (l.at + n)) (sym items) (subst (AreTokens style text 0 _) at_end more)
       ];
     }

@@ -1,4 +1,4 @@
-use Rattle.std.proofs.Common.{◌≡◌, ◌+◌, ◌*◌, arith}
+use Rattle.std.proofs.Common.{◌+◌, ◌*◌, arith}
 use Rattle.std.specs.Str.Parse.{AllDigits}
 use Rattle.trick_text.proofs.Amounts.{many_seconds, digits-take, digits-drop, decimal_amount, few_cases}
 use Rattle.trick_text.proofs.time.decimal.Goals as goal

@@ -1,9 +1,8 @@
-use Rattle.std.proofs.Common.{◌≡◌, ◌-◌, Ok, drop, refl, sym, ap, subst}
+use Rattle.std.proofs.Common.{◌-◌, Ok, drop, refl, sym, ap, subst}
 use Rattle.std.specs.List.{after_first}
 use Rattle.std.specs.Str.Parse.{AllDigits}
 use Rattle.trick_text.specs.Amounts.{IsAmount}
 use Rattle.trick_text.specs.Seconds.{is_point, numerator, places}
-use Rattle.trick_text.specs.Tokens.{spelling}
 use Rattle.trick_text.proofs.Fronts.{fraction_is_digits}
 use Rattle.trick_text.proofs.Amounts.{inexact_has_none, is_not_above, only_tics}
 use Rattle.trick_text.proofs.time.seconds.Goals as goal
