@@ -11,8 +11,8 @@ abbrev pub is_in : List CellRange → ℕ → Bool
 is_in [] c = false
 is_in (r ∷ rs) c = (nat_le (r.first).0 c && nat_le c (r.last).0) || is_in rs c
 
--- A place whose indexes are all literals counts as its cell. Any other counts as all cells that
--- begin with its path before the first computed index.
+-- the cells that a place stands for: its one cell, where each of its indexes is a literal, and else
+-- all cells of what its path names up to the first computed index
 abbrev pub range_of : Spot → ℕ → CellRange
 range_of (spot own first span offset literals steps) base = record {
   first = record { 0 = origin own base + first };

@@ -19,8 +19,8 @@ module _ {E : Type 0} where
   abbrev pub HaveDifferentNumbers : List (View E) → Type 0
   HaveDifferentNumbers views = (i j : ℕ) (v w : View E) → get_elem? views i ≡ some v → get_elem? views j ≡ some w → 0 < v.number → v.number ≡ w.number → i ≡ j
 
-  -- Seats have different numbers, none is above the count that the first seat's view keeps, and no entry names a number
-  -- above it.
+  -- No number is given twice. The first seat's view counts the numbers that were given, and no view and no entry has a
+  -- later one.
   pub record AreNumbered (seat : E → ℕ) (views : List (View E)) (count : ℕ) (history : List E) : Type 0 where
     pub different : HaveDifferentNumbers views
     pub first : SomeView views (λ v. (v.number ≡ 1) × (v.made ≡ count))
@@ -58,7 +58,7 @@ module _ {E : Type 0} (seat : E → ℕ) where
   abbrev pub entries_of : ℕ → List E → List E
   entries_of number log = filter (λ e. seat e == number) log
 
-  -- Each entry names the seat that added it: a seat's entries in the history are those that its view keeps as its own. A
+  -- An entry names the seat that added it: of the history, a view keeps the entries with its seat's name as its own. A
   -- seat that was joined to another is excepted.
   abbrev pub HaveOwnEntries : List (View E) → List E → Type 0
   HaveOwnEntries views history = EachView views (λ v. 0 < v.number → entries_of v.number history ≡ v.own)
