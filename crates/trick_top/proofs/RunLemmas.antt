@@ -1,19 +1,19 @@
 -- One tic more, and one turn more.
-use Rattle.std.proofs.Common.{◌≡◌, ℕ, suc, ◌+◌, ◌<◌, ◌≤◌, ℤ, List, [], ◌∷◌, length, true, false, if◌then◌else◌, refl, sym, ap, subst, ◌∙◌, arith, inl, inr, Some, None}
+use Rattle.std.proofs.Common.{◌≡◌, ℕ, suc, ◌+◌, ◌<◌, ◌≤◌, ℤ, List, [], ◌∷◌, length, true, false, if◌then◌else◌, refl, sym, ap, subst, ◌∙◌, arith, inl, inr}
 use Rattle.std.specs.Prelude.{Option, ◌⊎◌, min}
 use Rattle.trick_cycle.specs.Due.{is_due_at}
+use Rattle.trick_lang.specs.Effect.{overwritten}
 use Rattle.trick_top.specs.Run.{after_turns, IsOver}
-use Rattle.trick_top.specs.Running.{serial, apply, effect, overwritten, due_of}
+use Rattle.trick_top.specs.Running.{serial, apply, effect, due_of}
 use Rattle.trick_top.specs.Turn.{after_tic, after_tics, after_turn, frame_end, tics_left}
 use Rattle.trick_top.specs.declared.counting.Counting.{Counting}
 use Rattle.trick_top.specs.declared.state.Mode.TheVariants as mode
 use Rattle.trick_top.specs.declared.state.State.{State}
 
 length-overwritten : (stores : List (Option ℤ)) (memory : List ℤ) → length (overwritten stores memory) ≡ length memory
-length-overwritten [] memory = refl
-length-overwritten (store ∷ stores) [] = refl
-length-overwritten (Some number ∷ stores) (old ∷ memory) = ap suc (length-overwritten stores memory)
-length-overwritten (None ∷ stores) (old ∷ memory) = ap suc (length-overwritten stores memory)
+length-overwritten stores [] = refl
+length-overwritten [] (old ∷ memory) = refl
+length-overwritten (store ∷ stores) (old ∷ memory) = ap suc (length-overwritten stores memory)
 
 length-serial : (simulation : Counting) (memory : List ℤ) (tic : ℕ) → length (serial simulation memory tic) ≡ length memory
 length-serial simulation memory tic =

@@ -1,9 +1,10 @@
 -- What the jobs of a counting simulation do to its memory. A memory is the list of its numbers, by
 -- cell; here there is one cell, and one job, which adds an amount to it.
 use Rattle.std.specs.List.{slice_index_or}
-use Rattle.std.specs.Prelude.{ℕ, ℤ, pos, ◌+ℤ◌, List, [], ◌∷◌, Option, Some, None, if◌then◌else◌}
+use Rattle.std.specs.Prelude.{ℕ, ℤ, pos, ◌+ℤ◌, List, [], ◌∷◌, Option, Some, if◌then◌else◌}
 use Rattle.trick_cycle.specs.Due.{is_due_at}
 use Rattle.trick_cycle.specs.declared.Due.{Due}
+use Rattle.trick_lang.specs.Effect.{overwritten}
 use Rattle.trick_lang.specs.Wrap.{wrap}
 use Rattle.trick_lang.specs.declared.scalar.Scalar.TheVariants.{Long}
 use Rattle.trick_top.specs.Time.{last_tic}
@@ -16,13 +17,6 @@ number_at memory cell = slice_index_or memory cell (pos 0)
 -- what the job stores, by cell: the sum, as the cell's type holds it
 abbrev pub effect : Counting → List ℤ → List (Option ℤ)
 effect simulation memory = Some (wrap Long (number_at memory 0 +ℤ pos simulation.amount)) ∷ []
-
--- a memory after these stores; a cell without one keeps its number
-abbrev pub overwritten : List (Option ℤ) → List ℤ → List ℤ
-overwritten [] memory = memory
-overwritten (store ∷ stores) [] = []
-overwritten (Some number ∷ stores) (old ∷ memory) = number ∷ overwritten stores memory
-overwritten (None ∷ stores) (old ∷ memory) = old ∷ overwritten stores memory
 
 -- running the job
 abbrev pub apply : Counting → List ℤ → List ℤ
