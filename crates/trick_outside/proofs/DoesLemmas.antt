@@ -2,12 +2,12 @@
 use Rattle.std.proofs.Common.{ℕ, ◌≡◌, List, [], ◌++◌, refl, sym, ◌∙◌, ap, Some, Ok, Err, IsOk, arith}
 use Rattle.std.specs.Prelude.{Result, IsErrOf}
 use Rattle.std.specs.FinMap.{get}
-use Rattle.trick_outside.proofs.ContentLemmas.{partly_written}
-use Rattle.trick_outside.specs.Content.{IsTidy, IsPartly}
-use Rattle.trick_outside.proofs.WriteLemmas.{all_written-append, part_of_early, part_of_late}
+use Rattle.trick_base.proofs.ContentLemmas.{partly_written}
+use Rattle.trick_base.specs.Content.{IsTidy, IsPartly}
+use Rattle.trick_base.proofs.WriteLemmas.{all_written-append, front_of_early, front_of_late}
 use Rattle.trick_outside.specs.Answers.{Asked}
 use Rattle.trick_outside.specs.Does.{Does}
-use Rattle.trick_outside.specs.Files.{Files, Write, all_written}
+use Rattle.trick_base.specs.Files.{Files, Write, all_written}
 use Rattle.trick_outside.specs.declared.shelf.Shelf.{Ghosts}
 use Rattle.trick_outside.specs.declared.steps.Stop.TheVariants.{Shelf}
 use Rattle.trick_outside.specs.declared.steps.Stop.{Stop}
@@ -41,7 +41,7 @@ pub does_stop : {S T U : Type 0} {shelf : Ghosts S} {old new : S} {first : Resul
 does_stop {early = early} result late did never fails = record {
   written = record {
     part = did.written.part;
-    is_part = part_of_early did.written.part early late did.written.is_part;
+    is_part = front_of_early did.written.part early late did.written.is_part;
     whole = λ d. absurd (never d);
     left = did.written.left;
   };
@@ -55,7 +55,7 @@ pub does_then : {S T U : Type 0} {shelf : Ghosts S} {old mid new : S} {first : R
 does_then {old = old} {mid = mid} {new = new} {early = early} {late = late} join did ok more = record {
   written = record {
     part = early ++ more.written.part;
-    is_part = part_of_late early more.written.part late more.written.is_part;
+    is_part = front_of_late early more.written.part late more.written.is_part;
     whole = λ d. ap (λ p. early ++ p) (more.written.whole d);
     left = λ files e.
         let done = did.written.left files e ∙ ap (λ p. Some (all_written p files)) (did.written.whole ok) in

@@ -4,7 +4,7 @@ use Rattle.std.specs.Prelude.{Result}
 use Rattle.trick_outside.proofs.DoesLemmas.{Joins}
 use Rattle.trick_outside.specs.Answers.{Asked, AreOf, told_by}
 use Rattle.trick_outside.specs.Does.{Does}
-use Rattle.trick_outside.specs.Files.{Files, Write, all_written}
+use Rattle.trick_base.specs.Files.{Files, Write, all_written}
 use Rattle.trick_outside.specs.Gets.{Gets, Went}
 use Rattle.trick_outside.specs.declared.shelf.Got.{Got}
 use Rattle.trick_outside.specs.declared.shelf.Shelf.{Ghosts}

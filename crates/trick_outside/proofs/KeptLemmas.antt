@@ -6,9 +6,9 @@ use Rattle.std.specs.Cmp.Lexicographic.{slice_cmp, nat_list_cmp_total}
 use Rattle.std.specs.FinMap.{get, insert, get-empty, get-insert}
 use Rattle.std.specs.Ordering.{nat_cmp}
 use Rattle.std.specs.Prelude.{Option, is_some, ◌↔◌}
-use Rattle.trick_outside.proofs.FileLemmas.{names_equal, insert-held, insert-insert, insert-commutes, get-insert_same, get-insert_other}
-use Rattle.trick_outside.specs.Content.{same_name}
-use Rattle.trick_outside.specs.Files.{bytes_at}
+use Rattle.trick_base.proofs.FileLemmas.{names_equal, insert-held, insert-insert, insert-commutes, get-insert_same, get-insert_other}
+use Rattle.trick_base.specs.Content.{same_name}
+use Rattle.trick_base.specs.Files.{bytes_at}
 use Rattle.trick_outside.specs.Kept.{kept}
 use Rattle.trick_outside.specs.declared.memory_shelf.File.{File}
 

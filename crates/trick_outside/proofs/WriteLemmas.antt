@@ -1,28 +1,8 @@
--- Calls that write, one after another, and their parts.
-use Rattle.std.proofs.Common.{◌≡◌, List, [], ◌∷◌, ◌++◌, refl, ◌∙◌, ap, inl, inr, Some}
+-- One call that writes to a shelf that tells what it holds.
+use Rattle.std.proofs.Common.{◌≡◌, List, [], ◌∷◌, refl, ◌∙◌, ap, inl, Some}
 use Rattle.std.specs.Prelude.{Option}
-use Rattle.trick_outside.specs.Files.{Files, Write, written, all_written, IsPartOf, Writes}
-
-pub all_written-append : (early late : List Write) (files : Files) → all_written (early ++ late) files ≡ all_written late (all_written early files)
-all_written-append [] late files = refl
-all_written-append (write ∷ early) late files = all_written-append early late (written write files)
-
--- all of them are a part
-pub part_of_all : (writes : List Write) → IsPartOf writes writes
-part_of_all [] = tt
-part_of_all (write ∷ writes) = inl (refl, part_of_all writes)
-
--- a part of the first calls is a part of all of them
-pub part_of_early : (part early late : List Write) → IsPartOf part early → IsPartOf part (early ++ late)
-part_of_early [] early late is = tt
-part_of_early (write ∷ part) [] late is = absurd is
-part_of_early (write ∷ part) (first ∷ early) late (inl is) = inl (is.0, part_of_early part early late is.1)
-part_of_early (write ∷ part) (first ∷ early) late (inr is) = inr is
-
--- the first calls and a part of the others are a part of all of them
-pub part_of_late : (early part late : List Write) → IsPartOf part late → IsPartOf (early ++ part) (early ++ late)
-part_of_late [] part late is = is
-part_of_late (write ∷ early) part late is = inl (refl, part_of_late early part late is)
+use Rattle.trick_base.specs.Files.{Files, Write, written}
+use Rattle.trick_outside.specs.Files.{Writes}
 
 pub same_some : {A : Type 0} (x y : A) → Some x ≡ Some y → x ≡ y
 same_some x y e = cc

@@ -1,7 +1,7 @@
 -- What a shelf was asked, and what it answered.
 use Rattle.std.specs.FinMap.{get}
 use Rattle.std.specs.Prelude.{◌≡◌, ℕ, List, [], ◌∷◌, Option, Some, None}
-use Rattle.trick_outside.specs.Files.{Files}
+use Rattle.trick_base.specs.Files.{Files}
 use Rattle.trick_outside.specs.declared.shelf.Got.{Got}
 use Rattle.trick_outside.specs.declared.shelf.Got.TheVariants.{Found, Missing, Failed, OutOfMemory}
 

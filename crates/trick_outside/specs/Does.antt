@@ -1,7 +1,8 @@
 -- What was done to a shelf: one word for a single call that writes, and for all that stands above.
 use Rattle.std.specs.Prelude.{List, [], Result, IsOk, IsErrOf}
 use Rattle.trick_outside.specs.Causes.{HasCause}
-use Rattle.trick_outside.specs.Files.{Write, Writes}
+use Rattle.trick_base.specs.Files.{Write}
+use Rattle.trick_outside.specs.Files.{Writes}
 use Rattle.trick_outside.specs.declared.shelf.Shelf.{Ghosts}
 use Rattle.trick_outside.specs.declared.steps.Stop.TheVariants.{Shelf}
 use Rattle.trick_outside.specs.declared.steps.Stop.{Stop}

@@ -2,7 +2,8 @@
 use Rattle.std.specs.Prelude.{◌≡◌, ◌≤◌, ℕ, List, [], Some}
 use Rattle.trick_outside.specs.Answers.{Asked, told_by, AreOf}
 use Rattle.trick_outside.specs.Causes.{HasCause}
-use Rattle.trick_outside.specs.Files.{Files, Write, Writes, all_written}
+use Rattle.trick_base.specs.Files.{Files, Write, all_written}
+use Rattle.trick_outside.specs.Files.{Writes}
 use Rattle.trick_outside.specs.declared.shelf.Got.TheVariants.{Failed}
 use Rattle.trick_outside.specs.declared.shelf.Got.{Got}
 use Rattle.trick_outside.specs.declared.shelf.Shelf.{Ghosts}

@@ -2,7 +2,7 @@
 use Rattle.std.specs.FinMap.{empty, insert}
 use Rattle.std.specs.Prelude.{◌≡◌, ℕ, ◌+◌, ◌-◌, ◌^◌, List, [], ◌∷◌, Contains, min}
 use Rattle.trick_outside.specs.FaultPlan.{IsFresh, IsQuiet}
-use Rattle.trick_outside.specs.Files.{Files}
+use Rattle.trick_base.specs.Files.{Files}
 use Rattle.trick_outside.specs.declared.memory_shelf.File.{File}
 use Rattle.trick_outside.specs.declared.memory_shelf.MemoryShelf.{MemoryShelf}
 use Rattle.trick_outside.specs.declared.memory_sink.MemorySink.{MemorySink}

@@ -1,6 +1,6 @@
 -- A failure comes only where a count of faults rose.
 pub mod Causes
--- What a shelf holds, and what calls write to it.
+-- What calls that write make of a shelf.
 pub mod Files
 -- What a shelf was asked, and what it answered.
 pub mod Answers
@@ -8,8 +8,6 @@ pub mod Answers
 pub mod Does
 -- Calls that ask, and then calls that write.
 pub mod Gets
--- What calls that write make of one file.
-pub mod Content
 -- What a sink takes of one piece.
 pub mod Taken
 -- What a sink takes of a text that is put piece after piece.

@@ -1,6 +1,6 @@
 -- What is put to a sink, piece after piece.
 use Rattle.std.specs.Prelude.{◌≡◌, ℕ, List, ◌++◌, Option, Some}
-use Rattle.trick_outside.specs.Files.{IsPrefix}
+use Rattle.trick_base.specs.Fronts.{IsPrefix}
 
 -- From old to new the sink took these bytes, and a prefix of them where it is not done. It is said
 -- where the sink tells what it holds.

@@ -111,7 +111,7 @@ impl MemoryShelf {
 }
 
 impl MemoryShelf {
-    ghost use Rattle.trick_outside.specs.Files.{Append, Create, written};
+    ghost use Rattle.trick_base.specs.Files.{Append, Create, written};
     ghost use Rattle.trick_outside.specs.Kept.{contents};
 
     /// A new file at the end of the list.
@@ -166,7 +166,8 @@ impl MemoryShelf {
 impl Shelf for MemoryShelf {
     ghost use Rattle.trick_outside.specs.Answers.{AreOf, told_by};
     ghost use Rattle.trick_outside.specs.Causes.{HasCause};
-    ghost use Rattle.trick_outside.specs.Files.{Append, Create, Files, Writes};
+    ghost use Rattle.trick_base.specs.Files.{Append, Create, Files};
+    ghost use Rattle.trick_outside.specs.Files.{Writes};
     ghost use Rattle.trick_outside.specs.Kept.{ShelfCountsOne, ShelfFailsNext, ShelfNeverFails};
     ghost use Rattle.trick_outside.specs.Kept.{contents};
 

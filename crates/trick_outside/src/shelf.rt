@@ -1,6 +1,7 @@
 ghost use Rattle.std.specs.Prelude.{◌≡◌, ◌∷◌, [], ◌++◌, List, ℕ, Option, Some};
 ghost use Rattle.trick_outside.specs.Causes.{HasCause};
-ghost use Rattle.trick_outside.specs.Files.{Files, Writes, Create, Append};
+ghost use Rattle.trick_base.specs.Files.{Files, Create, Append};
+ghost use Rattle.trick_outside.specs.Files.{Writes};
 
 use std::alloc::Global;
 use trick_base::Word;

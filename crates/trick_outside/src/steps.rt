@@ -1,6 +1,6 @@
 ghost use Rattle.std.specs.Prelude.{◌≡◌, ◌↔◌, ◌∷◌, [], IsErrOf, IsOk};
 ghost use Rattle.trick_outside.specs.Does.{Does};
-ghost use Rattle.trick_outside.specs.Files.{Create, Append};
+ghost use Rattle.trick_base.specs.Files.{Create, Append};
 ghost use Rattle.trick_outside.specs.Gets.{Gets};
 
 use crate::{Got, Shelf, Wrote};

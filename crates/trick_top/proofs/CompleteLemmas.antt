@@ -3,7 +3,7 @@ use Rattle.std.proofs.Common.{◌≡◌, ℕ, List, None, Some, inl, inr, refl, 
 use Rattle.std.specs.FinMap.{get}
 use Rattle.std.specs.Prelude.{Option, ◌⊎◌}
 use Rattle.trick_outside.specs.Answers.{Asked, AreOf}
-use Rattle.trick_outside.specs.Files.{Files, Write}
+use Rattle.trick_base.specs.Files.{Files, Write}
 use Rattle.trick_top.specs.Counting.{IsCounting, IsStop}
 use Rattle.trick_top.specs.Outcome.{IsWanted, Outcome, Simulated, ended, input_not_read, input_refused, no_input, no_memory_for_input, no_memory_for_s_define, no_memory_to_read, no_memory_to_write, no_s_define, not_written, s_define_not_read, s_define_refused, simulated, usage}
 use Rattle.trick_top.specs.Status.{Refuses}

@@ -6,7 +6,7 @@ use Rattle.trick_outside.proofs.DoesLemmas.{Joins}
 use Rattle.trick_outside.proofs.GetLemmas.{went_get, went_gets, went_nothing, went_then}
 use Rattle.trick_outside.specs.Answers.{told_by}
 use Rattle.trick_outside.specs.Causes.{Rose}
-use Rattle.trick_outside.specs.Files.{Write}
+use Rattle.trick_base.specs.Files.{Write}
 use Rattle.trick_outside.specs.Gets.{Gets}
 use Rattle.trick_outside.specs.declared.shelf.Got.{Got}
 use Rattle.trick_outside.specs.declared.shelf.Shelf.{Ghosts}

@@ -2,9 +2,9 @@
 use Rattle.std.proofs.Common.{◌≡◌, ℕ, List, [], ◌∷◌, ◌++◌, Some, ap, inl, inr, refl, ◌∙◌, arith}
 use Rattle.std.specs.FinMap.{insert}
 use Rattle.std.specs.Prelude.{Option, unwrap_or}
-use Rattle.trick_outside.proofs.FileLemmas.{get-insert_same, insert-insert}
+use Rattle.trick_base.proofs.FileLemmas.{get-insert_same, insert-insert}
 use Rattle.trick_outside.specs.Answers.{Asked}
-use Rattle.trick_outside.specs.Files.{Files, Write, all_written, bytes_at}
+use Rattle.trick_base.specs.Files.{Files, Write, all_written, bytes_at}
 use Rattle.trick_outside.specs.Gets.{Went}
 use Rattle.trick_outside.specs.declared.shelf.Shelf.{Ghosts}
 use Rattle.trick_top.specs.Checkpoint.{checkpoint_text}

@@ -4,7 +4,7 @@ use Rattle.std.specs.Prelude.{Result}
 use Rattle.trick_outside.proofs.GetLemmas.{went_does, went_nothing}
 use Rattle.trick_outside.specs.Causes.{Rose}
 use Rattle.trick_outside.specs.Does.{Does}
-use Rattle.trick_outside.specs.Files.{Write}
+use Rattle.trick_base.specs.Files.{Write}
 use Rattle.trick_outside.specs.declared.shelf.Shelf.{Ghosts}
 use Rattle.trick_outside.specs.declared.steps.Stop.{Stop}
 use Rattle.trick_top.specs.Counting.{IsCounting, IsStop}

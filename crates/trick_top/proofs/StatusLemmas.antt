@@ -2,7 +2,7 @@
 use Rattle.std.proofs.Common.{◌≡◌, ◌≢◌, ℕ, List, None, inl, inr, refl, sym, ◌∙◌, arith}
 use Rattle.std.specs.Prelude.{Option, ◌⊎◌}
 use Rattle.trick_outside.specs.Answers.{Asked}
-use Rattle.trick_outside.specs.Files.{Write}
+use Rattle.trick_base.specs.Files.{Write}
 use Rattle.trick_top.specs.Outcome.{Outcome, Simulated, ended, input_not_read, input_refused, no_input, no_memory_for_input, no_memory_for_s_define, no_memory_to_read, no_memory_to_write, no_s_define, not_written, s_define_not_read, s_define_refused, simulated, usage}
 use Rattle.trick_top.specs.Printed.{Prints, cut_off, no_line, not_printed, printed}
 use Rattle.trick_top.specs.Status.{EndsWith, TookLine}

@@ -3,7 +3,8 @@
 use Rattle.std.specs.Prelude.{ℕ, List, [], ◌∷◌, Option, Some, None, codes}
 use Rattle.trick_outside.specs.Answers.{Asked}
 use Rattle.trick_outside.specs.Causes.{Rose}
-use Rattle.trick_outside.specs.Files.{Write, Create, Append, IsPartOf}
+use Rattle.trick_base.specs.Files.{Write, Create, Append}
+use Rattle.trick_base.specs.Fronts.{IsFrontOf}
 use Rattle.trick_outside.specs.Gets.{Went}
 use Rattle.trick_outside.specs.declared.shelf.Shelf.{Ghosts}
 use Rattle.trick_top.specs.Checkpoint.{checkpoint_text}
@@ -37,10 +38,10 @@ pub data Simulated (ShelfFailed : Type 0) (s_define input : List ℕ) : List Wri
   ended : {simulation : Counting} {final : State} → Describes s_define input simulation final
       → Simulated ShelfFailed s_define input (final_writes simulation final) (Ended final.turn final.tic)
   not_written : {simulation : Counting} {final : State} {part : List Write} → Describes s_define input simulation final
-      → IsPartOf part (final_writes simulation final) → ShelfFailed → Simulated ShelfFailed s_define input part ShelfFault
+      → IsFrontOf part (final_writes simulation final) → ShelfFailed → Simulated ShelfFailed s_define input part ShelfFault
   no_memory_to_read : Simulated ShelfFailed s_define input [] OutOfMemory
   no_memory_to_write : {simulation : Counting} {final : State} {part : List Write} → Describes s_define input simulation final
-      → IsPartOf part (final_writes simulation final) → Simulated ShelfFailed s_define input part OutOfMemory
+      → IsFrontOf part (final_writes simulation final) → Simulated ShelfFailed s_define input part OutOfMemory
 
 -- How the run of two texts went on a shelf, from old to new. The shelf was asked nothing.
 pub record HasSimulated {S : Type 0} (shelf : Ghosts S) (old new : S) (s_define input : List ℕ) (verdict : Verdict) : Type 0 where

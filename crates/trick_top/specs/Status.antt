@@ -2,7 +2,7 @@
 use Rattle.std.specs.FinMap.{get, insert}
 use Rattle.std.specs.Prelude.{◌≡◌, ◌⊎◌, ℕ, List, [], ◌∷◌, ◌++◌, Option, Some, None}
 use Rattle.trick_outside.specs.Answers.{Asked, AreOf}
-use Rattle.trick_outside.specs.Files.{Files}
+use Rattle.trick_base.specs.Files.{Files}
 use Rattle.trick_outside.specs.declared.shelf.Shelf.{Ghosts}
 use Rattle.trick_top.specs.Checkpoint.{checkpoint_text}
 use Rattle.trick_top.specs.Counting.{IsCounting, IsStop}

@@ -1,4 +1,4 @@
-use Rattle.trick_outside.proofs.FileLemmas.{file_replaced}
+use Rattle.trick_base.proofs.FileLemmas.{file_replaced}
 use Rattle.trick_outside.proofs.memory_shelf.MemoryShelf.with_file.Goals as goal
 
 pub returns-clause-held : goal.returns-clause-held

@@ -3,9 +3,10 @@ use Rattle.std.proofs.Common.{◌≡◌, ℕ, List, [], ◌∷◌, ◌++◌, ref
 use Rattle.std.specs.Cmp.Lexicographic.{nat_list_cmp_total}
 use Rattle.std.specs.FinMap.{get, insert, get-insert}
 use Rattle.std.specs.Prelude.{Option}
-use Rattle.trick_outside.proofs.FileLemmas.{names_equal}
-use Rattle.trick_outside.specs.Content.{content, same_name, IsKept, IsTidy, IsPartly}
-use Rattle.trick_outside.specs.Files.{Files, Write, Create, Append, all_written, bytes_at, IsPartOf}
+use Rattle.trick_base.proofs.FileLemmas.{names_equal}
+use Rattle.trick_base.specs.Content.{content, same_name, IsKept, IsTidy, IsPartly}
+use Rattle.trick_base.specs.Files.{Files, Write, Create, Append, all_written, bytes_at}
+use Rattle.trick_base.specs.Fronts.{IsFrontOf}
 
 -- an append adds to the bytes under its own name, which is this name where the test of names says so
 appended : (name other bytes : List ℕ) (files : Files) (t : Bool) → (t ≡ true → name ≡ other)
@@ -65,7 +66,7 @@ cut_step : (t : Bool) (held bytes part rest : List ℕ) → bytes ≡ part ++ re
 cut_step true held bytes part rest is = (part, rest, refl, ap (λ y. Some (held ++ y)) is)
 cut_step false held bytes part rest is = ([], [], ap Some (sym (append-nil held)), ap Some (sym (append-nil held)))
 
-pub grown : (name : List ℕ) (part whole : List Write) (held : List ℕ) → IsKept name whole → IsPartOf part whole → Grown name part whole held
+pub grown : (name : List ℕ) (part whole : List Write) (held : List ℕ) → IsKept name whole → IsFrontOf part whole → Grown name part whole held
 grown name [] whole held kept is =
     let later = grown_all name whole held kept in
     record { added = []; rest = later.0; now = ap Some (sym (append-nil held)); all = later.1 }
@@ -112,7 +113,7 @@ made_partly name part whole before made = inr (made.added, made.added ++ made.re
 
 -- a file that is made at most once, after a part of the calls: as it was, or a prefix of what all of
 -- them make
-pub partly : (name : List ℕ) (part whole : List Write) (before : Option (List ℕ)) → IsTidy name whole → IsPartOf part whole
+pub partly : (name : List ℕ) (part whole : List Write) (before : Option (List ℕ)) → IsTidy name whole → IsFrontOf part whole
     → IsPartly before (content name part before) (content name whole before)
 partly name [] whole before tidy is = inl refl
 partly name (write ∷ part) [] before tidy is = absurd is
@@ -138,7 +139,7 @@ partly name (Append mine cut ∷ part) (Append other bytes ∷ whole) before tid
     ∙ skipped (same_name name other) _ before tidy.0)
 
 -- the same, of the files
-pub partly_written : (name : List ℕ) (part whole : List Write) (files : Files) → IsTidy name whole → IsPartOf part whole
+pub partly_written : (name : List ℕ) (part whole : List Write) (files : Files) → IsTidy name whole → IsFrontOf part whole
     → IsPartly (get files name) (get (all_written part files) name) (get (all_written whole files) name)
 partly_written name part whole files tidy is =
     let P : Option (List ℕ) → Type 0 = λ now. IsPartly (get files name) now (get (all_written whole files) name) in

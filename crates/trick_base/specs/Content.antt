@@ -3,7 +3,8 @@ use Rattle.std.specs.Cmp.Lexicographic.{slice_cmp}
 use Rattle.std.specs.Ordering.{nat_cmp, eq_by_cmp}
 use Rattle.std.specs.Prelude.{◌≡◌, ◌⊎◌, ℕ, List, [], ◌∷◌, ◌++◌, Bool, true, false, cond}
 use Rattle.std.specs.Prelude.{Option, Some, unwrap_or}
-use Rattle.trick_outside.specs.Files.{Write, Create, Append, IsPrefix}
+use Rattle.trick_base.specs.Files.{Write, Create, Append}
+use Rattle.trick_base.specs.Fronts.{IsPrefix}
 
 -- Whether two names are one.
 abbrev pub same_name : List ℕ → List ℕ → Bool

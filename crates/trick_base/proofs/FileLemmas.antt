@@ -5,8 +5,8 @@ use Rattle.std.specs.declared.cmp.Ordering.TheVariants.{Less, Equal, Greater}
 use Rattle.std.specs.Ordering.{nat_cmp, is_eq, ordering_reverse}
 use Rattle.std.specs.Cmp.Lexicographic.{slice_cmp, nat_list_cmp_total}
 use Rattle.std.specs.FinMap.{get, insert, same_map, get-insert, slice_cmp-IsAntisymmetric, nat_cmp-IsAntisymmetric}
-use Rattle.trick_outside.specs.Content.{same_name}
-use Rattle.trick_outside.specs.Files.{Files, bytes_at}
+use Rattle.trick_base.specs.Content.{same_name}
+use Rattle.trick_base.specs.Files.{Files, bytes_at}
 
 -- only names that are one compare as equal
 equal_of : (r : Ordering) → is_eq r ≡ true → r ≡ Equal

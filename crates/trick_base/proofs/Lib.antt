@@ -1,0 +1,3 @@
+pub mod FileLemmas
+pub mod ContentLemmas
+pub mod WriteLemmas
