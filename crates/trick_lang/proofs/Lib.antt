@@ -1,14 +1,13 @@
-pub mod Depth
-mod Examples
+pub mod Alike
+pub mod Blocks
 pub mod Frame
 pub mod Inside
 pub mod Lists
-pub mod Loops
+pub mod Overwrites
 pub mod Places
 pub mod Stores
 pub mod SyntaxLists
 pub mod Tests
 pub mod TreeLists
-pub mod Weights
 pub mod WrapLaw
 pub mod Wraps

@@ -8,13 +8,18 @@ use Rattle.trick_lang.proofs.Frame.{body_stays}
 use Rattle.trick_lang.proofs.Places.{cell_is}
 use Rattle.trick_lang.proofs.Tests.{both_left, both_right, in_left, in_right, went, went_line, ok_same}
 use Rattle.trick_lang.proofs.WrapLaw.{wrap_twice}
-use Rattle.trick_lang.specs.Access.{is_in, range_of, code_writes, branch_writes, all_writes, called_writes}
+use Rattle.trick_lang.specs.Access.{is_in, range_of, code_writes, branch_writes, all_writes, block_writes}
+use Rattle.trick_lang.proofs.Alike.{setting, runs_is, writes_is}
+use Rattle.trick_lang.proofs.Blocks.{below, block_before, from_earlier}
 use Rattle.trick_lang.specs.Effect.{effect, ran, writes, scalars_of, base_of, body_of, begun}
 use Rattle.trick_lang.specs.Laws.{WritesOnly, StoresInRange, StoresByCell}
 use Rattle.trick_lang.specs.Numbers.{and_then, is_true}
-use Rattle.trick_lang.specs.Run.{State, Setting, sight, changed, assigned, first_value, turns, turn_count, with_local, with_stored, run, run_branch, run_all, body_at, called}
-use Rattle.trick_lang.specs.Tree.{Spot, Change, Code, Empty, Block, Declare, SetLocal, Assign, If, For, Call, Branches, NoElse, Else, Test, Codes, NoCode, Then}
-use Rattle.trick_lang.specs.Valid.{is_in_span, each_place, place_passes, code_passes, branch_passes, all_pass, stay_in_span, bodies_of}
+use Rattle.trick_lang.specs.Blocks.{block_at}
+use Rattle.trick_lang.specs.Run.{State, Setting, sight, changed, assigned, turn, turns, turn_count, with_local, with_stored, run, run_branch, run_all, block_runs}
+use Rattle.trick_lang.specs.TreeOf.{codes_of}
+use Rattle.trick_lang.specs.Tree.{Spot, Change, Code, Empty, Declare, SetLocal, Assign, If, For, Run, Branches, NoElse, Else, Test}
+use Rattle.trick_lang.specs.Passes.{place_passes, code_passes, all_pass, code_blocks, branch_blocks, all_blocks}
+use Rattle.trick_lang.specs.Valid.{is_in_span, span_test, stay_in_span, are_in_order}
 use Rattle.trick_lang.specs.Value.{value, cell_of}
 use Rattle.trick_lang.specs.Wrap.{wrap, scalar_at, IsInRange}
 use Rattle.trick_lang.specs.declared.fault.FaultKind.{FaultKind}
@@ -41,9 +46,9 @@ if_keeps : (K : List (Option ℤ) → Type 0) (b : Bool) (r q : Result State Sto
 if_keeps K true r q t h f g = f h
 if_keeps K false r q t h f g = g h
 
-module _ (K : List (Option ℤ) → Type 0) (ws : List CellRange) (x : Setting) (stores : KeptByStores K ws x.scalars) (calls : ℕ → List CellRange)
-    (calls_keep : (k : ℕ) (s t : State) → Covers ws (calls k) → x.calls k s ≡ Ok t → K s.stored → K t.stored) where
-  assigned_in : (p : Spot) (change : Change) (s : State) (w : ℕ × ℤ) → IsTrue (place_passes is_in_span p) → assigned p change (sight x s) ≡ Ok w → IsTrue (is_in (range_of p x.base ∷ []) w.0)
+module _ (K : List (Option ℤ) → Type 0) (ws : List CellRange) (x : Setting) (stores : KeptByStores K ws x.scalars) (blocks : ℕ → List CellRange) (top : ℕ)
+    (blocks_keep : (k : ℕ) → k < top → (s t : State) → Covers ws (blocks k) → x.blocks k s ≡ Ok t → K s.stored → K t.stored) where
+  assigned_in : (p : Spot) (change : Change) (s : State) (w : ℕ × ℤ) → IsTrue (place_passes span_test p) → assigned p change (sight x s) ≡ Ok w → IsTrue (is_in (range_of p x.base ∷ []) w.0)
   assigned_in p change s w fit h =
       let first = went (cell_of p (sight x s)) (λ c. and_then (changed change ((sight x s).cell c) (sight x s)) (λ n. (let r : Result (ℕ × ℤ) FaultKind = Ok (c, n) in r))) w h in
       let second = went (changed change ((sight x s).cell first.0) (sight x s)) (λ n. (let r : Result (ℕ × ℤ) FaultKind = Ok (first.0, n) in r)) w first.2 in
@@ -56,49 +61,48 @@ module _ (K : List (Option ℤ) → Type 0) (ws : List CellRange) (x : Setting) 
       let w = went_line line r (λ n. (let q : Result State Stop = Ok (with_local s slot (wrap scalar n)) in q)) t h in
       subst (λ (u : State). K u.stored) (ok_same (with_local s slot (wrap scalar w.0)) t w.2) old
 
-  mutual
-    run_keeps : (b : Code) (s t : State) → IsTrue (code_passes is_in_span b) → Covers ws (code_writes b x.base calls) → run b x s ≡ Ok t → K s.stored → K t.stored
-    run_keeps Empty s t fit in_ws h old = subst (λ (u : State). K u.stored) (ok_same s t h) old
-    run_keeps (Block all) s t fit in_ws h old = run_all_keeps all s t fit in_ws h old
-    run_keeps (Declare line slot scalar e) s t fit in_ws h old = local_keeps line slot scalar _ (with_local s slot (pos 0)) t h old
-    run_keeps (SetLocal line slot scalar change) s t fit in_ws h old = local_keeps line slot scalar _ s t h old
-    run_keeps (Assign line place change) s t fit in_ws h old =
-        let w = went_line line (assigned place change (sight x s)) (λ w. (let r : Result State Stop = Ok (with_stored s w.0 (wrap (scalar_at x.scalars w.0) w.1)) in r)) t h in
-        subst (λ (u : State). K u.stored) (ok_same (with_stored s (w.0).0 (wrap (scalar_at x.scalars (w.0).0) (w.0).1)) t w.2)
-        (stores s.stored (w.0).0 (w.0).1 (in_ws (w.0).0 (assigned_in place change s w.0 (both_left _ _ fit) w.1)) old)
-    run_keeps (If branches) s t fit in_ws h old = run_branch_keeps branches s t fit in_ws h old
-    run_keeps (For slot from bound body) s t fit in_ws h old =
-        turns_keep K (λ k u. run body x (with_local u slot (pos k))) from (turn_count from bound) s t (λ j u v is kept. run_keeps body (with_local u slot (pos j)) v fit in_ws is kept) h old
-    run_keeps (Call k) s t fit in_ws h old = calls_keep k s t in_ws h old
+  run_branch_keeps : (b : Branches) (s t : State) → IsTrue (branch_blocks (below top) b) → Covers ws (branch_writes b blocks) → run_branch b x s ≡ Ok t → K s.stored → K t.stored
+  run_branch_keeps NoElse s t ok in_ws h old = subst (λ (u : State). K u.stored) (ok_same s t h) old
+  run_branch_keeps (Else k) s t ok in_ws h old = blocks_keep k (ltb-true k top ok) s t in_ws h old
+  run_branch_keeps (Test line test k rest) s t ok in_ws h old =
+      let w = went_line line (value test (sight x s)) (λ n. if is_true n then x.blocks k s else run_branch rest x s) t h in
+      if_keeps K (is_true w.0) (x.blocks k s) (run_branch rest x s) t w.2
+      (λ is. blocks_keep k (ltb-true k top (both_left _ _ ok)) s t (λ c i. in_ws c (in_left (blocks k) _ c i)) is old)
+      (λ is. run_branch_keeps rest s t (both_right (below top k) _ ok) (λ c i. in_ws c (in_right (blocks k) _ c i)) is old)
 
-    run_branch_keeps : (b : Branches) (s t : State) → IsTrue (branch_passes is_in_span b) → Covers ws (branch_writes b x.base calls) → run_branch b x s ≡ Ok t → K s.stored → K t.stored
-    run_branch_keeps NoElse s t fit in_ws h old = subst (λ (u : State). K u.stored) (ok_same s t h) old
-    run_branch_keeps (Else body) s t fit in_ws h old = run_keeps body s t fit in_ws h old
-    run_branch_keeps (Test line test body rest) s t fit in_ws h old =
-        let w = went_line line (value test (sight x s)) (λ n. if is_true n then run body x s else run_branch rest x s) t h in
-        if_keeps K (is_true w.0) (run body x s) (run_branch rest x s) t w.2
-        (λ is. run_keeps body s t (both_left _ _ (both_right (each_place is_in_span test) _ fit)) (λ c i. in_ws c (in_left (code_writes body x.base calls) _ c i)) is old)
-        (λ is. run_branch_keeps rest s t (both_right (code_passes is_in_span body) _ (both_right (each_place is_in_span test) _ fit)) (λ c i. in_ws c (in_right (code_writes body x.base calls) _ c i)) is old)
+  run_keeps : (b : Code) (s t : State) → IsTrue (code_passes span_test b) → IsTrue (code_blocks (below top) b) → Covers ws (code_writes b x.base blocks) → run b x s ≡ Ok t → K s.stored → K t.stored
+  run_keeps Empty s t fit ok in_ws h old = subst (λ (u : State). K u.stored) (ok_same s t h) old
+  run_keeps (Declare line slot scalar e) s t fit ok in_ws h old = local_keeps line slot scalar _ (with_local s slot (pos 0)) t h old
+  run_keeps (SetLocal line slot scalar change) s t fit ok in_ws h old = local_keeps line slot scalar _ s t h old
+  run_keeps (Assign line place change) s t fit ok in_ws h old =
+      let w = went_line line (assigned place change (sight x s)) (λ w. (let r : Result State Stop = Ok (with_stored s w.0 (wrap (scalar_at x.scalars w.0) w.1)) in r)) t h in
+      subst (λ (u : State). K u.stored) (ok_same (with_stored s (w.0).0 (wrap (scalar_at x.scalars (w.0).0) (w.0).1)) t w.2)
+      (stores s.stored (w.0).0 (w.0).1 (in_ws (w.0).0 (assigned_in place change s w.0 (both_left _ _ fit) w.1)) old)
+  run_keeps (If branches) s t fit ok in_ws h old = run_branch_keeps branches s t ok in_ws h old
+  run_keeps (For slot from bound k) s t fit ok in_ws h old =
+      turns_keep K (turn x slot k) from (turn_count from bound) s t (λ j u v is kept. blocks_keep k (ltb-true k top ok) (with_local u slot (pos j)) v in_ws is kept) h old
+  run_keeps (Run k) s t fit ok in_ws h old = blocks_keep k (ltb-true k top ok) s t in_ws h old
 
-    run_all_keeps : (all : Codes) (s t : State) → IsTrue (all_pass is_in_span all) → Covers ws (all_writes all x.base calls) → run_all all x s ≡ Ok t → K s.stored → K t.stored
-    run_all_keeps NoCode s t fit in_ws h old = subst (λ (u : State). K u.stored) (ok_same s t h) old
-    run_all_keeps (Then first rest) s t fit in_ws h old =
-        let w = went (run first x s) (λ u. run_all rest x u) t h in
-        run_all_keeps rest w.0 t (both_right (code_passes is_in_span first) _ fit) (λ c i. in_ws c (in_right (code_writes first x.base calls) _ c i)) w.2
-        (run_keeps first s w.0 (both_left _ _ fit) (λ c i. in_ws c (in_left (code_writes first x.base calls) _ c i)) w.1 old)
+  run_all_keeps : (all : List Code) (s t : State) → IsTrue (all_pass span_test all) → IsTrue (all_blocks (below top) all) → Covers ws (all_writes all x.base blocks) → run_all all x s ≡ Ok t → K s.stored → K t.stored
+  run_all_keeps [] s t fit ok in_ws h old = subst (λ (u : State). K u.stored) (ok_same s t h) old
+  run_all_keeps (first ∷ rest) s t fit ok in_ws h old =
+      let w = went (run first x s) (λ u. run_all rest x u) t h in
+      run_all_keeps rest w.0 t (both_right (code_passes span_test first) _ fit) (both_right (code_blocks (below top) first) _ ok) (λ c i. in_ws c (in_right (code_writes first x.base blocks) _ c i)) w.2
+      (run_keeps first s w.0 (both_left _ _ fit) (both_left _ _ ok) (λ c i. in_ws c (in_left (code_writes first x.base blocks) _ c i)) w.1 old)
 
-called_keeps : (K : List (Option ℤ) → Type 0) (scalars : List Scalar) (bodies : List Codes) (ws : List CellRange) → KeptByStores K ws scalars → (base depth : ℕ) (m : ℕ → ℤ) → IsTrue (stay_in_span bodies) → (k : ℕ) (s t : State) → Covers ws (called_writes bodies base depth k) → called scalars bodies base m depth k s ≡ Ok t → K s.stored → K t.stored
-called_keeps K scalars bodies ws stores base zero m fit k s t in_ws h old = subst (λ (u : State). K u.stored) (ok_same s t h) old
-called_keeps K scalars bodies ws stores base (suc depth) m fit k s t in_ws h old =
-    run_all_keeps K ws (record { scalars = scalars; base = base; memory = m; calls = called scalars bodies base m depth }) stores (called_writes bodies base depth)
-    (called_keeps K scalars bodies ws stores base depth m fit) (body_at bodies k) s t (body_stays bodies k fit) in_ws h old
+runs_keep : (K : List (Option ℤ) → Type 0) (scalars : List Scalar) (bs : List (List Code)) (ws : List CellRange) → KeptByStores K ws scalars → (base : ℕ) (m : ℕ → ℤ) → IsTrue (stay_in_span bs) → IsTrue (are_in_order 0 bs) → (k : ℕ) (s t : State) → Covers ws (block_writes base bs k) → block_runs scalars base m bs k s ≡ Ok t → K s.stored → K t.stored
+runs_keep K scalars bs ws stores base m fit ok =
+    from_earlier (λ k. (s t : State) → Covers ws (block_writes base bs k) → block_runs scalars base m bs k s ≡ Ok t → K s.stored → K t.stored)
+    (λ k earlier s t in_ws h old.
+    let in_ws' : Covers ws (all_writes (block_at bs k) base (block_writes base bs)) = subst (λ rs. Covers ws rs) (writes_is base bs ok k) in_ws in
+    run_all_keeps K ws (setting scalars base m (block_runs scalars base m bs)) stores (block_writes base bs) k earlier (block_at bs k) s t (body_stays bs k fit) (block_before bs k ok) in_ws' (sym (runs_is scalars base m bs ok k s) ∙ h) old)
 
 -- an effect is what stores to the writes keep
 effect_keeps : (K : List (Option ℤ) → Type 0) (p : Program) (job : JobId) (m : List ℤ) (stored : List (Option ℤ)) → KeptByStores K (writes p job) (scalars_of p.cells) → K (replicate (length p.cells) None) → effect p job m ≡ Ok stored → K stored
 effect_keeps K p job m stored stores none h =
     let w = went (ran p (base_of p job) (body_of p job) m (begun p)) (λ s. (let r : Result (List (Option ℤ)) Stop = Ok s.stored in r)) stored h in
     subst K (ok_same (w.0).stored stored w.2)
-    (called_keeps K (scalars_of p.cells) (bodies_of p.methods) (writes p job) stores (base_of p job) (length p.methods) (λ c. slice_index_or m c (pos 0)) p.in_span (body_of p job) (begun p) w.0 (λ c i. i) w.1 none)
+    (runs_keep K (scalars_of p.cells) (codes_of p.blocks) (writes p job) stores (base_of p job) (λ c. slice_index_or m c (pos 0)) p.in_span p.in_order (body_of p job) (begun p) w.0 (λ c i. i) w.1 none)
 
 -- ---- each cell with a number has a property
 

@@ -1,12 +1,16 @@
 -- Laws of what bodies do.
 use Rattle.std.specs.Int.{int_rem_euclid}
 use Rattle.std.specs.List.{slice_index_or}
-use Rattle.std.specs.Prelude.{◌≡◌, ◌≢◌, ◌<◌, ◌≤ℤ◌, ◌↔◌, ℕ, ℤ, pos, negsuc, IsTrue, List, length, Option, Some, None, Ok}
-use Rattle.trick_lang.specs.Access.{is_in}
-use Rattle.trick_lang.specs.Effect.{effect, reads, writes, scalars_of}
-use Rattle.trick_lang.specs.Run.{State, called}
-use Rattle.trick_lang.specs.Valid.{bodies_of}
-use Rattle.trick_lang.specs.Wrap.{wrap, IsOf, IsInRange}
+use Rattle.std.specs.Prelude.{◌≡◌, ◌≢◌, ◌<◌, ◌≤ℤ◌, ◌↔◌, ℕ, ℤ, pos, negsuc, IsTrue, List, length, Option, Some, None, unwrap_or, Ok}
+use Rattle.trick_lang.specs.Access.{is_in, all_reads, block_reads, all_writes, block_writes}
+use Rattle.trick_lang.specs.Blocks.{block_at}
+use Rattle.trick_lang.specs.Count.{all_steps, block_steps}
+use Rattle.trick_lang.specs.Effect.{effect, overwritten, reads, writes, scalars_of}
+use Rattle.trick_lang.specs.Locals.{Known, all_know, block_knows}
+use Rattle.trick_lang.specs.Run.{State, run_all, block_runs}
+use Rattle.trick_lang.specs.Tree.{Code}
+use Rattle.trick_lang.specs.Valid.{are_in_order}
+use Rattle.trick_lang.specs.Wrap.{wrap, AreInRange, IsOf, IsInRange}
 use Rattle.trick_lang.specs.declared.job.JobId.{JobId}
 use Rattle.trick_lang.specs.declared.program.Program.{Program}
 use Rattle.trick_lang.specs.declared.range.CellRange.{CellRange}
@@ -99,7 +103,24 @@ pub record StaysInCells : Type 0 where
   pub reads_there : (p : Program) (job : JobId) (c : ℕ) → job.0 < length p.jobs → IsTrue (is_in (reads p job) c) → c < length p.cells
   pub writes_there : (p : Program) (job : JobId) (c : ℕ) → job.0 < length p.jobs → IsTrue (is_in (writes p job) c) → c < length p.cells
 
--- for a method, any depth of calls above its number gives the same
-abbrev pub DepthIsEnough : Type 0
-DepthIsEnough =
-    (p : Program) (base : ℕ) (memory : ℕ → ℤ) (d e method : ℕ) (s : State) → method < d → method < e → called (scalars_of p.cells) (bodies_of p.methods) base memory d method s ≡ called (scalars_of p.cells) (bodies_of p.methods) base memory e method s
+-- ---- a memory that is overwritten
+
+-- What `overwritten` gives.
+pub record OverwritesRight : Type 0 where
+  -- as many numbers as before
+  pub as_many : (stored : List (Option ℤ)) (numbers : List ℤ) → length (overwritten stored numbers) ≡ length numbers
+  -- in each cell the number stored to it, or else its own
+  pub at : (stored : List (Option ℤ)) (numbers : List ℤ) (c : ℕ) → c < length numbers → slice_index_or (overwritten stored numbers) c (pos 0) ≡ unwrap_or (slice_index_or stored c None) (slice_index_or numbers c (pos 0))
+  -- numbers in their ranges, where those stored and those before are
+  pub in_range : (scalars : List Scalar) (stored : List (Option ℤ)) (numbers : List ℤ) → ((c : ℕ) (n : ℤ) → slice_index_or stored c None ≡ Some n → IsInRange scalars c n) → AreInRange scalars numbers → AreInRange scalars (overwritten stored numbers)
+
+-- ---- blocks
+
+-- What a table gives a block, where blocks run only blocks before them, is what the rule makes of
+-- its statements and of what the table gives.
+pub record BlocksHold : Type 0 where
+  pub runs : (scalars : List Scalar) (base : ℕ) (memory : ℕ → ℤ) (blocks : List (List Code)) (k : ℕ) (s : State) → IsTrue (are_in_order 0 blocks) → block_runs scalars base memory blocks k s ≡ run_all (block_at blocks k) (record { scalars = scalars; base = base; memory = memory; blocks = block_runs scalars base memory blocks }) s
+  pub reads : (base : ℕ) (blocks : List (List Code)) (k : ℕ) → IsTrue (are_in_order 0 blocks) → block_reads base blocks k ≡ all_reads (block_at blocks k) base (block_reads base blocks)
+  pub writes : (base : ℕ) (blocks : List (List Code)) (k : ℕ) → IsTrue (are_in_order 0 blocks) → block_writes base blocks k ≡ all_writes (block_at blocks k) base (block_writes base blocks)
+  pub steps : (blocks : List (List Code)) (k : ℕ) → IsTrue (are_in_order 0 blocks) → block_steps blocks k ≡ all_steps (block_at blocks k) (block_steps blocks)
+  pub knows : (slots : ℕ) (blocks : List (List Code)) (k : ℕ) (known : List Known) → IsTrue (are_in_order 0 blocks) → block_knows slots blocks k known ≡ all_know slots (block_at blocks k) (block_knows slots blocks) known

@@ -4,7 +4,7 @@ pub mod Wrap
 pub mod SyntaxTree
 -- The tree of the text that a value of the code holds.
 pub mod Syntax
--- What a program holds: resolved trees.
+-- What a program holds: resolved trees, in numbered blocks.
 pub mod Tree
 -- The tree that a value of the code holds.
 pub mod TreeOf
@@ -12,19 +12,23 @@ pub mod TreeOf
 pub mod Numbers
 -- The values of expressions, and the cells of places.
 pub mod Value
+-- What holds of each block, by its statements and the blocks before it.
+pub mod Blocks
 -- What statements do.
 pub mod Run
 -- The cells that a body may read and may write.
 pub mod Access
 -- The static steps of a body.
 pub mod Count
--- What a valid program keeps.
+-- Tests of the leaves of a tree, and of the blocks that it runs.
+pub mod Passes
+-- What a valid program keeps of its places, blocks, classes and jobs.
 pub mod Valid
+-- What it keeps of its local variables.
+pub mod Locals
+-- What it keeps of its names.
+pub mod Names
 -- What a job does to a memory, what it may read and write, and how many steps it has.
 pub mod Effect
--- What the plain evaluator works on.
-pub mod Evaluation
 -- Laws of what bodies do.
 pub mod Laws
--- Bodies that tests run.
-pub mod Samples

@@ -1,100 +1,18 @@
--- What a valid program keeps, as tests over its lists.
-use Rattle.std.specs.Prelude.{ℕ, suc, ◌+◌, ◌*◌, ◌-◌, ◌==◌, Bool, true, false, ◌&&◌, nat_lt, nat_le, List, [], ◌∷◌, length, slice_get, Option, Some, None}
-use Rattle.trick_lang.specs.Count.{called_steps}
-use Rattle.trick_lang.specs.Tree.{Term, Number, Local, Cell, Prefixed, Chain, Choose, Links, NoLink, Link, Choices, Last, Choice, Spot, spot, Steps, NoStep, Step, Change, Set, Update, Increase, Decrease, Code, Empty, Block, Declare, SetLocal, Assign, If, For, Call, Branches, NoElse, Else, Test, Codes, NoCode, Then}
-use Rattle.trick_lang.specs.TreeOf.{codes_of_list}
+-- What a valid program keeps of its places, blocks, classes and jobs, as tests over its lists.
+use Rattle.std.specs.List.{list_all, slice_index_or}
+use Rattle.std.specs.Prelude.{ℕ, zero, suc, ◌+◌, ◌*◌, ◌-◌, ◌==◌, Bool, true, false, ◌&&◌, nat_lt, nat_le, List, [], ◌∷◌, length, slice_get, Option, Some, None}
+use Rattle.trick_lang.specs.Count.{block_steps}
+use Rattle.trick_lang.specs.Passes.{Leaves, all_blocks, all_pass, branch_blocks}
+use Rattle.trick_lang.specs.Tree.{Spot, spot, Steps, NoStep, Step, Code, Empty, Declare, SetLocal, Assign, If, For, Run}
+use Rattle.trick_lang.specs.TreeOf.{code_list, codes_of}
 use Rattle.trick_lang.specs.declared.class.Class.{Class}
 use Rattle.trick_lang.specs.declared.class.Class.TheVariants.{DefaultData, Initialization, Scheduled, TopOfFrame, EndOfFrame, Freeze, Unfreeze, Checkpoint, Restart, Shutdown}
 use Rattle.trick_lang.specs.declared.job.Job.{Job}
 use Rattle.trick_lang.specs.declared.method.Method.{Method}
 use Rattle.trick_lang.specs.declared.object.Object.{Object}
-
--- ---- every place of a tree passes a test
-
-abbrev mutual
-  pub each_place : (Spot → Bool) → Term → Bool
-  each_place p (Number n) = true
-  each_place p (Local slot) = true
-  each_place p (Cell place) = place_passes p place
-  each_place p (Prefixed o e) = each_place p e
-  each_place p (Chain e links) = each_place p e && link_passes p links
-  each_place p (Choose choices) = choice_passes p choices
-
-  pub link_passes : (Spot → Bool) → Links → Bool
-  link_passes p NoLink = true
-  link_passes p (Link o e rest) = each_place p e && link_passes p rest
-
-  pub choice_passes : (Spot → Bool) → Choices → Bool
-  choice_passes p (Last e) = each_place p e
-  choice_passes p (Choice test e rest) = each_place p test && (each_place p e && choice_passes p rest)
-
-  -- the place itself and those in its indexes
-  pub place_passes : (Spot → Bool) → Spot → Bool
-  place_passes p (spot own first span offset literals steps) =
-      p (spot own first span offset literals steps) && step_passes p steps
-
-  pub step_passes : (Spot → Bool) → Steps → Bool
-  step_passes p NoStep = true
-  step_passes p (Step length stride e rest) = each_place p e && step_passes p rest
-
-abbrev pub change_passes : (Spot → Bool) → Change → Bool
-change_passes p (Set e) = each_place p e
-change_passes p (Update o e) = each_place p e
-change_passes p Increase = true
-change_passes p Decrease = true
-
-abbrev pub first_passes : (Spot → Bool) → Option Term → Bool
-first_passes p None = true
-first_passes p (Some e) = each_place p e
-
-abbrev mutual
-  pub code_passes : (Spot → Bool) → Code → Bool
-  code_passes p Empty = true
-  code_passes p (Block all) = all_pass p all
-  code_passes p (Declare line slot scalar e) = first_passes p e
-  code_passes p (SetLocal line slot scalar change) = change_passes p change
-  code_passes p (Assign line place change) = place_passes p place && change_passes p change
-  code_passes p (If branches) = branch_passes p branches
-  code_passes p (For slot from bound body) = code_passes p body
-  code_passes p (Call method) = true
-
-  pub branch_passes : (Spot → Bool) → Branches → Bool
-  branch_passes p NoElse = true
-  branch_passes p (Else body) = code_passes p body
-  branch_passes p (Test line test body rest) = each_place p test && (code_passes p body && branch_passes p rest)
-
-  pub all_pass : (Spot → Bool) → Codes → Bool
-  all_pass p NoCode = true
-  all_pass p (Then first rest) = code_passes p first && all_pass p rest
-
--- ---- every call of a tree passes a test
-
-abbrev mutual
-  pub each_call : (ℕ → Bool) → Code → Bool
-  each_call p Empty = true
-  each_call p (Block all) = all_calls p all
-  each_call p (Declare line slot scalar e) = true
-  each_call p (SetLocal line slot scalar change) = true
-  each_call p (Assign line place change) = true
-  each_call p (If branches) = branch_calls p branches
-  each_call p (For slot from bound body) = each_call p body
-  each_call p (Call method) = p method
-
-  pub branch_calls : (ℕ → Bool) → Branches → Bool
-  branch_calls p NoElse = true
-  branch_calls p (Else body) = each_call p body
-  branch_calls p (Test line test body rest) = each_call p body && branch_calls p rest
-
-  pub all_calls : (ℕ → Bool) → Codes → Bool
-  all_calls p NoCode = true
-  all_calls p (Then first rest) = each_call p first && all_calls p rest
+use Rattle.trick_lang.specs.declared.tree.Block.{Block}
 
 -- ---- places
-
--- the statements of each method
-abbrev pub bodies_of : List Method → List Codes
-bodies_of [] = []
-bodies_of (m ∷ ms) = codes_of_list m.body ∷ bodies_of ms
 
 -- how far computed indexes can lead
 abbrev pub reach : Steps → ℕ
@@ -105,56 +23,111 @@ reach (Step length stride e rest) = (length - 1) * stride + reach rest
 abbrev pub is_in_span : Spot → Bool
 is_in_span (spot own first span offset literals steps) = nat_lt (offset + reach steps) span
 
-abbrev pub stay_in_span : List Codes → Bool
+abbrev pub span_test : Leaves
+span_test = record { local = λ slot. true; place = is_in_span }
+
+abbrev pub stay_in_span : List (List Code) → Bool
 stay_in_span [] = true
-stay_in_span (b ∷ bs) = all_pass is_in_span b && stay_in_span bs
+stay_in_span (b ∷ bs) = all_pass span_test b && stay_in_span bs
 
 -- the span lies in an object of so many cells, or in the memory of so many cells
 abbrev pub lies_in : ℕ → ℕ → Spot → Bool
 lies_in cells size (spot true first span offset literals steps) = nat_le (first + span) size
 lies_in cells size (spot false first span offset literals steps) = nat_le (first + span) cells
 
--- places of a method lie in an object of its class, or in the memory
-abbrev pub lie_in : ℕ → List Method → Bool
-lie_in cells [] = true
-lie_in cells (m ∷ ms) = all_pass (lies_in cells m.size) (codes_of_list m.body) && lie_in cells ms
+abbrev pub cells_test : ℕ → ℕ → Leaves
+cells_test cells size = record { local = λ slot. true; place = lies_in cells size }
 
--- ---- calls
+-- how many cells an object of a class has; one of a class that is not there has none
+abbrev pub size_of : List ℕ → ℕ → ℕ
+size_of sizes class = slice_index_or sizes class 0
 
--- a method calls only methods before it, so that no method reaches itself; k is the number of the
--- first of these
-abbrev pub are_callees_first : ℕ → List Codes → Bool
-are_callees_first k [] = true
-are_callees_first k (b ∷ bs) = all_calls (λ callee. nat_lt callee k) b && are_callees_first (suc k) bs
+-- places of a block lie in an object of its class, or in the memory
+abbrev pub lie_in : ℕ → List ℕ → List Block → Bool
+lie_in cells sizes [] = true
+lie_in cells sizes (b ∷ bs) = all_pass (cells_test cells (size_of sizes b.class)) (code_list b.statements) && lie_in cells sizes bs
 
--- the cells of an object of the method's class
-abbrev pub size_of : Option Method → ℕ
-size_of None = 0
-size_of (Some m) = m.size
+-- ---- blocks
 
--- a called method is of the same class, whose objects have as many cells; `all` are the methods that
--- are called
-abbrev pub call_own_class : List Method → List Method → Bool
-call_own_class all [] = true
-call_own_class all (m ∷ ms) =
-    all_calls (λ callee. size_of (slice_get all callee) == m.size) (codes_of_list m.body) && call_own_class all ms
+-- a block runs only blocks before it, so that none reaches itself; k is the number of the first of
+-- these
+abbrev pub are_in_order : ℕ → List (List Code) → Bool
+are_in_order k [] = true
+are_in_order k (b ∷ bs) = all_blocks (λ block. nat_lt block k) b && are_in_order (suc k) bs
+
+-- the class of a block; one that is not there has none
+abbrev pub class_at : List Block → ℕ → Option ℕ
+class_at [] k = None
+class_at (b ∷ bs) zero = Some b.class
+class_at (b ∷ bs) (suc k) = class_at bs k
+
+abbrev pub is_of : ℕ → Option ℕ → Bool
+is_of class None = false
+is_of class (Some other) = other == class
+
+-- the block is there, and of the class
+abbrev pub has_class : List Block → ℕ → ℕ → Bool
+has_class all class block = is_of class (class_at all block)
+
+-- a block runs only blocks of its class; `all` are those that are run
+abbrev pub run_own_class : List Block → List Block → Bool
+run_own_class all [] = true
+run_own_class all (b ∷ bs) = all_blocks (has_class all b.class) (code_list b.statements) && run_own_class all bs
+
+-- how many frames a run of a block needs; a block that is not there needs one
+abbrev pub deep_at : List Block → ℕ → ℕ
+deep_at [] k = 1
+deep_at (b ∷ bs) zero = b.deep
+deep_at (b ∷ bs) (suc k) = deep_at bs k
+
+-- the frames of what a statement runs have room above others; a loop has a frame of its own
+abbrev pub code_fits : List Block → ℕ → ℕ → Code → Bool
+code_fits blocks height room Empty = true
+code_fits blocks height room (Declare line slot scalar e) = true
+code_fits blocks height room (SetLocal line slot scalar change) = true
+code_fits blocks height room (Assign line place change) = true
+code_fits blocks height room (If branches) = branch_blocks (λ block. nat_le (height + deep_at blocks block) room) branches
+code_fits blocks height room (For slot from bound block) = nat_lt (height + deep_at blocks block) room
+code_fits blocks height room (Run block) = nat_le (height + deep_at blocks block) room
+
+abbrev pub all_fit : List Block → ℕ → ℕ → List Code → Bool
+all_fit blocks height room [] = true
+all_fit blocks height room (first ∷ rest) = code_fits blocks height room first && all_fit blocks height room rest
+
+-- a block has room for a frame of its own and for those of what it runs
+abbrev pub are_deep : List Block → List Block → Bool
+are_deep all [] = true
+are_deep all (b ∷ bs) = (nat_lt 0 b.deep && all_fit all 1 b.deep (code_list b.statements)) && are_deep all bs
+
+-- ---- methods and objects
+
+-- the block of a method is there, and of its class
+abbrev pub method_stands : List Block → Method → Bool
+method_stands blocks method = has_class blocks method.class method.block
+
+abbrev pub methods_stand : List Block → List Method → Bool
+methods_stand blocks = list_all (method_stands blocks)
+
+-- the cells of an object are in the memory
+abbrev pub object_stands : ℕ → List ℕ → Object → Bool
+object_stands cells sizes object = nat_le (object.first + size_of sizes object.class) cells
+
+abbrev pub objects_stand : ℕ → List ℕ → List Object → Bool
+objects_stand cells sizes = list_all (object_stands cells sizes)
 
 -- ---- jobs
 
--- the first cell of an object
-abbrev pub first_of : Option Object → ℕ
-first_of None = 0
-first_of (Some o) = o.first
+-- the object and the method are there, and of one class
+abbrev pub of_one_class : Option Object → Option Method → Bool
+of_one_class (Some object) (Some method) = object.class == method.class
+of_one_class (Some object) None = false
+of_one_class None method = false
 
--- the job's object and method are there, and the object's cells are in the memory
-abbrev pub stands : ℕ → List Object → List Method → Job → Bool
-stands cells objects methods job =
-    nat_lt job.object (length objects) && (nat_lt job.method (length methods)
-    && nat_le (first_of (slice_get objects job.object) + size_of (slice_get methods job.method)) cells)
+abbrev pub job_stands : List Object → List Method → Job → Bool
+job_stands objects methods job = of_one_class (slice_get objects job.object) (slice_get methods job.method)
 
-abbrev pub jobs_stand : ℕ → List Object → List Method → List Job → Bool
-jobs_stand cells objects methods [] = true
-jobs_stand cells objects methods (j ∷ js) = stands cells objects methods j && jobs_stand cells objects methods js
+abbrev pub jobs_stand : List Object → List Method → List Job → Bool
+jobs_stand objects methods = list_all (job_stands objects methods)
 
 -- the latest tic that a time can be
 abbrev pub last_tic : ℕ
@@ -182,17 +155,23 @@ has_right_times Restart job = has_no_times job
 has_right_times Shutdown job = has_no_times job
 
 abbrev pub have_right_times : List Job → Bool
-have_right_times [] = true
-have_right_times (j ∷ js) = has_right_times j.class j && have_right_times js
+have_right_times = list_all (λ job. has_right_times job.class job)
 
--- threads go from 0 to 15, and phases from 1 to 65534
-abbrev pub have_right_places : List Job → Bool
-have_right_places [] = true
-have_right_places (j ∷ js) =
-    (nat_le j.thread 15 && (nat_le 1 j.phase && nat_le j.phase 65534)) && have_right_places js
+-- threads go from 0 to 15
+abbrev pub have_right_threads : List Job → Bool
+have_right_threads = list_all (λ job. nat_le job.thread 15)
+
+-- the block that a job runs: that of its method; a job or a method that is not there runs the number
+-- past the last block, which does nothing
+abbrev pub block_of : ℕ → Option Method → ℕ
+block_of past None = past
+block_of past (Some method) = method.block
+
+abbrev pub method_of : List Method → Option Job → Option Method
+method_of methods None = None
+method_of methods (Some job) = slice_get methods job.method
 
 -- a job has at most 1,000,000 static steps
-abbrev pub are_short : List Codes → List Job → Bool
-are_short bodies [] = true
-are_short bodies (j ∷ js) =
-    nat_le (called_steps bodies (length bodies) j.method) 1000000 && are_short bodies js
+abbrev pub are_short : List Block → List Method → List Job → Bool
+are_short blocks methods =
+    list_all (λ job. nat_le (block_steps (codes_of blocks) (block_of (length blocks) (method_of methods (Some job)))) 1000000)

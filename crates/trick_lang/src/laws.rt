@@ -1,7 +1,7 @@
 //! Laws of what bodies do, for every program, job and memory. A function that calls one of them may
 //! rest on what it says; the call itself does nothing.
 
-ghost use Rattle.trick_lang.specs.Laws.{DepthIsEnough, SameEffect, StaysInCells, StoresByCell, StoresInRange, WrapsRight, WritesOnly};
+ghost use Rattle.trick_lang.specs.Laws.{BlocksHold, OverwritesRight, SameEffect, StaysInCells, StoresByCell, StoresInRange, WrapsRight, WritesOnly};
 
 /// What a store leaves of a number is the one number of the type's range that equals it modulo two
 /// to the power of the type's bits; a `bool` holds 0 or 1.
@@ -34,7 +34,14 @@ pub fn cell_law()
     ensures { StaysInCells }
 {}
 
-/// Calls go no deeper than a method's number: a greater depth changes nothing.
-pub fn depth_law()
-    ensures { DepthIsEnough }
+/// A memory that is overwritten by an effect has as many numbers as before: in each cell the number
+/// stored to it, or else its own, and all in their ranges.
+pub fn overwrite_law()
+    ensures { OverwritesRight }
+{}
+
+/// A block does what its statements do, reads and writes what they do, and has their steps; it keeps
+/// the rules on local variables where they do.
+pub fn block_law()
+    ensures { BlocksHold }
 {}

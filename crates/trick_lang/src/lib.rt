@@ -5,7 +5,6 @@
 mod bound;
 mod cells;
 mod class;
-pub mod evaluate;
 mod fault;
 mod job;
 pub mod laws;
@@ -30,5 +29,5 @@ pub use operator::{Arithmetic, Comparison, Operator, Prefix};
 pub use program::Program;
 pub use range::CellRange;
 pub use scalar::{Scalar, wrap};
-pub use tree::{Branch, Change, Choice, Expr, Index, Link, Place, Stmt};
+pub use tree::{Block, Branch, Change, Choice, Expr, Index, Link, Place, Stmt};
 pub use variable::{EnumItem, Variable};

@@ -1,4 +1,5 @@
 use crate::{Arithmetic, Bound, Operator, Prefix, Scalar};
+use trick_base::Items;
 
 /// A resolved expression, whose value is a signed number of 64 bits.
 #[derive(Drop)]
@@ -47,7 +48,7 @@ pub struct Place {
     /// What the members and literal indexes behind the first computed index add.
     pub offset: u32,
     /// How many literal indexes the path has, which count as steps.
-    pub literals: u32,
+    pub literals: u64,
     /// The computed indexes, left to right.
     pub indexes: Vec<Index>,
 }
@@ -70,12 +71,11 @@ pub enum Change {
     Decrease,
 }
 
-/// A resolved statement. `line` is the line of its fault.
+/// A resolved statement. `line` is the line of its fault. What the text nests in it stands in blocks
+/// of their own, by number.
 #[derive(Drop)]
-#[cycle(statement)]
 pub enum Stmt {
     Empty,
-    Block(Vec<Stmt>),
     /// A new local variable in its slot, which holds 0 and then its value, where one is written.
     Declare {
         line: u32,
@@ -96,28 +96,37 @@ pub enum Stmt {
         place: Place,
         change: Change,
     },
-    /// The tests of an `else if` chain with their statements, and what stands behind the last
-    /// `else`, if there is one.
+    /// The tests of an `else if` chain with their blocks, and the block behind the last `else`, if
+    /// there is one.
     If {
         branches: Vec<Branch>,
-        otherwise: Option<Box<Stmt>>,
+        otherwise: Option<u32>,
     },
     /// A loop whose variable, in its slot, has the numbers from `from` to the bound in turn.
     For {
         slot: u32,
         from: u64,
         bound: Bound,
-        body: Box<Stmt>,
+        block: u32,
     },
-    /// A call of a method, by its number.
-    Call(u32),
+    /// An inner block, or a call: the block of the method.
+    Run(u32),
 }
 
-/// An `if` of an `else if` chain: its line, its test and its statement.
+/// An `if` of an `else if` chain: its line, its test and its block.
 #[derive(Drop)]
-#[cycle(statement)]
 pub struct Branch {
     pub line: u32,
     pub test: Expr,
-    pub body: Stmt,
+    pub block: u32,
+}
+
+/// Statements one after another: the body of a method, of a branch or of a loop, or an inner block.
+#[derive(Drop)]
+pub struct Block {
+    /// The class of whose methods it is a part, by number.
+    pub class: u32,
+    pub statements: Items<Stmt>,
+    /// How many frames a run of the block needs on a stack, itself included.
+    pub deep: u64,
 }
