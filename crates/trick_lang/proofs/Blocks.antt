@@ -99,4 +99,3 @@ module _ (p q : ℕ → Bool) where
   all_both [] h i = refl
   all_both (first ∷ rest) h i =
       both (code_blocks (λ k. p k && q k) first) _ (code_both first (both_left _ _ h) (both_left _ _ i)) (all_both rest (both_right (code_blocks p first) _ h) (both_right (code_blocks q first) _ i))
-

@@ -1,5 +1,5 @@
 -- What a job may read and write are cells of its program.
-use Rattle.std.proofs.Common.{◌≡◌, ℕ, zero, suc, ◌+◌, ◌<◌, ◌≤◌, Bool, true, false, ◌==◌, ◌&&◌, ◌||◌, nat_lt, nat_le, IsTrue, List, [], ◌∷◌, ◌++◌, length, slice_get, Option, Some, None, refl, ap, sym, subst, ◌∙◌, arith}
+use Rattle.std.proofs.Common.{◌≡◌, ℕ, zero, suc, ◌+◌, ◌<◌, ◌≤◌, Bool, true, false, ◌&&◌, ◌||◌, nat_le, IsTrue, List, [], ◌∷◌, ◌++◌, length, slice_get, Option, Some, None, refl, ap, sym, subst, ◌∙◌, arith}
 use Rattle.std.proofs.lemmas.Bool.Decides.{nat_tests}
 use Rattle.std.proofs.lemmas.Bool.{ltb-true}
 use Rattle.std.specs.List.{list_all}
@@ -229,11 +229,13 @@ placed p job h =
         let block : IsTrue (method_stands p.blocks m) = all_at (method_stands p.blocks) p.methods j.method m p.method_blocks mi in
         let base : base_of p job ≡ o.first = ap (λ (q : Option Job). first_of (object_of p.objects q)) is ∙ ap first_of oi in
         let body : body_of p job ≡ m.block = ap (λ (q : Option Job). block_of (length p.blocks) (method_of p.methods q)) is ∙ ap (block_of (length p.blocks)) mi in
-        let fits : o.first + size_of p.sizes o.class ≤ length p.cells = grind (arith, nat_tests) in
-        (o.class, record {
-          room = subst (λ b. b + size_of p.sizes o.class ≤ length p.cells) (sym base) fits;
-          own = subst (λ b. IsTrue (has_class p.blocks o.class b)) (sym body) (subst (λ c. IsTrue (has_class p.blocks c m.block)) (sym same) block);
-        })
+        let fits : o.first + size_of p.sizes o.class ≤ length p.cells = grind (arith, nat_tests) in (
+          o.class,
+          record {
+            room = subst (λ b. b + size_of p.sizes o.class ≤ length p.cells) (sym base) fits;
+            own = subst (λ b. IsTrue (has_class p.blocks o.class b)) (sym body) (subst (λ c. IsTrue (has_class p.blocks c m.block)) (sym same) block);
+          },
+        )
 
     with_job : (j : Job) → slice_get p.jobs job.0 ≡ Some j → (class : ℕ) × IsPlaced (length p.cells) p.sizes p.blocks (base_of p job) (body_of p job) class
     with_job j is = with_parts j (slice_get p.objects j.object) (slice_get p.methods j.method) is refl refl (all_at (job_stands p.objects p.methods) p.jobs job.0 j p.job_parts is)

@@ -1,5 +1,7 @@
+mod AccessExamples
 pub mod Alike
 pub mod Blocks
+mod Examples
 pub mod Frame
 pub mod Inside
 pub mod Lists
@@ -9,5 +11,6 @@ pub mod Stores
 pub mod SyntaxLists
 pub mod Tests
 pub mod TreeLists
+mod ValidExamples
 pub mod WrapLaw
 pub mod Wraps

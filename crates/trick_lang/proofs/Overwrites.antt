@@ -1,5 +1,5 @@
 -- What a memory is after an effect has overwritten it.
-use Rattle.std.proofs.Common.{◌≡◌, ℕ, zero, suc, ◌+◌, ◌<◌, ℤ, pos, List, [], ◌∷◌, length, Option, Some, None, unwrap_or, refl, ap, subst, sym, ◌∙◌, arith}
+use Rattle.std.proofs.Common.{◌≡◌, ℕ, zero, suc, ◌<◌, ℤ, pos, List, [], ◌∷◌, length, Option, Some, None, unwrap_or, refl, ap, subst, sym, arith}
 use Rattle.std.specs.List.{slice_index_or}
 use Rattle.trick_lang.specs.Effect.{overwritten}
 use Rattle.trick_lang.specs.Laws.{OverwritesRight}

@@ -19,7 +19,7 @@ use Rattle.trick_lang.specs.Run.{State, Setting, sight, changed, assigned, turn,
 use Rattle.trick_lang.specs.TreeOf.{codes_of}
 use Rattle.trick_lang.specs.Tree.{Spot, Change, Code, Empty, Declare, SetLocal, Assign, If, For, Run, Branches, NoElse, Else, Test}
 use Rattle.trick_lang.specs.Passes.{place_passes, code_passes, all_pass, code_blocks, branch_blocks, all_blocks}
-use Rattle.trick_lang.specs.Valid.{is_in_span, span_test, stay_in_span, are_in_order}
+use Rattle.trick_lang.specs.Valid.{span_test, stay_in_span, are_in_order}
 use Rattle.trick_lang.specs.Value.{value, cell_of}
 use Rattle.trick_lang.specs.Wrap.{wrap, scalar_at, IsInRange}
 use Rattle.trick_lang.specs.declared.fault.FaultKind.{FaultKind}
