@@ -10,3 +10,5 @@ pub mod Unique
 pub mod Amounts
 -- What is known of a number that stands at the front of a text.
 pub mod Fronts
+-- What is answered of a number of seconds, by its amount.
+pub mod Times

@@ -1,15 +1,16 @@
 -- A text has no other tokens, and no tokens past its first fault.
-use Rattle.std.proofs.Common.{◌≡◌, ◌≢◌, ℕ, zero, suc, ◌+◌, ◌≤◌, List, [], ◌∷◌, Some, All, length, drop, slice_get, arith, refl, sym, ap, ◌∙◌, subst}
+use Rattle.std.proofs.Common.{◌≡◌, ◌≢◌, ℕ, zero, suc, ◌+◌, ◌≤◌, List, [], ◌∷◌, ◌-◌, add-one, Option, Some, None, ◌⊎◌, inl, inr, All, length, drop, slice_get, arith, refl, sym, ap, ◌∙◌, subst}
 use Rattle.std.proofs.lemmas.List.{at_drop_all}
+use Rattle.trick_text.proofs.Walk.{line_more}
+use Rattle.trick_text.specs.declared.fault.FirstFault.{FirstFault}
 use Rattle.trick_text.specs.declared.fault.TextFault.{TextFault}
 use Rattle.trick_text.specs.declared.fault.TextFault.TheVariants as faults
-use Rattle.trick_text.specs.declared.piece.Piece.{Piece}
-use Rattle.trick_text.specs.declared.piece.Piece.TheVariants.{Blank, Token, BadByte, OpenComment, LongNumber}
+use Rattle.trick_text.specs.declared.piece.Piece.TheVariants.{Blank, Token, BadByte}
 use Rattle.trick_text.specs.declared.token.Style.{Style}
 use Rattle.trick_text.specs.declared.token.Token as declared
 use Rattle.trick_text.specs.declared.token.TokenKind.{TokenKind}
 use Rattle.trick_text.specs.Pieces.{front}
-use Rattle.trick_text.specs.Tokens.{line_of, AreBlanks, nothing, blank, IsToken, IsTokenOf, AreTokens, AreAllTokens, LiesIn, StopsAt, IsRefused}
+use Rattle.trick_text.specs.Tokens.{line_of, AreBlanks, nothing, blank, IsToken, ReadsAsToken, AreTokens, AreAllTokens, LiesIn, fault_of, IsFault, IsCut, IsCutOff, IsTooLong, IsRefused}
 
 module _ (style : Style) (text : List ℕ) where
   -- white space and comments, seen from their front
@@ -73,103 +74,78 @@ module _ (style : Style) (text : List ℕ) where
       let others = same_walk t.end j k ts us p.2 (subst (λ v. AreTokens style text v.end us k) (sym e) q.2) a b in
       (λ i. e i ∷ others.0 i, others.1)
 
-  bad_is_end : (j m : ℕ) → front style (drop j text) ≡ BadByte m → IsEnd j
-  bad_is_end j m e = (λ n f. no_blank n (sym e ∙ f), λ kind n f. none kind n (sym e ∙ f))
+  -- where a fault stands there is neither
+  fault_is_end : (j i : ℕ) (fault : TextFault) → fault_of (front style (drop j text)) i ≡ Some fault → IsEnd j
+  fault_is_end j i fault e = (λ n f. none (sym (ap (λ p. fault_of p i) f) ∙ e), λ kind n f. none (sym (ap (λ p. fault_of p i) f) ∙ e))
     where
-      no_blank : (n : ℕ) → BadByte m ≡ Blank n → ⊥
-      no_blank n f = cc
-
-      none : (kind : TokenKind) (n : ℕ) → BadByte m ≡ Token kind n → ⊥
-      none kind n f = cc
-
-  open_is_end : (j : ℕ) → front style (drop j text) ≡ OpenComment → IsEnd j
-  open_is_end j e = (λ n f. no_blank n (sym e ∙ f), λ kind n f. none kind n (sym e ∙ f))
-    where
-      no_blank : (n : ℕ) → OpenComment ≡ Blank n → ⊥
-      no_blank n f = cc
-
-      none : (kind : TokenKind) (n : ℕ) → OpenComment ≡ Token kind n → ⊥
-      none kind n f = cc
-
-  long_is_end : (j : ℕ) → front style (drop j text) ≡ LongNumber → IsEnd j
-  long_is_end j e = (λ n f. no_blank n (sym e ∙ f), λ kind n f. none kind n (sym e ∙ f))
-    where
-      no_blank : (n : ℕ) → LongNumber ≡ Blank n → ⊥
-      no_blank n f = cc
-
-      none : (kind : TokenKind) (n : ℕ) → LongNumber ≡ Token kind n → ⊥
-      none kind n f = cc
+      none : None ≡ Some fault → ⊥
+      none f = cc
 
   text_ends : front style (drop (length text) text) ≡ BadByte 0
   unfolding front
   text_ends = at_drop_all (front style) text (length text) (omega arith)
 
   end_is_end : IsEnd (length text)
-  end_is_end = bad_is_end (length text) 0 text_ends
+  end_is_end = fault_is_end (length text) 0 (faults.BadByte (0 + 0)) (ap (λ p. fault_of p 0) text_ends)
+
+  first_is_end : (f : FirstFault) → IsFault style text f → IsEnd f.start
+  first_is_end f p = fault_is_end f.start f.start f.fault p.fault
+
+  same_fault : (f g : FirstFault) → IsFault style text f → IsFault style text g → f.start ≡ g.start → f ≡ g
+  same_fault f g p q s =
+      let faults : f.fault ≡ g.fault = some_is _ _ (sym p.fault ∙ ap (λ i. fault_of (front style (drop i text)) i) s ∙ q.fault) in
+      let lines : f.line ≡ g.line = p.line ∙ ap (line_of text) s ∙ sym q.line in
+      λ k. record { fault = faults k; start = s k; line = lines k }
+    where
+      some_is : (a b : TextFault) → Some a ≡ Some b → a ≡ b
+      some_is a b e = cc
+
+  pub one_cut : (ts us : List declared.Token) (f g : Option FirstFault) → IsCut style text ts f → IsCut style text us g → (ts ≡ us) × (f ≡ g)
+  one_cut ts us None None p q = ((same_walk 0 _ _ ts us p.1 q.1 end_is_end end_is_end).0, refl)
+  one_cut ts us None (Some g) p q = let e = (same_walk 0 _ _ ts us p.1 q.1 end_is_end (first_is_end g q.2)).1 in absurd (omega (arith, e, q.2.inside))
+  one_cut ts us (Some f) None p q = let e = (same_walk 0 _ _ ts us p.1 q.1 (first_is_end f p.2) end_is_end).1 in absurd (omega (arith, e, p.2.inside))
+  one_cut ts us (Some f) (Some g) p q =
+      let e = same_walk 0 _ _ ts us p.1 q.1 (first_is_end f p.2) (first_is_end g q.2) in
+      (e.0, ap (λ h. Some h) (same_fault f g p.2 q.2 e.1))
 
   pub one_list : (ts us : List declared.Token) → AreAllTokens style text ts → AreAllTokens style text us → ts ≡ us
-  one_list ts us p q = (same_walk 0 _ _ ts us p.1 q.1 end_is_end end_is_end).0
+  one_list ts us p q = (one_cut ts us None None p q).0
 
-  stopped_has_none : (i : ℕ) (piece : Piece) (us : List declared.Token) → StopsAt style text i piece → IsEnd i → AreAllTokens style text us → ⊥
-  stopped_has_none i piece us s end q =
-      let e = (same_walk 0 _ _ s.before.0 us s.before.1 q.1 end end_is_end).1 in
-      omega (arith, e, s.inside)
+  cut_off_has_none : (fault : TextFault) (us : List declared.Token) → IsCutOff style text fault → AreAllTokens style text us → ⊥
+  cut_off_has_none fault us r q = absurd (none (one_cut r.0 us (Some r.1) None r.2 q).1)
+    where
+      none : Some r.1 ≡ None → ⊥
+      none e = cc
 
   pub refused_has_none : (fault : TextFault) (ts : List declared.Token) → fault ≢ faults.OutOfMemory → IsRefused style text fault → AreAllTokens style text ts → ⊥
   refused_has_none (faults.LongText limit) ts ne r q = omega (arith, r.0, q.0)
-  refused_has_none (faults.BadByte at) ts ne r q = stopped_has_none r.0 _ ts r.2 (bad_is_end r.0 r.1 r.2.here) q
-  refused_has_none (faults.OpenComment at) ts ne r q = stopped_has_none at _ ts r (open_is_end at r.here) q
-  refused_has_none (faults.LongNumber at) ts ne r q = stopped_has_none at _ ts r (long_is_end at r.here) q
+  refused_has_none (faults.BadByte at) ts ne r q = cut_off_has_none _ ts r q
+  refused_has_none (faults.OpenComment at) ts ne r q = cut_off_has_none _ ts r q
+  refused_has_none (faults.LongNumber at) ts ne r q = cut_off_has_none _ ts r q
   refused_has_none faults.OutOfMemory ts ne r q = ne refl
 
-  -- two faults stop at one place, at one piece
-  same_stop : (i j : ℕ) (p q : Piece) → StopsAt style text i p → StopsAt style text j q → IsEnd i → IsEnd j → (i ≡ j) × (p ≡ q)
-  same_stop i j p q s t a b =
-      let e = (same_walk 0 _ _ s.before.0 t.before.0 s.before.1 t.before.1 a b).1 in
-      (e, sym s.here ∙ ap (λ k. front style (drop k text)) e ∙ t.here)
+  -- a fault that is no want of memory: the text is too long, or it is cut off there
+  abbrev HasOne : TextFault → Type 0
+  HasOne fault = (limit : ℕ) × (fault ≡ faults.LongText limit) × IsTooLong text limit
 
-  bad_width : (m n : ℕ) → BadByte m ≡ BadByte n → m ≡ n
-  bad_width m n e = cc
-
-  bad_not_open : (m : ℕ) → BadByte m ≡ OpenComment → ⊥
-  bad_not_open m e = cc
-
-  bad_not_long : (m : ℕ) → BadByte m ≡ LongNumber → ⊥
-  bad_not_long m e = cc
-
-  open_not_long : OpenComment ≡ LongNumber → ⊥
-  open_not_long e = cc
-
-  bad_and_open : (i n j : ℕ) → StopsAt style text i (BadByte n) → StopsAt style text j OpenComment → ⊥
-  bad_and_open i n j s t = bad_not_open n (same_stop i j _ _ s t (bad_is_end i n s.here) (open_is_end j t.here)).1
-
-  bad_and_long : (i n j : ℕ) → StopsAt style text i (BadByte n) → StopsAt style text j LongNumber → ⊥
-  bad_and_long i n j s t = bad_not_long n (same_stop i j _ _ s t (bad_is_end i n s.here) (long_is_end j t.here)).1
-
-  open_and_long : (i j : ℕ) → StopsAt style text i OpenComment → StopsAt style text j LongNumber → ⊥
-  open_and_long i j s t = open_not_long (same_stop i j _ _ s t (open_is_end i s.here) (long_is_end j t.here)).1
+  has_one : (fault : TextFault) → fault ≢ faults.OutOfMemory → IsRefused style text fault → HasOne fault ⊎ IsCutOff style text fault
+  has_one (faults.LongText limit) ne r = inl (limit, refl, r)
+  has_one (faults.BadByte at) ne r = inr r
+  has_one (faults.OpenComment at) ne r = inr r
+  has_one (faults.LongNumber at) ne r = inr r
+  has_one faults.OutOfMemory ne r = absurd (ne refl)
 
   pub one_fault : (f g : TextFault) → f ≢ faults.OutOfMemory → g ≢ faults.OutOfMemory → IsRefused style text f → IsRefused style text g → f ≡ g
-  one_fault faults.OutOfMemory g a b r s = absurd (a refl)
-  one_fault f faults.OutOfMemory a b r s = absurd (b refl)
-  one_fault (faults.LongText l) (faults.LongText m) a b r s = ap (λ k. faults.LongText k) (r.1 ∙ sym s.1)
-  one_fault (faults.LongText l) (faults.BadByte m) a b r s = absurd (omega (arith, r.0, s.2.short))
-  one_fault (faults.LongText l) (faults.OpenComment m) a b r s = absurd (omega (arith, r.0, s.short))
-  one_fault (faults.LongText l) (faults.LongNumber m) a b r s = absurd (omega (arith, r.0, s.short))
-  one_fault (faults.BadByte l) (faults.LongText m) a b r s = absurd (omega (arith, s.0, r.2.short))
-  one_fault (faults.OpenComment l) (faults.LongText m) a b r s = absurd (omega (arith, s.0, r.short))
-  one_fault (faults.LongNumber l) (faults.LongText m) a b r s = absurd (omega (arith, s.0, r.short))
-  one_fault (faults.BadByte l) (faults.BadByte m) a b r s =
-      let same = same_stop r.0 s.0 _ _ r.2 s.2 (bad_is_end r.0 r.1 r.2.here) (bad_is_end s.0 s.1 s.2.here) in
-      ap (λ k. faults.BadByte k) (omega (arith, r.3, s.3, same.0, bad_width _ _ same.1))
-  one_fault (faults.BadByte l) (faults.OpenComment m) a b r s = absurd (bad_and_open r.0 r.1 m r.2 s)
-  one_fault (faults.BadByte l) (faults.LongNumber m) a b r s = absurd (bad_and_long r.0 r.1 m r.2 s)
-  one_fault (faults.OpenComment l) (faults.BadByte m) a b r s = absurd (bad_and_open s.0 s.1 l s.2 r)
-  one_fault (faults.OpenComment l) (faults.OpenComment m) a b r s = ap (λ k. faults.OpenComment k) (same_stop l m _ _ r s (open_is_end l r.here) (open_is_end m s.here)).0
-  one_fault (faults.OpenComment l) (faults.LongNumber m) a b r s = absurd (open_and_long l m r s)
-  one_fault (faults.LongNumber l) (faults.BadByte m) a b r s = absurd (bad_and_long s.0 s.1 l s.2 r)
-  one_fault (faults.LongNumber l) (faults.OpenComment m) a b r s = absurd (open_and_long m l s r)
-  one_fault (faults.LongNumber l) (faults.LongNumber m) a b r s = ap (λ k. faults.LongNumber k) (same_stop l m _ _ r s (long_is_end l r.here) (long_is_end m s.here)).0
+  one_fault f g a b r s = by (has_one f a r) (has_one g b s)
+    where
+      by : HasOne f ⊎ IsCutOff style text f → HasOne g ⊎ IsCutOff style text g → f ≡ g
+      by (inl p) (inl q) = p.1 ∙ ap (λ k. faults.LongText k) (p.2.1 ∙ sym q.2.1) ∙ sym q.1
+      by (inl p) (inr q) = absurd (omega (arith, p.2.0, q.2.0))
+      by (inr p) (inl q) = absurd (omega (arith, p.2.0, q.2.0))
+      by (inr p) (inr q) = sym p.3 ∙ first_is _ _ (one_cut p.0 q.0 (Some p.1) (Some q.1) p.2 q.2).1 ∙ q.3
+        where
+          first_is : (x y : FirstFault) → Some x ≡ Some y → x.fault ≡ y.fault
+          first_is x y e = cc
 
   same_some : (t u : declared.Token) → Some t ≡ Some u → t ≡ u
   same_some t u e = cc
@@ -179,7 +155,7 @@ module _ (style : Style) (text : List ℕ) where
   each i j (u ∷ us) zero t p e = subst (IsToken style text) (same_some u t e) p.1
   each i j (u ∷ us) (suc k) t p e = each u.end j us k t p.2 e
 
-  pub all_are : (i j : ℕ) (ts : List declared.Token) → AreTokens style text i ts j → All (IsTokenOf text) ts
+  pub all_are : (i j : ℕ) (ts : List declared.Token) → AreTokens style text i ts j → All (ReadsAsToken text) ts
   all_are i j [] p k d h = absurd (omega arith)
   all_are i j (t ∷ ts) p zero d h = (style, p.1)
   all_are i j (t ∷ ts) p (suc k) d h = all_are t.end j ts p.2 k d (omega arith)
@@ -193,12 +169,63 @@ module _ (style : Style) (text : List ℕ) where
   rise nothing = omega arith
   rise (blank b e) = omega (arith, rise b)
 
-  pub in_order : (i j : ℕ) (ts : List declared.Token) (k : ℕ) (t u : declared.Token) → AreTokens style text i ts j → slice_get ts k ≡ Some t → slice_get ts (suc k) ≡ Some u → t.end ≤ u.start
-  in_order i j [] k t u p e f = absurd (cc)
-  in_order i j (v ∷ []) zero t u p e f = absurd (cc)
-  in_order i j (v ∷ w ∷ ws) zero t u p e f =
+  line_rises : (i j : ℕ) → i ≤ j → line_of text i ≤ line_of text j
+  line_rises i j h =
+      let together : i + (j - i) ≡ j = omega arith in
+      omega (arith, line_more text i (j - i), ap (line_of text) together)
+
+  -- the token at k ends where the one behind it begins, or before that
+  next_starts : (i j : ℕ) (ts : List declared.Token) (k : ℕ) (t u : declared.Token) → AreTokens style text i ts j → slice_get ts k ≡ Some t → slice_get ts (suc k) ≡ Some u → t.end ≤ u.start
+  next_starts i j [] k t u p e f = absurd (cc)
+  next_starts i j (v ∷ []) zero t u p e f = absurd (cc)
+  next_starts i j (v ∷ w ∷ ws) zero t u p e f =
       let t_is = same_some v t e in
       let u_is = same_some w u f in
       let le : v.end ≤ w.start = rise p.2.0 in
       omega (arith, ap (λ x. x.end) t_is, ap (λ x. x.start) u_is)
-  in_order i j (v ∷ vs) (suc k) t u p e f = in_order v.end j vs k t u p.2 e f
+  next_starts i j (v ∷ vs) (suc k) t u p e f = next_starts v.end j vs k t u p.2 e f
+
+  walk_rises : (i j : ℕ) (ts : List declared.Token) → AreTokens style text i ts j → i ≤ j
+  walk_rises i j [] p = rise p
+  walk_rises i j (t ∷ ts) p = omega (arith, rise p.0, p.1.forward, walk_rises t.end j ts p.2)
+
+  -- and each ends at the walk's end, or before that
+  ends_inside : (i j : ℕ) (ts : List declared.Token) (k : ℕ) (t : declared.Token) → AreTokens style text i ts j → slice_get ts k ≡ Some t → t.end ≤ j
+  ends_inside i j [] k t p e = absurd (cc)
+  ends_inside i j (v ∷ vs) zero t p e = omega (arith, ap (λ x. x.end) (same_some v t e), walk_rises v.end j vs p.2)
+  ends_inside i j (v ∷ vs) (suc k) t p e = ends_inside v.end j vs k t p.2 e
+
+  -- where the tokens of a cut end
+  abbrev cut_end : Option FirstFault → ℕ
+  cut_end None = length text
+  cut_end (Some f) = f.start
+
+  walk_of : (ts : List declared.Token) (f : Option FirstFault) → IsCut style text ts f → AreTokens style text 0 ts (cut_end f)
+  walk_of ts None p = p.1
+  walk_of ts (Some f) p = p.1
+
+  module _ (ts : List declared.Token) (f : Option FirstFault) (cut : IsCut style text ts f) where
+    pub each_of_cut : (k : ℕ) (t : declared.Token) → slice_get ts k ≡ Some t → IsToken style text t
+    each_of_cut k t e = each 0 (cut_end f) ts k t (walk_of ts f cut) e
+
+    pub all_lie_in_cut : All (LiesIn text) ts
+    all_lie_in_cut = all_lie 0 (cut_end f) ts (walk_of ts f cut)
+
+    pub in_order : (k : ℕ) (t u : declared.Token) → slice_get ts k ≡ Some t → slice_get ts (k + 1) ≡ Some u → t.end ≤ u.start
+    in_order k t u at_k next = next_starts 0 (cut_end f) ts k t u (walk_of ts f cut) at_k (subst (λ n. slice_get ts n ≡ Some u) (add-one k) next)
+
+    pub lines_rise : (k : ℕ) (t u : declared.Token) → slice_get ts k ≡ Some t → slice_get ts (k + 1) ≡ Some u → t.line ≤ u.line
+    lines_rise k t u at_k next =
+        let first = each_of_cut k t at_k in
+        let second = each_of_cut (k + 1) u next in
+        let le : t.start ≤ u.start = omega (arith, in_order k t u at_k next, first.forward) in
+        omega (arith, line_rises t.start u.start le, first.line, second.line)
+
+  pub fault_is_behind : (ts : List declared.Token) (f : FirstFault) (k : ℕ) (t : declared.Token) → IsCut style text ts (Some f) → slice_get ts k ≡ Some t → t.end ≤ f.start
+  fault_is_behind ts f k t cut at_k = ends_inside 0 f.start ts k t cut.1 at_k
+
+  pub fault_line : (ts : List declared.Token) (f : FirstFault) (k : ℕ) (t : declared.Token) → IsCut style text ts (Some f) → slice_get ts k ≡ Some t → t.line ≤ f.line
+  fault_line ts f k t cut at_k =
+      let is = each_of_cut ts (Some f) cut k t at_k in
+      let le : t.start ≤ f.start = omega (arith, fault_is_behind ts f k t cut at_k, is.forward) in
+      omega (arith, line_rises t.start f.start le, is.line, cut.2.line)

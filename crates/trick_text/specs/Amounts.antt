@@ -1,5 +1,6 @@
 -- A number of seconds in tics, before it is known to be a time.
 use Rattle.std.specs.Prelude.{◌≡◌, ℕ, ◌+◌, ◌*◌, ◌^◌, ◌<◌, Option, Some, None, ◌==◌}
+use Rattle.trick_text.specs.Seconds.{tic_limit}
 use Rattle.trick_text.specs.declared.time.Amount.{Amount}
 
 -- the whole tics in a numerator over ten to the power of its places, and whether no rest is left
@@ -11,5 +12,5 @@ pub record IsAmount (numerator places : ℕ) (a : Amount) : Type 0 where
 
 -- no amount where it is above the limit of tics; one above the limit may be given all the same
 abbrev pub IsAmountOf : ℕ → ℕ → Option Amount → Type 0
-IsAmountOf numerator places None = 10 ^ 15 * 10 ^ places < numerator * 10 ^ 6
+IsAmountOf numerator places None = tic_limit * 10 ^ places < numerator * 10 ^ 6
 IsAmountOf numerator places (Some a) = IsAmount numerator places a

@@ -1,6 +1,7 @@
--- The number that a whole number's bytes stand for.
-use Rattle.std.specs.List.{starts_with}
-use Rattle.std.specs.Prelude.{ℕ, Bool, List, drop, nat_eq, codes, if◌then◌else◌}
+-- The number that a token's bytes stand for.
+use Rattle.std.specs.Char.{is_ascii_digit}
+use Rattle.std.specs.List.{list_all, starts_with}
+use Rattle.std.specs.Prelude.{ℕ, Bool, ◌&&◌, ◌||◌, not, List, length, drop, nat_eq, nat_le, nat_lt, ◌==◌, codes, Option, Some, None, if◌then◌else◌}
 use Rattle.std.specs.Str.Parse.{digits_value}
 
 -- `0x` stands first
@@ -14,3 +15,11 @@ whole_value bytes = if is_hexadecimal bytes then digits_value 16 (drop 2 bytes) 
 -- the largest whole number that a text may hold, two to the power of 63
 abbrev pub whole_limit : ℕ
 whole_limit = 9223372036854775808
+
+-- decimal digits, one at least, with a zero in front only where it stands alone
+abbrev pub is_plain_number : List ℕ → Bool
+is_plain_number bytes = list_all is_ascii_digit bytes && (not (starts_with nat_eq bytes (codes "0")) || (length bytes == 1)) && nat_lt 0 (length bytes)
+
+-- the number of plain digits, where it is no larger than a whole number may be
+abbrev pub plain_number : List ℕ → Option ℕ
+plain_number bytes = if is_plain_number bytes && nat_le (digits_value 10 bytes) whole_limit then Some (digits_value 10 bytes) else None

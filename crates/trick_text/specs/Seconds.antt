@@ -1,8 +1,10 @@
 -- The tics of a number of seconds: a million tics are a second.
 use Rattle.std.specs.List.{after_first, before_first, list_any}
-use Rattle.std.specs.Prelude.{◌≡◌, ℕ, ◌*◌, ◌^◌, ◌<◌, Bool, true, false, List, ◌++◌, length, ◌==◌, if◌then◌else◌}
+use Rattle.std.specs.Prelude.{◌≡◌, ℕ, ◌*◌, ◌/◌, ◌%◌, ◌^◌, ◌<◌, nat_lt, Bool, true, false, List, ◌++◌, length, ◌==◌, Result, Ok, Err, if◌then◌else◌}
 use Rattle.std.specs.Str.Parse.{digits_value}
 use Rattle.trick_text.specs.Numbers.{whole_value}
+use Rattle.trick_text.specs.declared.fault.TimeFault.{TimeFault}
+use Rattle.trick_text.specs.declared.fault.TimeFault.TheVariants.{InexactTime, TimeTooLarge}
 use Rattle.trick_text.specs.declared.token.TokenKind.{TokenKind}
 use Rattle.trick_text.specs.declared.token.TokenKind.TheVariants.{Name, Whole, Decimal, Text, Mark}
 
@@ -31,10 +33,26 @@ numerator bytes =
 -- The value of a number is its numerator divided by ten to the power of its places. So that no
 -- fraction is left, both sides of a fact are given times that power.
 
+-- how many tics a time may have: a thousand million seconds
+abbrev pub tic_limit : ℕ
+tic_limit = 10 ^ 15
+
 -- the value times one million is exactly n
 abbrev pub IsTics : List ℕ → ℕ → Type 0
 IsTics bytes n = n * 10 ^ places bytes ≡ numerator bytes * 10 ^ 6
 
 -- the value times one million is above the limit of tics
 abbrev pub IsTooLarge : List ℕ → Type 0
-IsTooLarge bytes = 10 ^ 15 * 10 ^ places bytes < numerator bytes * 10 ^ 6
+IsTooLarge bytes = tic_limit * 10 ^ places bytes < numerator bytes * 10 ^ 6
+
+-- The same as a computation, from tics and from how many parts a tic is cut into: too many tics on
+-- this line come first, and then tics with a rest.
+abbrev pub time_answer : ℕ → ℕ → ℕ → Result ℕ TimeFault
+time_answer line parts unit =
+    if nat_lt (tic_limit * unit) parts then Err (TimeTooLarge line)
+    else if parts % unit == 0 then Ok (parts / unit)
+    else Err (InexactTime line)
+
+-- the tics of a number of seconds with these bytes, or the fault of its token on this line
+abbrev pub seconds_of : ℕ → List ℕ → Result ℕ TimeFault
+seconds_of line bytes = time_answer line (numerator bytes * 10 ^ 6) (10 ^ places bytes)

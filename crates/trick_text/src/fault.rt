@@ -24,6 +24,18 @@ pub enum TextFault {
     OutOfMemory,
 }
 
+/// The first fault of a text that is not too long, with the place and the line of the piece that
+/// is at fault: of a name of more than 64 bytes, where the name begins.
+#[derive(Clone, Copy, Debug, PartialEq, Eq)]
+pub struct FirstFault {
+    /// A bad byte, an open comment or a long number.
+    pub fault: TextFault,
+    /// The place of the piece's first byte, from 0.
+    pub start: usize,
+    /// The line of that byte, from 1.
+    pub line: u32,
+}
+
 impl From<AllocError> for TextFault {
     ghost from_gives = { λ _ fault. fault ≡ OutOfMemory };
 

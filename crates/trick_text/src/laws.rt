@@ -1,8 +1,9 @@
 //! What holds of the tokens of every text. Each law is a function that does nothing: a caller
 //! knows the law after the call.
 
-ghost use Rattle.std.specs.Prelude.{◌≡◌, ◌≢◌, ◌+◌, ◌≤◌, ℕ, List, All, slice_get};
-ghost use Rattle.trick_text.specs.Tokens.{AreAllTokens, IsRefused, IsToken, IsTokenOf, LiesIn};
+ghost use Rattle.std.specs.Prelude.{◌≡◌, ◌≢◌, ◌+◌, ◌≤◌, ℕ, List, Option, All, slice_get};
+ghost use Rattle.trick_text.specs.Tokens.{AreAllTokens, IsCut, IsRefused, IsToken, LiesIn, ReadsAsToken};
+ghost use Rattle.trick_text.specs.declared.fault.FirstFault.{FirstFault};
 ghost use Rattle.trick_text.specs.declared.fault.TextFault.{TextFault};
 ghost use Rattle.trick_text.specs.declared.token.Style.{Style};
 ghost use Rattle.trick_text.specs.declared.token.Token.{Token};
@@ -20,22 +21,29 @@ pub fn refused_has_none()
         → AreAllTokens style text ts → ⊥ }
 {}
 
-/// Each of the tokens of a text is one.
-pub fn each_is_a_token()
-    ensures { (style : Style) (text : List ℕ) (ts : List Token) (i : ℕ) (t : Token)
-        → AreAllTokens style text ts → slice_get ts i ≡ Some t → IsToken style text t }
+/// A text has one cut: the tokens before its first fault, and that fault.
+pub fn one_cut()
+    ensures { (style : Style) (text : List ℕ) (ts us : List Token) (f g : Option FirstFault)
+        → IsCut style text ts f → IsCut style text us g → (ts ≡ us) × (f ≡ g) }
 {}
 
-/// Each of the tokens of a text is one, for walks along the list.
+/// Each of the tokens of a cut is one.
+pub fn each_is_a_token()
+    ensures { (style : Style) (text : List ℕ) (ts : List Token) (f : Option FirstFault)
+        (i : ℕ) (t : Token) → IsCut style text ts f → slice_get ts i ≡ Some t
+        → IsToken style text t }
+{}
+
+/// Each of the tokens of a text reads as one, for walks along the list.
 pub fn all_are_tokens()
     ensures { (style : Style) (text : List ℕ) (ts : List Token) → AreAllTokens style text ts
-        → All (IsTokenOf text) ts }
+        → All (ReadsAsToken text) ts }
 {}
 
-/// Each of the tokens of a text has a byte at least, and lies in the text.
+/// Each of the tokens of a cut has a byte at least, and lies in the text.
 pub fn all_lie_inside()
-    ensures { (style : Style) (text : List ℕ) (ts : List Token) → AreAllTokens style text ts
-        → All (LiesIn text) ts }
+    ensures { (style : Style) (text : List ℕ) (ts : List Token) (f : Option FirstFault)
+        → IsCut style text ts f → All (LiesIn text) ts }
 {}
 
 /// Two faults of a text that are no want of memory are the same: the first one.
@@ -44,9 +52,22 @@ pub fn one_fault()
         → g ≢ TextFault.OutOfMemory → IsRefused style text f → IsRefused style text g → f ≡ g }
 {}
 
-/// Each token begins where the one before it ends, or behind that.
+/// Each token of a cut begins where the one before it ends, or behind that, and on no earlier line.
 pub fn in_order()
-    ensures { (style : Style) (text : List ℕ) (ts : List Token) (i : ℕ) (t u : Token)
-        → AreAllTokens style text ts → slice_get ts i ≡ Some t → slice_get ts (i + 1) ≡ Some u
-        → t.end ≤ u.start }
+    ensures place { (style : Style) (text : List ℕ) (ts : List Token) (f : Option FirstFault)
+        (i : ℕ) (t u : Token) → IsCut style text ts f → slice_get ts i ≡ Some t
+        → slice_get ts (i + 1) ≡ Some u → t.end ≤ u.start }
+    ensures line { (style : Style) (text : List ℕ) (ts : List Token) (f : Option FirstFault)
+        (i : ℕ) (t u : Token) → IsCut style text ts f → slice_get ts i ≡ Some t
+        → slice_get ts (i + 1) ≡ Some u → t.line ≤ u.line }
+{}
+
+/// The fault of a cut stands behind each of its tokens, and on no earlier line.
+pub fn fault_is_behind()
+    ensures place { (style : Style) (text : List ℕ) (ts : List Token) (f : FirstFault)
+        (i : ℕ) (t : Token) → IsCut style text ts (Some f) → slice_get ts i ≡ Some t
+        → t.end ≤ f.start }
+    ensures line { (style : Style) (text : List ℕ) (ts : List Token) (f : FirstFault)
+        (i : ℕ) (t : Token) → IsCut style text ts (Some f) → slice_get ts i ≡ Some t
+        → t.line ≤ f.line }
 {}

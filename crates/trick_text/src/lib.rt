@@ -1,6 +1,6 @@
 //! Cuts a text into tokens, in the three styles of this project: simulation definitions, input
-//! files and commands. It also reads the numbers that tokens stand for, and times, which are
-//! written in seconds and counted in tics of a millionth of a second.
+//! files and commands, up to its first fault. It also reads the numbers that tokens stand for, and
+//! times, which are written in seconds and counted in tics of a millionth of a second.
 #![tactic(auto)]
 
 mod bytes;
@@ -11,12 +11,14 @@ mod piece;
 mod scan;
 mod time;
 mod token;
+mod value;
 
-pub use fault::{TextFault, TimeFault};
-pub use number::whole;
-pub use scan::{TEXT_LIMIT, tokens};
+pub use fault::{FirstFault, TextFault, TimeFault};
+pub use number::{WHOLE_LIMIT, plain_number, whole};
+pub use scan::{CutText, TEXT_LIMIT, cut, last_line, tokens};
 pub use time::{TIC_LIMIT, seconds};
 pub use token::{Style, Token, TokenKind};
+pub use value::number_of;
 
 #[cfg(test)]
 mod tests;

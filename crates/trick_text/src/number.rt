@@ -1,8 +1,9 @@
-ghost use Rattle.std.specs.Char.{digit_value};
+ghost use Rattle.std.specs.Char.{digit_value, is_ascii_digit};
+ghost use Rattle.std.specs.List.{list_all};
 ghost use Rattle.std.specs.Prelude.{◌≡◌, ◌<◌, ◌≤◌, MatchOption, IfSome};
 ghost use Rattle.std.specs.Str.Parse.{digits_value};
-ghost use Rattle.trick_text.specs.Numbers.{is_hexadecimal, whole_value};
-ghost use Rattle.trick_text.specs.Tokens.{IsTokenOf, spelling};
+ghost use Rattle.trick_text.specs.Numbers.{is_plain_number, plain_number, whole_value};
+ghost use Rattle.trick_text.specs.Tokens.{ReadsAsToken, spelling};
 
 use crate::bytes::begins;
 use crate::token::{Token, TokenKind};
@@ -53,12 +54,39 @@ pub fn whole_value(bytes: &[u8], limit: u64) -> Option<u64>
     }
 }
 
+// Whether these are decimal digits alone.
+fn are_digits(bytes: &[u8]) -> bool
+    ensures { result ≡ list_all is_ascii_digit bytes.now }
+{
+    bytes.iter().all(|byte| byte.is_ascii_digit())
+}
+
+// Whether these are decimal digits, one at least, with a zero in front only where it stands alone.
+fn is_plain_number(bytes: &[u8]) -> bool
+    ensures { result ≡ is_plain_number bytes.now }
+{
+    are_digits(bytes) && (!begins(bytes, b"0") || bytes.len() == 1) && !bytes.is_empty()
+}
+
+/// The number of decimal digits without a zero in front, at most two to the power of 63; none for
+/// other bytes. Takes no memory.
+pub fn plain_number(bytes: &[u8]) -> Option<u64>
+    ensures value { result ≡ plain_number bytes.now }
+    ensures limit { IfSome result (λ n. n ≤ WHOLE_LIMIT) }
+{
+    if is_plain_number(bytes) {
+        digits_value(10, bytes, WHOLE_LIMIT)
+    } else {
+        None
+    }
+}
+
 /// The number that a token of this text stands for, which is a whole number. Takes no memory.
 pub fn whole(token: &Token, text: &[u8]) -> u64
-    requires token { IsTokenOf text.now token.now }
+    requires token { ReadsAsToken text.now token.now }
     requires kind { token.now.kind ≡ TokenKind.Whole }
     ensures value { result ≡ whole_value (spelling text.now token.now) }
-    ensures limit { result ≤ 9223372036854775808 }
+    ensures limit { result ≤ WHOLE_LIMIT }
 {
     whole_value(token.spelling(text), WHOLE_LIMIT).unwrap()
 }

@@ -1,6 +1,7 @@
-ghost use Rattle.std.specs.List.{prefix_len};
-ghost use Rattle.std.specs.Prelude.{◌≡◌, ◌+◌, ◌∷◌, ◌<◌, ◌≤◌, ◌^◌, true, IfSome, drop, length};
-ghost use Rattle.trick_text.specs.Pieces.{Within, before_close, begins_block_comment, begins_line_comment, begins_number, begins_one, front, hexadecimal_digits, is_in_name, mark_len, name_front, number_front, pairs, text_front, triples, whole_front};
+ghost use Rattle.std.specs.List.{list_any, prefix_len};
+ghost use Rattle.std.specs.Str.{bytes_eq};
+ghost use Rattle.std.specs.Prelude.{◌≡◌, ◌+◌, ◌∷◌, ◌<◌, ◌≤◌, ◌^◌, [], true, IfSome, drop, length};
+ghost use Rattle.trick_text.specs.Pieces.{Within, before_close, begins_block_comment, begins_line_comment, begins_number, front, hexadecimal_digits, is_in_name, mark_len, name_front, number_front, pairs, text_front, whole_front};
 
 use crate::bytes::{
     begins, begins_mark, begins_name, begins_number, digits_len, hexadecimal_len, is_quote,
@@ -20,13 +21,6 @@ pub enum Piece {
     OpenComment,
     LongNumber,
 }
-
-const TRIPLES: [[u8; 3]; 2] = [*b"<<=", *b">>="];
-
-const PAIRS: [[u8; 2]; 21] = [
-    *b"::", *b"##", *b"%{", *b"==", *b"!=", *b"<=", *b">=", *b"&&", *b"||", *b"<<", *b">>", *b"+=",
-    *b"-=", *b"*=", *b"/=", *b"%=", *b"&=", *b"|=", *b"^=", *b"++", *b"--",
-];
 
 fn begins_line_comment(style: Style, text: &[u8]) -> bool
     ensures { result ≡ begins_line_comment style text.now }
@@ -138,18 +132,20 @@ fn quoted(quote: u8, after: &[u8]) -> Piece
     }
 }
 
-fn begins_triple(text: &[u8]) -> bool
-    ensures { result ≡ begins_one triples text.now }
+// Whether the two bytes are one mark.
+fn is_pair(first: u8, second: u8) -> bool
+    ensures { result ≡ list_any (λ mark. bytes_eq mark (first ∷ second ∷ [])) pairs }
 {
-    TRIPLES.iter().any(|mark| begins(text, mark))
+    match first {
+        b':' | b'#' => second == first,
+        b'%' => second == b'{' || second == b'=',
+        b'&' | b'|' | b'<' | b'>' | b'+' | b'-' => second == first || second == b'=',
+        b'=' | b'!' | b'*' | b'/' | b'^' => second == b'=',
+        _ => false,
+    }
 }
 
-fn begins_pair(text: &[u8]) -> bool
-    ensures { result ≡ begins_one pairs text.now }
-{
-    PAIRS.iter().any(|mark| begins(text, mark))
-}
-
+// How long the longest mark is that comes next.
 #[tactic(auto, unfolding(crate::specs::Pieces::mark_len))]
 fn mark_len(text: &[u8]) -> usize
     requires { 0 < length text.now }
@@ -157,12 +153,10 @@ fn mark_len(text: &[u8]) -> usize
     ensures some { 0 < result }
     ensures within { result ≤ length text.now }
 {
-    if begins_triple(text) {
-        3
-    } else if begins_pair(text) {
-        2
-    } else {
-        1
+    match text {
+        [b'<', b'<', b'=', ..] | [b'>', b'>', b'=', ..] => 3,
+        [first, second, ..] if is_pair(*first, *second) => 2,
+        _ => 1,
     }
 }
 

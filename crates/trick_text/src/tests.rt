@@ -271,6 +271,116 @@ fn bytes_of_a_token(rt: HostRuntime) {
         line: 1,
     };
     assert_eq!(rt; token.spelling(b"a bc d"), b"bc".as_slice());
+    let string = Token {
+        kind: TokenKind::Text,
+        start: 1,
+        end: 4,
+        line: 1,
+    };
+    assert_eq!(rt; string.quoted(b"a\"b\""), b"b".as_slice());
+    assert_eq!(rt; string.quoted(b"(' ')"), b" ".as_slice());
+    assert_eq!(rt; token.quoted(b"a \"\""), b"".as_slice());
+}
+
+// How many tokens stand before the first fault, and that fault.
+type Cut = (Style, &'static [u8], usize, Option<FirstFault>);
+
+const BROKEN_TEXTS: [Cut; 6] = [
+    (Style::SDefine, b"", 0, None),
+    (Style::SDefine, b"a b\n", 2, None),
+    (
+        Style::SDefine,
+        b"x =\n a2345678901234567890123456789012345678901234567890123456789012345;",
+        2,
+        Some(FirstFault {
+            fault: TextFault::BadByte { at: 69 },
+            start: 5,
+            line: 2,
+        }),
+    ),
+    (
+        Style::SDefine,
+        b"// a\n\nx /* y",
+        1,
+        Some(FirstFault {
+            fault: TextFault::OpenComment { at: 8 },
+            start: 8,
+            line: 3,
+        }),
+    ),
+    (
+        Style::Input,
+        b"x = 9223372036854775809 '",
+        2,
+        Some(FirstFault {
+            fault: TextFault::LongNumber { at: 4 },
+            start: 4,
+            line: 1,
+        }),
+    ),
+    (
+        Style::Command,
+        b"'a",
+        0,
+        Some(FirstFault {
+            fault: TextFault::BadByte { at: 0 },
+            start: 0,
+            line: 1,
+        }),
+    ),
+];
+
+#[test]
+fn cuts_up_to_the_first_fault(rt: HostRuntime) -> Result<(), Fail> {
+    for (style, text, count, fault) in BROKEN_TEXTS {
+        let found = cut(rt.alloc(), text, style)?;
+        assert_eq!(rt; found.tokens.len(), count, "{text:?}");
+        assert_eq!(rt; found.fault, fault, "{text:?}");
+    }
+    Ok(())
+}
+
+const LAST_LINES: [(&[u8], u32); 6] = [
+    (b"", 1),
+    (b"\n", 1),
+    (b"a", 1),
+    (b"a\n", 1),
+    (b"a\n\n", 2),
+    (b"a\nb", 2),
+];
+
+#[test]
+fn last_lines(rt: HostRuntime) {
+    for (text, want) in LAST_LINES {
+        assert_eq!(rt; last_line(text), want, "{text:?}");
+    }
+}
+
+const NUMBERS: [(&[u8], u64); 13] = [
+    (b"C12", 12),
+    (b"P65534", 65_534),
+    (b"P0", 0),
+    (b"C01", 0),
+    (b"C9223372036854775808", 9_223_372_036_854_775_808),
+    (b"C9223372036854775809", 0),
+    (b"C", 0),
+    (b"C1a", 0),
+    (b"0x10", 16),
+    (b"0.25", 250_000),
+    (b"0.0000001", 0),
+    (b"\"12\"", 0),
+    (b"+", 0),
+];
+
+#[test]
+fn numbers_of_tokens(rt: HostRuntime) -> Result<(), Fail> {
+    laws::all_are_tokens();
+    for (text, want) in NUMBERS {
+        let found = tokens(rt.alloc(), text, Style::SDefine)?;
+        assert_eq!(rt; found.len(), 1);
+        assert_eq!(rt; number_of(&found[0], text), want, "{text:?}");
+    }
+    Ok(())
 }
 
 // Each law says what it says at its call, and does nothing.
@@ -283,6 +393,8 @@ fn laws_can_be_called() {
     laws::all_are_tokens();
     laws::all_lie_inside();
     laws::in_order();
+    laws::one_cut();
+    laws::fault_is_behind();
 }
 
 #[test]

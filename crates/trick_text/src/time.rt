@@ -3,8 +3,8 @@ ghost use Rattle.std.specs.List.{after_first, list_all};
 ghost use Rattle.std.specs.Str.Parse.{AllDigits, digits_value};
 ghost use Rattle.trick_text.specs.Amounts.{IsAmountOf};
 ghost use Rattle.trick_text.specs.Numbers.{whole_value};
-ghost use Rattle.trick_text.specs.Seconds.{IsTics, IsTooLarge, is_number, is_point, numerator, places};
-ghost use Rattle.trick_text.specs.Tokens.{IsTokenOf, spelling};
+ghost use Rattle.trick_text.specs.Seconds.{IsTics, IsTooLarge, is_number, is_point, numerator, places, seconds_of};
+ghost use Rattle.trick_text.specs.Tokens.{ReadsAsToken, spelling};
 
 use crate::fault::TimeFault;
 use crate::number::{digits_value, whole_value};
@@ -98,10 +98,11 @@ fn amount_of(bytes: &[u8]) -> Option<Amount>
 /// A number above the limit of tics is too large, exact or not; any other that is no whole number
 /// of tics is inexact. The fault has the token's line.
 pub fn seconds(token: &Token, text: &[u8]) -> Result<u64, TimeFault>
-    requires token { IsTokenOf text.now token.now }
+    requires token { ReadsAsToken text.now token.now }
     requires number { IsTrue (is_number token.now.kind) }
 
     // The time is the number times one million, exactly.
+    ensures value { result ≡ seconds_of token.now.line (spelling text.now token.now) }
     ensures exact { IfOk result (λ n. IsTics (spelling text.now token.now) n) }
     ensures limit { IfOk result (λ n. n ≤ TIC_LIMIT) }
     ensures found { (n : ℕ) → n ≤ TIC_LIMIT → IsTics (spelling text.now token.now) n → result ≡ Ok n }

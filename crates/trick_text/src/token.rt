@@ -42,7 +42,7 @@ pub struct Token {
 }
 
 impl Token {
-    ghost use Rattle.trick_text.specs.Tokens.{spelling};
+    ghost use Rattle.trick_text.specs.Tokens.{inner, spelling};
 
     /// The bytes of this token, where this is the text that it was cut from.
     pub fn spelling<'a>(&self, text: &'a [u8]) -> &'a [u8]
@@ -51,5 +51,18 @@ impl Token {
         ensures { result.now ≡ spelling text.now self.now }
     {
         &text[self.start..self.end]
+    }
+
+    /// The bytes between the quotes of this token, which is a string, where this is the text that it
+    /// was cut from.
+    pub fn quoted<'a>(&self, text: &'a [u8]) -> &'a [u8]
+        requires forward { self.now.start ≤ self.now.end }
+        requires inside { self.now.end ≤ length text.now }
+        ensures { result.now ≡ inner (spelling text.now self.now) }
+    {
+        match self.spelling(text) {
+            [_, inner @ .., _] => inner,
+            _ => &[],
+        }
     }
 }

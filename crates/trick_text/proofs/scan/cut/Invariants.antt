@@ -1,6 +1,6 @@
 use Rattle.std.proofs.Common.{◌≡◌, ◌+◌, ◌≤◌, length, drop}
 use Rattle.trick_text.specs.Tokens.{AreTokens, line_of}
-use Rattle.trick_text.proofs.scan.tokens.Given as goal
+use Rattle.trick_text.proofs.scan.cut.Given as goal
 
 abbrev pub invariant-loop-rest : goal.invariant-loop-rest
 invariant-loop-rest l = record {
@@ -9,7 +9,7 @@ invariant-loop-rest l = record {
   here : l.rest ≡ drop l.at l.text;
   lines : l.line ≤ l.at + 1;
   line : l.line ≡ line_of l.text l.at;
-  so_far : AreTokens l.style l.text 0 l.out.items l.at;
+  so_far : AreTokens l.style l.text 0 l.tokens.items l.at;
 }
 
 abbrev pub decreases-loop-rest : goal.decreases-loop-rest

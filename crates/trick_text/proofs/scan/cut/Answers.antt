@@ -3,8 +3,8 @@ use Rattle.trick_text.specs.declared.piece.Piece.TheVariants.{Blank, Token}
 use Rattle.trick_text.specs.Pieces.{front}
 use Rattle.trick_text.specs.Tokens.{AreTokens, nothing}
 use Rattle.trick_text.proofs.Walk.{step, blank_more, token_more}
-use Rattle.trick_text.proofs.scan.tokens.Goals as goal
-use Rattle.trick_text.proofs.scan.tokens.Goals.{in-Blank, in-Token+in_ok-push-in-Token}
+use Rattle.trick_text.proofs.scan.cut.Goals as goal
+use Rattle.trick_text.proofs.scan.cut.Goals.{in-Blank, in-Token+in_ok-push-in-Token}
 
 pub loop-rest-init : goal.loop-rest-init
 loop-rest-init c = record {
@@ -13,7 +13,7 @@ loop-rest-init c = record {
   here = refl;
   lines = omega arith;
   line = refl;
-  so_far = rw c.new-out.ensures.items nothing;
+  so_far = rw c.new-tokens.ensures.items nothing;
 }
 
 pub loop-rest-preserved : goal.loop-rest-preserved
@@ -34,14 +34,14 @@ loop-rest-preserved c =
       so_far = elim c.match-front.branch [
         | in-Blank w ↦
             let is = ap (front style) (sym l.invariant.here) ∙ sym w.in-Blank.ensures.is ∙ ap Blank (sym w.len-is) in
-            subst (λ v. AreTokens style text 0 v.items (l.at + n)) (sym w.out-is) (blank_more style text l.out.items 0 l.at n l.invariant.so_far is)
+            subst (λ v. AreTokens style text 0 v.items (l.at + n)) (sym w.tokens-is) (blank_more style text l.tokens.items 0 l.at n l.invariant.so_far is)
         | in-Token+in_ok-push-in-Token w ↦
             let m = w.in-Token.n in
             let width : (l.at + m) - l.at ≡ m = omega arith in
             let is = ap (front style) (sym l.invariant.here) ∙ sym w.in-Token.ensures.is ∙ ap (Token w.in-Token.kind) (sym width) in
             let inside : l.at + m ≤ length text = omega (arith, w.in-Token.ensures.within.1) in
-            let more = token_more style text l.out.items 0 _ l.invariant.so_far (record { longest = is; forward = omega (arith, w.in-Token.ensures.within.0); inside = inside; line = l.invariant.line }) in
-            let items = ap (λ v. v.items) w.out-is ∙ w.in_ok-push-in-Token.ensures.items in
+            let more = token_more style text l.tokens.items 0 _ l.invariant.so_far (record { longest = is; forward = omega (arith, w.in-Token.ensures.within.0); inside = inside; line = l.invariant.line }) in
+            let items = ap (λ v. v.items) w.tokens-is ∙ w.in_ok-push-in-Token.ensures.items in
             let at_end : l.at + m ≡ l.at + n = ap (λ k. l.at + k) (sym w.len-is) in
             subst (λ ts. AreTokens style text 0 ts (l.at + n)) (sym items) (subst (AreTokens style text 0 _) at_end more)
       ];
