@@ -61,15 +61,14 @@ fn are_digits(bytes: &[u8]) -> bool
     bytes.iter().all(|byte| byte.is_ascii_digit())
 }
 
-// Whether these are decimal digits, one at least, with a zero in front only where it stands alone.
-fn is_plain_number(bytes: &[u8]) -> bool
+/// Whether these are decimal digits, one at least, with a zero in front only where it stands alone.
+pub fn is_plain_number(bytes: &[u8]) -> bool
     ensures { result ≡ is_plain_number bytes.now }
 {
     are_digits(bytes) && (!begins(bytes, b"0") || bytes.len() == 1) && !bytes.is_empty()
 }
 
-/// The number of decimal digits without a zero in front, at most two to the power of 63; none for
-/// other bytes. Takes no memory.
+/// The number of plain decimal digits, where it is at most two to the power of 63. Takes no memory.
 pub fn plain_number(bytes: &[u8]) -> Option<u64>
     ensures value { result ≡ plain_number bytes.now }
     ensures limit { IfSome result (λ n. n ≤ WHOLE_LIMIT) }
