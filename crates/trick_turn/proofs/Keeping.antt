@@ -316,16 +316,3 @@ module _ {B E : Type 0} (stands : B → List E → Type 0) (seat : E → ℕ) wh
         (subst (λ (vs : List V). Rule record { words = s.words; homes = s.homes; views = vs }) (sym (set_again s.views id m.0 at)) r),
     (refl, r.seen.beside id m.0 at),
   )
-
--- where the shorter of two lists is a prefix of the longer, both are
-both_prefix : {E : Type 0} (xs ys : List E) → IsPrefix (shorter_of xs ys) (longer_of xs ys) → IsPrefix xs (longer_of xs ys) × IsPrefix ys (longer_of xs ys)
-both_prefix xs ys = elim (leb (length xs) (length ys)) as (λ b. IsPrefix (cond b xs ys) (cond b ys xs) → IsPrefix xs (cond b ys xs) × IsPrefix ys (cond b ys xs)) [
-  | true ↦ λ p. (p, prefix_self ys)
-  | false ↦ λ p. (prefix_self xs, p)
-]
-
--- after a join and a look, what both seats had seen is a prefix of what the first has seen
-pub seen_by_both : {S E : Type 0} (v w : View E) (slots : List (ℕ × S)) (m n : Me S (View E)) → m ≡ (after_join v w, slots) → (n ≡ m) × IsPrefix m.0.beside m.0.seen → IsPrefix v.seen n.0.seen × IsPrefix w.seen n.0.seen
-seen_by_both {S} {E} v w slots m n joined (same, beside) =
-    let both = both_prefix v.seen w.seen (subst (λ (x : Me S (View E)). IsPrefix x.0.beside x.0.seen) joined beside) in
-    subst (λ (x : Me S (View E)). IsPrefix v.seen x.0.seen × IsPrefix w.seen x.0.seen) (sym (same ∙ joined)) both

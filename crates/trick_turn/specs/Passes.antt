@@ -1,7 +1,7 @@
 -- What clauses say of a pass: p is the pass before a call, and q is the same pass after it.
-use Rattle.std.specs.Prelude.{◌≡◌, ◌≢◌, ℕ, ◌+◌, ◌<◌, ◌≤◌, length, slice_get, true, false, List, [], ◌∷◌, Option, Some, None}
+use Rattle.std.specs.Prelude.{◌≡◌, ◌≢◌, ℕ, ◌+◌, ◌<◌, ◌≤◌, length, slice_get, true, false, List, [], ◌∷◌, ◌++◌, Option, Some, None}
 use mathlib.Core.List.{IsPrefix}
-use Rattle.trick_turn.specs.Views.{fresh_view, after_claim, after_miss, after_release, after_join}
+use Rattle.trick_turn.specs.Views.{fresh_view, after_claim, after_miss, after_release, after_join, entries_told}
 use Rattle.trick_turn.specs.TurnRule.{entries_of}
 use Rattle.trick_turn.specs.declared.view.View.{View}
 use Rattle.trick_turn.specs.declared.pass.Pass.{Pass}
@@ -78,6 +78,20 @@ module _ {B E : Type 0} where
     pub busy : found ≢ 0
     pub view : view q ≡ after_miss (view p) found
 
+  -- the value is in its slot, which the pass still has
+  abbrev pub IsInSlot : Pass B E → B → Type 0
+  IsInSlot p value = p.seat.inner.me.1 ≡ (0, Some value) ∷ []
+
+  -- the value is in its slot again
+  pub record PutsBack (p q : Pass B E) (value : B) : Type 0 where
+    pub same : IsSamePass p q
+    pub view : view q ≡ view p
+    pub slot : IsInSlot q value
+
+  -- the pass has the turn, and the value in the slot stands for the history and what this turn tells
+  abbrev pub IsReady : (B → List E → Type 0) → Option E → Pass B E → Type 0
+  IsReady stands e p = (p.seat.inner.me.0.holding ≡ true) × (value : B) × IsInSlot p value × stands value (seen p ++ entries_told e)
+
   -- the turn is over, and what it told is at the end of the history
   pub record Releases (e : Option E) (p q : Pass B E) : Type 0 where
     pub same : IsSamePass p q
@@ -99,3 +113,10 @@ module _ {B E : Type 0} where
     pub same : IsSamePass p q
     pub rests : Rests q
     pub view : view q ≡ after_join (view p) (view other)
+
+  -- the pass has not changed, and what is noted beside what it has seen is a prefix of that
+  pub record Looks (p q : Pass B E) : Type 0 where
+    pub same : IsSamePass p q
+    pub view : view q ≡ view p
+    pub taken : q.seat.inner.me.1 ≡ p.seat.inner.me.1
+    pub beside : IsPrefix p.seat.inner.me.0.beside (seen p)

@@ -20,6 +20,10 @@ module _ {B E : Type 0} where
   abbrev pub pass_of : Turn B E → Pass B E
   pass_of t = t.pass.now
 
+  -- the pass as it is once its turn is over: of what is left of the turn, which is its lock, its pass and its value
+  abbrev pub pass_left : {L V : Type 0} → L × (MutBor (Pass B E) × V) → Pass B E
+  pass_left t = t.1.0.now
+
   -- its pass is a pass of its lock, and has the turn
   abbrev pub IsTurn : Turn B E → Type 0
   IsTurn t = IsPassOf t.lock.now t.pass.now × Holds t.pass.now

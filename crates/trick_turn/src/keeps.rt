@@ -17,10 +17,24 @@ pub trait Keeps {
     ghost seat: { Self.Entry → ℕ };
 }
 
+/// Whether a turn may add an entry.
+pub trait MayAdd {
+    /// A release where this is false wakes nobody that rests.
+    const MAY_ADD: bool;
+}
+
+impl MayAdd for Brand {
+    const MAY_ADD: bool = true;
+}
+
+impl MayAdd for Nothing {
+    const MAY_ADD: bool = false;
+}
+
 /// What a turn adds to a history of entries `E`: nothing, or one entry.
 ///
 /// A caller that passes `Brand` picks it at the call, so it can hold what is known only then.
-pub trait Adds<E> {
+pub trait Adds<E>: MayAdd {
     ghost tells: { Option E };
 }
 

@@ -7,11 +7,12 @@ mod keeps;
 mod lock;
 mod pass;
 mod rule;
+mod sleep;
 mod turn;
 mod view;
 
 pub use claim::Claim;
-pub use keeps::{Adds, Keeps, Nothing};
+pub use keeps::{Adds, Keeps, MayAdd, Nothing};
 pub use lock::TurnLock;
 pub use pass::Pass;
 pub use turn::Turn;

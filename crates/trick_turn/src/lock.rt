@@ -4,13 +4,21 @@ ghost use Rattle.std.specs.Prelude.{◌≡◌};
 use crate::keeps::{Adds, Keeps};
 use crate::pass::{NumberedSeat, Pass};
 use crate::rule::{ClaimStep, JoinSeat, LookStep, OneTurn, ReleaseStep, SplitSeat};
+use crate::sleep::{Bell, low_half};
 use crate::view::View;
 use atomic_table::{Refused, Table};
 use std::alloc::{AllocError, Global};
+use std::hint::spin_loop;
 use std::sync::Wait;
+use std::sync::atomic::AtomicU64;
+use std::sync::atomic::Ordering::SeqCst;
 
 /// The word where the turn is free.
 const FREE: u64 = 0;
+
+/// How often a claim that missed looks at the word before it sleeps. A turn is over in some 100 ns, and a sleep and its
+/// wake take much longer.
+const LOOKS: u32 = 50;
 
 /// A value behind a turn. The passes that `new` made claim the turn one at a time, from any thread.
 ///
@@ -18,6 +26,9 @@ const FREE: u64 = 0;
 #[derive(Drop)]
 pub struct TurnLock<B: Keeps> {
     pub(crate) table: Table<Option<B>, View<B::Entry>, (), OneTurn<B>, Global>,
+    // the threads that sleep on the word, or are about to
+    sleepers: AtomicU64,
+    bell: Bell,
     ghost sized: { (table.shared.table_id.words ≡ 1) × (table.shared.table_id.slots ≡ 1) },
 }
 
@@ -26,7 +37,7 @@ impl<B: Keeps> TurnLock<B> {
     ghost use Rattle.std.specs.Prelude.{◌≡◌, ◌+◌, ◌<◌, ◌≤◌, [], vec_capacity, IfOk};
     ghost use mathlib.Core.List.{IsPrefix};
     ghost use Rattle.trick_turn.specs.Views.{after_split, split_off};
-    ghost use Rattle.trick_turn.specs.Passes.{IsPassOf, IsSamePass, Rests, IsDealt, AreDealt, Joins};
+    ghost use Rattle.trick_turn.specs.Passes.{IsPassOf, IsSamePass, Rests, IsDealt, AreDealt, Joins, Looks};
     ghost use Rattle.trick_turn.specs.Passes.{view, number_of, made, seen};
 
     /// A lock with `seats` passes, which have the numbers from 1 on, in this order. The value has to stand for the empty
@@ -62,7 +73,12 @@ impl<B: Keeps> TurnLock<B> {
         match Table::new(alloc, &[FREE], slots, &()) {
             Ok((table, inner)) => {
                 let seat = NumberedSeat { inner, number: 1 };
-                Ok((TurnLock { table }, Pass { seat }))
+                let lock = TurnLock {
+                    table,
+                    sleepers: AtomicU64::new(0),
+                    bell: Bell::new(),
+                };
+                Ok((lock, Pass { seat }))
             }
             Err(Refused { slots: _ }) => Err(AllocError),
         }
@@ -108,9 +124,43 @@ impl<B: Keeps> TurnLock<B> {
         ensures first_seen { IsPrefix (seen first.old) (seen first.new) }
         ensures other_seen { IsPrefix (seen other) (seen first.new) }
     {
+        self.join_seats(first, other);
+        self.look(first);
+    }
+
+    // The first pass takes the longer of what the two have seen, and notes the shorter beside it.
+    fn join_seats(&self, first: &mut Pass<B>, other: Pass<B>)
+        requires first { IsPassOf self.now first.old × Rests first.old × (number_of first.old ≡ 1) }
+        requires other { IsPassOf self.now other × Rests other }
+        ensures { Joins first.old other first.new }
+    {
         let shared = &self.table.shared;
         shared.join_seat::<JoinSeat>(&mut first.seat.inner, other.into_inner());
-        shared.load::<LookStep>(&mut first.seat.inner, 0);
+    }
+
+    // A look at the word, which changes nothing. The rule tells of what is noted beside.
+    fn look(&self, pass: &mut Pass<B>)
+        requires { IsPassOf self.now pass.old }
+        ensures { Looks pass.old pass.new }
+    {
+        let shared = &self.table.shared;
+        shared.load::<LookStep>(&mut pass.seat.inner, 0);
+    }
+}
+
+/// Resting until something was added.
+impl<B: Keeps> TurnLock<B> {
+    /// How many releases so far may have added an entry. A mark to rest on.
+    pub fn mark(&self) -> u64 {
+        self.bell.mark()
+    }
+
+    /// Sleeps until a release after the mark may have added an entry.
+    ///
+    /// Take the mark first, then look at the value in a turn, and rest where there is nothing to do yet. What was added
+    /// after the look then ends the rest. A release with `Nothing` does not, so those that only look wake nobody.
+    pub fn rest<R: Wait>(&self, rt: &R, mark: u64) {
+        self.bell.rest(rt, mark);
     }
 }
 
@@ -119,7 +169,7 @@ impl<B: Keeps> TurnLock<B> {
     ghost use Rattle.std.specs.Prelude.{◌≡◌, ◌++◌, IfOk, IfErr, IfSome};
     ghost use Rattle.trick_turn.specs.Views.{entries_told};
     ghost use Rattle.trick_turn.specs.Passes.{IsPassOf, Rests, Holds, number_of, seen};
-    ghost use Rattle.trick_turn.specs.Passes.{Claims, Waits, Misses, Releases};
+    ghost use Rattle.trick_turn.specs.Passes.{Claims, Waits, Misses, PutsBack, IsReady, Releases};
 
     // One exchange of the word, and the value where the turn was free; else the number that was found.
     pub(crate) fn take_out(&self, pass: &mut Pass<B>) -> Result<B, u64>
@@ -137,7 +187,7 @@ impl<B: Keeps> TurnLock<B> {
         Ok(shared.exchange(&mut pass.seat.inner, 0, None).unwrap())
     }
 
-    // Tries until the turn is free, and sleeps after each miss while the word is what it found. Numbers fit in 32 bits.
+    // Tries until the turn is free, and sleeps between.
     pub(crate) fn wait<R: Wait>(&self, rt: &R, pass: &mut Pass<B>) -> B
         requires own { IsPassOf self.now pass.old }
         requires rests { Rests pass.old }
@@ -146,24 +196,76 @@ impl<B: Keeps> TurnLock<B> {
         for _ in rt.forever() {
             match self.take_out(pass) {
                 Ok(value) => return value,
-                Err(found) => self.table.shared.park(rt, 0, (found & 0xffff_ffff) as u32),
+                Err(_) => self.sleep(rt),
             }
         }
         unreachable!()
     }
 
-    // Puts the value back, frees the turn and wakes one thread that waits for it.
-    pub(crate) fn put_back<E: Adds<B::Entry>>(&self, pass: &mut Pass<B>, value: B)
+    // Sleeps while the word is the number that the last of some looks found. Numbers fit in 32 bits.
+    //
+    // No wake is lost. `sleepers` is raised before the park, and the park sleeps only while the turn is held. A release
+    // frees the turn first and reads `sleepers` after that. So where a park still finds the turn held, the release reads
+    // that somebody sleeps, and wakes one. If another one is woken, it claims, and the next release wakes again.
+    fn sleep<R: Wait>(&self, rt: &R) {
+        let held = self.look_some_times();
+        if held != FREE {
+            self.sleepers.fetch_add(1, SeqCst);
+            self.table.shared.park(rt, 0, low_half(held));
+            self.sleepers.fetch_sub(1, SeqCst);
+        }
+    }
+
+    // The word: free at the first look that finds it so, else what the last look found.
+    fn look_some_times(&self) -> u64 {
+        let mut found = FREE;
+        for _ in 0..LOOKS {
+            spin_loop();
+            found = self.table.shared.peek(0);
+            if found == FREE {
+                break;
+            }
+        }
+        found
+    }
+
+    // Puts the value back, frees the turn, and wakes one thread that waits for it and all that rest.
+    pub(crate) fn release<E: Adds<B::Entry>>(&self, pass: &mut Pass<B>, value: B)
         requires own { IsPassOf self.now pass.old }
         requires holds { Holds pass.old }
         requires names { IfSome E.tells (λ e. B.seat e ≡ number_of pass.old) }
         requires stands { B.stands value (seen pass.old ++ entries_told E.tells) }
         ensures { Releases E.tells pass.old pass.new }
     {
+        self.put_back(pass, value);
+        self.free::<E>(pass);
+        if self.sleepers.load(SeqCst) != 0 {
+            self.table.shared.wake_one(0);
+        }
+        if E::MAY_ADD {
+            self.bell.ring();
+        }
+    }
+
+    // Puts the value back into its slot, which the pass still has.
+    fn put_back(&self, pass: &mut Pass<B>, value: B)
+        requires own { IsPassOf self.now pass.old }
+        requires holds { Holds pass.old }
+        ensures { PutsBack pass.old pass.new value }
+    {
         let shared = &self.table.shared;
         let taken = shared.exchange(&mut pass.seat.inner, 0, Some(value));
         let None = taken else { unreachable!() };
+    }
+
+    // Frees the turn, with the value in its slot.
+    fn free<E: Adds<B::Entry>>(&self, pass: &mut Pass<B>)
+        requires own { IsPassOf self.now pass.old }
+        requires names { IfSome E.tells (λ e. B.seat e ≡ number_of pass.old) }
+        requires home { IsReady B.stands E.tells pass.old }
+        ensures { Releases E.tells pass.old pass.new }
+    {
+        let shared = &self.table.shared;
         shared.store::<ReleaseStep<E>>(&mut pass.seat.inner, 0, FREE);
-        shared.wake_one(0);
     }
 }

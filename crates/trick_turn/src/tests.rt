@@ -74,9 +74,13 @@ fn the_second_pass_is_busy_until_the_release(rt: HostRuntime) -> Result<(), Fail
     let mut second = passes.pop().ok_or("two passes")?;
     let mut first = passes.pop().ok_or("one pass")?;
     assert_eq!(rt; (first.number(), second.number()), (1, 2));
+    let mark = lock.mark();
     assert_eq!(rt; tries(&lock, &mut first, &mut second), (1, true));
     assert_eq!(rt; tries(&lock, &mut second, &mut first), (2, true));
+    assert_eq!(rt; lock.mark(), mark, "nothing was added");
     assert_eq!(rt; count_turn(&rt, &lock, &mut first), 1);
+    assert_eq!(rt; lock.mark().wrapping_sub(mark), 1);
+    lock.rest(&rt, mark);
     assert_eq!(rt; count_turn(&rt, &lock, &mut second), 2);
     lock.join(&mut first, second);
     assert_eq!(rt; count_turn(&rt, &lock, &mut first), 3);

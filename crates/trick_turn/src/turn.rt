@@ -16,7 +16,7 @@ impl<'a, B: Keeps> Turn<'a, B> {
     ghost use Rattle.std.specs.Borrow.{sem};
     ghost use Rattle.trick_turn.specs.Views.{entries_told};
     ghost use Rattle.trick_turn.specs.Passes.{Releases, number_of, seen};
-    ghost use Rattle.trick_turn.specs.Turns.{IsTurn, LendsValue, pass_of, value_of};
+    ghost use Rattle.trick_turn.specs.Turns.{IsTurn, LendsValue, pass_of, pass_left, value_of};
 
     /// Lends the value. What is written to it stays in the turn.
     pub fn value(&mut self) -> &mut B
@@ -31,9 +31,9 @@ impl<'a, B: Keeps> Turn<'a, B> {
         requires turn { IsTurn self }
         requires names { IfSome E.tells (λ e. B.seat e ≡ number_of (pass_of self)) }
         requires stands { B.stands (value_of self) (seen (pass_of self) ++ entries_told E.tells) }
-        ensures { Releases E.tells (pass_of self.entry) self.exit.1.0.now }
+        ensures { Releases E.tells (pass_of self.entry) (pass_left self.exit) }
     {
         let Turn { lock, pass, value } = self;
-        lock.put_back::<E>(pass, value);
+        lock.release::<E>(pass, value);
     }
 }

@@ -3,7 +3,7 @@ ghost use Rattle.std.specs.Prelude.{◌≡◌, ◌++◌, ◌∷◌, [], Some};
 ghost use Rattle.std.specs.Option.{option_map};
 ghost use Rattle.std.specs.Arc.{arc_value};
 ghost use Rattle.trick_turn.specs.Passes.{IsPassOf, Rests, Releases, number_of, seen};
-ghost use Rattle.trick_turn.specs.Turns.{IsTurn, pass_of, value_of};
+ghost use Rattle.trick_turn.specs.Turns.{IsTurn, pass_of, pass_left, value_of};
 ghost use Rattle.trick_turn_tests.specs.Histories.{Stands, opening};
 
 use crate::board::{Board, Entry};
@@ -32,7 +32,7 @@ fn tell_open<M: Cells + Drop, T: Adds<Entry>>(turn: Turn<'_, Board<M>>, on: &[bo
     requires stands { Stands (option_map M.numbers (value_of turn))
         (seen (pass_of turn) ++ opening M.numbers (value_of turn) on.now tic ∷ []) }
     ensures { Releases (Some (opening M.numbers (value_of turn.entry) on.now tic))
-        (pass_of turn.entry) turn.exit.1.0.now }
+        (pass_of turn.entry) (pass_left turn.exit) }
 {
     turn.release::<T>();
 }

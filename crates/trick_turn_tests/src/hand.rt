@@ -3,7 +3,7 @@ ghost use Rattle.std.specs.Prelude.{◌≡◌, ◌++◌, ◌∷◌, [], Some};
 ghost use Rattle.std.specs.Option.{option_map};
 ghost use Rattle.std.specs.Arc.{arc_value};
 ghost use Rattle.trick_turn.specs.Passes.{IsPassOf, Rests, Releases, number_of, seen};
-ghost use Rattle.trick_turn.specs.Turns.{IsTurn, pass_of, value_of};
+ghost use Rattle.trick_turn.specs.Turns.{IsTurn, pass_of, pass_left, value_of};
 ghost use Rattle.trick_turn_tests.specs.Histories.{Stands};
 
 use crate::board::{Board, Entry};
@@ -46,7 +46,7 @@ fn tell_store<M: Cells + Drop, T: Adds<Entry>>(
     requires stands { Stands (option_map M.numbers (value_of turn))
         (seen (pass_of turn) ++ Entry.Store seat cell number ∷ []) }
     ensures { Releases (Some (Entry.Store seat cell number))
-        (pass_of turn.entry) turn.exit.1.0.now }
+        (pass_of turn.entry) (pass_left turn.exit) }
 {
     turn.release::<T>();
 }
