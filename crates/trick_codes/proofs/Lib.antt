@@ -1,0 +1,12 @@
+-- small facts
+pub mod Base
+-- numbers in decimal
+pub mod Numbers
+-- bytes, integers, free bytes and words
+pub mod Fields
+-- reading by a code is exact
+pub mod Codes
+-- reading lines is exact
+pub mod Lines
+-- one line at most is due behind a front
+pub mod Once
