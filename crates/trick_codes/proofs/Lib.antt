@@ -10,3 +10,7 @@ pub mod Codes
 pub mod Lines
 -- one line at most is due behind a front
 pub mod Once
+-- reading on, as loops in code do
+pub mod Loops
+-- the answer for a whole text is exact
+pub mod Loading

@@ -114,11 +114,17 @@ abbrev pub minus : ℕ → ℤ
 minus zero = pos 0
 minus (suc n) = negsuc n
 
+-- what is told of a number, for the same one with a minus, and for it as it is
+abbrev pub negative_of : Told ℕ → Told ℤ
+negative_of told = told >>= λ x. Ok (minus x.0, x.1)
+
+abbrev pub positive_of : Told ℕ → Told ℤ
+positive_of told = told >>= λ x. Ok (pos x.0, x.1)
+
 abbrev pub integer_at : (below above end : ℕ) → List ℕ → Told ℤ
 integer_at below above end [] = Err Ends
 integer_at below above end (t ∷ ts) =
-    if nat_eq t 45 && nat_le 1 below then (number_at 1 below end ts >>= λ x. Ok (minus x.0, x.1))
-    else (number_at 0 above end (t ∷ ts) >>= λ x. Ok (pos x.0, x.1))
+    if nat_eq t 45 && nat_le 1 below then negative_of (number_at 1 below end ts) else positive_of (number_at 0 above end (t ∷ ts))
 
 abbrev pub free_at : (most end : ℕ) → List ℕ → Told (List ℕ)
 free_at most end [] = Err Ends

@@ -2,13 +2,24 @@
 //! and that no text of a value is a proper prefix of another, and what printers and loaders share.
 #![tactic(auto)]
 
+mod answer;
+mod field;
+mod form;
 mod kind;
 mod load_fault;
 mod miss;
+mod range;
+mod stop;
 
+mod word;
+
+pub use answer::{refusal, whole};
+pub use field::{free, integer, literal, number};
+pub use form::{Place, are_numbers, first_line, kind_of};
 pub use kind::Kind;
 pub use load_fault::LoadFault;
 pub use miss::Miss;
+pub use range::Range;
+pub use stop::Stop;
 
-/// To be removed.
-pub fn theory() {}
+pub use word::{behind, one_of, stands_at};
