@@ -14,3 +14,7 @@ pub mod Once
 pub mod Loops
 -- the answer for a whole text is exact
 pub mod Loading
+-- reading codes and lines one after the other, as a loop does, and writing them
+pub mod Each
+-- rows of numbers
+pub mod Rows

@@ -1,10 +1,10 @@
 -- Reading on, as loops in code do.
-use Rattle.std.proofs.Common.{◌≡◌, ◌≢◌, ◌⊎◌, inl, inr, ℕ, zero, suc, ◌+◌, ◌-◌, ◌<◌, ◌≤◌, true, false, List, [], ◌∷◌, ◌++◌, length, get_or, take, drop, Option, Some, None, Ok, Err, refl, sym, ap, ◌∙◌, append_assoc, arith}
+use Rattle.std.proofs.Common.{◌≡◌, ◌≢◌, ◌⊎◌, inl, inr, ℕ, zero, suc, ◌+◌, ◌-◌, ◌<◌, ◌≤◌, Bool, true, false, cond, List, [], ◌∷◌, ◌++◌, length, get_or, take, drop, Option, Some, None, Ok, Err, refl, sym, ap, ◌∙◌, append_assoc, arith}
 use Rattle.std.proofs.lemmas.Bool.{cases_Bool, eq-eqb, eqb-true}
 use Rattle.std.proofs.lemmas.List.{append-nil, at_drop_more, take_more}
 use Rattle.std.specs.Prelude.{nat_eq}
 use Rattle.trick_codes.proofs.Base.{when_on, when_off}
-use Rattle.trick_codes.specs.Code.{Told, ◌>>=◌, free_at}
+use Rattle.trick_codes.specs.Code.{Told, ◌>>=◌, literal_at, free_at}
 use Rattle.trick_codes.specs.declared.miss.Miss.TheVariants.{Ends, Differs}
 
 -- the bytes that are told, with some before them
@@ -72,3 +72,13 @@ free_start most end rest = let e : most - 0 ≡ most = omega arith in ap (λ k. 
 abbrev pub moved_by : ℕ → Option ℕ → Option ℕ
 moved_by k None = None
 moved_by k (Some i) = Some (k + i)
+
+-- bytes one piece after the other
+pub literal_pieces : (bs cs ts : List ℕ) → literal_at (bs ++ cs) ts ≡ (literal_at bs ts >>= λ x. literal_at cs x.1)
+literal_pieces [] cs ts = refl
+literal_pieces (b ∷ bs) cs [] = refl
+literal_pieces (b ∷ bs) cs (t ∷ ts) = go (nat_eq t b) (literal_pieces bs cs ts)
+  where
+    go : (k : Bool) → literal_at (bs ++ cs) ts ≡ (literal_at bs ts >>= λ x. literal_at cs x.1) → cond k (literal_at (bs ++ cs) ts) (Err Differs) ≡ (cond k (literal_at bs ts) (Err Differs) >>= λ x. literal_at cs x.1)
+    go true e = e
+    go false e = refl

@@ -10,3 +10,5 @@ pub mod Forms
 pub mod Loads
 -- what a reader in code returns, beside what the codes tell
 pub mod Gives
+-- the usual lines
+pub mod Named

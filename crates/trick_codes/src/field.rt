@@ -129,8 +129,6 @@ fn positive(above: u64, end: u8, rest: &[u8]) -> Result<(i64, &[u8]), Miss>
 /// A number of this range in decimal, with this byte behind it. It has no `+`, no leading zeros,
 /// and 0 has no minus.
 pub fn integer(range: Range, end: u8, rest: &[u8]) -> Result<(i64, &[u8]), Miss>
-    requires below { range.below ≤ 2 ^ 63 }
-    requires above { range.above ≤ 2 ^ 63 - 1 }
     ensures { Reads beside result (read (integer_code range.below range.above end) rest.now) }
 {
     match rest {
