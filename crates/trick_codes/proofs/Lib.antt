@@ -18,3 +18,5 @@ pub mod Loading
 pub mod Each
 -- rows of numbers
 pub mod Rows
+-- the usual lines are sound
+pub mod IsSound

@@ -1,5 +1,5 @@
 -- The usual lines: a name, ` = `, a value with `;` behind it, and a line feed.
-use Rattle.std.specs.Fmt.{decimal}
+use Rattle.std.specs.Fmt.{decimal, signed_decimal}
 use Rattle.std.specs.Prelude.{ℕ, zero, suc, ℤ, pos, List, [], ◌∷◌, ◌++◌, Option, Some, None, codes}
 use Rattle.trick_codes.specs.Code.{Code, literal, number, integer, one_of, sequence, read_as, nothing, choice, Either, left, right}
 use Rattle.trick_codes.specs.Forms.{kind_of}
@@ -71,3 +71,15 @@ either_of (Some x) = right x
 -- `none;`, or a value, whose text does not begin with an `n`
 abbrev pub none_or : {A : Type 0} → Code A → Code (Option A)
 none_or c = read_as option_of either_of (choice 110 (literal (codes "none;")) c)
+
+-- ---- as they are printed
+
+-- the numbers behind the first of a row, and the end of the row
+abbrev pub others_text : List ℤ → List ℕ
+others_text [] = codes ";"
+others_text (n ∷ ns) = codes "," ++ (signed_decimal n ++ others_text ns)
+
+-- a row of numbers
+abbrev pub row_text : List ℤ → List ℕ
+row_text [] = codes ";"
+row_text (n ∷ ns) = signed_decimal n ++ others_text ns

@@ -6,9 +6,11 @@ mod answer;
 mod field;
 mod form;
 mod kind;
+pub mod laws;
 mod line;
 mod load_fault;
 mod miss;
+mod print;
 mod range;
 mod stop;
 
@@ -21,6 +23,7 @@ pub use kind::Kind;
 pub use line::{end_line, feed, integer_line, number_line, row, title, word_line};
 pub use load_fault::LoadFault;
 pub use miss::Miss;
+pub use print::{push_integer, push_line, push_number, push_row, push_title, set_indexed};
 pub use range::Range;
 pub use stop::Stop;
 
