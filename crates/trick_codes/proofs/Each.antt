@@ -4,7 +4,7 @@ use Rattle.std.proofs.lemmas.List.{append-nil, at_drop_more}
 use Rattle.std.specs.Prelude.{map}
 use Rattle.trick_codes.specs.Code.{Code, Told, spell, read, ◌>>=◌}
 use Rattle.trick_codes.specs.Gives.{Stops}
-use Rattle.trick_codes.specs.Lines.{Lines, text, Seen, Halt, read_lines, each, split_first}
+use Rattle.trick_codes.specs.Lines.{Lines, text, Seen, Halt, read_lines, each, numbered}
 use Rattle.trick_codes.specs.Named.{each_code}
 use Rattle.trick_codes.specs.declared.miss.Miss.{Miss}
 use Rattle.trick_codes.specs.declared.stop.Stop.{Stop}
@@ -118,6 +118,57 @@ module _ {K A : Type 0} (d : A) (c : K → List K → Code A) where
       ∙ append_assoc old here others
       ∙ sym (at_drop_more (λ (ys : List A). old ++ spell (each_code d c (get_or ks i none ∷ drop (i + 1) ks)) ys) xs i d le)
       ∙ sym (at_drop_more (λ (us : List K). old ++ spell (each_code d c us) (drop i xs)) ks i none lt)
+      ∙ so_far
+
+-- what is left of a count
+pub one_left : (count i : ℕ) → i < count → count - i ≡ suc (count - (i + 1))
+one_left count i lt = omega arith
+
+pub none_left : (count i : ℕ) → count ≤ i → count - i ≡ 0
+none_left count i le = omega arith
+
+module _ {A : Type 0} (d : A) (c : ℕ → Lines A) where
+  -- what is read in all of numbered lines, where some were found already
+  abbrev pub numbered_left : (from count : ℕ) → List A → List ℕ → Seen (List A)
+  numbered_left from count found rest = with_items found (read_lines (numbered d c from count) rest)
+
+  abbrev paired_numbered : A → Seen (List A) → Seen (A × List A)
+  paired_numbered x q = q >>= λ y. Ok ((x, y.0), y.1)
+
+  built_numbered : (x : A) (q : Seen (List A)) → (paired_numbered x q >>= λ p. Ok (p.0.0 ∷ p.0.1, p.1)) ≡ (q >>= λ xs. Ok (x ∷ xs.0, xs.1))
+  built_numbered x (Ok p) = refl
+  built_numbered x (Err e) = refl
+
+  -- the next of them
+  one_numbered : (i count : ℕ) (found : List A) (rest : List ℕ) → i < count → numbered_left i (count - i) found rest ≡ numbered_left i (suc (count - (i + 1))) found rest
+  one_numbered i count found rest lt = ap (λ n. numbered_left i n found rest) (one_left count i lt)
+
+  pub numbered_go_on : (i count : ℕ) (found grown : List A) (x : A) (rest after : List ℕ) (total : Seen (List A)) → i < count → read_lines (c i) rest ≡ Ok (x, after) → grown ≡ found ++ x ∷ [] → numbered_left i (count - i) found rest ≡ total → numbered_left (i + 1) (count - (i + 1)) grown after ≡ total
+  numbered_go_on i count found grown x rest after total lt e g so_far =
+      let others = read_lines (numbered d c (i + 1) (count - (i + 1))) after in
+      let step : numbered_left i (suc (count - (i + 1))) found rest ≡ numbered_left (i + 1) (count - (i + 1)) (found ++ x ∷ []) after =
+            rw e (ap (with_items found) (built_numbered x others) ∙ regrouped found x others) in
+      ap (λ f. numbered_left (i + 1) (count - (i + 1)) f after) g ∙ sym step ∙ sym (one_numbered i count found rest lt) ∙ so_far
+
+  pub numbered_fail : (s : Stop) (i count : ℕ) (found : List A) (rest : List ℕ) (total : Seen (List A)) → i < count → Stops s (read_lines (c i) rest) → numbered_left i (count - i) found rest ≡ total → Stops s total
+  numbered_fail Memory i count found rest total lt e so_far = tt
+  numbered_fail Cut i count found rest total lt e so_far = sym so_far ∙ one_numbered i count found rest lt ∙ rw e refl
+  numbered_fail (Wrong kind more) i count found rest total lt e so_far = sym so_far ∙ one_numbered i count found rest lt ∙ rw e refl
+
+  pub numbered_end : (i count : ℕ) (found : List A) (rest : List ℕ) (total : Seen (List A)) → count ≤ i → numbered_left i (count - i) found rest ≡ total → total ≡ Ok (found, rest)
+  numbered_end i count found rest total le so_far =
+      sym so_far ∙ ap (λ n. numbered_left i n found rest) (none_left count i le) ∙ ap (λ (ys : List A). Ok (ys, rest)) (append-nil found)
+
+  -- writing them, as a loop does
+  pub numbered_text : (xs : List A) (i count : ℕ) (old new total : List ℕ) → i < count → i < length xs → new ≡ old ++ text (c i) (get_or xs i d)
+    → old ++ text (numbered d c i (count - i)) (drop i xs) ≡ total → new ++ text (numbered d c (i + 1) (count - (i + 1))) (drop (i + 1) xs) ≡ total
+  numbered_text xs i count old new total lt le e so_far =
+      let here = text (c i) (get_or xs i d) in
+      let others = text (numbered d c (i + 1) (count - (i + 1))) (drop (i + 1) xs) in
+      ap (λ (us : List ℕ). us ++ others) e
+      ∙ append_assoc old here others
+      ∙ sym (at_drop_more (λ (ys : List A). old ++ text (numbered d c i (suc (count - (i + 1)))) ys) xs i d le)
+      ∙ sym (ap (λ n. old ++ text (numbered d c i n) (drop i xs)) (one_left count i lt))
       ∙ so_far
 
 pub grown_by : {X Y : Type 0} (f : X → Y) (xs ys : List X) (x : X) → ys ≡ xs ++ x ∷ [] → map f ys ≡ map f xs ++ f x ∷ []

@@ -7,7 +7,7 @@ use Rattle.std.specs.Fmt.{decimal, signed_decimal}
 use Rattle.std.specs.Prelude.{codes, nat_eq, ℤ, pos, negsuc}
 use Rattle.trick_codes.proofs.Numbers.{Digits, digits_of, all_digits, decimal_digits, digit_is_from}
 use Rattle.trick_codes.specs.Code.{Code, Sound, Fits, spell, literal, number, integer, free, one_of, choice, sequence, IsWithin, ArePrefixFree, is_there, behind, largest, Either, left, right}
-use Rattle.trick_codes.specs.Lines.{Lines, SoundLines, is_one_line, each, text}
+use Rattle.trick_codes.specs.Lines.{Lines, SoundLines, Holds, is_one_line, each, numbered}
 use Rattle.trick_codes.specs.Named.{title, named, number_line, integer_line, word_line, end_line, indexed, each_code, row_number, mark_before, row, none_or, option_of, either_of, row_text, others_text}
 use Rattle.trick_codes.specs.declared.range.Range.{Range}
 
@@ -75,7 +75,7 @@ abbrev pub AreOneLine : List (List ℕ) → Type 0
 AreOneLine [] = Unit {0}
 AreOneLine (w ∷ ws) = (is_one_line w ≡ true) × AreOneLine ws
 
-one_of_lines : (ws : List (List ℕ)) → AreOneLine ws → (i : ℕ) → is_one_line (get_or ws i []) ≡ true
+pub one_of_lines : (ws : List (List ℕ)) → AreOneLine ws → (i : ℕ) → is_one_line (get_or ws i []) ≡ true
 one_of_lines [] h i = refl
 one_of_lines (w ∷ ws) h zero = h.0
 one_of_lines (w ∷ ws) h (suc i) = one_of_lines ws h.1 i
@@ -91,6 +91,21 @@ pub each_sound : {K A : Type 0} (d : A) (c : K → Lines A) (ks : List K) → ((
 each_sound d c [] s = tt
 each_sound d c (k ∷ ks) s = ((s k, λ x h. each_sound d c ks s), λ p h. refl)
 
+pub numbered_sound : {A : Type 0} (d : A) (c : ℕ → Lines A) (from count : ℕ) → ((k : ℕ) → k < from + count → SoundLines (c k)) → SoundLines (numbered d c from count)
+numbered_sound d c from zero s = tt
+numbered_sound d c from (suc count) s = ((s from (omega arith), λ x h. numbered_sound d c (from + 1) count (λ k lt. s k (omega (arith, lt)))), λ p h. refl)
+
+-- how many items the value of numbered lines, and of lines for keys, has
+pub length-numbered : {A : Type 0} (d : A) (c : ℕ → Lines A) (from count : ℕ) (xs : List A) → Holds (numbered d c from count) xs → length xs ≡ count
+length-numbered d c from zero xs h = ap length h
+length-numbered d c from (suc count) [] h = let e = h.1 in absurd cc
+length-numbered d c from (suc count) (x ∷ xs) h = ap suc (length-numbered d c (from + 1) count xs h.0.1)
+
+pub length-each : {K A : Type 0} (d : A) (c : K → Lines A) (ks : List K) (xs : List A) → Holds (each d c ks) xs → length xs ≡ length ks
+length-each d c [] xs h = ap length h
+length-each d c (k ∷ ks) [] h = let e = h.1 in absurd cc
+length-each d c (k ∷ ks) (x ∷ xs) h = ap suc (length-each d c ks xs h.0.1)
+
 -- ---- rows
 mark_no_digit : (rs : List Range) → (is_ascii_digit (mark_before rs) ≡ false) × (nat_eq (mark_before rs) 45 ≡ false) × (not (nat_eq (mark_before rs) 10) ≡ true)
 mark_no_digit [] = (refl, refl, refl)
@@ -103,6 +118,15 @@ numbers_sound (r ∷ rs) = (((below_small r, above_small r, (mark_no_digit rs).0
 pub row_sound : (rs : List Range) → Sound (row rs)
 row_sound [] = (tt, λ x h. refl)
 row_sound (r ∷ rs) = numbers_sound (r ∷ rs)
+
+length-each_code : {K A : Type 0} (d : A) (c : K → List K → Code A) (ks : List K) (xs : List A) → Fits (each_code d c ks) xs → length xs ≡ length ks
+length-each_code d c [] xs h = ap length h
+length-each_code d c (k ∷ ks) [] h = let e = h.1 in absurd cc
+length-each_code d c (k ∷ ks) (x ∷ xs) h = ap suc (length-each_code d c ks xs h.0.1)
+
+pub length-row : (rs : List Range) (ns : List ℤ) → Fits (row rs) ns → length ns ≡ length rs
+length-row [] ns h = ap length (sym h.1)
+length-row (r ∷ rs) ns h = length-each_code (pos 0) row_number (r ∷ rs) ns h
 
 numbers_one_line : (rs : List Range) (ns : List ℤ) → Fits (each_code (pos 0) row_number rs) ns → is_one_line (spell (each_code (pos 0) row_number rs) ns) ≡ true
 numbers_one_line [] ns h = refl

@@ -20,3 +20,5 @@ pub mod Each
 pub mod Rows
 -- the usual lines are sound
 pub mod IsSound
+-- words that are written out are prefix-free by a test
+pub mod Words

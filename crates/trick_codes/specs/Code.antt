@@ -2,7 +2,7 @@
 -- from the left. No text of a value of a code is a proper prefix of another's.
 use Rattle.std.specs.Char.{is_ascii_digit}
 use Rattle.std.specs.Fmt.{decimal, signed_decimal}
-use Rattle.std.specs.Prelude.{◌≡◌, ℕ, zero, suc, ◌+◌, ◌-◌, ◌*◌, ◌≤◌, ◌<◌, ℤ, pos, negsuc, Bool, true, false, ◌||◌, ◌&&◌, nat_eq, nat_le, List, [], ◌∷◌, ◌++◌, length, get_or, Result, Ok, Err, Option, Some, None, if◌then◌else◌}
+use Rattle.std.specs.Prelude.{◌≡◌, ℕ, zero, suc, ◌+◌, ◌-◌, ◌*◌, ◌≤◌, ◌<◌, ℤ, pos, negsuc, Bool, true, false, not, ◌||◌, ◌&&◌, nat_eq, nat_le, List, [], ◌∷◌, ◌++◌, length, get_or, Result, Ok, Err, Option, Some, None, if◌then◌else◌}
 use Rattle.trick_codes.specs.declared.miss.Miss.{Miss}
 use Rattle.trick_codes.specs.declared.miss.Miss.TheVariants.{Ends, Differs}
 
@@ -197,3 +197,16 @@ Sound (choice {A} {B} b c d) = Sound c × Sound d
     × ((y : B) → Fits d y → (t : ℕ) × (more : List ℕ) × (spell d y ≡ t ∷ more) × (nat_eq t b ≡ false))
 Sound (sequence {A} c f) = Sound c × ((x : A) → Fits c x → Sound (f x))
 Sound (read_as {A} f g c) = Sound c × ((x : A) → Fits c x → g (f x) ≡ x)
+
+-- neither of two words is a prefix of the other
+abbrev pub are_apart : List ℕ → List ℕ → Bool
+are_apart v w = not (is_there (behind v w) || is_there (behind w v))
+
+abbrev pub is_apart_from : List ℕ → List (List ℕ) → Bool
+is_apart_from w [] = true
+is_apart_from w (v ∷ vs) = are_apart w v && is_apart_from w vs
+
+-- a test of words that are written out
+abbrev pub all_apart : List (List ℕ) → Bool
+all_apart [] = true
+all_apart (w ∷ ws) = is_apart_from w ws && all_apart ws

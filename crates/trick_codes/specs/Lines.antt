@@ -1,7 +1,7 @@
 -- Texts of lines as data: each line has a code of its own, and how many lines there are, and which, may depend on
 -- the values of earlier ones. Behind each front of a text one line is due, and it says what is wrong with another
 -- line in its place.
-use Rattle.std.specs.Prelude.{◌≡◌, ◌⊎◌, ℕ, ◌+◌, Bool, true, false, ◌&&◌, not, nat_eq, List, [], ◌∷◌, ◌++◌, Result, Ok, Err, if◌then◌else◌, ◌==◌}
+use Rattle.std.specs.Prelude.{◌≡◌, ◌⊎◌, ℕ, zero, suc, ◌+◌, Bool, true, false, ◌&&◌, not, nat_eq, List, [], ◌∷◌, ◌++◌, Result, Ok, Err, if◌then◌else◌, ◌==◌}
 use Rattle.trick_codes.specs.Code.{Code, literal, sequence, read_as, spell, Fits, read, Sound, Told, ◌>>=◌}
 use Rattle.trick_codes.specs.declared.kind.Kind.{Kind}
 use Rattle.trick_codes.specs.declared.miss.Miss.TheVariants.{Ends, Differs}
@@ -98,3 +98,8 @@ split_first d (x ∷ xs) = (x, xs)
 abbrev pub each : {K A : Type 0} → A → (K → Lines A) → List K → Lines (List A)
 each d c [] = no_line []
 each d c (k ∷ ks) = seen_as (λ p. p.0 ∷ p.1) (split_first d) (and_then (c k) (λ x. each d c ks))
+
+-- so many of the lines that the function says of a place, from this place on; the value has an item for each
+abbrev pub numbered : {A : Type 0} → A → (ℕ → Lines A) → (from count : ℕ) → Lines (List A)
+numbered d c from zero = no_line []
+numbered d c from (suc count) = seen_as (λ p. p.0 ∷ p.1) (split_first d) (and_then (c from) (λ x. numbered d c (from + 1) count))

@@ -1,6 +1,6 @@
 -- The usual lines: a name, ` = `, a value with `;` behind it, and a line feed.
 use Rattle.std.specs.Fmt.{decimal, signed_decimal}
-use Rattle.std.specs.Prelude.{ℕ, zero, suc, ℤ, pos, List, [], ◌∷◌, ◌++◌, Option, Some, None, codes}
+use Rattle.std.specs.Prelude.{ℕ, zero, suc, ℤ, pos, Bool, true, false, List, [], ◌∷◌, ◌++◌, Option, Some, None, codes}
 use Rattle.trick_codes.specs.Code.{Code, literal, number, integer, one_of, sequence, read_as, nothing, choice, Either, left, right}
 use Rattle.trick_codes.specs.Forms.{kind_of}
 use Rattle.trick_codes.specs.Lines.{Lines, line, split_first}
@@ -83,3 +83,8 @@ others_text (n ∷ ns) = codes "," ++ (signed_decimal n ++ others_text ns)
 abbrev pub row_text : List ℤ → List ℕ
 row_text [] = codes ";"
 row_text (n ∷ ns) = signed_decimal n ++ others_text ns
+
+-- the row that was read, where one was
+abbrev pub row_where : Bool → List ℤ → Option (List ℤ)
+row_where true ns = Some ns
+row_where false ns = None

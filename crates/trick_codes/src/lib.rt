@@ -20,7 +20,7 @@ pub use answer::{refusal, whole};
 pub use field::{free, integer, literal, number};
 pub use form::{Place, are_numbers, first_line, kind_of};
 pub use kind::Kind;
-pub use line::{end_line, feed, integer_line, number_line, row, title, word_line};
+pub use line::{end_line, feed, integer_line, number_line, row, row_or_none, title, word_line};
 pub use load_fault::LoadFault;
 pub use miss::Miss;
 pub use print::{push_integer, push_line, push_number, push_row, push_title, set_indexed};

@@ -5,8 +5,8 @@ ghost use Rattle.trick_codes.specs.Code.{integer as integer_code, literal as lit
 ghost use Rattle.trick_codes.specs.Gives.{alone, beside, bytes_of, Gives, Reads};
 ghost use Rattle.trick_codes.specs.Lines.{fed, read_lines};
 ghost use Rattle.trick_codes.specs.Named.{
-    each_code, end_line as end_line_of, integer_line as integer_line_of, mark_before, named, number_line as number_line_of,
-    row as row_code, row_number, title as title_of, word_line as word_line_of};
+    each_code, end_line as end_line_of, integer_line as integer_line_of, mark_before, named, none_or, number_line as number_line_of,
+    row as row_code, row_number, row_where, title as title_of, word_line as word_line_of};
 
 use crate::field::{byte, integer, literal, number};
 use crate::form::kind_of;
@@ -144,5 +144,23 @@ pub fn row<'a>(ranges: &[Range], into: &mut [i64], rest: &'a [u8]) -> Result<&'a
     match ranges {
         [] => byte(rest, b';'),
         [_, ..] => row_numbers(ranges, into, rest),
+    }
+}
+
+/// `none;`, or a row as above. What is told is whether a row was put into the slice.
+pub fn row_or_none<'a>(ranges: &[Range], into: &mut [i64], rest: &'a [u8]) -> Result<(bool, &'a [u8]), Miss>
+    requires { length into.old ≡ length ranges.now }
+    ensures { Reads (λ x. (row_where x.0 into.new, x.1.now)) result (read (none_or (row_code ranges.now)) rest.now) }
+{
+    match rest {
+        [] => Err(Miss::Ends),
+        [b'n', ..] => {
+            let rest = literal(rest, b"none;")?;
+            Ok((false, rest))
+        }
+        [_, ..] => {
+            let rest = row(ranges, into, rest)?;
+            Ok((true, rest))
+        }
     }
 }

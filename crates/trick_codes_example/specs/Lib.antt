@@ -1,0 +1,2 @@
+-- the file of a panel of gauges
+pub mod Panel
