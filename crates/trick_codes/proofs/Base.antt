@@ -28,8 +28,8 @@ apart (a ∷ xs) us (c ∷ ys) vs e =
     let head : a ≡ c = cc in
     let tail : xs ++ us ≡ ys ++ vs = cc in
     elim (apart xs us ys vs tail) [
-      inl p ↦ inl (p.0, ap (λ (u : ℕ). u ∷ xs) head ∙ ap (λ (w : List ℕ). c ∷ w) p.1, p.2)
-    | inr p ↦ inr (p.0, ap (λ (u : ℕ). u ∷ ys) (sym head) ∙ ap (λ (w : List ℕ). a ∷ w) p.1, p.2)
+      | inl p ↦ inl (p.0, ap (λ (u : ℕ). u ∷ xs) head ∙ ap (λ (w : List ℕ). c ∷ w) p.1, p.2)
+      | inr p ↦ inr (p.0, ap (λ (u : ℕ). u ∷ ys) (sym head) ∙ ap (λ (w : List ℕ). a ∷ w) p.1, p.2)
     ]
 
 -- what a reader tells, where the texts and the values that have one are given apart

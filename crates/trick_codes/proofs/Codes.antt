@@ -1,12 +1,11 @@
 -- Reading by a code is exact.
-use Rattle.std.proofs.Common.{◌≡◌, ◌⊎◌, ℕ, ◌≤◌, ◌<◌, Bool, true, false, cond, List, [], ◌∷◌, ◌++◌, length, get_or, Result, Ok, Err, refl, sym, ap, ◌∙◌, inl, inr, subst, append_assoc, arith}
+use Rattle.std.proofs.Common.{◌≡◌, ℕ, Bool, true, false, cond, List, [], ◌∷◌, ◌++◌, Ok, Err, refl, sym, ap, ◌∙◌, inl, inr, subst, append_assoc, arith}
 use Rattle.std.proofs.lemmas.Bool.{eq-eqb, eqb-true}
-use Rattle.std.specs.Fmt.{decimal, signed_decimal}
 use Rattle.std.specs.Prelude.{nat_eq, pos}
 use Rattle.trick_codes.proofs.Base.{when_on, when_off, cons_is, apart, good_is, good_bad, TellsOf}
 use Rattle.trick_codes.proofs.Fields.{literal_back, literal_says, integer_back, integer_says, free_back, free_says, word_back, word_tells}
 use Rattle.trick_codes.proofs.Numbers.{number_back, number_says}
-use Rattle.trick_codes.specs.Code.{Code, nothing, literal, number, integer, free, one_of, choice, sequence, read_as, Either, left, right, Told, ◌>>=◌, spell, Fits, IsWithin, is_free, Begins, read, Sound}
+use Rattle.trick_codes.specs.Code.{Code, nothing, literal, number, integer, free, one_of, choice, sequence, read_as, Either, left, right, Told, ◌>>=◌, spell, Fits, read, Sound}
 use Rattle.trick_codes.specs.Exact.{Tells}
 use Rattle.trick_codes.specs.declared.miss.Miss.TheVariants.{Ends, Differs}
 
@@ -74,6 +73,7 @@ tells (choice {A} {B} b c d) (t ∷ ts) s = go (nat_eq t b) refl (tells c (t ∷
             let o : nat_eq p.0 b ≡ true = eq-eqb p.0 b (same ∙ e) in
             let f = p.3 in
             absurd cc
+
     second : (q : Told B) → nat_eq t b ≡ false → Tells d (t ∷ ts) q → Tells (choice b c d) (t ∷ ts) (q >>= λ x. Ok (right (x.0), x.1))
     second (Ok p) e r = r
     second (Err Ends) e r = (right (r.0), r.1, r.2, r.3)
@@ -86,6 +86,7 @@ tells (choice {A} {B} b c d) (t ∷ ts) s = go (nat_eq t b) refl (tells c (t ∷
             let o : nat_eq t b ≡ true = eq-eqb t b (sym same) in
             absurd cc
         no (right y) more h k = r (y, more, h, k)
+
     go : (k : Bool) → nat_eq t b ≡ k → Tells c (t ∷ ts) (read c (t ∷ ts)) → Tells d (t ∷ ts) (read d (t ∷ ts)) → Tells (choice b c d) (t ∷ ts) (cond k (read c (t ∷ ts) >>= λ x. Ok (left (x.0), x.1)) (read d (t ∷ ts) >>= λ y. Ok (right (y.0), y.1)))
     go true e l r = first (read c (t ∷ ts)) (eqb-true t b e) l
     go false e l r = second (read d (t ∷ ts)) e r
@@ -104,13 +105,14 @@ tells (sequence {A} {B} c f) ts s = first (read c ts) refl (tells c ts s.0) (λ 
           where
             moved : (y : A) → y ≡ x → (z : B) → Fits (f y) z → spell (f y) z ≡ mid ++ more → ⊥
             moved y e = subst (λ y. (z : B) → Fits (f y) z → spell (f y) z ≡ mid ++ more → ⊥) (sym e) (λ z k q. r (z, more, k, q))
+
     first : (q : Told A) → read c ts ≡ q → Tells c ts q → ((x : A) → Fits c x → (us : List ℕ) → Tells (f x) us (read (f x) us)) → Tells (sequence c f) ts (q >>= λ x. read (f x.0) x.1 >>= λ y. Ok ((x.0, y.0), y.1))
     first (Ok p) e r each = second p.0 p.1 r.1 r.0 (read (f p.0) p.1) (each p.0 r.1 p.1)
     first (Err Ends) e r each = let d = some_value (f r.0) (s.1 r.0 r.2) in ((r.0, d.0), r.1 ++ spell (f r.0) d.0, (r.2, d.1), ap (λ (us : List ℕ). us ++ spell (f r.0) d.0) r.3 ∙ append_assoc ts r.1 (spell (f r.0) d.0))
     first (Err Differs) e r each = λ g. elim (apart (spell c g.0.0) (spell (f g.0.0) g.0.1) ts g.1 g.3) [
-        inl p ↦ r (g.0.0, p.0, g.2.0, p.1)
+      | inl p ↦ r (g.0.0, p.0, g.2.0, p.1)
       | inr p ↦ good_bad g.0.0 p.0 Differs (sym (back c g.0.0 p.0 s.0 g.2.0) ∙ ap (read c) (sym p.1) ∙ e)
-      ]
+    ]
 tells (read_as {A} {B} f g c) ts s = go (read c ts) (tells c ts s.0)
   where
     go : (q : Told A) → Tells c ts q → Tells (read_as f g c) ts (q >>= λ x. Ok (f x.0, x.1))

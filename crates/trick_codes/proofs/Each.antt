@@ -1,10 +1,10 @@
 -- Reading codes and lines one after the other, as a loop does, and writing them.
-use Rattle.std.proofs.Common.{◌≡◌, ℕ, zero, suc, ◌+◌, ◌-◌, ◌≤◌, ◌<◌, List, [], ◌∷◌, ◌++◌, length, drop, take, get_or, Result, Ok, Err, refl, sym, ap, ◌∙◌, append_assoc, arith}
+use Rattle.std.proofs.Common.{◌≡◌, ℕ, zero, suc, ◌+◌, ◌-◌, ◌≤◌, ◌<◌, List, [], ◌∷◌, ◌++◌, length, drop, get_or, Result, Ok, Err, refl, sym, ap, ◌∙◌, append_assoc, arith}
 use Rattle.std.proofs.lemmas.List.{append-nil, at_drop_more}
 use Rattle.std.specs.Prelude.{map}
 use Rattle.trick_codes.specs.Code.{Code, Told, spell, read, ◌>>=◌}
 use Rattle.trick_codes.specs.Gives.{Stops}
-use Rattle.trick_codes.specs.Lines.{Lines, text, Seen, Halt, read_lines, each, numbered}
+use Rattle.trick_codes.specs.Lines.{Lines, text, Seen, read_lines, each, numbered}
 use Rattle.trick_codes.specs.Named.{each_code}
 use Rattle.trick_codes.specs.declared.miss.Miss.{Miss}
 use Rattle.trick_codes.specs.declared.stop.Stop.{Stop}
@@ -14,7 +14,6 @@ module _ {A E : Type 0} where
   -- a list that is told, with some items before it
   abbrev pub with_items : List A → Result (List A × List ℕ) E → Result (List A × List ℕ) E
   with_items found q = q >>= λ xs. Ok (found ++ xs.0, xs.1)
-
 
   pub regrouped : (found : List A) (x : A) (q : Result (List A × List ℕ) E) → with_items found (q >>= λ xs. Ok (x ∷ xs.0, xs.1)) ≡ with_items (found ++ x ∷ []) q
   regrouped found x (Ok p) = ap (λ (ys : List A). Ok (ys, p.1)) (sym (append_assoc found (x ∷ []) p.0))
@@ -67,7 +66,7 @@ module _ {K A : Type 0} (d : A) (c : K → Lines A) where
 
   -- writing them one after the other, as a loop does
   pub lines_text : (ks : List K) (xs : List A) (i : ℕ) (none : K) (old new total : List ℕ) → i < length ks → i < length xs → new ≡ old ++ text (c (get_or ks i none)) (get_or xs i d)
-    → old ++ text (each d c (drop i ks)) (drop i xs) ≡ total → new ++ text (each d c (drop (i + 1) ks)) (drop (i + 1) xs) ≡ total
+      → old ++ text (each d c (drop i ks)) (drop i xs) ≡ total → new ++ text (each d c (drop (i + 1) ks)) (drop (i + 1) xs) ≡ total
   lines_text ks xs i none old new total lt le e so_far =
       let here = text (c (get_or ks i none)) (get_or xs i d) in
       let others = text (each d c (drop (i + 1) ks)) (drop (i + 1) xs) in
@@ -110,7 +109,7 @@ module _ {K A : Type 0} (d : A) (c : K → List K → Code A) where
       sym so_far ∙ ap (λ us. codes_left us found rest) (drop_all i ks le) ∙ ap (λ (ys : List A). Ok (ys, rest)) (append-nil found)
 
   pub codes_text : (ks : List K) (xs : List A) (i : ℕ) (none : K) (old new total : List ℕ) → i < length ks → i < length xs → new ≡ old ++ spell (c (get_or ks i none) (drop (i + 1) ks)) (get_or xs i d)
-    → old ++ spell (each_code d c (drop i ks)) (drop i xs) ≡ total → new ++ spell (each_code d c (drop (i + 1) ks)) (drop (i + 1) xs) ≡ total
+      → old ++ spell (each_code d c (drop i ks)) (drop i xs) ≡ total → new ++ spell (each_code d c (drop (i + 1) ks)) (drop (i + 1) xs) ≡ total
   codes_text ks xs i none old new total lt le e so_far =
       let here = spell (c (get_or ks i none) (drop (i + 1) ks)) (get_or xs i d) in
       let others = spell (each_code d c (drop (i + 1) ks)) (drop (i + 1) xs) in
@@ -147,7 +146,7 @@ module _ {A : Type 0} (d : A) (c : ℕ → Lines A) where
   numbered_go_on i count found grown x rest after total lt e g so_far =
       let others = read_lines (numbered d c (i + 1) (count - (i + 1))) after in
       let step : numbered_left i (suc (count - (i + 1))) found rest ≡ numbered_left (i + 1) (count - (i + 1)) (found ++ x ∷ []) after =
-            rw e (ap (with_items found) (built_numbered x others) ∙ regrouped found x others) in
+      rw e (ap (with_items found) (built_numbered x others) ∙ regrouped found x others) in
       ap (λ f. numbered_left (i + 1) (count - (i + 1)) f after) g ∙ sym step ∙ sym (one_numbered i count found rest lt) ∙ so_far
 
   pub numbered_fail : (s : Stop) (i count : ℕ) (found : List A) (rest : List ℕ) (total : Seen (List A)) → i < count → Stops s (read_lines (c i) rest) → numbered_left i (count - i) found rest ≡ total → Stops s total
@@ -161,7 +160,7 @@ module _ {A : Type 0} (d : A) (c : ℕ → Lines A) where
 
   -- writing them, as a loop does
   pub numbered_text : (xs : List A) (i count : ℕ) (old new total : List ℕ) → i < count → i < length xs → new ≡ old ++ text (c i) (get_or xs i d)
-    → old ++ text (numbered d c i (count - i)) (drop i xs) ≡ total → new ++ text (numbered d c (i + 1) (count - (i + 1))) (drop (i + 1) xs) ≡ total
+      → old ++ text (numbered d c i (count - i)) (drop i xs) ≡ total → new ++ text (numbered d c (i + 1) (count - (i + 1))) (drop (i + 1) xs) ≡ total
   numbered_text xs i count old new total lt le e so_far =
       let here = text (c i) (get_or xs i d) in
       let others = text (numbered d c (i + 1) (count - (i + 1))) (drop (i + 1) xs) in

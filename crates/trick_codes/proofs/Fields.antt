@@ -1,5 +1,5 @@
 -- Bytes, integers, free bytes and words: what is spelled is read, and what reading tells.
-use Rattle.std.proofs.Common.{◌≡◌, ◌⊎◌, ℕ, zero, suc, ◌+◌, ◌-◌, ◌*◌, ◌≤◌, ◌<◌, ◌^◌, Bool, true, false, ◌&&◌, ◌||◌, cond, List, [], ◌∷◌, ◌++◌, length, get_or, Result, Ok, Err, Option, Some, None, refl, sym, ap, ◌∙◌, inl, inr, subst, append_assoc, arith}
+use Rattle.std.proofs.Common.{◌≡◌, ◌⊎◌, ℕ, zero, suc, ◌+◌, ◌≤◌, ◌<◌, Bool, true, false, ◌&&◌, ◌||◌, cond, List, [], ◌∷◌, ◌++◌, length, get_or, Ok, Err, Option, Some, None, refl, sym, ap, ◌∙◌, inl, inr, arith}
 use Rattle.std.proofs.lemmas.Bool.{eq-eqb, eqb-true, le-leb, leb-true, cases_Bool, and_parts, and_from}
 use Rattle.std.specs.Char.{is_ascii_digit}
 use Rattle.std.specs.Fmt.{decimal, signed_decimal}
@@ -24,6 +24,7 @@ literal_says (b ∷ bs) (t ∷ ts) = go (nat_eq t b) refl (literal_at bs ts) (li
     on (Ok p) e s = (ap (λ (u : ℕ). u ∷ ts) e ∙ ap (λ (us : List ℕ). b ∷ us) s.0, tt)
     on (Err Ends) e s = (tt, s.1, tt, ap (λ (u : ℕ). u ∷ bs) (sym e) ∙ ap (λ (us : List ℕ). t ∷ us) s.3)
     on (Err Differs) e s = λ g. s (tt, g.1, tt, (cons_is _ _ _ _ g.3).1)
+
     go : (k : Bool) → nat_eq t b ≡ k → (q : Told (Unit {0})) → TellsOf (λ (x : Unit {0}). bs) (λ x. Unit {0}) ts q → TellsOf (λ (x : Unit {0}). b ∷ bs) (λ x. Unit {0}) (t ∷ ts) (cond k q (Err Differs))
     go true e q s = on q (eqb-true t b e) s
     go false e q s = λ g. let same = (cons_is _ _ _ _ g.3).0 in let k : nat_eq t b ≡ true = eq-eqb t b (sym same) in absurd cc
@@ -48,10 +49,10 @@ module _ (below above end : ℕ) (low : below ≤ 18446744073709551615) (high : 
       let d = positive_parts n h in
       ap (λ (ds : List ℕ). integer_at below above end ((ds ++ end ∷ []) ++ rest)) d.text
       ∙ when_off (nat_eq d.head 45 && nat_le 1 below) _ _ _ (rw (digit_no_minus d.head d.head_digit) refl)
-        (rw (ap (λ (ds : List ℕ). number_at 0 above end ((ds ++ end ∷ []) ++ rest)) (sym d.text) ∙ number_back 0 above end (omega arith) (omega arith) high ends n rest (omega arith, h)) refl)
+      (rw (ap (λ (ds : List ℕ). number_at 0 above end ((ds ++ end ∷ []) ++ rest)) (sym d.text) ∙ number_back 0 above end (omega arith) (omega arith) high ends n rest (omega arith, h)) refl)
   integer_back (negsuc n) rest h =
       when_on (nat_le 1 below) _ _ _ (le-leb 1 below (omega (arith, h)))
-        (rw (number_back 1 below end (omega arith) (omega (arith, h)) low ends (suc n) rest (omega arith, h)) refl)
+      (rw (number_back 1 below end (omega arith) (omega (arith, h)) low ends (suc n) rest (omega arith, h)) refl)
 
   pub integer_says : (ts : List ℕ) → TellsOf signed (IsWithin below above) ts (integer_at below above end ts)
   integer_says [] = (pos 0, signed (pos 0), omega arith, refl)
@@ -66,15 +67,18 @@ module _ (below above end : ℕ) (low : below ≤ 18446744073709551615) (high : 
           let on : nat_eq d.head 45 ≡ true = ap (λ k. nat_eq k 45) same ∙ m in
           absurd cc
       negative (negsuc n) us m h e = (suc n, (omega arith, h), (cons_is _ _ _ _ e).1)
+
       with_minus : (n : ℕ) (us : List ℕ) → nat_eq t 45 ≡ true → Ranged 1 below n → spelled end n ≡ us → IsWithin below above (minus n) × (signed (minus n) ≡ t ∷ us)
       with_minus zero us m h e = absurd (omega (arith, h.0))
       with_minus (suc n) us m h e = (h.1, ap (λ (u : ℕ). u ∷ (decimal (suc n) ++ end ∷ [])) (sym (eqb-true t 45 m)) ∙ ap (λ (w : List ℕ). t ∷ w) e)
+
       minus_says : nat_eq t 45 ≡ true → (q : Told ℕ) → TellsOf (spelled end) (Ranged 1 below) ts q → TellsOf signed (IsWithin below above) (t ∷ ts) (q >>= λ x. Ok (minus x.0, x.1))
       minus_says m (Ok p) r =
           let w = with_minus p.0 (spelled end p.0) m r.1 refl in
           (ap (λ (us : List ℕ). t ∷ us) r.0 ∙ ap (λ (us : List ℕ). us ++ p.1) (sym w.1), w.0)
       minus_says m (Err Ends) r = let w = with_minus r.0 (ts ++ r.1) m r.2 r.3 in (minus r.0, r.1, w.0, w.1)
       minus_says m (Err Differs) r = λ g. let n = negative g.0 (ts ++ g.1) m g.2 g.3 in r (n.0, g.1, n.1, n.2)
+
       plain_says : (nat_eq t 45 && nat_le 1 below) ≡ false → (q : Told ℕ) → TellsOf (spelled end) (Ranged 0 above) (t ∷ ts) q → TellsOf signed (IsWithin below above) (t ∷ ts) (q >>= λ x. Ok (pos x.0, x.1))
       plain_says m (Ok p) r = (r.0, r.1.1)
       plain_says m (Err Ends) r = (pos (r.0), r.1, r.2.1, r.3)
@@ -86,6 +90,7 @@ module _ (below above end : ℕ) (low : below ≤ 18446744073709551615) (high : 
               let same = (cons_is _ _ _ _ e).0 in
               let on : (nat_eq t 45 && nat_le 1 below) ≡ true = and_from _ _ (eq-eqb t 45 (sym same)) (le-leb 1 below (omega (arith, h))) in
               absurd cc
+
       go : (k : Bool) → (nat_eq t 45 && nat_le 1 below) ≡ k → TellsOf signed (IsWithin below above) (t ∷ ts) (cond k (number_at 1 below end ts >>= λ x. Ok (minus x.0, x.1)) (number_at 0 above end (t ∷ ts) >>= λ x. Ok (pos x.0, x.1)))
       go true m = let b = and_parts _ _ m in minus_says b.0 (number_at 1 below end ts) (number_says 1 below end (omega arith) (leb-true 1 below b.1) low ends ts)
       go false m = plain_says m (number_at 0 above end (t ∷ ts)) (number_says 0 above end (omega arith) (omega arith) high ends (t ∷ ts))
@@ -123,6 +128,7 @@ module _ (end : ℕ) where
       no : nat_eq t end ≡ false → (x more : List ℕ) → IsShort 0 x → ended x ≡ t ∷ (ts ++ more) → ⊥
       no k [] more h e = let on : nat_eq t end ≡ true = eq-eqb t end (sym (cons_is _ _ _ _ e).0) in absurd cc
       no k (b ∷ x) more h e = absurd (omega (arith, h.0))
+
       go : (k : Bool) → nat_eq t end ≡ k → TellsOf ended (IsShort 0) (t ∷ ts) (cond k (Ok ([], ts)) (Err Differs))
       go true k = (ap (λ (u : ℕ). u ∷ ts) (eqb-true t end k), (omega arith, refl))
       go false k = λ g. no k g.0 g.1 g.2 g.3
@@ -130,13 +136,16 @@ module _ (end : ℕ) where
     where
       longer : nat_eq t end ≡ false → (x : List ℕ) → IsShort most x → IsShort (suc most) (t ∷ x)
       longer k x h = (omega (arith, h.0), rw k h.1)
+
       no : nat_eq t end ≡ false → (((x : List ℕ) × (more : List ℕ) × IsShort most x × (ended x ≡ ts ++ more)) → ⊥) → (x more : List ℕ) → IsShort (suc most) x → ended x ≡ t ∷ (ts ++ more) → ⊥
       no k never [] more h e = let on : nat_eq t end ≡ true = eq-eqb t end (sym (cons_is _ _ _ _ e).0) in absurd cc
       no k never (b ∷ x) more h e = never (x, more, (omega (arith, h.0), (free_parts b x h.1).1), (cons_is _ _ _ _ e).1)
+
       later : nat_eq t end ≡ false → (q : Told (List ℕ)) → TellsOf ended (IsShort most) ts q → TellsOf ended (IsShort (suc most)) (t ∷ ts) (q >>= λ x. Ok (t ∷ x.0, x.1))
       later k (Ok p) r = (ap (λ (us : List ℕ). t ∷ us) r.0, longer k p.0 r.1)
       later k (Err Ends) r = (t ∷ r.0, r.1, longer k r.0 r.2, ap (λ (us : List ℕ). t ∷ us) r.3)
       later k (Err Differs) r = λ g. no k r g.0 g.1 g.2 g.3
+
       go : (k : Bool) → nat_eq t end ≡ k → (q : Told (List ℕ)) → TellsOf ended (IsShort most) ts q → TellsOf ended (IsShort (suc most)) (t ∷ ts) (cond k (Ok ([], ts)) (q >>= λ x. Ok (t ∷ x.0, x.1)))
       go true k q r = (ap (λ (u : ℕ). u ∷ ts) (eqb-true t end k), (omega arith, refl))
       go false k q r = later k q r
@@ -197,9 +206,9 @@ same_rest (x ∷ w) us vs e = same_rest w us vs (cons_is _ _ _ _ e).1
 module _ (ws : List (List ℕ)) (own : ArePrefixFree ws) where
   same_word : (i j : ℕ) (us vs : List ℕ) → i < length ws → j < length ws → get_or ws i [] ++ us ≡ get_or ws j [] ++ vs → i ≡ j
   same_word i j us vs lt le e = elim (apart (get_or ws i []) us (get_or ws j []) vs e) [
-      inl p ↦ sym (own j i le lt p.0 p.1)
+    | inl p ↦ sym (own j i le lt p.0 p.1)
     | inr p ↦ own i j lt le p.0 p.1
-    ]
+  ]
 
   found_back : (i : ℕ) (rest : List ℕ) (q : Told ℕ) (miss : Miss) → i < length ws → WordSays ws 0 miss (get_or ws i [] ++ rest) q → q ≡ Ok (i, rest)
   found_back i rest (Ok p) miss lt s =

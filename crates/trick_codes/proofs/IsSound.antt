@@ -1,14 +1,13 @@
 -- The usual lines are sound, so that each file of them is.
-use Rattle.std.proofs.Common.{◌≡◌, ◌⊎◌, inl, inr, ℕ, zero, suc, ◌+◌, ◌-◌, ◌≤◌, ◌<◌, ◌^◌, Bool, true, false, not, ◌&&◌, ◌||◌, List, [], ◌∷◌, ◌++◌, length, get_or, Option, Some, None, refl, sym, ap, ◌∙◌, subst, append_assoc, arith}
-use Rattle.std.proofs.lemmas.Bool.{eq-eqb, eqb-true, cases_Bool, and_parts, and_from}
-use Rattle.std.proofs.lemmas.Fmt.{decimal_digit}
+use Rattle.std.proofs.Common.{◌≡◌, ◌⊎◌, inl, inr, ℕ, zero, suc, ◌+◌, ◌≤◌, ◌<◌, true, false, not, List, [], ◌∷◌, ◌++◌, length, get_or, Option, Some, None, refl, sym, ap, ◌∙◌, append_assoc, arith}
+use Rattle.std.proofs.lemmas.Bool.{eqb-true, cases_Bool, and_parts, and_from}
 use Rattle.std.specs.Char.{is_ascii_digit}
 use Rattle.std.specs.Fmt.{decimal, signed_decimal}
 use Rattle.std.specs.Prelude.{codes, nat_eq, ℤ, pos, negsuc}
-use Rattle.trick_codes.proofs.Numbers.{Digits, digits_of, all_digits, decimal_digits, digit_is_from}
-use Rattle.trick_codes.specs.Code.{Code, Sound, Fits, spell, literal, number, integer, free, one_of, choice, sequence, IsWithin, ArePrefixFree, is_there, behind, largest, Either, left, right}
+use Rattle.trick_codes.proofs.Numbers.{digits_of, all_digits, decimal_digits, digit_is_from}
+use Rattle.trick_codes.specs.Code.{Code, Sound, Fits, spell, literal, number, integer, one_of, choice, IsWithin, ArePrefixFree, largest, Either, left, right}
 use Rattle.trick_codes.specs.Lines.{Lines, SoundLines, Holds, is_one_line, each, numbered}
-use Rattle.trick_codes.specs.Named.{title, named, number_line, integer_line, word_line, end_line, indexed, each_code, row_number, mark_before, row, none_or, option_of, either_of, row_text, others_text}
+use Rattle.trick_codes.specs.Named.{title, named, number_line, integer_line, word_line, end_line, indexed, each_code, row_number, mark_before, row, none_or, option_of, either_of, row_text}
 use Rattle.trick_codes.specs.declared.range.Range.{Range}
 
 -- ---- texts of one line
@@ -61,14 +60,16 @@ above_small r = omega (arith, r.highest)
 
 -- ---- lines
 pub number_line_sound : (name : List ℕ) (least most : ℕ) → is_one_line name ≡ true → least ≤ 1 → least ≤ most → most ≤ largest → SoundLines (number_line name least most)
-number_line_sound name least most h low some small =
-    (named_sound name (number least most 59) (low, some, small, refl),
-     named_one_line name (number least most 59) h (λ n k. number_one_line n 59 (omega (arith, k.1)) refl))
+number_line_sound name least most h low some small = (
+  named_sound name (number least most 59) (low, some, small, refl),
+  named_one_line name (number least most 59) h (λ n k. number_one_line n 59 (omega (arith, k.1)) refl),
+)
 
 pub integer_line_sound : (name : List ℕ) (r : Range) → is_one_line name ≡ true → SoundLines (integer_line name r)
-integer_line_sound name r h =
-    (named_sound name (integer r.below r.above 59) (below_small r, above_small r, refl, refl),
-     named_one_line name (integer r.below r.above 59) h (λ n k. integer_one_line r.below r.above 59 n (below_small r) (above_small r) k refl))
+integer_line_sound name r h = (
+  named_sound name (integer r.below r.above 59) (below_small r, above_small r, refl, refl),
+  named_one_line name (integer r.below r.above 59) h (λ n k. integer_one_line r.below r.above 59 n (below_small r) (above_small r) k refl),
+)
 
 -- each word is of one line
 abbrev pub AreOneLine : List (List ℕ) → Type 0

@@ -22,3 +22,5 @@ pub mod Rows
 pub mod IsSound
 -- words that are written out are prefix-free by a test
 pub mod Words
+-- worked values
+pub mod Examples

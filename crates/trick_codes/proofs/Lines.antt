@@ -1,13 +1,13 @@
 -- Reading lines is exact.
-use Rattle.std.proofs.Common.{◌≡◌, ◌⊎◌, ℕ, zero, suc, ◌+◌, ◌-◌, ◌≤◌, ◌<◌, Bool, true, false, ◌&&◌, not, cond, ◌≢◌, ◌==◌, take, List, [], ◌∷◌, ◌++◌, length, Result, Ok, Err, refl, sym, ap, ◌∙◌, inl, inr, subst, append_assoc, arith}
+use Rattle.std.proofs.Common.{◌≡◌, ◌⊎◌, ℕ, ◌-◌, Bool, true, false, not, cond, ◌≢◌, take, List, [], ◌∷◌, ◌++◌, length, Ok, Err, refl, sym, ap, ◌∙◌, inl, inr, subst, append_assoc, arith}
 use Rattle.std.proofs.lemmas.Bool.{and_parts}
 use Rattle.std.proofs.lemmas.List.{append-nil, length-append}
 use Rattle.std.specs.Prelude.{nat_eq}
 use Rattle.trick_codes.proofs.Base.{good_is, good_bad, apart}
 use Rattle.trick_codes.proofs.Codes.{tells, back, some_value}
-use Rattle.trick_codes.specs.Code.{Told, ◌>>=◌, Code, spell, Fits, read, Sound}
+use Rattle.trick_codes.specs.Code.{Told, ◌>>=◌, Code, spell, read, Sound}
 use Rattle.trick_codes.specs.Exact.{Tells, TellsLines}
-use Rattle.trick_codes.specs.Lines.{Lines, no_line, line, and_then, seen_as, text, Holds, IsPrefix, IsDue, first_line, Halt, cut, wrong, Seen, judged, fed, read_lines, is_one_line, SoundLines}
+use Rattle.trick_codes.specs.Lines.{Lines, no_line, line, and_then, seen_as, text, Holds, IsPrefix, first_line, cut, wrong, Seen, judged, fed, read_lines, is_one_line, SoundLines}
 use Rattle.trick_codes.specs.Loads.{line_behind, front_of, IsRefusedAt, IsProperPrefix, GoesOnBehind}
 use Rattle.trick_codes.specs.declared.kind.Kind.{Kind}
 use Rattle.trick_codes.specs.declared.miss.Miss.TheVariants.{Ends, Differs}
@@ -49,8 +49,8 @@ same_line [] (t ∷ ts) more p e = go (nat_eq t 10) e
 same_line (b ∷ body) (t ∷ ts) more p e = go (nat_eq t 10) refl e (λ h. same_line body ts more (and_parts _ _ p).1 h)
   where
     go : (k : Bool) → nat_eq t 10 ≡ k → b ∷ (body ++ 10 ∷ []) ≡ cond k (t ∷ []) (t ∷ first_line ts) ++ more
-      → (body ++ 10 ∷ [] ≡ first_line ts ++ more → ((others : List ℕ) × (ts ≡ (body ++ 10 ∷ []) ++ others)) ⊎ ((m : List ℕ) × (body ++ 10 ∷ [] ≡ ts ++ m)))
-      → ((others : List ℕ) × (t ∷ ts ≡ b ∷ ((body ++ 10 ∷ []) ++ others))) ⊎ ((m : List ℕ) × (b ∷ (body ++ 10 ∷ []) ≡ t ∷ (ts ++ m)))
+        → (body ++ 10 ∷ [] ≡ first_line ts ++ more → ((others : List ℕ) × (ts ≡ (body ++ 10 ∷ []) ++ others)) ⊎ ((m : List ℕ) × (body ++ 10 ∷ [] ≡ ts ++ m)))
+        → ((others : List ℕ) × (t ∷ ts ≡ b ∷ ((body ++ 10 ∷ []) ++ others))) ⊎ ((m : List ℕ) × (b ∷ (body ++ 10 ∷ []) ≡ t ∷ (ts ++ m)))
     go true q e ih =
         let h : b ≡ t = cc in
         let r : nat_eq b 10 ≡ true = ap (λ u. nat_eq u 10) h ∙ q in
@@ -60,19 +60,26 @@ same_line (b ∷ body) (t ∷ ts) more p e = go (nat_eq t 10) refl e (λ h. same
         let h : b ≡ t = cc in
         let tail : body ++ 10 ∷ [] ≡ first_line ts ++ more = cc in
         elim (ih tail) [
-          inl r ↦ inl (r.0, ap (λ (u : ℕ). u ∷ ts) (sym h) ∙ ap (λ (us : List ℕ). b ∷ us) r.1)
-        | inr r ↦ inr (r.0, ap (λ (u : ℕ). u ∷ (body ++ 10 ∷ [])) h ∙ ap (λ (us : List ℕ). t ∷ us) r.1)
+          | inl r ↦ inl (r.0, ap (λ (u : ℕ). u ∷ ts) (sym h) ∙ ap (λ (us : List ℕ). b ∷ us) r.1)
+          | inr r ↦ inr (r.0, ap (λ (u : ℕ). u ∷ (body ++ 10 ∷ [])) h ∙ ap (λ (us : List ℕ). t ∷ us) r.1)
         ]
 
 line_tells : {A : Type 0} (k : List ℕ → Kind) (c : Code A) (ts : List ℕ) → SoundLines (line k c) → (q : Told A) → read (fed c) ts ≡ q → Tells (fed c) ts q → TellsLines (line k c) ts (judged k ts q)
 line_tells k c ts s (Ok p) e t = (t.0, t.1.0.0)
 line_tells k c ts s (Err Ends) e t = (t.0, t.1, t.2.0.0, t.3)
 line_tells k c ts s (Err Differs) e t =
-    let d = some_value c s.0 in
-    ([], refl, (d.0, spell c d.0 ++ 10 ∷ [], d.1, refl), (λ o. elim (same_line (spell c o.0) ts o.1 (s.1 o.0 o.2) o.3) [
-        inl r ↦ good_bad o.0 r.0 Differs (sym (back (fed c) o.0 r.0 (fed_sound c s.0) ((o.2, tt), refl)) ∙ ap (read (fed c)) (sym r.1) ∙ e)
-      | inr r ↦ t (o.0, r.0, ((o.2, tt), refl), r.1)
-      ]), k, (refl, refl), refl)
+    let d = some_value c s.0 in (
+      [],
+      refl,
+      (d.0, spell c d.0 ++ 10 ∷ [], d.1, refl),
+      (λ o. elim (same_line (spell c o.0) ts o.1 (s.1 o.0 o.2) o.3) [
+        | inl r ↦ good_bad o.0 r.0 Differs (sym (back (fed c) o.0 r.0 (fed_sound c s.0) ((o.2, tt), refl)) ∙ ap (read (fed c)) (sym r.1) ∙ e)
+        | inr r ↦ t (o.0, r.0, ((o.2, tt), refl), r.1)
+      ]),
+      k,
+      (refl, refl),
+      refl,
+    )
 
 pub lines_tell : {A : Type 0} (c : Lines A) (ts : List ℕ) → SoundLines c → TellsLines c ts (read_lines c ts)
 lines_tell (no_line y) ts s = (refl, refl)
@@ -88,38 +95,49 @@ lines_tell (and_then {A} {B} c f) ts s = start (read_lines c ts) refl (lines_tel
       where
         go : (y : A) → y ≡ x → (z : B) → Holds (f y) z → text (f y) z ≡ us ++ g.1 → ⊥
         go y e = subst (λ y. (z : B) → Holds (f y) z → text (f y) z ≡ us ++ g.1 → ⊥) (sym e) (λ z k q. never (z, g.1, k, q))
+
     second : (x : A) (mid : List ℕ) → Holds c x → ts ≡ text c x ++ mid → (q : Seen B) → TellsLines (f x) mid q → TellsLines (and_then c f) ts (q >>= λ y. Ok ((x, y.0), y.1))
     second x mid h e (Ok p) r = (e ∙ ap (λ (us : List ℕ). text c x ++ us) r.0 ∙ sym (append_assoc (text c x) (text (f x) p.0) p.1), (h, r.1))
     second x mid h e (Err cut) r = ((x, r.0), r.1, (h, r.2), ap (λ (us : List ℕ). text c x ++ us) r.3 ∙ sym (append_assoc (text c x) mid r.1) ∙ ap (λ (us : List ℕ). us ++ r.1) (sym e))
     second x mid h e (Err (wrong kind rest)) r =
-        let o = r.2 in
-        (text c x ++ r.0,
-         e ∙ ap (λ (us : List ℕ). text c x ++ us) r.1 ∙ sym (append_assoc (text c x) r.0 rest),
-         ((x, o.0), o.1, (h, o.2), ap (λ (us : List ℕ). text c x ++ us) o.3 ∙ sym (append_assoc (text c x) r.0 o.1)),
-         (λ g. moved x h (r.0 ++ first_line rest) r.3 (g.0, g.1, g.2, g.3 ∙ ap (λ (us : List ℕ). us ++ g.1) (append_assoc (text c x) r.0 (first_line rest)))),
-         r.4, inr (x, r.0, h, refl, r.5), r.6)
+        let o = r.2 in (
+          text c x ++ r.0,
+          e ∙ ap (λ (us : List ℕ). text c x ++ us) r.1 ∙ sym (append_assoc (text c x) r.0 rest),
+          ((x, o.0), o.1, (h, o.2), ap (λ (us : List ℕ). text c x ++ us) o.3 ∙ sym (append_assoc (text c x) r.0 o.1)),
+          (λ g. moved x h (r.0 ++ first_line rest) r.3 (g.0, g.1, g.2, g.3 ∙ ap (λ (us : List ℕ). us ++ g.1) (append_assoc (text c x) r.0 (first_line rest)))),
+          r.4,
+          inr (x, r.0, h, refl, r.5),
+          r.6,
+        )
+
     start : (q : Seen A) → read_lines c ts ≡ q → TellsLines c ts q → ((x : A) → Holds c x → (us : List ℕ) → TellsLines (f x) us (read_lines (f x) us)) → TellsLines (and_then c f) ts (q >>= λ x. read_lines (f x.0) x.1 >>= λ y. Ok ((x.0, y.0), y.1))
     start (Ok p) e r all = second p.0 p.1 r.1 r.0 (read_lines (f p.0) p.1) (all p.0 r.1 p.1)
     start (Err cut) e r all = let d = some_text (f r.0) (s.1 r.0 r.2) in ((r.0, d.0), r.1 ++ text (f r.0) d.0, (r.2, d.1), ap (λ (us : List ℕ). us ++ text (f r.0) d.0) r.3 ∙ append_assoc ts r.1 (text (f r.0) d.0))
     start (Err (wrong kind rest)) e r all =
         let o = r.2 in
-        let d = some_text (f o.0) (s.1 o.0 o.2) in
-        (r.0, r.1,
-         ((o.0, d.0), o.1 ++ text (f o.0) d.0, (o.2, d.1), ap (λ (us : List ℕ). us ++ text (f o.0) d.0) o.3 ∙ append_assoc r.0 o.1 (text (f o.0) d.0)),
-         (λ g. elim (apart (text c g.0.0) (text (f g.0.0) g.0.1) (r.0 ++ first_line rest) g.1 g.3) [
-             inl p ↦ r.3 (g.0.0, p.0, g.2.0, p.1)
-           | inr p ↦
-               let tail = first_is rest in
-               let all_of = r.1 ∙ ap (λ (us : List ℕ). r.0 ++ us) tail.1 ∙ sym (append_assoc r.0 (first_line rest) tail.0) ∙ ap (λ (us : List ℕ). us ++ tail.0) p.1 ∙ append_assoc (text c g.0.0) p.0 tail.0 in
-               good_bad g.0.0 (p.0 ++ tail.0) (wrong kind rest) (sym (lines_back c g.0.0 (p.0 ++ tail.0) s.0 g.2.0) ∙ ap (read_lines c) (sym all_of) ∙ e)
-           ]),
-         r.4, inl r.5, r.6)
+        let d = some_text (f o.0) (s.1 o.0 o.2) in (
+          r.0,
+          r.1,
+          ((o.0, d.0), o.1 ++ text (f o.0) d.0, (o.2, d.1), ap (λ (us : List ℕ). us ++ text (f o.0) d.0) o.3 ∙ append_assoc r.0 o.1 (text (f o.0) d.0)),
+          (λ g. elim (apart (text c g.0.0) (text (f g.0.0) g.0.1) (r.0 ++ first_line rest) g.1 g.3) [
+            | inl p ↦ r.3 (g.0.0, p.0, g.2.0, p.1)
+            | inr p ↦
+                let tail = first_is rest in
+                let all_of = r.1 ∙ ap (λ (us : List ℕ). r.0 ++ us) tail.1 ∙ sym (append_assoc r.0 (first_line rest) tail.0) ∙ ap (λ (us : List ℕ). us ++ tail.0) p.1 ∙ append_assoc (text c g.0.0) p.0 tail.0 in
+                good_bad g.0.0 (p.0 ++ tail.0) (wrong kind rest) (sym (lines_back c g.0.0 (p.0 ++ tail.0) s.0 g.2.0) ∙ ap (read_lines c) (sym all_of) ∙ e)
+          ]),
+          r.4,
+          inl r.5,
+          r.6,
+        )
 lines_tell (seen_as {A} {B} f g c) ts s = go (read_lines c ts) (lines_tell c ts s.0)
   where
     there : (us : List ℕ) → IsPrefix c us → IsPrefix (seen_as f g c) us
     there us t = let inv = s.1 t.0 t.2 in (f t.0, t.1, (subst (Holds c) (sym inv) t.2, ap f inv), ap (text c) inv ∙ t.3)
+
     here : (us : List ℕ) → IsPrefix (seen_as f g c) us → IsPrefix c us
     here us b = (g b.0, b.1, b.2.0, b.3)
+
     go : (q : Seen A) → TellsLines c ts q → TellsLines (seen_as f g c) ts (q >>= λ x. Ok (f x.0, x.1))
     go (Ok p) t = let inv = s.1 p.0 t.1 in (t.0 ∙ ap (λ x. text c x ++ p.1) (sym inv), (subst (Holds c) (sym inv) t.1, ap f inv))
     go (Err cut) t = there ts t

@@ -1,5 +1,5 @@
 -- The answer for a whole text is exact.
-use Rattle.std.proofs.Common.{◌≡◌, Bor, ℕ, List, [], Result, Ok, Err, refl, sym, ap, ◌∙◌, subst}
+use Rattle.std.proofs.Common.{Bor, ℕ, List, Result, Ok, Err, refl, sym, subst}
 use Rattle.trick_codes.proofs.Lines.{cut_off, refused_at, read_all, read_more}
 use Rattle.trick_codes.specs.Gives.{Gives, Stops, Concludes, fault_of}
 use Rattle.trick_codes.specs.Lines.{Lines, SoundLines, read_lines}

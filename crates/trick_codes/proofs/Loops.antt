@@ -1,11 +1,11 @@
 -- Reading on, as loops in code do.
-use Rattle.std.proofs.Common.{◌≡◌, ◌≢◌, ◌⊎◌, inl, inr, ℕ, zero, suc, ◌+◌, ◌-◌, ◌<◌, ◌≤◌, Bool, true, false, cond, List, [], ◌∷◌, ◌++◌, length, get_or, take, drop, Option, Some, None, Ok, Err, refl, sym, ap, ◌∙◌, append_assoc, arith}
+use Rattle.std.proofs.Common.{◌≡◌, ◌≢◌, ◌⊎◌, inl, inr, ℕ, zero, suc, ◌+◌, ◌-◌, ◌<◌, Bool, true, false, cond, List, [], ◌∷◌, ◌++◌, length, get_or, take, drop, Option, Some, None, Ok, Err, refl, sym, ap, ◌∙◌, append_assoc, arith}
 use Rattle.std.proofs.lemmas.Bool.{cases_Bool, eq-eqb, eqb-true}
 use Rattle.std.proofs.lemmas.List.{append-nil, at_drop_more, take_more}
 use Rattle.std.specs.Prelude.{nat_eq}
 use Rattle.trick_codes.proofs.Base.{when_on, when_off}
 use Rattle.trick_codes.specs.Code.{Told, ◌>>=◌, literal_at, free_at}
-use Rattle.trick_codes.specs.declared.miss.Miss.TheVariants.{Ends, Differs}
+use Rattle.trick_codes.specs.declared.miss.Miss.TheVariants.{Differs}
 
 -- the bytes that are told, with some before them
 abbrev pub with_front : List ℕ → Told (List ℕ) → Told (List ℕ)
@@ -49,8 +49,8 @@ module _ (most end : ℕ) (rest : List ℕ) (n : ℕ) (inside : n < length rest)
   free_going few ne =
       let less : most - n - 1 ≡ most - (n + 1) = omega arith in
       sym (there ∙ one_more end (take n rest) (get_or rest n 0) (drop (n + 1) rest) (most - n) (omega arith) ne
-        ∙ ap (λ k. with_front (take n rest ++ get_or rest n 0 ∷ []) (free_at k end (drop (n + 1) rest))) less
-        ∙ ap (λ us. with_front us (free_at (most - (n + 1)) end (drop (n + 1) rest))) (sym (take_more rest n 0 inside)))
+      ∙ ap (λ k. with_front (take n rest ++ get_or rest n 0 ∷ []) (free_at k end (drop (n + 1) rest))) less
+      ∙ ap (λ us. with_front us (free_at (most - (n + 1)) end (drop (n + 1) rest))) (sym (take_more rest n 0 inside)))
 
   pub free_over : n ≡ most → get_or rest n 0 ≢ end → free_after most end rest n ≡ Err Differs
   free_over full ne =

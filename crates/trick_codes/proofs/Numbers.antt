@@ -1,5 +1,5 @@
 -- A number in decimal, with a byte behind it that is no digit.
-use Rattle.std.proofs.Common.{◌≡◌, ◌≢◌, ◌⊎◌, ℕ, zero, suc, ◌+◌, ◌-◌, ◌*◌, ◌/◌, ◌%◌, ◌≤◌, ◌<◌, ◌^◌, Bool, true, false, ◌&&◌, ◌||◌, cond, List, [], ◌∷◌, ◌++◌, length, get_or, Result, Ok, Err, refl, sym, ap, ◌∙◌, inl, inr, subst, append_assoc, arith, rules}
+use Rattle.std.proofs.Common.{◌≡◌, ◌≢◌, ◌⊎◌, ℕ, zero, suc, ◌+◌, ◌-◌, ◌*◌, ◌/◌, ◌%◌, ◌≤◌, ◌<◌, ◌^◌, Bool, true, false, ◌&&◌, cond, List, [], ◌∷◌, ◌++◌, length, get_or, Ok, Err, refl, sym, ap, ◌∙◌, inl, inr, subst, append_assoc, arith, rules}
 use Rattle.std.proofs.lemmas.Bool.{eq-eqb, eqb-true, le-leb, leb-true, leb-false, cases_Bool, and_parts, and_from}
 use Rattle.std.proofs.lemmas.Fmt.{decimal_digit, decimal_by_steps, digits_decimal, digits_value-decimal, decimal-digits_value}
 use Rattle.std.proofs.lemmas.List.{length-append}
@@ -9,7 +9,6 @@ use Rattle.std.specs.Fmt.{decimal}
 use Rattle.std.specs.Prelude.{nat_eq, nat_le}
 use Rattle.trick_codes.proofs.Base.{when_on, when_off, cons_is, TellsOf}
 use Rattle.trick_codes.specs.Code.{Told, digits_at, zero_at, number_at}
-use Rattle.trick_codes.specs.declared.miss.Miss.{Miss}
 use Rattle.trick_codes.specs.declared.miss.Miss.TheVariants.{Ends, Differs}
 
 abbrev pub all_digits : List ℕ → Bool
@@ -120,9 +119,9 @@ module _ (least most end : ℕ) (low : least ≤ 1) (some : least ≤ most) (sma
   back_of (suc n) rest h d =
       ap (λ (ds : List ℕ). number_at least most end (ds ++ end ∷ rest)) d.text
       ∙ when_off (nat_eq d.head 48) _ _ _ (d.no_zero (omega arith))
-        (when_on (is_ascii_digit d.head && nat_le (d.head - 48) most) _ _ _
-          (and_from _ _ d.head_digit (le-leb (d.head - 48) most (omega (arith, grows (d.head - 48) d.tail, d.value, h.1))))
-          (digits_back (d.head - 48) d.tail rest d.tail_digits (omega (arith, d.value, h.1)) ∙ ap (λ k. Ok (k, rest)) d.value))
+      (when_on (is_ascii_digit d.head && nat_le (d.head - 48) most) _ _ _
+      (and_from _ _ d.head_digit (le-leb (d.head - 48) most (omega (arith, grows (d.head - 48) d.tail, d.value, h.1))))
+      (digits_back (d.head - 48) d.tail rest d.tail_digits (omega (arith, d.value, h.1)) ∙ ap (λ k. Ok (k, rest)) d.value))
 
   pub number_back : (n : ℕ) (rest : List ℕ) → Ranged least most n → number_at least most end (spelled end n ++ rest) ≡ Ok (n, rest)
   number_back n rest h =
@@ -148,14 +147,16 @@ module _ (least most end : ℕ) (low : least ≤ 1) (some : least ≤ most) (sma
           no (c ∷ ds) more p le q =
               let parts = cons_is _ _ _ _ q in
               h ds more (and_parts _ _ p).1 (subst (λ k. read_on (v * 10 + (k - 48)) ds ≤ most) parts.0 le) parts.1
+
       stuck : nat_eq t end ≡ false → (is_ascii_digit t && nat_le (v * 10 + (t - 48)) most) ≡ false → (ds more : List ℕ) → all_digits ds ≡ true → read_on v ds ≤ most → ds ++ end ∷ [] ≡ t ∷ (ts ++ more) → ⊥
       stuck e d [] more p le q = let same = (cons_is _ _ _ _ q).0 in let on : nat_eq t end ≡ true = eq-eqb t end (sym same) in absurd cc
       stuck e d (c ∷ ds) more p le q =
           let same = (cons_is _ _ _ _ q).0 in
           let fine : (is_ascii_digit c && nat_le (v * 10 + (c - 48)) most) ≡ true =
-                and_from _ _ (and_parts _ _ p).0 (le-leb (v * 10 + (c - 48)) most (omega (arith, grows (v * 10 + (c - 48)) ds, le))) in
+          and_from _ _ (and_parts _ _ p).0 (le-leb (v * 10 + (c - 48)) most (omega (arith, grows (v * 10 + (c - 48)) ds, le))) in
           let on : (is_ascii_digit t && nat_le (v * 10 + (t - 48)) most) ≡ true = subst (λ k. (is_ascii_digit k && nat_le (v * 10 + (k - 48)) most) ≡ true) same fine in
           absurd cc
+
       go : (a : Bool) → nat_eq t end ≡ a → (b : Bool) → (is_ascii_digit t && nat_le (v * 10 + (t - 48)) most) ≡ b → ((is_ascii_digit t && nat_le (v * 10 + (t - 48)) most) ≡ true → DigitsSay (v * 10 + (t - 48)) ts (digits_at most end (v * 10 + (t - 48)) ts)) → DigitsSay v (t ∷ ts) (cond a (Ok (v, ts)) (cond b (digits_at most end (v * 10 + (t - 48)) ts) (Err Differs)))
       go true e b d each = ([], ap (λ (u : ℕ). u ∷ ts) (eqb-true t end e), refl, refl, le)
       go false e true d each = deeper (digits_at most end (v * 10 + (t - 48)) ts) e d (each d)
@@ -180,6 +181,7 @@ module _ (least most end : ℕ) (low : least ≤ 1) (some : least ≤ most) (sma
           let off = d.no_zero (omega arith) in
           let on : nat_eq d.head 48 ≡ true = ap (λ k. nat_eq k 48) (begins (suc n) t us d e).0 ∙ z in
           absurd cc
+
       zero_says : nat_eq t 48 ≡ true → (k : ℕ) → least ≡ k → (us : List ℕ) → TellsOf (spelled end) (Ranged least most) (t ∷ us) (zero_at k end us)
       zero_says z zero l [] = (0, end ∷ [], (omega (arith, l), omega arith), spelled_zero ∙ ap (λ (u : ℕ). u ∷ end ∷ []) (sym (eqb-true t 48 z)))
       zero_says z zero l (u ∷ us) = last (nat_eq u end) refl
@@ -193,19 +195,25 @@ module _ (least most end : ℕ) (low : least ≤ 1) (some : least ≤ most) (sma
               let on : nat_eq u end ≡ true = eq-eqb u end (sym same) in
               absurd cc
       zero_says z (suc k) l us = λ b. let n = above z b.0 (us ++ b.1) b.2 b.3 in absurd (omega (arith, n, l, b.2.0))
+
       digits : nat_eq t 48 ≡ false → (is_ascii_digit t && nat_le (t - 48) most) ≡ true → (q : Told ℕ) → DigitsSay (t - 48) ts q → TellsOf (spelled end) (Ranged least most) (t ∷ ts) q
       digits z d (Ok p) h =
           let le : read_on (t - 48) h.0 ≤ most = omega (arith, h.3, h.4) in
-          let w = ap decimal h.3 ∙ written t h.0 (and_parts _ _ d).0 z h.2 le in
-          (ap (λ (us : List ℕ). t ∷ us) h.1 ∙ sym (append_assoc (t ∷ h.0) (end ∷ []) p.1) ∙ ap (λ (us : List ℕ). (us ++ end ∷ []) ++ p.1) (sym w),
-           (omega (arith, h.3, grows (t - 48) h.0, not_zero_byte t (and_parts _ _ d).0 z), h.4))
-      digits z d (Err Ends) h =
-          (read_on (t - 48) ts, end ∷ [], (omega (arith, grows (t - 48) ts, not_zero_byte t (and_parts _ _ d).0 z), h.1),
-           ap (λ (us : List ℕ). us ++ end ∷ []) (written t ts (and_parts _ _ d).0 z h.0 h.1))
+          let w = ap decimal h.3 ∙ written t h.0 (and_parts _ _ d).0 z h.2 le in (
+            ap (λ (us : List ℕ). t ∷ us) h.1 ∙ sym (append_assoc (t ∷ h.0) (end ∷ []) p.1) ∙ ap (λ (us : List ℕ). (us ++ end ∷ []) ++ p.1) (sym w),
+            (omega (arith, h.3, grows (t - 48) h.0, not_zero_byte t (and_parts _ _ d).0 z), h.4),
+          )
+      digits z d (Err Ends) h = (
+        read_on (t - 48) ts,
+        end ∷ [],
+        (omega (arith, grows (t - 48) ts, not_zero_byte t (and_parts _ _ d).0 z), h.1),
+        ap (λ (us : List ℕ). us ++ end ∷ []) (written t ts (and_parts _ _ d).0 z h.0 h.1),
+      )
       digits z d (Err Differs) h = λ b.
           let s = digits_for b.0 b.2 in
           let e = begins b.0 t (ts ++ b.1) s b.3 in
           h s.tail b.1 s.tail_digits (subst (λ k. read_on (k - 48) s.tail ≤ most) e.0 (omega (arith, s.value, b.2.1))) e.1
+
       stuck : (is_ascii_digit t && nat_le (t - 48) most) ≡ false → ((n : ℕ) × (more : List ℕ) × Ranged least most n × (spelled end n ≡ t ∷ (ts ++ more))) → ⊥
       stuck d b =
           let s = digits_for b.0 b.2 in
@@ -213,6 +221,7 @@ module _ (least most end : ℕ) (low : least ≤ 1) (some : least ≤ most) (sma
           let fine : (is_ascii_digit s.head && nat_le (s.head - 48) most) ≡ true = and_from _ _ s.head_digit (le-leb (s.head - 48) most (omega (arith, grows (s.head - 48) s.tail, s.value, b.2.1))) in
           let on : (is_ascii_digit t && nat_le (t - 48) most) ≡ true = subst (λ k. (is_ascii_digit k && nat_le (k - 48) most) ≡ true) e.0 fine in
           absurd cc
+
       go : (a : Bool) → nat_eq t 48 ≡ a → (b : Bool) → (is_ascii_digit t && nat_le (t - 48) most) ≡ b → TellsOf (spelled end) (Ranged least most) (t ∷ ts) (cond a (zero_at least end ts) (cond b (digits_at most end (t - 48) ts) (Err Differs)))
       go true z b d = zero_says z least refl ts
       go false z true d = digits z d (digits_at most end (t - 48) ts) (digits_say (t - 48) ts (leb-true (t - 48) most (and_parts _ _ d).1))

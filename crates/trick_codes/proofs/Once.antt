@@ -1,5 +1,5 @@
 -- One line at most is due behind a front.
-use Rattle.std.proofs.Common.{◌≡◌, ◌⊎◌, ℕ, List, [], ◌∷◌, ◌++◌, refl, sym, ap, ◌∙◌, inl, inr, subst, append_assoc}
+use Rattle.std.proofs.Common.{◌≡◌, ℕ, List, [], ◌∷◌, ◌++◌, sym, ap, ◌∙◌, inl, inr, subst, append_assoc}
 use Rattle.trick_codes.specs.declared.kind.Kind.{Kind}
 use Rattle.trick_codes.specs.Code.{spell}
 use Rattle.trick_codes.specs.Lines.{Lines, no_line, line, and_then, seen_as, text, Holds, IsDue, read_lines, SoundLines}

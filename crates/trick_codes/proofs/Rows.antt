@@ -1,5 +1,5 @@
 -- Rows of numbers.
-use Rattle.std.proofs.Common.{◌≡◌, ℕ, zero, suc, ◌+◌, ◌-◌, ◌≤◌, ◌<◌, ◌^◌, Bool, true, false, List, [], ◌∷◌, length, drop, refl, sym, ap, ◌∙◌, arith}
+use Rattle.std.proofs.Common.{◌≡◌, ℕ, zero, suc, ◌-◌, ◌≤◌, ◌<◌, List, [], ◌∷◌, length, drop, refl, arith}
 use Rattle.trick_codes.specs.Named.{mark_before}
 use Rattle.trick_codes.specs.declared.range.Range.{Range}
 

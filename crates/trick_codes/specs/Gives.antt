@@ -1,8 +1,7 @@
 -- What a reader in code returns, beside what the codes tell.
 use Rattle.std.proofs.Common.{Bor}
 use Rattle.std.specs.Prelude.{◌≡◌, ◌≢◌, ℕ, List, [], length, map, Option, Some, None, Result, Ok, Err}
-use Rattle.trick_codes.specs.Code.{Told}
-use Rattle.trick_codes.specs.Lines.{Seen, Halt, cut, wrong}
+use Rattle.trick_codes.specs.Lines.{Halt, cut, wrong}
 use Rattle.trick_codes.specs.Loads.{front_of, line_behind}
 use Rattle.trick_codes.specs.declared.kind.Kind.TheVariants.{BadLine, WrongPlan, OutOfRange}
 use Rattle.trick_codes.specs.declared.load_fault.LoadFault.{LoadFault}

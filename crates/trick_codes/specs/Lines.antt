@@ -1,7 +1,7 @@
 -- Texts of lines as data: each line has a code of its own, and how many lines there are, and which, may depend on
 -- the values of earlier ones. Behind each front of a text one line is due, and it says what is wrong with another
 -- line in its place.
-use Rattle.std.specs.Prelude.{◌≡◌, ◌⊎◌, ℕ, zero, suc, ◌+◌, Bool, true, false, ◌&&◌, not, nat_eq, List, [], ◌∷◌, ◌++◌, Result, Ok, Err, if◌then◌else◌, ◌==◌}
+use Rattle.std.specs.Prelude.{◌≡◌, ◌⊎◌, ℕ, zero, suc, ◌+◌, Bool, true, ◌&&◌, not, nat_eq, List, [], ◌∷◌, ◌++◌, Result, Ok, Err, if◌then◌else◌}
 use Rattle.trick_codes.specs.Code.{Code, literal, sequence, read_as, spell, Fits, read, Sound, Told, ◌>>=◌}
 use Rattle.trick_codes.specs.declared.kind.Kind.{Kind}
 use Rattle.trick_codes.specs.declared.miss.Miss.TheVariants.{Ends, Differs}

@@ -1,5 +1,5 @@
 -- What loading a text of lines answers.
-use Rattle.std.specs.Prelude.{◌≡◌, ◌≢◌, ℕ, ◌+◌, ◌-◌, List, [], ◌∷◌, ◌++◌, length, take, ◌==◌, Result, Ok, Err}
+use Rattle.std.specs.Prelude.{◌≡◌, ◌≢◌, ℕ, ◌+◌, ◌-◌, List, [], ◌++◌, length, take, ◌==◌, Result, Ok, Err}
 use Rattle.std.specs.List.{count_by}
 use Rattle.trick_codes.specs.Lines.{Lines, text, Holds, IsPrefix, IsDue, first_line}
 use Rattle.trick_codes.specs.declared.kind.Kind.{Kind}

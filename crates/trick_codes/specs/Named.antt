@@ -1,6 +1,6 @@
 -- The usual lines: a name, ` = `, a value with `;` behind it, and a line feed.
 use Rattle.std.specs.Fmt.{decimal, signed_decimal}
-use Rattle.std.specs.Prelude.{ℕ, zero, suc, ℤ, pos, Bool, true, false, List, [], ◌∷◌, ◌++◌, Option, Some, None, codes}
+use Rattle.std.specs.Prelude.{ℕ, ℤ, pos, Bool, true, false, List, [], ◌∷◌, ◌++◌, Option, Some, None, codes}
 use Rattle.trick_codes.specs.Code.{Code, literal, number, integer, one_of, sequence, read_as, nothing, choice, Either, left, right}
 use Rattle.trick_codes.specs.Forms.{kind_of}
 use Rattle.trick_codes.specs.Lines.{Lines, line, split_first}

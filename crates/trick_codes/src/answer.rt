@@ -31,20 +31,31 @@ pub fn refusal(text: &[u8], stop: Stop) -> LoadFault
     match stop {
         Stop::Memory => LoadFault::OutOfMemory,
         Stop::Cut => LoadFault::Truncated { at: text.len() },
-        Stop::Wrong(Kind::BadLine, rest) => LoadFault::BadLine { line: line_of(text, rest) },
-        Stop::Wrong(Kind::WrongPlan, rest) => LoadFault::WrongPlan { line: line_of(text, rest) },
-        Stop::Wrong(Kind::OutOfRange, rest) => LoadFault::OutOfRange { line: line_of(text, rest) },
+        Stop::Wrong(Kind::BadLine, rest) => LoadFault::BadLine {
+            line: line_of(text, rest),
+        },
+        Stop::Wrong(Kind::WrongPlan, rest) => LoadFault::WrongPlan {
+            line: line_of(text, rest),
+        },
+        Stop::Wrong(Kind::OutOfRange, rest) => LoadFault::OutOfRange {
+            line: line_of(text, rest),
+        },
     }
 }
 
 /// What was read from the front of a text, where nothing stands behind it, or the refusal of the
 /// text. A refusal drops what was read.
-pub fn whole<'a, T: Drop>(text: &[u8], read: Result<(T, &'a [u8]), Stop<'a>>) -> Result<T, LoadFault>
+pub fn whole<'a, T: Drop>(
+    text: &[u8],
+    read: Result<(T, &'a [u8]), Stop<'a>>,
+) -> Result<T, LoadFault>
     ensures { Concludes text.now read.entry result }
 {
     match read {
         Ok((value, [])) => Ok(value),
-        Ok((_, rest)) => Err(LoadFault::Trailing { at: place_of(text, rest) }),
+        Ok((_, rest)) => Err(LoadFault::Trailing {
+            at: place_of(text, rest),
+        }),
         Err(stop) => Err(refusal(text, stop)),
     }
 }

@@ -2,7 +2,20 @@
 
 ghost use Rattle.std.specs.Prelude.{◌≡◌, ◌≤◌, ◌<◌, ◌+◌, ◌-◌, ◌^◌, [], ◌∷◌, length, take, drop, IfOk};
 ghost use Rattle.trick_codes.specs.Code.{
-    digits_at, free as free_code, free_at, integer as integer_code, literal as literal_code, literal_at, minus, number as number_code, number_at, negative_of, positive_of, read, zero_at};
+  digits_at,
+  free as free_code,
+  free_at,
+  integer as integer_code,
+  literal as literal_code,
+  literal_at,
+  minus,
+  number as number_code,
+  number_at,
+  negative_of,
+  positive_of,
+  read,
+  zero_at,
+};
 ghost use Rattle.trick_codes.specs.Gives.{alone, beside, Reads};
 
 use crate::miss::Miss;

@@ -2,7 +2,11 @@
 
 ghost use Rattle.std.specs.Prelude.{◌≡◌, ◌<◌, IfSome, length};
 ghost use Rattle.trick_codes.specs.Forms.{
-    are_numbers as are_numbers_of, equals_place, kind_of as kind_of_line, next_place as next_place_of};
+  are_numbers as are_numbers_of,
+  equals_place,
+  kind_of as kind_of_line,
+  next_place as next_place_of,
+};
 ghost use Rattle.trick_codes.specs.Lines.{first_line as first_line_of};
 
 use crate::kind::Kind;

@@ -13,7 +13,6 @@ mod miss;
 mod print;
 mod range;
 mod stop;
-
 mod word;
 
 pub use answer::{refusal, whole};
@@ -26,5 +25,7 @@ pub use miss::Miss;
 pub use print::{push_integer, push_line, push_number, push_row, push_title, set_indexed};
 pub use range::Range;
 pub use stop::Stop;
-
 pub use word::{behind, one_of, stands_at};
+
+#[cfg(test)]
+mod tests;

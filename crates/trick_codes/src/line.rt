@@ -5,8 +5,19 @@ ghost use Rattle.trick_codes.specs.Code.{integer as integer_code, literal as lit
 ghost use Rattle.trick_codes.specs.Gives.{alone, beside, bytes_of, Gives, Reads};
 ghost use Rattle.trick_codes.specs.Lines.{fed, read_lines};
 ghost use Rattle.trick_codes.specs.Named.{
-    each_code, end_line as end_line_of, integer_line as integer_line_of, mark_before, named, none_or, number_line as number_line_of,
-    row as row_code, row_number, row_where, title as title_of, word_line as word_line_of};
+  each_code,
+  end_line as end_line_of,
+  integer_line as integer_line_of,
+  mark_before,
+  named,
+  none_or,
+  number_line as number_line_of,
+  row as row_code,
+  row_number,
+  row_where,
+  title as title_of,
+  word_line as word_line_of,
+};
 
 use crate::field::{byte, integer, literal, number};
 use crate::form::kind_of;
@@ -31,7 +42,12 @@ pub fn feed(rest: &[u8]) -> Result<&[u8], Miss>
     byte(rest, 10)
 }
 
-fn number_bytes<'a>(name: &[u8], least: u64, most: u64, rest: &'a [u8]) -> Result<(u64, &'a [u8]), Miss>
+fn number_bytes<'a>(
+    name: &[u8],
+    least: u64,
+    most: u64,
+    rest: &'a [u8],
+) -> Result<(u64, &'a [u8]), Miss>
     ensures { Reads beside result (read (fed (named name.now (number_code least most 59))) rest.now) }
 {
     let rest = title(name, rest)?;
@@ -41,7 +57,12 @@ fn number_bytes<'a>(name: &[u8], least: u64, most: u64, rest: &'a [u8]) -> Resul
 }
 
 /// The line of a name and a number from the least, which is 0 or 1, to the most.
-pub fn number_line<'a>(name: &[u8], least: u64, most: u64, rest: &'a [u8]) -> Result<(u64, &'a [u8]), Stop<'a>>
+pub fn number_line<'a>(
+    name: &[u8],
+    least: u64,
+    most: u64,
+    rest: &'a [u8],
+) -> Result<(u64, &'a [u8]), Stop<'a>>
     ensures { Gives beside result (read_lines (number_line_of name.now least most) rest.now) }
 {
     match number_bytes(name, least, most, rest) {
@@ -61,7 +82,11 @@ fn integer_bytes<'a>(name: &[u8], range: Range, rest: &'a [u8]) -> Result<(i64, 
 }
 
 /// The line of a name and a number of this range.
-pub fn integer_line<'a>(name: &[u8], range: Range, rest: &'a [u8]) -> Result<(i64, &'a [u8]), Stop<'a>>
+pub fn integer_line<'a>(
+    name: &[u8],
+    range: Range,
+    rest: &'a [u8],
+) -> Result<(i64, &'a [u8]), Stop<'a>>
     ensures { Gives beside result (read_lines (integer_line_of name.now range) rest.now) }
 {
     match integer_bytes(name, range, rest) {
@@ -81,7 +106,11 @@ fn word_bytes<'a>(name: &[u8], words: &[&[u8]], rest: &'a [u8]) -> Result<(usize
 }
 
 /// The line of a name and one of these words, each with its `;`. What is read is the word's place.
-pub fn word_line<'a>(name: &[u8], words: &[&[u8]], rest: &'a [u8]) -> Result<(usize, &'a [u8]), Stop<'a>>
+pub fn word_line<'a>(
+    name: &[u8],
+    words: &[&[u8]],
+    rest: &'a [u8],
+) -> Result<(usize, &'a [u8]), Stop<'a>>
     ensures { Gives beside result (read_lines (word_line_of name.now (bytes_of words.now)) rest.now) }
 {
     match word_bytes(name, words, rest) {
@@ -115,11 +144,7 @@ fn mark(ranges: &[Range], place: usize) -> u8
     requires { place < length ranges.now }
     ensures { result ≡ mark_before (drop (place + 1) ranges.now) }
 {
-    if place + 1 < ranges.len() {
-        b','
-    } else {
-        b';'
-    }
+    if place + 1 < ranges.len() { b',' } else { b';' }
 }
 
 fn row_numbers<'a>(ranges: &[Range], into: &mut [i64], rest: &'a [u8]) -> Result<&'a [u8], Miss>
@@ -148,7 +173,11 @@ pub fn row<'a>(ranges: &[Range], into: &mut [i64], rest: &'a [u8]) -> Result<&'a
 }
 
 /// `none;`, or a row as above. What is told is whether a row was put into the slice.
-pub fn row_or_none<'a>(ranges: &[Range], into: &mut [i64], rest: &'a [u8]) -> Result<(bool, &'a [u8]), Miss>
+pub fn row_or_none<'a>(
+    ranges: &[Range],
+    into: &mut [i64],
+    rest: &'a [u8],
+) -> Result<(bool, &'a [u8]), Miss>
     requires { length into.old ≡ length ranges.now }
     ensures { Reads (λ x. (row_where x.0 into.new, x.1.now)) result (read (none_or (row_code ranges.now)) rest.now) }
 {

@@ -1,10 +1,9 @@
 -- A panel is printed as it is spelled.
 use Rattle.std.proofs.Common.{◌≡◌, ℕ, List, ◌++◌, length, Option, Some, None, refl, sym, ap, ◌∙◌, append_assoc}
-use Rattle.std.specs.Prelude.{codes, ℤ, pos, map}
+use Rattle.std.specs.Prelude.{codes, ℤ, pos}
 use Rattle.trick_codes.proofs.IsSound.{length-each, length-row, row_spelled}
-use Rattle.trick_codes.specs.Code.{Fits}
 use Rattle.trick_codes.specs.Lines.{text, Holds}
-use Rattle.trick_codes.specs.Named.{integer_line, number_line, row, title, row_text, end_line}
+use Rattle.trick_codes.specs.Named.{integer_line, number_line, title, end_line}
 use Rattle.trick_codes.specs.declared.range.Range.{Range}
 use Rattle.trick_codes_example.specs.Panel.{gauge_lines, ranges_of, last_line, last_text, notes_lines, mode_line, first_text, last_lines_text, panel}
 use Rattle.trick_codes_example.specs.declared.file.Gauge.{Gauge}

@@ -1,7 +1,7 @@
 -- The file of a panel of gauges: a line each for the version, the turn, the mode, each gauge, the last row and the
 -- count of the notes, then a line for each note, and `end;`.
-use Rattle.std.specs.Prelude.{◌≡◌, ℕ, zero, suc, ◌+◌, ℤ, pos, List, [], ◌∷◌, ◌++◌, length, map, Option, Some, None, codes}
-use Rattle.trick_codes.specs.Code.{Code, one_of, read_as}
+use Rattle.std.specs.Prelude.{◌≡◌, ℕ, zero, suc, ℤ, pos, List, [], ◌∷◌, ◌++◌, length, map, Option, Some, None, codes}
+use Rattle.trick_codes.specs.Code.{one_of, read_as}
 use Rattle.trick_codes.specs.Forms.{kind_of}
 use Rattle.trick_codes.specs.Lines.{Lines, line, and_then, seen_as, each, numbered, text}
 use Rattle.trick_codes.specs.Named.{named, number_line, integer_line, end_line, indexed, row, none_or, title, line_text, row_text}
@@ -53,10 +53,10 @@ notes_lines = seen_as (λ v. v.1) (λ xs. (length xs, xs)) (and_then (number_lin
 unfoldable pub panel : List Gauge → Lines Readings
 panel gauges =
     seen_as (λ v. record { turn = v.1.0; mode = v.1.1.0; values = v.1.1.1.0; last = v.1.1.1.1.0; notes = v.1.1.1.1.1.0 })
-            (λ r. (1, (r.turn, (r.mode, (r.values, (r.last, (r.notes, tt)))))))
+    (λ r. (1, (r.turn, (r.mode, (r.values, (r.last, (r.notes, tt)))))))
     (and_then (number_line (codes "panel") 1 1) (λ version. and_then (number_line (codes "turn") 0 9223372036854775807) (λ turn.
-     and_then mode_line (λ mode. and_then (gauge_lines gauges) (λ values.
-     and_then (last_line (ranges_of gauges)) (λ last. and_then notes_lines (λ notes. end_line)))))))
+    and_then mode_line (λ mode. and_then (gauge_lines gauges) (λ values.
+    and_then (last_line (ranges_of gauges)) (λ last. and_then notes_lines (λ notes. end_line)))))))
 
 -- ---- as it is printed
 

@@ -11,3 +11,5 @@ pub use file::{Gauge, Mode, Readings};
 pub use loader::load;
 pub use printer::print;
 
+#[cfg(test)]
+mod tests;

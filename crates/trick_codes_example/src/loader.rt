@@ -7,13 +7,25 @@ ghost use Rattle.trick_codes.specs.Lines.{fed, read_lines};
 ghost use Rattle.trick_codes.specs.Loads.{Loads};
 ghost use Rattle.trick_codes.specs.Named.{named, none_or, row as row_code, row_where};
 ghost use Rattle.trick_codes_example.specs.Panel.{
-    gauge_lines, last_line, mode_at, mode_line, mode_place, mode_words, note_line, notes_lines, notes_of, panel, ranges_of};
+  gauge_lines,
+  last_line,
+  mode_at,
+  mode_line,
+  mode_place,
+  mode_words,
+  note_line,
+  notes_lines,
+  notes_of,
+  panel,
+  ranges_of,
+};
 
 use crate::file::{Gauge, Mode, Readings};
 use std::alloc::{AllocError, Global};
 use trick_base::Items;
 use trick_codes::{
-    LoadFault, Miss, Range, Stop, end_line, feed, integer_line, kind_of, number_line, one_of, row_or_none, set_indexed, title, whole,
+    LoadFault, Miss, Range, Stop, end_line, feed, integer_line, kind_of, number_line, one_of,
+    row_or_none, set_indexed, title, whole,
 };
 
 fn mode_bytes(rest: &[u8]) -> Result<(Mode, &[u8]), Miss>
@@ -40,7 +52,11 @@ fn mode(rest: &[u8]) -> Result<(Mode, &[u8]), Stop>
 }
 
 #[tactic(auto, unfolding(crate::specs::Panel::gauge_lines))]
-fn values<'a>(alloc: Global, gauges: &[Gauge], rest: &'a [u8]) -> Result<(Vec<i64>, &'a [u8]), Stop<'a>>
+fn values<'a>(
+    alloc: Global,
+    gauges: &[Gauge],
+    rest: &'a [u8],
+) -> Result<(Vec<i64>, &'a [u8]), Stop<'a>>
     ensures { Gives (λ x. (x.0.items, x.1.now)) result (read_lines (gauge_lines gauges.now) rest.now) }
 {
     let mut found = Vec::new(alloc);
@@ -63,7 +79,11 @@ fn ranges(alloc: Global, gauges: &[Gauge]) -> Result<Vec<Range>, AllocError>
     Ok(found)
 }
 
-fn last_bytes<'a>(ranges: &[Range], into: &mut [i64], rest: &'a [u8]) -> Result<(bool, &'a [u8]), Miss>
+fn last_bytes<'a>(
+    ranges: &[Range],
+    into: &mut [i64],
+    rest: &'a [u8],
+) -> Result<(bool, &'a [u8]), Miss>
     requires { length into.old ≡ length ranges.now }
     ensures { Reads (λ x. (row_where x.0 into.new, x.1.now)) result
         (read (fed (named (codes "last") (none_or (row_code ranges.now)))) rest.now) }
@@ -75,7 +95,11 @@ fn last_bytes<'a>(ranges: &[Range], into: &mut [i64], rest: &'a [u8]) -> Result<
 }
 
 #[tactic(auto, unfolding(crate::specs::Panel::last_line))]
-fn last<'a>(alloc: Global, ranges: &[Range], rest: &'a [u8]) -> Result<(Option<Items<i64>>, &'a [u8]), Stop<'a>>
+fn last<'a>(
+    alloc: Global,
+    ranges: &[Range],
+    rest: &'a [u8],
+) -> Result<(Option<Items<i64>>, &'a [u8]), Stop<'a>>
     ensures { Gives beside result (read_lines (last_line ranges.now) rest.now) }
 {
     let mut row = vec![in alloc; 0; ranges.len()]?;
@@ -96,7 +120,11 @@ fn note<'a>(name: &mut Vec<u8>, place: usize, rest: &'a [u8]) -> Result<(u64, &'
 }
 
 #[tactic(auto, using(trick_codes::proofs::Each::one_left, trick_codes::proofs::Each::none_left), unfolding(crate::specs::Panel::notes_of))]
-fn note_list<'a>(alloc: Global, count: usize, rest: &'a [u8]) -> Result<(Vec<u64>, &'a [u8]), Stop<'a>>
+fn note_list<'a>(
+    alloc: Global,
+    count: usize,
+    rest: &'a [u8],
+) -> Result<(Vec<u64>, &'a [u8]), Stop<'a>>
     ensures { Gives (λ x. (x.0.items, x.1.now)) result (read_lines (notes_of count) rest.now) }
 {
     let mut found = Vec::new(alloc);
@@ -119,7 +147,11 @@ fn notes<'a>(alloc: Global, rest: &'a [u8]) -> Result<(Vec<u64>, &'a [u8]), Stop
 }
 
 #[tactic(auto, unfolding(crate::specs::Panel::panel))]
-fn readings<'a>(alloc: Global, gauges: &[Gauge], rest: &'a [u8]) -> Result<(Readings, &'a [u8]), Stop<'a>>
+fn readings<'a>(
+    alloc: Global,
+    gauges: &[Gauge],
+    rest: &'a [u8],
+) -> Result<(Readings, &'a [u8]), Stop<'a>>
     ensures { Gives beside result (read_lines (panel gauges.now) rest.now) }
 {
     let (_, rest) = number_line(b"panel", 1, 1, rest)?;

@@ -44,7 +44,12 @@ fn push_last(text: &mut Vec<u8>, last: &Option<Items<i64>>) -> Result<(), AllocE
 }
 
 #[tactic(auto, unfolding(crate::specs::Panel::note_line))]
-fn push_note(text: &mut Vec<u8>, name: &mut Vec<u8>, place: usize, note: u64) -> Result<(), AllocError>
+fn push_note(
+    text: &mut Vec<u8>,
+    name: &mut Vec<u8>,
+    place: usize,
+    note: u64,
+) -> Result<(), AllocError>
     ensures { OnOk result (text.new.items ≡ text.old.items ++ text_of (note_line place) note) }
 {
     set_indexed(name, b"note", place)?;

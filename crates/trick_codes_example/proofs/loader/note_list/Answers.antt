@@ -6,4 +6,4 @@ pub loop-place-preserved : goal.loop-place-preserved
 unfolding notes_of
 loop-place-preserved c =
     numbered_go_on 0 note_line c.loop-place.place c.args.count c.loop-place.found.items c.push.new.self.items c.in_ok-number.number
-      c.loop-place.here.now c.in_ok-number.after.now _ c.loop-place-test.true c.in_ok-number.ensures c.in_ok-push.ensures.items c.loop-place.invariant
+    c.loop-place.here.now c.in_ok-number.after.now _ c.loop-place-test.true c.in_ok-number.ensures c.in_ok-push.ensures.items c.loop-place.invariant

@@ -1,4 +1,4 @@
-use Rattle.std.proofs.Common.{◌≡◌, ap, sym, ◌∙◌, arith, length, rules}
+use Rattle.std.proofs.Common.{ap, ◌∙◌, arith, length}
 use Rattle.std.proofs.lemmas.Grind.{common_steps}
 use Rattle.trick_codes_example.proofs.Printing.{values_for_each, printed}
 use Rattle.trick_codes_example.proofs.printer.print.Goals as goal

@@ -7,4 +7,4 @@ pub loop-place-preserved : goal.loop-place-preserved
 unfolding notes_of
 loop-place-preserved c =
     numbered_text 0 note_line c.args.notes.now c.loop-place.place (length c.args.notes.now) c.loop-place.text.items c.push_note.new.text.items _
-      c.loop-place-test.true c.loop-place-test.true c.in_ok-push_note.ensures c.loop-place.invariant
+    c.loop-place-test.true c.loop-place-test.true c.in_ok-push_note.ensures c.loop-place.invariant
