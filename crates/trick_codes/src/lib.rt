@@ -26,6 +26,3 @@ pub use print::{push_integer, push_line, push_number, push_row, push_title, set_
 pub use range::Range;
 pub use stop::Stop;
 pub use word::{behind, one_of, stands_at};
-
-#[cfg(test)]
-mod tests;

@@ -2,7 +2,7 @@ use super::*;
 use std::alloc::{AllocError, Global};
 use std::test::Fail;
 use trick_base::Word;
-use trick_codes::{LoadFault, Range};
+use trick_codes::{LoadFault, Miss, Range, free, integer, number, word_line};
 
 const LINES: [&[u8]; 10] = [
     b"panel = 1;",
@@ -162,4 +162,26 @@ fn refuses_at_the_first_wrong_line(rt: HostRuntime) -> Result<(), Fail> {
         );
     }
     Ok(())
+}
+
+#[test]
+fn reads_within_a_line(rt: HostRuntime) {
+    let cases: [(&[u8], Result<(i64, &[u8]), Miss>); 7] = [
+        (b"10;x", Ok((10, b"x"))),
+        (b"-5;", Ok((-5, b""))),
+        (b"-", Err(Miss::Ends)),
+        (b"1", Err(Miss::Ends)),
+        (b"-0;", Err(Miss::Differs)),
+        (b"11;", Err(Miss::Differs)),
+        (b"01;", Err(Miss::Differs)),
+    ];
+    let range = Range { below: 5, above: 10 };
+    for (text, want) in cases {
+        assert_eq!(rt; integer(range, b';', text), want, "{text:?}");
+    }
+    assert_eq!(rt; number(1, 15, b' ', b"0 "), Err(Miss::Differs));
+    assert_eq!(rt; free(3, 10, b"abc\nd"), Ok((b"abc".as_slice(), b"d".as_slice())));
+    assert_eq!(rt; free(2, 10, b"abc\nd"), Err(Miss::Differs));
+    let words: [&[u8]; 2] = [b"Run;", b"Freeze;"];
+    assert!(rt; word_line(b"mode", &words, b"mode = Freeze;\n").is_ok());
 }
