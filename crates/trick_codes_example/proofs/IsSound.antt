@@ -7,7 +7,7 @@ use Rattle.trick_codes.specs.Code.{read_as, one_of}
 use Rattle.trick_codes.specs.Lines.{SoundLines}
 use Rattle.trick_codes.specs.Named.{indexed, integer_line, none_or, row}
 use Rattle.trick_codes.specs.declared.range.Range.{Range}
-use Rattle.trick_codes_example.specs.Panel.{mode_words, mode_at, mode_place, mode_line, gauge_lines, ranges_of, last_line, note_line, notes_of, notes_lines, panel}
+use Rattle.trick_codes_example.specs.Panel.{mode_words, mode_at, mode_place, mode_code, mode_line, gauge_lines, ranges_of, last_line, note_line, notes_of, notes_lines, panel}
 use Rattle.trick_codes_example.specs.declared.file.Gauge.{Gauge}
 
 mode_back : (k : ℕ) → k < 2 → mode_place (mode_at k) ≡ k
@@ -17,8 +17,8 @@ mode_back (suc k) lt = omega arith
 mode_sound : SoundLines mode_line
 unfolding mode_line
 mode_sound = (
-  named_sound (codes "mode") (read_as mode_at mode_place (one_of mode_words)) ((omega arith, prefix_free mode_words refl), mode_back),
-  named_one_line (codes "mode") (read_as mode_at mode_place (one_of mode_words)) refl (λ m h. one_of_lines mode_words (refl, (refl, tt)) (mode_place m)),
+  named_sound (codes "mode") mode_code ((omega arith, prefix_free mode_words refl), mode_back),
+  named_one_line (codes "mode") mode_code refl (λ m h. one_of_lines mode_words (refl, (refl, tt)) (mode_place m)),
 )
 
 gauges_sound : (gauges : List Gauge) → SoundLines (gauge_lines gauges)

@@ -1,7 +1,7 @@
 -- The file of a panel of gauges: a line each for the version, the turn, the mode, each gauge, the last row and the
 -- count of the notes, then a line for each note, and `end;`.
 use Rattle.std.specs.Prelude.{◌≡◌, ℕ, zero, suc, ℤ, pos, List, [], ◌∷◌, ◌++◌, length, map, Option, Some, None, codes}
-use Rattle.trick_codes.specs.Code.{one_of, read_as}
+use Rattle.trick_codes.specs.Code.{Code, one_of, read_as}
 use Rattle.trick_codes.specs.Forms.{kind_of}
 use Rattle.trick_codes.specs.Lines.{Lines, line, and_then, seen_as, each, numbered, text}
 use Rattle.trick_codes.specs.Named.{named, number_line, integer_line, end_line, indexed, row, none_or, title, line_text, row_text}
@@ -23,8 +23,12 @@ abbrev pub mode_place : Mode → ℕ
 mode_place Run = 0
 mode_place Freeze = 1
 
+-- a mode, and its line
+abbrev pub mode_code : Code Mode
+mode_code = read_as mode_at mode_place (one_of mode_words)
+
 unfoldable pub mode_line : Lines Mode
-mode_line = line (kind_of (codes "mode") 0) (named (codes "mode") (read_as mode_at mode_place (one_of mode_words)))
+mode_line = line (kind_of (codes "mode") 0) (named (codes "mode") mode_code)
 
 -- a line for each gauge
 unfoldable pub gauge_lines : List Gauge → Lines (List ℤ)
@@ -67,7 +71,8 @@ last_text (Some ns) = (title (codes "last") ++ row_text ns) ++ codes "\n"
 
 -- the lines before those of the gauges, and those behind them
 abbrev pub first_text : Readings → List ℕ
-first_text r = text (number_line (codes "panel") 1 1) 1 ++ (text (number_line (codes "turn") 0 9223372036854775807) r.turn ++ text mode_line r.mode)
+first_text r =
+    text (number_line (codes "panel") 1 1) 1 ++ (text (number_line (codes "turn") 0 9223372036854775807) r.turn ++ text mode_line r.mode)
 
 abbrev pub last_lines_text : Readings → List ℕ
 last_lines_text r = last_text r.last ++ (text notes_lines r.notes ++ text end_line tt)

@@ -1,7 +1,7 @@
 //! Loading.
 
 ghost use Rattle.std.specs.Prelude.{◌≡◌, ◌≤◌, length, pos, codes, map, IfOk, Some, None};
-ghost use Rattle.trick_codes.specs.Code.{one_of as one_of_code, read, read_as};
+ghost use Rattle.trick_codes.specs.Code.{read};
 ghost use Rattle.trick_codes.specs.Gives.{alone, beside, Gives, Reads};
 ghost use Rattle.trick_codes.specs.Lines.{fed, read_lines};
 ghost use Rattle.trick_codes.specs.Loads.{Loads};
@@ -9,10 +9,8 @@ ghost use Rattle.trick_codes.specs.Named.{named, none_or, row as row_code, row_w
 ghost use Rattle.trick_codes_example.specs.Panel.{
   gauge_lines,
   last_line,
-  mode_at,
+  mode_code,
   mode_line,
-  mode_place,
-  mode_words,
   note_line,
   notes_lines,
   notes_of,
@@ -29,7 +27,7 @@ use trick_codes::{
 };
 
 fn mode_bytes(rest: &[u8]) -> Result<(Mode, &[u8]), Miss>
-    ensures { Reads beside result (read (fed (named (codes "mode") (read_as mode_at mode_place (one_of_code mode_words)))) rest.now) }
+    ensures { Reads beside result (read (fed (named (codes "mode") mode_code)) rest.now) }
 {
     let rest = title(b"mode", rest)?;
     let (place, rest) = one_of(&[b"Run;", b"Freeze;"], rest)?;
@@ -119,7 +117,11 @@ fn note<'a>(name: &mut Vec<u8>, place: usize, rest: &'a [u8]) -> Result<(u64, &'
     number_line(name, 0, 4_294_967_295, rest)
 }
 
-#[tactic(auto, using(trick_codes::proofs::Each::one_left, trick_codes::proofs::Each::none_left), unfolding(crate::specs::Panel::notes_of))]
+#[tactic(
+    auto,
+    using(trick_codes::proofs::Each::one_left, trick_codes::proofs::Each::none_left),
+    unfolding(crate::specs::Panel::notes_of)
+)]
 fn note_list<'a>(
     alloc: Global,
     count: usize,
