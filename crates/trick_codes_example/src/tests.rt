@@ -175,12 +175,18 @@ fn reads_within_a_line(rt: HostRuntime) {
         (b"11;", Err(Miss::Differs)),
         (b"01;", Err(Miss::Differs)),
     ];
-    let range = Range { below: 5, above: 10 };
+    let range = Range {
+        below: 5,
+        above: 10,
+    };
     for (text, want) in cases {
         assert_eq!(rt; integer(range, b';', text), want, "{text:?}");
     }
     assert_eq!(rt; number(1, 15, b' ', b"0 "), Err(Miss::Differs));
-    assert_eq!(rt; free(3, 10, b"abc\nd"), Ok((b"abc".as_slice(), b"d".as_slice())));
+    assert_eq!(rt;
+        free(3, 10, b"abc\nd"),
+        Ok((b"abc".as_slice(), b"d".as_slice()))
+    );
     assert_eq!(rt; free(2, 10, b"abc\nd"), Err(Miss::Differs));
     let words: [&[u8]; 2] = [b"Run;", b"Freeze;"];
     assert!(rt; word_line(b"mode", &words, b"mode = Freeze;\n").is_ok());
