@@ -1,0 +1,5 @@
+mod Known
+mod Lists
+mod Noted
+mod Trees
+mod Weights

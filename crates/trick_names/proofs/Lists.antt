@@ -1,0 +1,19 @@
+-- What is left of lists, one item after another.
+use Rattle.std.proofs.Common.{◌≡◌, ℕ, zero, suc, ◌+◌, ◌<◌, ◌≤◌, List, [], ◌∷◌, length, get_or, drop, drop-cons, add-one, ap, sym, refl, arith}
+use Rattle.trick_names.specs.Names.{Names}
+use Rattle.trick_names.specs.Places.{members_at}
+use Rattle.trick_names.specs.declared.tables.Member.{Member}
+
+-- the items from one on are that one and the rest
+pub from_here : {A : Type 0} (xs : List A) (i : ℕ) (item : A) → i < length xs → item ≡ get_or xs i item → drop i xs ≡ item ∷ drop (i + 1) xs
+from_here xs i item h is = rw (add-one, drop-cons xs i item) (ap (λ x. x ∷ drop (suc i) xs) (sym is))
+
+pub groups_past : (gs : List (Names Member)) (k : ℕ) → length gs ≤ k → members_at gs k ≡ []
+groups_past [] k h = refl
+groups_past (g ∷ gs) zero h = absurd (omega arith)
+groups_past (g ∷ gs) (suc k) h = groups_past gs k (omega arith)
+
+pub groups_in : (gs : List (Names Member)) (k : ℕ) (d : Names Member) → k < length gs → get_or gs k d ≡ members_at gs k
+groups_in [] k d h = absurd (omega arith)
+groups_in (g ∷ gs) zero d h = refl
+groups_in (g ∷ gs) (suc k) d h = groups_in gs k d (omega arith)

@@ -1,0 +1,12 @@
+-- Names, and what they stand for.
+pub mod Names
+-- What a file declares.
+pub mod Tables
+-- What the places of a body reach.
+pub mod Places
+-- Mistakes in names, and which of them decides.
+pub mod Mistakes
+-- The mistakes of a body.
+pub mod BodyMistakes
+-- The mistakes of a file.
+pub mod FileMistakes

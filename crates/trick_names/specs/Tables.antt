@@ -1,0 +1,131 @@
+-- What a file declares: the names in it, and the members of each struct and class. What follows is
+-- said of every tree; of one with mistakes in names it says what its further names are taken for.
+use Rattle.std.specs.Prelude.{ℕ, ◌+◌, ℤ, pos, negsuc, ◌+ℤ◌, int_lt, Bool, true, false, ◌&&◌, if◌then◌else◌, List, [], ◌∷◌, ◌++◌, length, Option, Some, None}
+use Rattle.trick_lang.specs.SyntaxTree.{Name, TypeName, Basic, Custom, Declarator, EnumItem, Members, SDefine, Include, Enum, Struct, ClassOf, Object, Public, HasMembers, HasMethod, Constructor}
+use Rattle.trick_lang.specs.SyntaxTree as tree
+use Rattle.trick_lang.specs.declared.scalar.Scalar.TheVariants.{Int}
+use Rattle.trick_names.specs.Names.{Names, meaning_of, with_name}
+use Rattle.trick_names.specs.declared.tables.Base.{Base}
+use Rattle.trick_names.specs.declared.tables.Base.TheVariants.{Single, Group}
+use Rattle.trick_names.specs.declared.tables.Global.{Global}
+use Rattle.trick_names.specs.declared.tables.Global.TheVariants as the
+use Rattle.trick_names.specs.declared.tables.Inside.{Inside}
+use Rattle.trick_names.specs.declared.tables.Lengths.{Lengths}
+use Rattle.trick_names.specs.declared.tables.Lengths.TheVariants.{Plain, One, Two}
+use Rattle.trick_names.specs.declared.tables.Member.{Member}
+use Rattle.trick_names.specs.declared.tables.Member.TheVariants.{Variable, Method}
+use Rattle.trick_names.specs.declared.tables.Tables.{Tables}
+
+-- ---- types
+
+-- What a variable of a type is. One of an enum is an `int`, and so is one of a type that is not
+-- known, which has no members.
+abbrev pub base_of_type : Option Global → Base
+base_of_type (Some (the.Struct k)) = Group k
+base_of_type _ = Single Int
+
+abbrev pub base_of : TypeName → Names Global → Base
+base_of (Basic scalar) names = Single scalar
+base_of (Custom line name) names = base_of_type (meaning_of name names)
+
+-- what an object of a type is, where only a class makes objects
+abbrev pub object_base : Option Global → Base
+object_base (Some (the.Class k)) = Group k
+object_base _ = Single Int
+
+-- ---- enums
+
+-- an item has the value that is written, or else the one behind the item before it
+abbrev pub item_value : Option ℤ → ℤ → ℤ
+item_value None next = next
+item_value (Some value) next = value
+
+-- the value is an `int`: above -2147483649 and below 2147483648
+abbrev pub is_int : ℤ → Bool
+is_int value = int_lt (negsuc 2147483648) value && int_lt value (pos 2147483648)
+
+abbrev pub int_or_zero : ℤ → ℤ
+int_or_zero value = if is_int value then value else pos 0
+
+abbrev pub with_item : EnumItem → ℤ → Names Global → Names Global
+with_item item next names = with_name item.name (the.Item (int_or_zero (item_value item.value next))) names
+
+-- the first item has 0 where none is written
+abbrev pub with_items : List EnumItem → ℤ → Names Global → Names Global
+with_items [] next names = names
+with_items (item ∷ rest) next names = with_items rest (item_value item.value next +ℤ pos 1) (with_item item next names)
+
+-- ---- members
+
+abbrev pub lengths_of : List ℕ → Lengths
+lengths_of [] = Plain
+lengths_of (n ∷ []) = One n
+lengths_of (m ∷ n ∷ rest) = Two m n
+
+abbrev pub with_declarator : Declarator → Base → Names Member → Names Member
+with_declarator d base members = with_name d.name (Variable (record { lengths = lengths_of d.lengths; base = base })) members
+
+abbrev pub with_declarators : List Declarator → Base → Names Member → Names Member
+with_declarators [] base members = members
+with_declarators (d ∷ ds) base members = with_declarators ds base (with_declarator d base members)
+
+-- `type a, b[3];`, where these names are known in the file
+abbrev pub with_members : Members → Names Global → Names Member → Names Member
+with_members m names members = with_declarators m.declarators (base_of m.written names) members
+
+abbrev pub with_all_members : List Members → Names Global → Names Member → Names Member
+with_all_members [] names members = members
+with_all_members (m ∷ ms) names members = with_all_members ms names (with_members m names members)
+
+-- ---- classes
+
+abbrev pub nothing_inside : Inside
+nothing_inside = record { members = []; methods = 0; constructed = false }
+
+-- members and methods share one space of names, and a constructor is in none
+abbrev pub behind_part : tree.Part → Names Global → Inside → Inside
+behind_part Public names inside = inside
+behind_part (HasMembers m) names inside = record inside { members = with_members m names inside.members }
+behind_part (HasMethod m) names inside = record {
+  members = with_name m.name (Method inside.methods) inside.members;
+  methods = inside.methods + 1;
+  constructed = inside.constructed;
+}
+behind_part (Constructor line name jobs) names inside = record inside { constructed = true }
+
+abbrev pub behind_parts : List tree.Part → Names Global → Inside → Inside
+behind_parts [] names inside = inside
+behind_parts (part ∷ rest) names inside = behind_parts rest names (behind_part part names inside)
+
+-- ---- the file
+
+-- The names behind a definition, where so many structs and classes are before it. Types, objects and
+-- enum items share one space of names.
+abbrev pub names_behind : tree.Definition → ℕ → Names Global → Names Global
+names_behind Include group names = names
+names_behind (Enum name items) group names = with_items items (pos 0) (with_name name the.Enum names)
+names_behind (Struct name members) group names = with_name name (the.Struct group) names
+names_behind (ClassOf name parts) group names = with_name name (the.Class group) names
+names_behind (Object line class name) group names = with_name name (the.Object (object_base (meaning_of class names))) names
+
+-- the structs and classes of a definition, of which there is one at most, where these names are known
+abbrev pub groups_in : tree.Definition → Names Global → List (Names Member)
+groups_in Include names = []
+groups_in (Enum name items) names = []
+groups_in (Struct name members) names = with_all_members members names [] ∷ []
+groups_in (ClassOf name parts) names = (behind_parts parts names nothing_inside).members ∷ []
+groups_in (Object line class name) names = []
+
+abbrev pub behind_definition : tree.Definition → Tables → Tables
+behind_definition d t = record {
+  names = names_behind d (length t.groups) t.names;
+  groups = t.groups ++ groups_in d t.names;
+}
+
+abbrev pub behind_definitions : SDefine → Tables → Tables
+behind_definitions [] t = t
+behind_definitions (d ∷ ds) t = behind_definitions ds (behind_definition d t)
+
+-- what a file declares
+abbrev pub tables_of : SDefine → Tables
+tables_of ds = behind_definitions ds (record { names = []; groups = [] })

@@ -1,0 +1,378 @@
+ghost use Rattle.std.specs.Prelude.{◌≡◌, ◌∷◌, [], OnOk};
+ghost use Rattle.trick_lang.specs.SyntaxTree.{Declare, For};
+ghost use Rattle.trick_lang.specs.declared.bound.Bound.TheVariants.{Below};
+ghost use Rattle.trick_lang.specs.Syntax.{branches_of_list, change_of, choices_of_list, else_of_option, expression_of, first_value_of, links_of_list, parts_of_list, path_of, statement_of, statements_of_list, written_of};
+ghost use Rattle.trick_names.specs.BodyMistakes.{after, after_all, all_mistakes, astray, branch_mistakes, call_mistakes, change_mistakes, choice_mistakes, declared, ends, expression_mistakes, line_of, link_mistakes, part_mistakes, path_mistakes, scalar_of, statement_mistakes, strays, type_mistakes, unless_fixed};
+ghost use Rattle.trick_names.specs.Mistakes.{noted, twice};
+ghost use Rattle.trick_names.specs.Names.{with_name};
+ghost use Rattle.trick_names.specs.Places.{followed, own_member};
+
+use crate::follow::{State, element, fixed, follow, literal, member, start};
+use crate::{Base, Found, Global, Lengths, Local, Member, Names, World};
+use std::alloc::AllocError;
+use trick_base::Word;
+use trick_lang::Scalar;
+use trick_lang::syntax::{Branch, Change, Choice, Expr, Link, Part, Path, Stmt, TypeName};
+
+// ---- steps of a path
+
+// The line of a literal.
+fn literal_line(e: &Expr) -> u32
+    ensures { result ≡ line_of (expression_of e.now) }
+{
+    match e {
+        Expr::Whole { line, number: _ } => *line,
+        Expr::Truth { line, value: _ } => *line,
+        _ => 0,
+    }
+}
+
+// Notes a name that is not there.
+fn note_astray(line: u32, state: State, found: &mut Found)
+    ensures { found.new ≡ noted (astray line state) found.old }
+{
+    match state {
+        State::Astray => found.note_unknown(line),
+        _ => {}
+    }
+}
+
+// Notes a step that leads from a place to what is not there.
+fn note_strays(line: u32, before: State, state: State, found: &mut Found)
+    ensures { found.new ≡ noted (strays line before state) found.old }
+{
+    match before {
+        State::Stands(_) => note_astray(line, state, found),
+        _ => {}
+    }
+}
+
+// Notes that a place is no scalar, or cannot be assigned.
+fn note_end(line: u32, fixed: bool, state: State, found: &mut Found)
+    ensures { found.new ≡ noted (ends line (unless_fixed fixed state)) found.old }
+{
+    match state {
+        State::Stands(shape) => {
+            if fixed {
+                found.note_not_scalar(line);
+                return;
+            }
+            match (shape.lengths, shape.base) {
+                (Lengths::Plain, Base::Single(_)) => {}
+                _ => found.note_not_scalar(line),
+            }
+        }
+        State::Astray => {}
+        State::Misfit => found.note_not_scalar(line),
+    }
+}
+
+// ---- expressions
+
+// Each level of the text's nesting, of which there are at most 64, is one or two calls deep.
+#[cycle(look)]
+fn look_expression(e: &Expr, world: &World, locals: &Names<Local>, found: &mut Found)
+    ensures { found.new ≡ noted (expression_mistakes (expression_of e.now) world.now locals.now) found.old }
+{
+    match e {
+        Expr::Whole { line: _, number: _ } => {}
+        Expr::Truth { line: _, value: _ } => {}
+        Expr::Named(path) => look_path(path, false, world, locals, found),
+        Expr::Prefixed(_, operand) => look_expression(operand, world, locals, found),
+        Expr::Chain(first, links) => {
+            look_expression(first, world, locals, found);
+            look_links(links, world, locals, found);
+        }
+        Expr::Choose(choices, last) => look_choices(choices, last, world, locals, found),
+    }
+}
+
+#[cycle(look)]
+fn look_links(links: &[Link], world: &World, locals: &Names<Local>, found: &mut Found)
+    ensures { found.new ≡ noted (link_mistakes (links_of_list links.now) world.now locals.now) found.old }
+{
+    for link in links {
+        look_expression(&link.operand, world, locals, found);
+    }
+}
+
+#[cycle(look)]
+fn look_choices(
+    choices: &[Choice],
+    last: &Expr,
+    world: &World,
+    locals: &Names<Local>,
+    found: &mut Found,
+)
+    ensures { found.new ≡ noted (choice_mistakes (choices_of_list choices.now (expression_of last.now)) world.now locals.now) found.old }
+{
+    for choice in choices {
+        look_expression(&choice.test, world, locals, found);
+        look_expression(&choice.value, world, locals, found);
+    }
+    look_expression(last, world, locals, found);
+}
+
+#[cycle(look)]
+fn look_path(path: &Path, assigned: bool, world: &World, locals: &Names<Local>, found: &mut Found)
+    ensures { found.new ≡ noted (path_mistakes (path_of path.now) assigned world.now locals.now) found.old }
+{
+    let from = start(&path.name, world, locals);
+    let bound = assigned && fixed(&path.name, world, locals);
+    let parts = path.parts.as_slice();
+    note_end(path.line, bound, follow(parts, world, from), found);
+    note_astray(path.line, from, found);
+    look_parts(parts, from, world, locals, found);
+}
+
+#[cycle(look)]
+fn look_parts(parts: &[Part], from: State, world: &World, locals: &Names<Local>, found: &mut Found)
+    ensures { found.new ≡ noted (part_mistakes (parts_of_list parts.now) world.now locals.now from) found.old }
+{
+    let mut state = from;
+    for part in parts {
+        state = look_part(part, state, world, locals, found);
+    }
+}
+
+// One part; and where it leads.
+#[cycle(look)]
+fn look_part(
+    part: &Part,
+    from: State,
+    world: &World,
+    locals: &Names<Local>,
+    found: &mut Found,
+) -> State
+    ensures next { result ≡ followed (parts_of_list (part.now ∷ [])) world.now from }
+    ensures found { found.new ≡ noted (part_mistakes (parts_of_list (part.now ∷ [])) world.now locals.now from) found.old }
+{
+    match part {
+        Part::Member { line, name } => {
+            let next = member(name, world, from);
+            note_strays(*line, from, next, found);
+            next
+        }
+        Part::Index(e) => {
+            look_expression(e, world, locals, found);
+            let next = element(literal(e), from);
+            note_strays(literal_line(e), from, next, found);
+            next
+        }
+    }
+}
+
+// ---- statements
+
+fn look_change(change: &Change, world: &World, locals: &Names<Local>, found: &mut Found)
+    ensures { found.new ≡ noted (change_mistakes (change_of change.now) world.now locals.now) found.old }
+{
+    match change {
+        Change::Set(e) => look_expression(e, world, locals, found),
+        Change::Update(_, e) => look_expression(e, world, locals, found),
+        Change::Increase => {}
+        Change::Decrease => {}
+    }
+}
+
+fn look_type(written: &TypeName, world: &World, found: &mut Found)
+    ensures { found.new ≡ noted (type_mistakes (written_of written.now) world.now) found.old }
+{
+    match written {
+        TypeName::Basic(_) => {}
+        TypeName::Custom { line, name } => match world.names.meaning(name) {
+            Some(Global::Enum) => {}
+            Some(Global::Struct(_)) => found.note_not_scalar(*line),
+            Some(Global::Class(_)) => found.note_not_scalar(*line),
+            _ => found.note_unknown(*line),
+        },
+    }
+}
+
+// The scalar of a local.
+fn scalar(written: &TypeName) -> Scalar
+    ensures { result ≡ scalar_of (written_of written.now) }
+{
+    match written {
+        TypeName::Basic(scalar) => *scalar,
+        TypeName::Custom { line: _, name: _ } => Scalar::Int,
+    }
+}
+
+// Makes a local known, and notes one whose name is known.
+fn declare(
+    name: &Word,
+    local: Local,
+    locals: &mut Names<Local>,
+    found: &mut Found,
+) -> Result<(), AllocError>
+    ensures found { OnOk result (found.new ≡ noted (twice name.now locals.old) found.old) }
+    ensures locals { OnOk result (locals.new ≡ with_name name.now local locals.old) }
+{
+    if locals.add(name, local)? {
+        found.note_twice(name)?;
+    }
+    Ok(())
+}
+
+fn look_declare(
+    written: &TypeName,
+    name: &Word,
+    value: &Option<Expr>,
+    world: &World,
+    locals: &mut Names<Local>,
+    found: &mut Found,
+) -> Result<(), AllocError>
+    ensures found { OnOk result (found.new ≡ noted (statement_mistakes
+        (Declare 0 (written_of written.now) name.now (first_value_of value.now)) world.now locals.old) found.old) }
+    ensures locals { OnOk result (locals.new ≡ declared (written_of written.now) name.now locals.old) }
+{
+    look_type(written, world, found);
+    let local = Local {
+        scalar: scalar(written),
+        is_loop: false,
+    };
+    declare(name, local, locals, found)?;
+    if let Some(e) = value {
+        look_expression(e, world, locals, found);
+    }
+    Ok(())
+}
+
+/// Notes a call of what is no method of the class.
+pub fn look_call(line: u32, name: &Word, world: &World, found: &mut Found)
+    ensures { found.new ≡ noted (call_mistakes line (own_member name.now world.now)) found.old }
+{
+    match world.own(name) {
+        Some(Member::Method(_)) => {}
+        _ => found.note_unknown(line),
+    }
+}
+
+#[cycle(walk)]
+fn look_statement(
+    s: &Stmt,
+    world: &World,
+    locals: &mut Names<Local>,
+    found: &mut Found,
+) -> Result<(), AllocError>
+    ensures found { OnOk result (found.new ≡ noted (statement_mistakes (statement_of s.now) world.now locals.old) found.old) }
+    ensures locals { OnOk result (locals.new ≡ after (statement_of s.now) locals.old) }
+{
+    match s {
+        Stmt::Empty => Ok(()),
+        Stmt::Block(all) => {
+            let mark = locals.len();
+            look_all(all, world, locals, found)?;
+            locals.forget(mark);
+            Ok(())
+        }
+        Stmt::Declare {
+            line: _,
+            written,
+            name,
+            value,
+        } => look_declare(written, name, value, world, locals, found),
+        Stmt::Assign {
+            line: _,
+            path,
+            change,
+        } => {
+            look_path(path, true, world, locals, found);
+            look_change(change, world, locals, found);
+            Ok(())
+        }
+        Stmt::If {
+            branches,
+            otherwise,
+        } => look_branches(branches, otherwise, world, locals, found),
+        Stmt::For {
+            name,
+            from: _,
+            bound: _,
+            body,
+        } => look_for(name, body, world, locals, found),
+        Stmt::Call { line, name } => {
+            look_call(*line, name, world, found);
+            Ok(())
+        }
+    }
+}
+
+#[cycle(walk)]
+fn look_for(
+    name: &Word,
+    body: &Stmt,
+    world: &World,
+    locals: &mut Names<Local>,
+    found: &mut Found,
+) -> Result<(), AllocError>
+    ensures found { OnOk result (found.new ≡ noted (statement_mistakes (For name.now 0 (Below 0) (statement_of body.now)) world.now locals.old) found.old) }
+    ensures locals { OnOk result (locals.new ≡ locals.old) }
+{
+    let mark = locals.len();
+    let local = Local {
+        scalar: Scalar::Long,
+        is_loop: true,
+    };
+    declare(name, local, locals, found)?;
+    look_statement(body, world, locals, found)?;
+    locals.forget(mark);
+    Ok(())
+}
+
+// A statement whose locals end with it.
+#[cycle(walk)]
+fn look_alone(
+    s: &Stmt,
+    world: &World,
+    locals: &mut Names<Local>,
+    found: &mut Found,
+) -> Result<(), AllocError>
+    ensures found { OnOk result (found.new ≡ noted (statement_mistakes (statement_of s.now) world.now locals.old) found.old) }
+    ensures locals { OnOk result (locals.new ≡ locals.old) }
+{
+    let mark = locals.len();
+    look_statement(s, world, locals, found)?;
+    locals.forget(mark);
+    Ok(())
+}
+
+#[cycle(walk)]
+fn look_branches(
+    branches: &[Branch],
+    otherwise: &Option<Box<Stmt>>,
+    world: &World,
+    locals: &mut Names<Local>,
+    found: &mut Found,
+) -> Result<(), AllocError>
+    ensures found { OnOk result (found.new ≡ noted (branch_mistakes (branches_of_list branches.now (else_of_option otherwise.now)) world.now locals.old) found.old) }
+    ensures locals { OnOk result (locals.new ≡ locals.old) }
+{
+    for branch in branches {
+        look_expression(&branch.test, world, locals, found);
+        look_alone(&branch.body, world, locals, found)?;
+    }
+    match otherwise {
+        Some(body) => look_alone(body, world, locals, found),
+        None => Ok(()),
+    }
+}
+
+/// Notes the mistakes of the statements of a block. Each level of the text's nesting, of which there
+/// are at most 64, is two calls deep.
+#[cycle(walk)]
+pub fn look_all(
+    all: &[Stmt],
+    world: &World,
+    locals: &mut Names<Local>,
+    found: &mut Found,
+) -> Result<(), AllocError>
+    ensures found { OnOk result (found.new ≡ noted (all_mistakes (statements_of_list all.now) world.now locals.old) found.old) }
+    ensures locals { OnOk result (locals.new ≡ after_all (statements_of_list all.now) locals.old) }
+{
+    for s in all {
+        look_statement(s, world, locals, found)?;
+    }
+    Ok(())
+}
