@@ -1,3 +1,4 @@
+mod Definitions
 mod Known
 mod Lists
 mod Noted

@@ -1,5 +1,5 @@
 -- The mistakes in the names of a file, in the order of its text.
-use Rattle.std.specs.Prelude.{ℕ, ◌+◌, ℤ, pos, ◌+ℤ◌, Bool, true, false, if◌then◌else◌, List, [], ◌∷◌, ◌++◌, length, Option, Some, None}
+use Rattle.std.specs.Prelude.{ℕ, ◌+◌, ℤ, pos, ◌+ℤ◌, Bool, true, false, if◌then◌else◌, List, [], ◌∷◌, ◌++◌, Option, Some, None}
 use Rattle.std.specs.Str.{bytes_eq}
 use Rattle.trick_lang.specs.SyntaxTree as tree
 use Rattle.trick_lang.specs.SyntaxTree.{Name, TypeName, Basic, Custom, Declarator, EnumItem, JobLine, Members, SDefine, Include, Enum, Struct, ClassOf, Object, Public, HasMembers, HasMethod, Constructor}
@@ -7,7 +7,7 @@ use Rattle.trick_names.specs.BodyMistakes.{all_mistakes, call_mistakes}
 use Rattle.trick_names.specs.Mistakes.{Mistake, Twice, Unknown, NotScalar, twice}
 use Rattle.trick_names.specs.Names.{Names, meaning_of, with_name}
 use Rattle.trick_names.specs.Places.{own_member}
-use Rattle.trick_names.specs.Tables.{base_of, item_value, is_int, with_item, with_declarator, with_members, nothing_inside, behind_part, names_behind, groups_in, tables_of}
+use Rattle.trick_names.specs.Tables.{base_of, item_value, is_int, with_item, with_declarator, with_members, nothing_inside, behind_part, names_behind, tables_of, taken_value}
 use Rattle.trick_names.specs.declared.tables.Base.{Base}
 use Rattle.trick_names.specs.declared.tables.Global.{Global}
 use Rattle.trick_names.specs.declared.tables.Global.TheVariants as the
@@ -26,7 +26,7 @@ abbrev pub item_mistakes : List EnumItem → ℤ → Names Global → List Mista
 item_mistakes [] next names = []
 item_mistakes (item ∷ rest) next names =
     twice item.name names
-    ++ (value_mistakes item.line (item_value item.value next) ++ item_mistakes rest (item_value item.value next +ℤ pos 1) (with_item item next names))
+    ++ (value_mistakes item.line (item_value item.value next) ++ item_mistakes rest (taken_value item.value next +ℤ pos 1) (with_item item next names))
 
 -- ---- members
 
@@ -55,28 +55,31 @@ all_members_mistakes (m ∷ ms) names members =
 
 -- ---- classes
 
+-- in what a part of a class declares, behind what was read of the class; there is one constructor at
+-- most
+abbrev pub declared_mistakes : tree.Part → Names Global → Inside → List Mistake
+declared_mistakes Public names inside = []
+declared_mistakes (HasMembers m) names inside = members_mistakes m names inside.members
+declared_mistakes (HasMethod m) names inside = twice m.name inside.members
+declared_mistakes (Constructor line name jobs) names inside = if inside.constructed then Twice name ∷ [] else []
+
 -- a job calls a method of its class
 abbrev pub job_mistakes : List JobLine → World → List Mistake
 job_mistakes [] w = []
 job_mistakes (job ∷ rest) w = call_mistakes job.line (own_member job.method w) ++ job_mistakes rest w
 
--- A constructor has the name of its class, and there is one at most.
-abbrev pub constructor_mistakes : ℕ → Name → Name → Bool → List Mistake
-constructor_mistakes line name class constructed =
-    (if constructed then Twice name ∷ [] else []) ++ (if bytes_eq name class then [] else Unknown line ∷ [])
+-- in what a part of the class of that name does; a constructor has the name of its class
+abbrev pub done_mistakes : tree.Part → Name → World → List Mistake
+done_mistakes Public class w = []
+done_mistakes (HasMembers m) class w = []
+done_mistakes (HasMethod m) class w = all_mistakes m.body w []
+done_mistakes (Constructor line name jobs) class w = (if bytes_eq name class then [] else Unknown line ∷ []) ++ job_mistakes jobs w
 
--- a part of the class of that name, behind what was read of it
-abbrev pub class_part_mistakes : tree.Part → Name → Inside → World → List Mistake
-class_part_mistakes Public class inside w = []
-class_part_mistakes (HasMembers m) class inside w = members_mistakes m w.names inside.members
-class_part_mistakes (HasMethod m) class inside w = twice m.name inside.members ++ all_mistakes m.body w []
-class_part_mistakes (Constructor line name jobs) class inside w =
-    constructor_mistakes line name class inside.constructed ++ job_mistakes jobs w
-
-abbrev pub class_parts_mistakes : List tree.Part → Name → Inside → World → List Mistake
-class_parts_mistakes [] class inside w = []
-class_parts_mistakes (part ∷ rest) class inside w =
-    class_part_mistakes part class inside w ++ class_parts_mistakes rest class (behind_part part w.names inside) w
+abbrev pub class_mistakes : List tree.Part → ℕ → Name → Inside → World → List Mistake
+class_mistakes [] number class inside w = []
+class_mistakes (part ∷ rest) number class inside w =
+    declared_mistakes part w.names inside
+    ++ (done_mistakes part class w ++ class_mistakes rest (number + 1) class (behind_part part number w.names inside) w)
 
 -- ---- the file
 
@@ -89,12 +92,12 @@ abbrev pub definition_mistakes : tree.Definition → World → List Mistake
 definition_mistakes Include w = []
 definition_mistakes (Enum name items) w = twice name w.names ++ item_mistakes items (pos 0) (with_name name the.Enum w.names)
 definition_mistakes (Struct name members) w = twice name w.names ++ all_members_mistakes members w.names []
-definition_mistakes (ClassOf name parts) w = twice name w.names ++ class_parts_mistakes parts name nothing_inside w
+definition_mistakes (ClassOf name parts) w = twice name w.names ++ class_mistakes parts 0 name nothing_inside w
 definition_mistakes (Object line class name) w = unless_class line (meaning_of class w.names) ++ twice name w.names
 
--- The types that are known grow from definition to definition; what the whole file declares stays.
+-- The names that are known grow from definition to definition; what the whole file declares stays.
 abbrev pub past : tree.Definition → World → World
-past d w = record w { names = names_behind d w.own w.names; own = w.own + length (groups_in d w.names) }
+past d w = record w { names = names_behind d w.own w.names; own = w.own + 1 }
 
 abbrev pub definitions_mistakes : SDefine → World → List Mistake
 definitions_mistakes [] w = []

@@ -1,6 +1,6 @@
 -- What a file declares: the names in it, and the members of each struct and class. What follows is
 -- said of every tree; of one with mistakes in names it says what its further names are taken for.
-use Rattle.std.specs.Prelude.{ℕ, ◌+◌, ℤ, pos, negsuc, ◌+ℤ◌, int_lt, Bool, true, false, ◌&&◌, if◌then◌else◌, List, [], ◌∷◌, ◌++◌, length, Option, Some, None}
+use Rattle.std.specs.Prelude.{ℕ, ◌+◌, ℤ, pos, negsuc, ◌+ℤ◌, int_lt, Bool, true, false, ◌&&◌, if◌then◌else◌, List, [], ◌∷◌, ◌++◌, length, Option, Some, None, unwrap_or}
 use Rattle.trick_lang.specs.SyntaxTree.{Name, TypeName, Basic, Custom, Declarator, EnumItem, Members, SDefine, Include, Enum, Struct, ClassOf, Object, Public, HasMembers, HasMethod, Constructor}
 use Rattle.trick_lang.specs.SyntaxTree as tree
 use Rattle.trick_lang.specs.declared.scalar.Scalar.TheVariants.{Int}
@@ -35,11 +35,6 @@ object_base _ = Single Int
 
 -- ---- enums
 
--- an item has the value that is written, or else the one behind the item before it
-abbrev pub item_value : Option ℤ → ℤ → ℤ
-item_value None next = next
-item_value (Some value) next = value
-
 -- the value is an `int`: above -2147483649 and below 2147483648
 abbrev pub is_int : ℤ → Bool
 is_int value = int_lt (negsuc 2147483648) value && int_lt value (pos 2147483648)
@@ -47,13 +42,22 @@ is_int value = int_lt (negsuc 2147483648) value && int_lt value (pos 2147483648)
 abbrev pub int_or_zero : ℤ → ℤ
 int_or_zero value = if is_int value then value else pos 0
 
-abbrev pub with_item : EnumItem → ℤ → Names Global → Names Global
-with_item item next names = with_name item.name (the.Item (int_or_zero (item_value item.value next))) names
+-- an item has the value that is written, or else the next one, which is that of the item before it
+-- plus 1
+abbrev pub item_value : Option ℤ → ℤ → ℤ
+item_value written next = unwrap_or written next
 
--- the first item has 0 where none is written
+-- The value that an item is taken to have. One that is no `int` is a mistake, and 0 stands for it.
+abbrev pub taken_value : Option ℤ → ℤ → ℤ
+taken_value written next = int_or_zero (item_value written next)
+
+abbrev pub with_item : EnumItem → ℤ → Names Global → Names Global
+with_item item next names = with_name item.name (the.Item (taken_value item.value next)) names
+
+-- where the next item has this value if none is written
 abbrev pub with_items : List EnumItem → ℤ → Names Global → Names Global
 with_items [] next names = names
-with_items (item ∷ rest) next names = with_items rest (item_value item.value next +ℤ pos 1) (with_item item next names)
+with_items (item ∷ rest) next names = with_items rest (taken_value item.value next +ℤ pos 1) (with_item item next names)
 
 -- ---- members
 
@@ -80,46 +84,41 @@ with_all_members (m ∷ ms) names members = with_all_members ms names (with_memb
 -- ---- classes
 
 abbrev pub nothing_inside : Inside
-nothing_inside = record { members = []; methods = 0; constructed = false }
+nothing_inside = record { members = []; constructed = false }
 
--- members and methods share one space of names, and a constructor is in none
-abbrev pub behind_part : tree.Part → Names Global → Inside → Inside
-behind_part Public names inside = inside
-behind_part (HasMembers m) names inside = record inside { members = with_members m names inside.members }
-behind_part (HasMethod m) names inside = record {
-  members = with_name m.name (Method inside.methods) inside.members;
-  methods = inside.methods + 1;
-  constructed = inside.constructed;
-}
-behind_part (Constructor line name jobs) names inside = record inside { constructed = true }
+-- The names behind a part of a class, by the part's number, where those of the file are known.
+-- Variables and methods share one space of names, and a constructor is in none.
+abbrev pub behind_part : tree.Part → ℕ → Names Global → Inside → Inside
+behind_part Public number names inside = inside
+behind_part (HasMembers m) number names inside = record inside { members = with_members m names inside.members }
+behind_part (HasMethod m) number names inside = record inside { members = with_name m.name (Method number) inside.members }
+behind_part (Constructor line name jobs) number names inside = record inside { constructed = true }
 
-abbrev pub behind_parts : List tree.Part → Names Global → Inside → Inside
-behind_parts [] names inside = inside
-behind_parts (part ∷ rest) names inside = behind_parts rest names (behind_part part names inside)
+abbrev pub behind_parts : List tree.Part → ℕ → Names Global → Inside → Inside
+behind_parts [] number names inside = inside
+behind_parts (part ∷ rest) number names inside = behind_parts rest (number + 1) names (behind_part part number names inside)
 
 -- ---- the file
 
--- The names behind a definition, where so many structs and classes are before it. Types, objects and
--- enum items share one space of names.
+-- The names behind a definition, by its number in the file. Types, objects and enum items share one
+-- space of names, and a type is known behind its definition.
 abbrev pub names_behind : tree.Definition → ℕ → Names Global → Names Global
-names_behind Include group names = names
-names_behind (Enum name items) group names = with_items items (pos 0) (with_name name the.Enum names)
-names_behind (Struct name members) group names = with_name name (the.Struct group) names
-names_behind (ClassOf name parts) group names = with_name name (the.Class group) names
-names_behind (Object line class name) group names = with_name name (the.Object (object_base (meaning_of class names))) names
+names_behind Include number names = names
+names_behind (Enum name items) number names = with_items items (pos 0) (with_name name the.Enum names)
+names_behind (Struct name members) number names = with_name name (the.Struct number) names
+names_behind (ClassOf name parts) number names = with_name name (the.Class number) names
+names_behind (Object line class name) number names = with_name name (the.Object (object_base (meaning_of class names))) names
 
--- the structs and classes of a definition, of which there is one at most, where these names are known
-abbrev pub groups_in : tree.Definition → Names Global → List (Names Member)
-groups_in Include names = []
-groups_in (Enum name items) names = []
-groups_in (Struct name members) names = with_all_members members names [] ∷ []
-groups_in (ClassOf name parts) names = (behind_parts parts names nothing_inside).members ∷ []
-groups_in (Object line class name) names = []
+-- the members of a struct or class; another definition has none
+abbrev pub members_in : tree.Definition → Names Global → Names Member
+members_in (Struct name members) names = with_all_members members names []
+members_in (ClassOf name parts) names = (behind_parts parts 0 names nothing_inside).members
+members_in _ names = []
 
 abbrev pub behind_definition : tree.Definition → Tables → Tables
 behind_definition d t = record {
   names = names_behind d (length t.groups) t.names;
-  groups = t.groups ++ groups_in d t.names;
+  groups = t.groups ++ members_in d t.names ∷ [];
 }
 
 abbrev pub behind_definitions : SDefine → Tables → Tables

@@ -3,11 +3,11 @@ ghost use Rattle.trick_lang.specs.SyntaxTree.{Declare, For};
 ghost use Rattle.trick_lang.specs.declared.bound.Bound.TheVariants.{Below};
 ghost use Rattle.trick_lang.specs.Syntax.{branches_of_list, change_of, choices_of_list, else_of_option, expression_of, first_value_of, links_of_list, parts_of_list, path_of, statement_of, statements_of_list, written_of};
 ghost use Rattle.trick_names.specs.BodyMistakes.{after, after_all, all_mistakes, astray, branch_mistakes, call_mistakes, change_mistakes, choice_mistakes, declared, ends, expression_mistakes, line_of, link_mistakes, part_mistakes, path_mistakes, scalar_of, statement_mistakes, strays, type_mistakes, unless_fixed};
-ghost use Rattle.trick_names.specs.Mistakes.{noted, twice};
-ghost use Rattle.trick_names.specs.Names.{with_name};
+ghost use Rattle.trick_names.specs.Mistakes.{noted};
 ghost use Rattle.trick_names.specs.Places.{followed, own_member};
 
 use crate::follow::{State, element, fixed, follow, literal, member, start};
+use crate::found::declare;
 use crate::{Base, Found, Global, Lengths, Local, Member, Names, World};
 use std::alloc::AllocError;
 use trick_base::Word;
@@ -197,22 +197,6 @@ fn scalar(written: &TypeName) -> Scalar
         TypeName::Basic(scalar) => *scalar,
         TypeName::Custom { line: _, name: _ } => Scalar::Int,
     }
-}
-
-// Makes a local known, and notes one whose name is known.
-fn declare(
-    name: &Word,
-    local: Local,
-    locals: &mut Names<Local>,
-    found: &mut Found,
-) -> Result<(), AllocError>
-    ensures found { OnOk result (found.new ≡ noted (twice name.now locals.old) found.old) }
-    ensures locals { OnOk result (locals.new ≡ with_name name.now local locals.old) }
-{
-    if locals.add(name, local)? {
-        found.note_twice(name)?;
-    }
-    Ok(())
 }
 
 fn look_declare(

@@ -1,8 +1,9 @@
 ghost use Rattle.std.specs.Prelude.{◌≡◌, [], ◌∷◌, None, OnOk};
-ghost use Rattle.trick_names.specs.Mistakes.{fault_of_found, noted, nothing_found};
+ghost use Rattle.trick_names.specs.Mistakes.{fault_of_found, noted, nothing_found, twice};
+ghost use Rattle.trick_names.specs.Names.{with_name};
 ghost use Rattle.trick_names.specs.Mistakes.{Twice, Unknown, NotScalar};
 
-use crate::NameFault;
+use crate::{NameFault, Names};
 use std::alloc::AllocError;
 use trick_base::Word;
 
@@ -69,4 +70,20 @@ impl Found {
             None => None,
         }
     }
+}
+
+/// Makes a name known, and notes one that was known.
+pub fn declare<T: Copy + Drop>(
+    name: &Word,
+    meaning: T,
+    names: &mut Names<T>,
+    found: &mut Found,
+) -> Result<(), AllocError>
+    ensures found { OnOk result (found.new ≡ noted (twice name.now names.old) found.old) }
+    ensures names { OnOk result (names.new ≡ with_name name.now meaning names.old) }
+{
+    if names.add(name, meaning)? {
+        found.note_twice(name)?;
+    }
+    Ok(())
 }

@@ -1,15 +1,20 @@
-//! What the names of a simulation definition stand for.
+//! What the names of a simulation definition stand for, and the mistakes in them: what a file
+//! declares, and of each name in it whether it is given once and whether there is such a thing.
 #![tactic(auto)]
 
 mod body;
+mod class;
 mod fault;
+mod file;
 mod follow;
 mod found;
+mod members;
 mod names;
 mod tables;
 mod world;
 
 pub use fault::NameFault;
+pub use file::check;
 pub use found::Found;
 pub use names::Names;
 pub use tables::{Base, Global, Inside, Lengths, Local, Member, Shape, Tables};

@@ -24,8 +24,8 @@ pub struct Shape {
     pub base: Base,
 }
 
-/// What a name in a struct or a class stands for: a variable, or a method by its number in the
-/// class, from 0.
+/// What a name in a struct or a class stands for: a variable, or a method by the number of its part
+/// in the class, from 0.
 #[derive(Clone, Copy)]
 pub enum Member {
     Variable(Shape),
@@ -33,7 +33,7 @@ pub enum Member {
 }
 
 /// What a name of the file stands for: a type, an item of an enum with its value, or an object with
-/// its class. Structs and classes are numbered in the order of the file, from 0.
+/// its class. A struct and a class have the number of their definition in the file, from 0.
 #[derive(Clone, Copy)]
 pub enum Global {
     Enum,
@@ -50,16 +50,15 @@ pub struct Local {
     pub is_loop: bool,
 }
 
-/// What was read of a class: the names in it so far, how many methods there were, and whether there
-/// was a constructor.
+/// What was read of a class: the names in it so far, and whether there was a constructor.
 #[derive(Drop)]
 pub struct Inside {
     pub members: Names<Member>,
-    pub methods: usize,
     pub constructed: bool,
 }
 
-/// What a file declares: its names, and the members of each struct and class by its number.
+/// What a file declares: its names, and the members of each definition by its number. Only structs
+/// and classes have members.
 #[derive(Drop)]
 pub struct Tables {
     pub names: Names<Global>,

@@ -12,7 +12,7 @@ pub struct World {
     pub tables: Tables,
     /// The names so far.
     pub names: Names<Global>,
-    /// How many structs and classes stood before; so this is the number of the class of a body.
+    /// The number of the definition, which of a body is that of its class.
     pub own: usize,
 }
 

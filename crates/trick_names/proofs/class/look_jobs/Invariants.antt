@@ -1,0 +1,9 @@
+use Rattle.std.proofs.Common.{◌≡◌, drop}
+use Rattle.trick_lang.specs.Syntax.{jobs_of}
+use Rattle.trick_names.proofs.class.look_jobs.Given as goal
+use Rattle.trick_names.specs.FileMistakes.{job_mistakes}
+use Rattle.trick_names.specs.Mistakes.{noted}
+
+-- what is left finds from here what all find from the start
+abbrev pub invariant-loop-job : goal.invariant-loop-job
+invariant-loop-job l = noted (job_mistakes (jobs_of (drop l.job-index l.jobs)) l.world) l.found ≡ noted (job_mistakes (jobs_of l.jobs) l.world) l.fn.found

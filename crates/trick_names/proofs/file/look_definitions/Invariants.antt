@@ -1,0 +1,13 @@
+use Rattle.std.proofs.Common.{◌≡◌, drop}
+use Rattle.trick_lang.specs.Syntax.{definitions_of}
+use Rattle.trick_names.proofs.file.look_definitions.Given as goal
+use Rattle.trick_names.specs.FileMistakes.{definitions_mistakes}
+use Rattle.trick_names.specs.Mistakes.{noted}
+
+-- what is left finds from here what all find from the start
+abbrev pub invariant-loop-definition : goal.invariant-loop-definition
+invariant-loop-definition l = record {
+  number : l.world.own ≡ l.definition-index;
+  tables : l.world.tables ≡ l.fn.world.tables;
+  told : noted (definitions_mistakes (definitions_of (drop l.definition-index l.definitions)) l.world) l.found ≡ noted (definitions_mistakes (definitions_of l.definitions) l.fn.world) l.fn.found;
+}

@@ -1,0 +1,126 @@
+//! Parts of classes: what they declare and what they do, with the mistakes in it.
+
+ghost use Rattle.std.specs.Prelude.{◌≡◌, ◌+◌, [], length, IfOk, OnOk};
+ghost use Rattle.trick_lang.specs.Syntax.{class_part_of, class_parts_of, jobs_of};
+ghost use Rattle.trick_names.specs.FileMistakes.{class_mistakes, declared_mistakes, done_mistakes, job_mistakes};
+ghost use Rattle.trick_names.specs.Mistakes.{noted};
+ghost use Rattle.trick_names.specs.Tables.{behind_part, behind_parts, nothing_inside};
+
+use crate::body::{look_all, look_call};
+use crate::found::declare;
+use crate::members::add_members;
+use crate::{Found, Global, Inside, Member, Names, World};
+use std::alloc::{AllocError, Global as Memory};
+use trick_base::Word;
+use trick_lang::syntax::{ClassPart, JobLine};
+
+fn nothing(alloc: Memory) -> Inside
+    ensures { result ≡ nothing_inside }
+{
+    Inside {
+        members: Names::new(alloc),
+        constructed: false,
+    }
+}
+
+// Adds what a part declares, where these names of the file are known.
+fn add_part(
+    part: &ClassPart,
+    number: usize,
+    names: &Names<Global>,
+    inside: &mut Inside,
+    found: &mut Found,
+) -> Result<(), AllocError>
+    ensures inside { OnOk result (inside.new ≡ behind_part (class_part_of part.now) number names.now inside.old) }
+    ensures found { OnOk result (found.new ≡ noted (declared_mistakes (class_part_of part.now) names.now inside.old) found.old) }
+{
+    match part {
+        ClassPart::Public => {}
+        ClassPart::Members(written) => add_members(written, names, &mut inside.members, found)?,
+        ClassPart::Method(method) => {
+            declare(&method.name, Member::Method(number), &mut inside.members, found)?
+        }
+        ClassPart::Constructor {
+            line: _,
+            name,
+            jobs: _,
+        } => {
+            if inside.constructed {
+                found.note_twice(name)?;
+            }
+            inside.constructed = true;
+        }
+    }
+    Ok(())
+}
+
+/// What the parts of a class declare, where these names of the file are known. What is noted on the
+/// way is of no matter.
+pub fn read_class(
+    alloc: Memory,
+    parts: &[ClassPart],
+    names: &Names<Global>,
+    found: &mut Found,
+) -> Result<Names<Member>, AllocError>
+    ensures { IfOk result (λ members. members ≡ (behind_parts (class_parts_of parts.now) 0 names.now nothing_inside).members) }
+{
+    let mut inside = nothing(alloc);
+    for number in 0..parts.len() {
+        add_part(&parts[number], number, names, &mut inside, found)?;
+    }
+    Ok(inside.members)
+}
+
+fn look_jobs(jobs: &[JobLine], world: &World, found: &mut Found)
+    ensures { found.new ≡ noted (job_mistakes (jobs_of jobs.now) world.now) found.old }
+{
+    for job in jobs {
+        look_call(job.line, &job.method, world, found);
+    }
+}
+
+// Notes the mistakes in what a part of the class of that name does.
+fn look_part(
+    alloc: Memory,
+    part: &ClassPart,
+    class: &Word,
+    world: &World,
+    found: &mut Found,
+) -> Result<(), AllocError>
+    ensures { OnOk result (found.new ≡ noted (done_mistakes (class_part_of part.now) class.now world.now) found.old) }
+{
+    match part {
+        ClassPart::Public => {}
+        ClassPart::Members(_) => {}
+        ClassPart::Method(method) => {
+            let mut locals = Names::new(alloc);
+            look_all(method.body.as_slice(), world, &mut locals, found)?
+        }
+        ClassPart::Constructor { line, name, jobs } => {
+            if !name.is(class.as_slice()) {
+                found.note_unknown(*line);
+            }
+            look_jobs(jobs.as_slice(), world, found);
+        }
+    }
+    Ok(())
+}
+
+/// Notes the mistakes in the parts of the class of that name.
+pub fn look_class(
+    alloc: Memory,
+    parts: &[ClassPart],
+    class: &Word,
+    world: &World,
+    found: &mut Found,
+) -> Result<(), AllocError>
+    ensures { OnOk result (found.new ≡ noted (class_mistakes (class_parts_of parts.now) 0 class.now nothing_inside world.now) found.old) }
+{
+    let mut inside = nothing(alloc);
+    for number in 0..parts.len() {
+        let part = &parts[number];
+        add_part(part, number, &world.names, &mut inside, found)?;
+        look_part(alloc, part, class, world, found)?;
+    }
+    Ok(())
+}
