@@ -4,3 +4,4 @@ mod Lists
 mod Noted
 mod Trees
 mod Weights
+mod Worked

@@ -10,3 +10,5 @@ pub mod Mistakes
 pub mod BodyMistakes
 -- The mistakes of a file.
 pub mod FileMistakes
+-- Worked files.
+pub mod Worked

@@ -7,8 +7,10 @@ ghost use Rattle.trick_names.specs.Mistakes.{noted};
 ghost use Rattle.trick_names.specs.Places.{followed, own_member};
 
 use crate::follow::{State, element, fixed, follow, literal, member, start};
-use crate::found::declare;
-use crate::{Base, Found, Global, Lengths, Local, Member, Names, World};
+use crate::found::{Found, declare};
+use crate::tables::Local;
+use crate::world::World;
+use crate::{Base, Global, Lengths, Member, Names};
 use std::alloc::AllocError;
 use trick_base::Word;
 use trick_lang::Scalar;

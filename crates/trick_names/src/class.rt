@@ -7,9 +7,11 @@ ghost use Rattle.trick_names.specs.Mistakes.{noted};
 ghost use Rattle.trick_names.specs.Tables.{behind_part, behind_parts, nothing_inside};
 
 use crate::body::{look_all, look_call};
-use crate::found::declare;
+use crate::found::{Found, declare};
 use crate::members::add_members;
-use crate::{Found, Global, Inside, Member, Names, World};
+use crate::tables::Inside;
+use crate::world::World;
+use crate::{Global, Member, Names};
 use std::alloc::{AllocError, Global as Memory};
 use trick_base::Word;
 use trick_lang::syntax::{ClassPart, JobLine};
@@ -38,7 +40,12 @@ fn add_part(
         ClassPart::Public => {}
         ClassPart::Members(written) => add_members(written, names, &mut inside.members, found)?,
         ClassPart::Method(method) => {
-            declare(&method.name, Member::Method(number), &mut inside.members, found)?
+            declare(
+                &method.name,
+                Member::Method(number),
+                &mut inside.members,
+                found,
+            )?
         }
         ClassPart::Constructor {
             line: _,

@@ -6,9 +6,10 @@ ghost use Rattle.trick_names.specs.Tables.{behind_definition, members_in, names_
 ghost use Rattle.trick_names.specs.declared.fault.NameFault.TheVariants.{OutOfMemory};
 
 use crate::class::{look_class, read_class};
-use crate::found::declare;
+use crate::found::{Found, declare};
 use crate::members::{add_all_members, add_items};
-use crate::{Base, Found, Global, Member, NameFault, Names, Tables, World};
+use crate::world::World;
+use crate::{Base, Global, Member, NameFault, Names, Tables};
 use std::alloc::{AllocError, Global as Memory};
 use trick_base::{Items, Word};
 use trick_lang::Scalar;
@@ -108,11 +109,7 @@ fn read_tables(alloc: Memory, definitions: &[Definition]) -> Result<Tables, Allo
 }
 
 // Notes a name that is known.
-fn note_known(
-    name: &Word,
-    names: &Names<Global>,
-    found: &mut Found,
-) -> Result<(), AllocError>
+fn note_known(name: &Word, names: &Names<Global>, found: &mut Found) -> Result<(), AllocError>
     ensures { OnOk result (found.new ≡ noted (twice name.now names.now) found.old) }
 {
     if names.meaning(name).is_some() {

@@ -3,7 +3,9 @@ ghost use Rattle.trick_lang.specs.Syntax.{expression_of, parts_of_list};
 ghost use Rattle.trick_names.specs.Places.{element_in, followed, global_state, in_array, is_fixed, is_fixed_global, literal_of, member_in, named, single, to_element, to_member};
 ghost use Rattle.trick_names.specs.declared.follow.State.TheVariants.{Stands};
 
-use crate::{Base, Global, Lengths, Local, Member, Names, Shape, World};
+use crate::tables::Local;
+use crate::world::World;
+use crate::{Base, Global, Lengths, Member, Names, Shape};
 use trick_base::Word;
 use trick_lang::Scalar;
 use trick_lang::syntax::{Expr, Part};
@@ -98,13 +100,7 @@ fn within(length: u64, literal: Option<u64>, inside: State) -> State
 {
     match literal {
         None => inside,
-        Some(k) => {
-            if k < length {
-                inside
-            } else {
-                State::Astray
-            }
-        }
+        Some(k) => { if k < length { inside } else { State::Astray } }
     }
 }
 

@@ -8,14 +8,15 @@ mod fault;
 mod file;
 mod follow;
 mod found;
+pub mod laws;
 mod members;
 mod names;
 mod tables;
+#[cfg(test)]
+mod tests;
 mod world;
 
 pub use fault::NameFault;
 pub use file::check;
-pub use found::Found;
 pub use names::Names;
-pub use tables::{Base, Global, Inside, Lengths, Local, Member, Shape, Tables};
-pub use world::World;
+pub use tables::{Base, Global, Lengths, Member, Shape, Tables};

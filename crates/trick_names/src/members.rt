@@ -6,10 +6,9 @@ ghost use Rattle.trick_names.specs.FileMistakes.{all_members_mistakes, declarato
 ghost use Rattle.trick_names.specs.Mistakes.{noted};
 ghost use Rattle.trick_names.specs.Tables.{base_of, int_or_zero, is_int, item_value, lengths_of, with_all_members, with_declarators, with_items, with_members};
 
-use crate::found::declare;
-use crate::{Base, Found, Global, Lengths, Member, Names, Shape};
+use crate::found::{Found, declare};
+use crate::{Base, Global, Lengths, Member, Names, Shape};
 use std::alloc::AllocError;
-
 use trick_lang::Scalar;
 use trick_lang::syntax::{Declarator, EnumItem, Members, TypeName};
 
@@ -37,11 +36,7 @@ fn following(value: i32) -> i128
 fn int(value: i128) -> i32
     ensures { result ≡ int_or_zero value }
 {
-    if fits_int(value) {
-        value as i32
-    } else {
-        0
-    }
+    if fits_int(value) { value as i32 } else { 0 }
 }
 
 fn note_value(line: u32, value: i128, found: &mut Found)

@@ -21,5 +21,5 @@ loop-definition-preserved c =
       number = ap (λ (v : World). v.own + 1) done.world ∙ ap (λ n. n + 1) c.loop-definition.invariant.number;
       tables = ap (λ (v : World). v.tables) done.world ∙ c.loop-definition.invariant.tables;
       told = ap (λ (v : World). noted (definitions_mistakes rest (record { tables = v.tables; names = v.names; own = v.own + 1 })) c.look_definition.new.found) done.world
-      ∙ noted_next (definition_mistakes item w) (definitions_mistakes rest (past item w)) c.loop-definition.found c.look_definition.new.found _ told done.found;
+          ∙ noted_next (definition_mistakes item w) (definitions_mistakes rest (past item w)) c.loop-definition.found c.look_definition.new.found _ told done.found;
     }

@@ -22,5 +22,5 @@ loop-written-preserved c =
     record {
       members = ap (with_all_members rest names) done.members ∙ members;
       told = ap (λ ms. noted (all_members_mistakes rest names ms) c.add_members.new.found) done.members
-      ∙ noted_next (members_mistakes item names known) (all_members_mistakes rest names (with_members item names known)) c.loop-written.found c.add_members.new.found _ told done.found;
+          ∙ noted_next (members_mistakes item names known) (all_members_mistakes rest names (with_members item names known)) c.loop-written.found c.add_members.new.found _ told done.found;
     }

@@ -22,11 +22,11 @@ loop-declarator-preserved c =
     let shape : Member = Variable (record { lengths = lengths_of item.lengths; base = base }) in
     let lengths : c.lengths.result ≡ lengths_of item.lengths = c.lengths.ensures ∙ ap lengths_of c.as_slice.ensures in
     let added : c.declare.new.names ≡ with_name item.name shape known =
-        c.in_ok-declare.ensures.names ∙ ap (λ (ls : _). with_name item.name (Variable (record { lengths = ls; base = base })) known) lengths in
+    c.in_ok-declare.ensures.names ∙ ap (λ (ls : _). with_name item.name (Variable (record { lengths = ls; base = base })) known) lengths in
     let members = subst (λ q. with_declarators q base known ≡ with_declarators (declarators_of xs) base c.args.members.now) next c.loop-declarator.invariant.members in
     let told = subst (λ q. noted (declarator_mistakes q base known) c.loop-declarator.found ≡ noted (declarator_mistakes (declarators_of xs) base c.args.members.now) c.args.found.now) next c.loop-declarator.invariant.told in
     record {
       members = ap (with_declarators rest base) added ∙ members;
       told = ap (λ ms. noted (declarator_mistakes rest base ms) c.declare.new.found) added
-      ∙ noted_next (twice item.name known) (declarator_mistakes rest base (with_name item.name shape known)) c.loop-declarator.found c.declare.new.found _ told c.in_ok-declare.ensures.found;
+          ∙ noted_next (twice item.name known) (declarator_mistakes rest base (with_name item.name shape known)) c.loop-declarator.found c.declare.new.found _ told c.in_ok-declare.ensures.found;
     }

@@ -34,7 +34,7 @@ loop-item-preserved c =
     let held = to_z-of_z w32 c.int-taken.result g ∙ taken in
     let added : c.declare.new.names ≡ more = c.in_ok-declare.ensures.names ∙ ap (λ (z : ℤ). with_name item.name (Item z) known) held in
     let valued : c.note_value.new.found ≡ noted (value_mistakes item.line v) c.declare.new.found =
-        c.note_value.ensures ∙ ap (λ (z : ℤ). noted (value_mistakes item.line z) c.declare.new.found) (to_z-of_z w128 c.value-written.result f ∙ c.value-written.ensures) in
+    c.note_value.ensures ∙ ap (λ (z : ℤ). noted (value_mistakes item.line z) c.declare.new.found) (to_z-of_z w128 c.value-written.result f ∙ c.value-written.ensures) in
     let names = subst (λ q. with_items q n known ≡ with_items (items_of xs) (pos 0) c.args.names.now) next c.loop-item.invariant.names in
     let told = subst (λ q. noted (item_mistakes q n known) c.loop-item.found ≡ noted (item_mistakes (items_of xs) (pos 0) c.args.names.now) c.args.found.now) next c.loop-item.invariant.told in
     let left = item_mistakes rest (t +ℤ pos 1) more in
