@@ -87,7 +87,8 @@ abbrev mutual
       strays line s (to_member name w s) ++ part_mistakes rest w locals (to_member name w s)
   part_mistakes (Index e rest) w locals s =
       expression_mistakes e w locals
-      ++ (strays (line_of e) s (to_element (literal_of e) s) ++ part_mistakes rest w locals (to_element (literal_of e) s))
+      ++ (strays (line_of e) s (to_element (literal_of e) s)
+      ++ part_mistakes rest w locals (to_element (literal_of e) s))
 
 abbrev pub change_mistakes : Change → World → Names Local → List Mistake
 change_mistakes (Set e) w locals = expression_mistakes e w locals
@@ -148,7 +149,8 @@ abbrev mutual
       type_mistakes written w ++ (twice name locals ++ first_value_mistakes value w (declared written name locals))
   statement_mistakes (Assign line p change) w locals = path_mistakes p true w locals ++ change_mistakes change w locals
   statement_mistakes (If branches) w locals = branch_mistakes branches w locals
-  statement_mistakes (For name from bound body) w locals = twice name locals ++ statement_mistakes body w (loop_in name locals)
+  statement_mistakes (For name from bound body) w locals =
+      twice name locals ++ statement_mistakes body w (loop_in name locals)
   statement_mistakes (Call line name) w locals = call_mistakes line (own_member name w)
 
   pub branch_mistakes : Branches → World → Names Local → List Mistake

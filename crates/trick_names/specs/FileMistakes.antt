@@ -26,7 +26,8 @@ abbrev pub item_mistakes : List EnumItem → ℤ → Names Global → List Mista
 item_mistakes [] next names = []
 item_mistakes (item ∷ rest) next names =
     twice item.name names
-    ++ (value_mistakes item.line (item_value item.value next) ++ item_mistakes rest (taken_value item.value next +ℤ pos 1) (with_item item next names))
+    ++ (value_mistakes item.line (item_value item.value next)
+    ++ item_mistakes rest (taken_value item.value next +ℤ pos 1) (with_item item next names))
 
 -- ---- members
 
@@ -42,7 +43,8 @@ member_type_mistakes (Custom line name) names = unless_for_members line (meaning
 
 abbrev pub declarator_mistakes : List Declarator → Base → Names Member → List Mistake
 declarator_mistakes [] base members = []
-declarator_mistakes (d ∷ ds) base members = twice d.name members ++ declarator_mistakes ds base (with_declarator d base members)
+declarator_mistakes (d ∷ ds) base members =
+    twice d.name members ++ declarator_mistakes ds base (with_declarator d base members)
 
 abbrev pub members_mistakes : Members → Names Global → Names Member → List Mistake
 members_mistakes m names members =
@@ -73,7 +75,8 @@ abbrev pub done_mistakes : tree.Part → Name → World → List Mistake
 done_mistakes Public class w = []
 done_mistakes (HasMembers m) class w = []
 done_mistakes (HasMethod m) class w = all_mistakes m.body w []
-done_mistakes (Constructor line name jobs) class w = (if bytes_eq name class then [] else Unknown line ∷ []) ++ job_mistakes jobs w
+done_mistakes (Constructor line name jobs) class w =
+    (if bytes_eq name class then [] else Unknown line ∷ []) ++ job_mistakes jobs w
 
 abbrev pub class_mistakes : List tree.Part → ℕ → Name → Inside → World → List Mistake
 class_mistakes [] number class inside w = []
@@ -90,7 +93,8 @@ unless_class line _ = Unknown line ∷ []
 
 abbrev pub definition_mistakes : tree.Definition → World → List Mistake
 definition_mistakes Include w = []
-definition_mistakes (Enum name items) w = twice name w.names ++ item_mistakes items (pos 0) (with_name name the.Enum w.names)
+definition_mistakes (Enum name items) w =
+    twice name w.names ++ item_mistakes items (pos 0) (with_name name the.Enum w.names)
 definition_mistakes (Struct name members) w = twice name w.names ++ all_members_mistakes members w.names []
 definition_mistakes (ClassOf name parts) w = twice name w.names ++ class_mistakes parts 0 name nothing_inside w
 definition_mistakes (Object line class name) w = unless_class line (meaning_of class w.names) ++ twice name w.names

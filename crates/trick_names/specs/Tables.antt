@@ -57,7 +57,8 @@ with_item item next names = with_name item.name (the.Item (taken_value item.valu
 -- where the next item has this value if none is written
 abbrev pub with_items : List EnumItem → ℤ → Names Global → Names Global
 with_items [] next names = names
-with_items (item ∷ rest) next names = with_items rest (taken_value item.value next +ℤ pos 1) (with_item item next names)
+with_items (item ∷ rest) next names =
+    with_items rest (taken_value item.value next +ℤ pos 1) (with_item item next names)
 
 -- ---- members
 
@@ -67,7 +68,8 @@ lengths_of (n ∷ []) = One n
 lengths_of (m ∷ n ∷ rest) = Two m n
 
 abbrev pub with_declarator : Declarator → Base → Names Member → Names Member
-with_declarator d base members = with_name d.name (Variable (record { lengths = lengths_of d.lengths; base = base })) members
+with_declarator d base members =
+    with_name d.name (Variable (record { lengths = lengths_of d.lengths; base = base })) members
 
 abbrev pub with_declarators : List Declarator → Base → Names Member → Names Member
 with_declarators [] base members = members
@@ -91,12 +93,14 @@ nothing_inside = record { members = []; constructed = false }
 abbrev pub behind_part : tree.Part → ℕ → Names Global → Inside → Inside
 behind_part Public number names inside = inside
 behind_part (HasMembers m) number names inside = record inside { members = with_members m names inside.members }
-behind_part (HasMethod m) number names inside = record inside { members = with_name m.name (Method number) inside.members }
+behind_part (HasMethod m) number names inside =
+    record inside { members = with_name m.name (Method number) inside.members }
 behind_part (Constructor line name jobs) number names inside = record inside { constructed = true }
 
 abbrev pub behind_parts : List tree.Part → ℕ → Names Global → Inside → Inside
 behind_parts [] number names inside = inside
-behind_parts (part ∷ rest) number names inside = behind_parts rest (number + 1) names (behind_part part number names inside)
+behind_parts (part ∷ rest) number names inside =
+    behind_parts rest (number + 1) names (behind_part part number names inside)
 
 -- ---- the file
 
@@ -107,7 +111,8 @@ names_behind Include number names = names
 names_behind (Enum name items) number names = with_items items (pos 0) (with_name name the.Enum names)
 names_behind (Struct name members) number names = with_name name (the.Struct number) names
 names_behind (ClassOf name parts) number names = with_name name (the.Class number) names
-names_behind (Object line class name) number names = with_name name (the.Object (object_base (meaning_of class names))) names
+names_behind (Object line class name) number names =
+    with_name name (the.Object (object_base (meaning_of class names))) names
 
 -- the members of a struct or class; another definition has none
 abbrev pub members_in : tree.Definition → Names Global → Names Member

@@ -62,7 +62,8 @@ x = 120 ∷ []
 
 -- `type name;` in a struct or a class
 abbrev pub member : TypeName → Name → List ℕ → Part
-member written name lengths = HasMembers (record { written = written; declarators = record { name = name; lengths = lengths } ∷ [] })
+member written name lengths =
+    HasMembers (record { written = written; declarators = record { name = name; lengths = lengths } ∷ [] })
 
 -- these statements
 abbrev pub row : List Statement → Statements
@@ -75,7 +76,16 @@ method name all = HasMethod (record { name = name; body = row all })
 
 -- `("initialization") name();` in that line
 abbrev pub job : ℕ → Name → JobLine
-job line name = record { class = Initialization; thread = 0; phase = 60000; start = 0; cycle = 0; stop = 0; line = line; method = name }
+job line name = record {
+  class = Initialization;
+  thread = 0;
+  phase = 60000;
+  start = 0;
+  cycle = 0;
+  stop = 0;
+  line = line;
+  method = name;
+}
 
 -- an item with its value or none
 abbrev pub item : ℕ → Name → Option ℤ → EnumItem
@@ -83,7 +93,8 @@ item line name value = record { line = line; name = name; value = value }
 
 -- `struct name { long a; };`, where the member may have another type
 abbrev pub struct : Name → TypeName → Definition
-struct name written = Struct name (record { written = written; declarators = record { name = a; lengths = [] } ∷ [] } ∷ [])
+struct name written =
+    Struct name (record { written = written; declarators = record { name = a; lengths = [] } ∷ [] } ∷ [])
 
 -- `place = 0;`, whose first name is in that line
 abbrev pub set : ℕ → Name → Parts → Statement
@@ -110,7 +121,14 @@ abbrev pub file : List Statement → List JobLine → List Definition
 file all jobs =
     Enum e (item 1 i None ∷ [])
     ∷ struct s (Basic Long)
-    ∷ ClassOf g (member (Basic Long) v [] ∷ member (Basic Long) w (2 ∷ []) ∷ member (Custom 2 s) p [] ∷ member (Custom 3 s) q (3 ∷ []) ∷ method m all ∷ Constructor 4 g jobs ∷ [])
+    ∷ ClassOf g (
+    member (Basic Long) v []
+    ∷ member (Basic Long) w (2 ∷ [])
+    ∷ member (Custom 2 s) p []
+    ∷ member (Custom 3 s) q (3 ∷ [])
+    ∷ method m all
+    ∷ Constructor 4 g jobs
+    ∷ [])
     ∷ Object 5 g o
     ∷ []
 

@@ -106,7 +106,8 @@ fn look_choices(
     locals: &Names<Local>,
     found: &mut Found,
 )
-    ensures { found.new ≡ noted (choice_mistakes (choices_of_list choices.now (expression_of last.now)) world.now locals.now) found.old }
+    ensures { found.new ≡ noted
+        (choice_mistakes (choices_of_list choices.now (expression_of last.now)) world.now locals.now) found.old }
 {
     for choice in choices {
         look_expression(&choice.test, world, locals, found);
@@ -147,7 +148,8 @@ fn look_part(
     found: &mut Found,
 ) -> State
     ensures next { result ≡ followed (parts_of_list (part.now ∷ [])) world.now from }
-    ensures found { found.new ≡ noted (part_mistakes (parts_of_list (part.now ∷ [])) world.now locals.now from) found.old }
+    ensures found { found.new ≡ noted
+        (part_mistakes (parts_of_list (part.now ∷ [])) world.now locals.now from) found.old }
 {
     match part {
         Part::Member { line, name } => {
@@ -242,7 +244,8 @@ fn look_statement(
     locals: &mut Names<Local>,
     found: &mut Found,
 ) -> Result<(), AllocError>
-    ensures found { OnOk result (found.new ≡ noted (statement_mistakes (statement_of s.now) world.now locals.old) found.old) }
+    ensures found { OnOk result (found.new ≡ noted
+        (statement_mistakes (statement_of s.now) world.now locals.old) found.old) }
     ensures locals { OnOk result (locals.new ≡ after (statement_of s.now) locals.old) }
 {
     match s {
@@ -293,7 +296,8 @@ fn look_for(
     locals: &mut Names<Local>,
     found: &mut Found,
 ) -> Result<(), AllocError>
-    ensures found { OnOk result (found.new ≡ noted (statement_mistakes (For name.now 0 (Below 0) (statement_of body.now)) world.now locals.old) found.old) }
+    ensures found { OnOk result (found.new ≡ noted
+        (statement_mistakes (For name.now 0 (Below 0) (statement_of body.now)) world.now locals.old) found.old) }
     ensures locals { OnOk result (locals.new ≡ locals.old) }
 {
     let mark = locals.len();
@@ -315,7 +319,8 @@ fn look_alone(
     locals: &mut Names<Local>,
     found: &mut Found,
 ) -> Result<(), AllocError>
-    ensures found { OnOk result (found.new ≡ noted (statement_mistakes (statement_of s.now) world.now locals.old) found.old) }
+    ensures found { OnOk result (found.new ≡ noted
+        (statement_mistakes (statement_of s.now) world.now locals.old) found.old) }
     ensures locals { OnOk result (locals.new ≡ locals.old) }
 {
     let mark = locals.len();
@@ -332,7 +337,9 @@ fn look_branches(
     locals: &mut Names<Local>,
     found: &mut Found,
 ) -> Result<(), AllocError>
-    ensures found { OnOk result (found.new ≡ noted (branch_mistakes (branches_of_list branches.now (else_of_option otherwise.now)) world.now locals.old) found.old) }
+    ensures found { OnOk result (found.new ≡ noted
+        (branch_mistakes (branches_of_list branches.now (else_of_option otherwise.now)) world.now locals.old)
+        found.old) }
     ensures locals { OnOk result (locals.new ≡ locals.old) }
 {
     for branch in branches {
@@ -354,7 +361,8 @@ pub fn look_all(
     locals: &mut Names<Local>,
     found: &mut Found,
 ) -> Result<(), AllocError>
-    ensures found { OnOk result (found.new ≡ noted (all_mistakes (statements_of_list all.now) world.now locals.old) found.old) }
+    ensures found { OnOk result (found.new ≡ noted
+        (all_mistakes (statements_of_list all.now) world.now locals.old) found.old) }
     ensures locals { OnOk result (locals.new ≡ after_all (statements_of_list all.now) locals.old) }
 {
     for s in all {

@@ -34,7 +34,8 @@ fn add_part(
     found: &mut Found,
 ) -> Result<(), AllocError>
     ensures inside { OnOk result (inside.new ≡ behind_part (class_part_of part.now) number names.now inside.old) }
-    ensures found { OnOk result (found.new ≡ noted (declared_mistakes (class_part_of part.now) names.now inside.old) found.old) }
+    ensures found { OnOk result (found.new ≡ noted
+        (declared_mistakes (class_part_of part.now) names.now inside.old) found.old) }
 {
     match part {
         ClassPart::Public => {}
@@ -69,7 +70,8 @@ pub fn read_class(
     names: &Names<Global>,
     found: &mut Found,
 ) -> Result<Names<Member>, AllocError>
-    ensures { IfOk result (λ members. members ≡ (behind_parts (class_parts_of parts.now) 0 names.now nothing_inside).members) }
+    ensures { IfOk result (λ members. members ≡
+        (behind_parts (class_parts_of parts.now) 0 names.now nothing_inside).members) }
 {
     let mut inside = nothing(alloc);
     for number in 0..parts.len() {
@@ -121,7 +123,8 @@ pub fn look_class(
     world: &World,
     found: &mut Found,
 ) -> Result<(), AllocError>
-    ensures { OnOk result (found.new ≡ noted (class_mistakes (class_parts_of parts.now) 0 class.now nothing_inside world.now) found.old) }
+    ensures { OnOk result (found.new ≡ noted
+        (class_mistakes (class_parts_of parts.now) 0 class.now nothing_inside world.now) found.old) }
 {
     let mut inside = nothing(alloc);
     for number in 0..parts.len() {

@@ -135,8 +135,10 @@ fn look_definition(
     world: &mut World,
     found: &mut Found,
 ) -> Result<(), AllocError>
-    ensures world { OnOk result (world.new ≡ record world.old { names = names_behind (definition_of definition.now) world.old.own world.old.names }) }
-    ensures found { OnOk result (found.new ≡ noted (definition_mistakes (definition_of definition.now) world.old) found.old) }
+    ensures world { OnOk result (world.new ≡
+        record world.old { names = names_behind (definition_of definition.now) world.old.own world.old.names }) }
+    ensures found { OnOk result (found.new ≡ noted
+        (definition_mistakes (definition_of definition.now) world.old) found.old) }
 {
     match definition {
         Definition::Include => {}
@@ -173,7 +175,8 @@ fn look_definitions(
 ) -> Result<(), AllocError>
     requires start { world.old.own ≡ 0 }
     ensures tables { OnOk result (world.new.tables ≡ world.old.tables) }
-    ensures found { OnOk result (found.new ≡ noted (definitions_mistakes (definitions_of definitions.now) world.old) found.old) }
+    ensures found { OnOk result (found.new ≡ noted
+        (definitions_mistakes (definitions_of definitions.now) world.old) found.old) }
 {
     for definition in definitions {
         look_definition(alloc, definition, world, found)?;
@@ -188,7 +191,8 @@ fn look_definitions(
 pub fn check(alloc: Memory, sdef: &SDefine) -> Result<Tables, NameFault>
     ensures ok { OnOk result (fault_of (mistakes (sdefine_of sdef.now)) ≡ None) }
     ensures tables { IfOk result (λ tables. tables ≡ tables_of (sdefine_of sdef.now)) }
-    ensures err { IfErr result (λ fault. fault ≢ OutOfMemory → fault_of (mistakes (sdefine_of sdef.now)) ≡ Some fault) }
+    ensures err { IfErr result (λ fault. fault ≢ OutOfMemory →
+        fault_of (mistakes (sdefine_of sdef.now)) ≡ Some fault) }
 {
     let definitions = sdef.definitions.as_slice();
     let mut world = World {

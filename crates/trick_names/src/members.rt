@@ -113,7 +113,8 @@ fn add_declarators(
     found: &mut Found,
 ) -> Result<(), AllocError>
     ensures members { OnOk result (members.new ≡ with_declarators (declarators_of declarators.now) base members.old) }
-    ensures found { OnOk result (found.new ≡ noted (declarator_mistakes (declarators_of declarators.now) base members.old) found.old) }
+    ensures found { OnOk result (found.new ≡ noted
+        (declarator_mistakes (declarators_of declarators.now) base members.old) found.old) }
 {
     for declarator in declarators {
         let shape = Shape {
@@ -133,7 +134,8 @@ pub fn add_members(
     found: &mut Found,
 ) -> Result<(), AllocError>
     ensures members { OnOk result (members.new ≡ with_members (members_of written.now) names.now members.old) }
-    ensures found { OnOk result (found.new ≡ noted (members_mistakes (members_of written.now) names.now members.old) found.old) }
+    ensures found { OnOk result (found.new ≡ noted
+        (members_mistakes (members_of written.now) names.now members.old) found.old) }
 {
     note_member_type(&written.written, names, found);
     let base = base(&written.written, names);
@@ -148,7 +150,8 @@ pub fn add_all_members(
     found: &mut Found,
 ) -> Result<(), AllocError>
     ensures members { OnOk result (members.new ≡ with_all_members (all_members_of all.now) names.now members.old) }
-    ensures found { OnOk result (found.new ≡ noted (all_members_mistakes (all_members_of all.now) names.now members.old) found.old) }
+    ensures found { OnOk result (found.new ≡ noted
+        (all_members_mistakes (all_members_of all.now) names.now members.old) found.old) }
 {
     for written in all {
         add_members(written, names, members, found)?;
