@@ -1,5 +1,5 @@
 -- The steps of the walk's loops over the lists of a file.
-use Rattle.std.proofs.Common.{◌≡◌, ℕ, ◌+◌, ◌<◌, List, [], ◌∷◌, length, get_or, drop, ap}
+use Rattle.std.proofs.Common.{◌≡◌, ℕ, ◌+◌, ◌<◌, List, ◌∷◌, length, get_or, drop, ap}
 use Rattle.trick_lang.specs.Syntax.{all_members_of, class_part_of, class_parts_of, declarators_of, definition_of, definitions_of, items_of, jobs_of, members_of}
 use Rattle.trick_lang.specs.declared.syntax.definition.ClassPart.{ClassPart}
 use Rattle.trick_lang.specs.declared.syntax.definition.Declarator.{Declarator}

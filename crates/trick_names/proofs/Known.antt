@@ -1,5 +1,5 @@
 -- What a look-up and an insert in a map mean for the names.
-use Rattle.std.proofs.Common.{◌≡◌, ◌++◌, ◌∷◌, [], ℕ, zero, suc, take, List, Bool, true, false, Option, Some, None, map, refl, sym, ap, ◌∙◌, Vec, Global, nat_eq, is_some, if◌then◌else◌}
+use Rattle.std.proofs.Common.{◌≡◌, ◌++◌, ◌∷◌, [], ℕ, zero, suc, take, List, Bool, true, false, Option, Some, None, map, refl, ap, Vec, Global, nat_eq, is_some, if◌then◌else◌}
 use Rattle.std.specs.Str.{bytes_eq}
 use Rattle.std.specs.Map.{lookup}
 use Rattle.std.specs.Cmp.Lexicographic.{pointwise}

@@ -12,7 +12,7 @@ use Rattle.trick_lang.specs.declared.syntax.statement.Stmt.{Stmt}
 use Rattle.trick_names.proofs.Lists.{from_here}
 use Rattle.trick_names.proofs.Weights.{part_weight}
 use Rattle.trick_names.specs.declared.world.World.{World}
-use Rattle.trick_names.specs.BodyMistakes.{after, after_all, declared, expression_mistakes, line_of, part_mistakes, strays}
+use Rattle.trick_names.specs.BodyMistakes.{after, after_all, expression_mistakes, line_of, part_mistakes, strays}
 use Rattle.trick_names.specs.Names.{Names, meaning_of, with_name}
 use Rattle.trick_names.specs.Places.{to_member, to_element, literal_of, followed}
 use Rattle.trick_names.specs.declared.tables.Local.{Local}

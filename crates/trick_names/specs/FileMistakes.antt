@@ -1,5 +1,5 @@
 -- The mistakes in the names of a file, in the order of its text.
-use Rattle.std.specs.Prelude.{ℕ, ◌+◌, ℤ, pos, ◌+ℤ◌, Bool, true, false, if◌then◌else◌, List, [], ◌∷◌, ◌++◌, Option, Some, None}
+use Rattle.std.specs.Prelude.{ℕ, ◌+◌, ℤ, pos, ◌+ℤ◌, if◌then◌else◌, List, [], ◌∷◌, ◌++◌, Option, Some}
 use Rattle.std.specs.Str.{bytes_eq}
 use Rattle.trick_lang.specs.SyntaxTree as tree
 use Rattle.trick_lang.specs.SyntaxTree.{Name, TypeName, Basic, Custom, Declarator, EnumItem, JobLine, Members, SDefine, Include, Enum, Struct, ClassOf, Object, Public, HasMembers, HasMethod, Constructor}

@@ -1,6 +1,6 @@
 -- What a place of a body reaches: what its first name stands for, and where its further parts lead.
 use Rattle.std.specs.Prelude.{ℕ, zero, suc, Bool, true, false, if◌then◌else◌, nat_lt, List, [], ◌∷◌, Option, Some, None}
-use Rattle.trick_lang.specs.SyntaxTree.{Name, Expression, Whole, Truth, Named, Prefixed, Chain, Choose, Parts, NoPart, Member, Index}
+use Rattle.trick_lang.specs.SyntaxTree.{Name, Expression, Whole, Truth, Parts, NoPart, Member, Index}
 use Rattle.trick_lang.specs.declared.scalar.Scalar.{Scalar}
 use Rattle.trick_lang.specs.declared.scalar.Scalar.TheVariants.{Int}
 use Rattle.trick_names.specs.Names.{Names, meaning_of}

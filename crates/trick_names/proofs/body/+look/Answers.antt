@@ -6,7 +6,7 @@ use Rattle.trick_names.proofs.Noted.{noted_both, noted_next}
 use Rattle.trick_names.proofs.Trees.{links_next, choices_next, part_splits, part_weighs, some_part}
 use Rattle.trick_names.proofs.Weights.{expression_weight, link_weight, choice_weight, part_weight}
 use Rattle.trick_names.proofs.body.+look.Goals as goal
-use Rattle.trick_names.specs.BodyMistakes.{after, choice_mistakes, expression_mistakes, link_mistakes, part_mistakes}
+use Rattle.trick_names.specs.BodyMistakes.{choice_mistakes, expression_mistakes, link_mistakes, part_mistakes}
 use Rattle.trick_names.specs.Mistakes.{noted}
 use Rattle.trick_names.specs.Places.{followed}
 

@@ -1,5 +1,5 @@
 use Rattle.std.proofs.Common.{◌≡◌, ◌+◌, ◌∙◌, drop, subst, ap}
-use Rattle.trick_lang.specs.Syntax.{class_part_of, class_parts_of}
+use Rattle.trick_lang.specs.Syntax.{class_parts_of}
 use Rattle.trick_names.proofs.Definitions.{parts_next}
 use Rattle.trick_names.proofs.class.read_class.Goals as goal
 use Rattle.trick_names.specs.Tables.{behind_parts, nothing_inside}

@@ -1,10 +1,10 @@
-use Rattle.std.proofs.Common.{◌≡◌, ◌≢◌, ◌∙◌, [], List, None, Some, Option, Global, ap, sym, refl}
+use Rattle.std.proofs.Common.{◌≡◌, ◌∙◌, [], List, ap, sym, refl}
 use Rattle.trick_lang.specs.Syntax.{definitions_of, sdefine_of}
 use Rattle.trick_lang.specs.declared.syntax.definition.Definition.{Definition}
 use Rattle.trick_lang.specs.declared.syntax.definition.SDefine.{SDefine}
 use Rattle.trick_names.proofs.Noted.{decided}
 use Rattle.trick_names.proofs.file.check.Goals as goal
-use Rattle.trick_names.specs.FileMistakes.{at_start, definitions_mistakes, mistakes}
+use Rattle.trick_names.specs.FileMistakes.{definitions_mistakes, mistakes}
 use Rattle.trick_names.specs.Mistakes.{fault_of, fault_of_found, noted, nothing_found}
 use Rattle.trick_names.specs.Names.{Names}
 use Rattle.trick_names.specs.Tables.{tables_of}

@@ -10,7 +10,6 @@ use Rattle.trick_names.specs.FileMistakes.{item_mistakes, value_mistakes}
 use Rattle.trick_names.specs.Mistakes.{noted, twice}
 use Rattle.trick_names.specs.Names.{with_name}
 use Rattle.trick_names.specs.Tables.{with_items, item_value, taken_value, int_or_zero}
-use Rattle.trick_names.specs.declared.tables.Global.{Global}
 use Rattle.trick_names.specs.declared.tables.Global.TheVariants.{Item}
 
 pub loop-item-preserved : goal.loop-item-preserved

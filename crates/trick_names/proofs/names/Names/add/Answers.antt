@@ -1,4 +1,4 @@
-use Rattle.std.proofs.Common.{◌≡◌, ◌++◌, ◌∷◌, ◌∙◌, [], ap, is_some, sym, true, false}
+use Rattle.std.proofs.Common.{◌≡◌, ◌∙◌, ap, is_some, sym}
 use Rattle.trick_names.proofs.Known.{finds, goes_last, none_from, shown, with_known, with_new}
 use Rattle.trick_names.proofs.names.Names.add.Goals as goal
 use Rattle.trick_names.specs.Names.{meaning_of}

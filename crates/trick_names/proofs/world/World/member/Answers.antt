@@ -2,7 +2,6 @@ use Rattle.std.proofs.Common.{◌≡◌, ◌<◌, ◌≤◌, length, List, slice
 use Rattle.trick_names.proofs.Lists.{groups_past, groups_in}
 use Rattle.trick_names.proofs.world.World.member.Goals as goal
 use Rattle.trick_names.specs.Names.{Names, meaning_of}
-use Rattle.trick_names.specs.Places.{members_at}
 use Rattle.trick_names.specs.declared.tables.Member.{Member}
 
 pub returns-then-group-groups : goal.returns-then-group-groups
