@@ -10,5 +10,7 @@ pub mod Mistakes
 pub mod BodyMistakes
 -- The mistakes of a file.
 pub mod FileMistakes
+-- Which methods call which.
+pub mod Calls
 -- Worked files.
 pub mod Worked

@@ -3,6 +3,7 @@
 #![tactic(auto)]
 
 mod body;
+mod calls;
 mod class;
 mod fault;
 mod file;
@@ -16,6 +17,7 @@ mod tables;
 mod tests;
 mod world;
 
+pub use calls::calls_of_class;
 pub use fault::NameFault;
 pub use file::check;
 pub use names::Names;
