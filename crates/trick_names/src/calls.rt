@@ -10,11 +10,7 @@ use std::alloc::{AllocError, Global};
 use trick_base::{Items, Word};
 use trick_lang::syntax::{Branch, ClassPart, Stmt};
 
-fn add_call(
-    name: &Word,
-    own: &Names<Member>,
-    calls: &mut Items<usize>,
-) -> Result<(), AllocError>
+fn add_call(name: &Word, own: &Names<Member>, calls: &mut Items<usize>) -> Result<(), AllocError>
     ensures { OnOk result (calls.new ≡ calls.old ++ method_of (meaning_of name.now own.now)) }
 {
     if let Some(Member::Method(number)) = own.meaning(name) {
@@ -24,11 +20,7 @@ fn add_call(
 }
 
 #[cycle(calls)]
-fn add_statement(
-    s: &Stmt,
-    own: &Names<Member>,
-    calls: &mut Items<usize>,
-) -> Result<(), AllocError>
+fn add_statement(s: &Stmt, own: &Names<Member>, calls: &mut Items<usize>) -> Result<(), AllocError>
     ensures { OnOk result (calls.new ≡ calls.old ++ statement_calls (statement_of s.now) own.now) }
 {
     match s {
