@@ -1,0 +1,35 @@
+//! The types of a simulation, and the rules of its run on one thread: definitions that everything
+//! above cites.
+#![tactic(auto)]
+
+mod accepted;
+mod action;
+mod command;
+mod depends;
+mod entry;
+mod event;
+mod faults;
+mod flags;
+mod group;
+mod mode;
+mod plan;
+mod read_at;
+mod session;
+mod taken;
+mod thread;
+
+pub use accepted::Accepted;
+pub use action::Action;
+pub use command::Command;
+pub use depends::Depends;
+pub use entry::{Cause, Entry};
+pub use event::Event;
+pub use faults::{Faults, KEPT_FAULTS};
+pub use flags::Flags;
+pub use group::Group;
+pub use mode::Mode;
+pub use plan::Plan;
+pub use read_at::ReadAt;
+pub use session::Session;
+pub use taken::Taken;
+pub use thread::{Process, Thread};
