@@ -16,6 +16,8 @@ mod plan;
 mod read_at;
 mod session;
 mod taken;
+#[cfg(test)]
+mod tests;
 mod thread;
 
 pub use accepted::Accepted;
