@@ -10,10 +10,22 @@ pub mod Access
 pub mod Acceptance
 -- The faults of a run.
 pub mod FaultList
--- The condition of an event.
-pub mod Condition
+-- A state: all that a run goes on from.
+pub mod State
+-- Running jobs.
+pub mod Running
 -- What names stand for, and what an action asks for.
 pub mod Names
+-- Reads, events, and what their actions do.
+pub mod Events
+-- Work beside the tics.
+pub mod Beside
+-- Rows of data record groups.
+pub mod Records
+-- One tic, and the tics of a frame.
+pub mod Tic
+-- The condition of an event.
+pub mod Condition
 -- What a valid plan keeps.
 pub mod Valid
 -- The plan that a value of the code holds.

@@ -15,10 +15,12 @@ mod mode;
 mod plan;
 mod read_at;
 mod session;
+mod state;
 mod taken;
 #[cfg(test)]
 mod tests;
 mod thread;
+mod world;
 
 pub use accepted::Accepted;
 pub use action::Action;
@@ -33,5 +35,7 @@ pub use mode::Mode;
 pub use plan::Plan;
 pub use read_at::ReadAt;
 pub use session::Session;
+pub use state::State;
 pub use taken::Taken;
 pub use thread::{Process, Thread};
+pub use world::World;
