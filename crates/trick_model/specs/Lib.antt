@@ -24,6 +24,18 @@ pub mod Beside
 pub mod Records
 -- One tic, and the tics of a frame.
 pub mod Tic
+-- The text of a checkpoint, and the list of faults.
+pub mod Checkpoint
+-- Journals: their rules and texts, and the lists of entries that one gives a run.
+pub mod Journal
+-- Sessions of clients.
+pub mod Session
+-- One turn.
+pub mod Turn
+-- The run.
+pub mod Run
+-- The files of a run, and session texts.
+pub mod Files
 -- The condition of an event.
 pub mod Condition
 -- What a valid plan keeps.

@@ -8,6 +8,7 @@ use Rattle.trick_lang.specs.declared.job.Job.{Job}
 use Rattle.trick_lang.specs.declared.range.CellRange.{CellRange}
 use Rattle.trick_lang.specs.declared.scalar.Scalar.{Scalar}
 use Rattle.trick_model.specs.declared.action.Action.{Action}
+use Rattle.trick_model.specs.declared.command.Command.{Command}
 use Rattle.trick_model.specs.declared.depends.Depends.{Depends}
 use Rattle.trick_model.specs.declared.flags.Flags.{Flags}
 use Rattle.trick_model.specs.declared.group.Group.{Group}
@@ -41,6 +42,8 @@ pub record Plan : Type 0 where
   -- the cells that a job may read, and may write
   pub reads : ℕ → List CellRange
   pub writes : ℕ → List CellRange
+  -- what a client's line says
+  pub command : List ℕ → Command
   -- the tics of a software frame
   pub frame : ℕ
   pub limit : ℕ

@@ -4,6 +4,7 @@ use Rattle.trick_lang.specs.Effect.{effect, reads, scalars_of, writes}
 use Rattle.trick_model.specs.Condition.{condition_of, condition_reads}
 use Rattle.trick_model.specs.Plan.{Plan, Event}
 use Rattle.trick_model.specs.Valid.{cell_names, job_name}
+use Rattle.trick_model.specs.declared.command.Command.TheVariants as command
 use Rattle.trick_model.specs.declared.event.Event.{Event as EventValue}
 use Rattle.trick_model.specs.declared.plan.Plan.{Plan as PlanValue}
 
@@ -26,6 +27,7 @@ plan_of plan = let p = plan.program in record {
   effect = λ k memory. effect p (record { 0 = k }) memory;
   reads = λ k. reads p (record { 0 = k });
   writes = λ k. writes p (record { 0 = k });
+  command = λ line. command.Bad;
   frame = plan.frame;
   limit = plan.limit;
   frozen = plan.frozen;
