@@ -7,7 +7,6 @@ use Rattle.trick_model.specs.Running.{After, after_jobs, settled}
 use Rattle.trick_model.specs.State.{State, nothing_taken, number_at, taken_at}
 use Rattle.trick_model.specs.declared.flags.Flags.{Flags}
 use Rattle.trick_model.specs.declared.taken.Taken.{Taken}
-use Rattle.trick_model.specs.declared.thread.Process.{Process}
 use Rattle.trick_model.specs.declared.thread.Process.TheVariants as process
 use Rattle.trick_model.specs.declared.thread.Thread.{Thread}
 
@@ -52,8 +51,8 @@ work p thread on tic = elim (thread.process) [
   | process.Scheduled ↦ []
   | process.Async ↦ in_key_order p.jobs (jobs_of p.jobs thread)
   | process.MustFinish ↦
-    let from = tic - thread.cycle in
-    flat_map (λ u. in_key_order p.jobs (filter (is_due p on u) (jobs_of p.jobs thread))) (tics_from from (tic - from))
+      let from = tic - thread.cycle in
+      flat_map (λ u. in_key_order p.jobs (filter (is_due p on u) (jobs_of p.jobs thread))) (tics_from from (tic - from))
 ]
 
 -- The held work is the fold over the taken cells, with the taken flags.
@@ -83,8 +82,8 @@ publish p place thread tic s =
     let taken = taken_at s place in
     elim (taken.held) [
       | true ↦
-        let after = settled (published p thread s.jobs tic taken s.memory) s in
-        record after { taken = slice_set s.taken place nothing_taken }
+          let after = settled (published p thread s.jobs tic taken s.memory) s in
+          record after { taken = slice_set s.taken place nothing_taken }
       | false ↦ s
     ]
 

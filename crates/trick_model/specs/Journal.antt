@@ -1,5 +1,5 @@
 -- Journals: their rules and texts, and the lists of entries that one gives a run.
-use Rattle.std.specs.Prelude.{ℕ, zero, suc, ◌+◌, ◌-◌, ◌^◌, ◌==◌, nat_le, nat_lt, Bool, true, false, ◌&&◌, ◌||◌, not, List, [], ◌∷◌, ◌++◌, codes, decimal, filter, map, length}
+use Rattle.std.specs.Prelude.{ℕ, zero, suc, ◌+◌, ◌-◌, ◌==◌, nat_le, nat_lt, Bool, true, false, ◌&&◌, ◌||◌, not, List, [], ◌∷◌, ◌++◌, codes, decimal, filter, map, length}
 use Rattle.std.specs.List.{list_any}
 use Rattle.trick_model.specs.Time.{last_turn}
 use Rattle.trick_model.specs.declared.entry.Cause.{Cause}
@@ -67,7 +67,7 @@ are_joined highest live (e ∷ es) = elim (e.1) [
   | Join session ↦ nat_lt highest session && are_joined session (live ++ session ∷ []) es
   | Said session line ↦ list_any (λ s. s == session) live && are_joined highest live es
   | Leave session cause ↦
-    list_any (λ s. s == session) live && are_joined highest (filter (λ s. not (s == session)) live) es
+      list_any (λ s. s == session) live && are_joined highest (filter (λ s. not (s == session)) live) es
   | Publish thread ↦ are_joined highest live es
 ]
 

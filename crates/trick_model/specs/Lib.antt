@@ -36,6 +36,12 @@ pub mod Turn
 pub mod Run
 -- The files of a run, and session texts.
 pub mod Files
+-- The words of a line of a client or of an action.
+pub mod Words
+-- What a form of an action or a client's line is made of.
+pub mod Forms
+-- What actions and clients' lines say.
+pub mod Commands
 -- The condition of an event.
 pub mod Condition
 -- What a valid plan keeps.

@@ -1,6 +1,6 @@
 -- The run: its start, its turns, and its end by the journal.
 use Rattle.std.specs.List.{list_any}
-use Rattle.std.specs.Prelude.{◌≡◌, ◌≤◌, ℕ, ◌+◌, nat_le, nat_lt, ℤ, Bool, true, false, ◌&&◌, ◌||◌, not, List, [], ◌∷◌, IsTrue, map, slice_set, Option, None}
+use Rattle.std.specs.Prelude.{◌≡◌, ◌≤◌, ℕ, ◌+◌, nat_le, nat_lt, ℤ, Bool, true, false, ◌&&◌, ◌||◌, not, List, [], ◌∷◌, IsTrue, map, slice_set, None}
 use Rattle.trick_lang.specs.declared.cells.Cell.{Cell}
 use Rattle.trick_lang.specs.declared.class.Class.TheVariants as class
 use Rattle.trick_model.specs.Beside.{is_in_flight, zeros}

@@ -1,6 +1,6 @@
 -- A state: all that a run goes on from, and what a checkpoint keeps.
 use Rattle.std.specs.List.{slice_index_or}
-use Rattle.std.specs.Prelude.{ℕ, ℤ, pos, Bool, false, List, [], Option}
+use Rattle.std.specs.Prelude.{ℕ, ℤ, pos, false, List, [], Option}
 use Rattle.trick_model.specs.FaultList.{FaultList}
 use Rattle.trick_model.specs.declared.flags.Flags.{Flags}
 use Rattle.trick_model.specs.declared.mode.Mode.{Mode}

@@ -1,15 +1,14 @@
 -- What a valid plan keeps.
 use Rattle.std.specs.List.{list_any}
-use Rattle.std.specs.Prelude.{◌≡◌, ℕ, ◌<◌, ◌≤◌, ◌^◌, nat_lt, not, ℤ, Bool, true, ◌&&◌, ◌||◌, ◌==◌, IsTrue, All, List, [], ◌∷◌, ◌++◌, codes, length, map, slice_get, Some, None, Option, is_some}
+use Rattle.std.specs.Prelude.{◌≡◌, ℕ, ◌<◌, ◌≤◌, ◌^◌, nat_lt, not, ℤ, Bool, true, ◌&&◌, ◌||◌, ◌==◌, IsTrue, All, List, [], ◌∷◌, length, map, is_some}
 use Rattle.std.specs.Str.{bytes_eq}
 use Rattle.trick_lang.specs.Effect.{scalars_of}
+use Rattle.trick_lang.specs.Names.{job_name}
 use Rattle.trick_lang.specs.Wrap.{IsInRange}
 use Rattle.trick_lang.specs.declared.cells.Cell.{Cell}
 use Rattle.trick_lang.specs.declared.class.Class.TheVariants as class
 use Rattle.trick_lang.specs.declared.job.Job.{Job}
 use Rattle.trick_lang.specs.declared.job.JobId.{JobId}
-use Rattle.trick_lang.specs.declared.method.Method.{Method}
-use Rattle.trick_lang.specs.declared.object.Object.{Object}
 use Rattle.trick_lang.specs.declared.program.Program.{Program}
 use Rattle.trick_lang.specs.declared.variable.Variable.{Variable}
 use Rattle.trick_model.specs.Names.{Names, deed_of}
@@ -47,26 +46,12 @@ group_names groups = map (λ (g : Group). g.name) groups
 abbrev pub event_names : List Event → List (List ℕ)
 event_names events = map (λ (e : Event). e.name) events
 
--- the object of a job, and its method
-abbrev pub object_name : Option Object → List ℕ
-object_name None = []
-object_name (Some object) = object.name
-
-abbrev pub method_name : Option Method → List ℕ
-method_name None = []
-method_name (Some method) = method.name
-
--- The name of a job is `object.method`.
-abbrev pub job_name : Program → Job → List ℕ
-job_name p job =
-    object_name (slice_get p.objects job.object) ++ codes "." ++ method_name (slice_get p.methods job.method)
-
 -- the names that actions of a plan can have
 abbrev pub names_in : Program → List Group → List Event → Names
 names_in p groups events = record {
   cells = cell_names p.cells;
   scalars = scalars_of p.cells;
-  job_names = map (job_name p) p.jobs;
+  job_names = map (job_name p.objects p.methods) p.jobs;
   jobs = p.jobs;
   groups = group_names groups;
   events = event_names events;
