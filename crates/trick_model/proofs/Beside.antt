@@ -2,7 +2,7 @@
 use Rattle.std.proofs.Common.{refl}
 use Rattle.std.specs.Fmt.{digits}
 use Rattle.std.specs.Int.{int_wrap}
-use Rattle.std.specs.Prelude.{◌≡◌, pos, int_lt, false, List, [], ◌∷◌, ◌++◌, codes}
+use Rattle.std.specs.Prelude.{pos, int_lt, false, [], ◌∷◌, ◌++◌, codes}
 use Rattle.trick_lang.specs.declared.class.Class.TheVariants as class
 use Rattle.trick_lang.specs.declared.fault.FaultKind.TheVariants as kind
 use Rattle.trick_model.proofs.Samples.{Ends, all_on, cells, effects, one_of, job, main_thread, plan_of_cells, plus, scheduled, stops, stores, thread, turns}

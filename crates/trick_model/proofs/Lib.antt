@@ -6,3 +6,13 @@ mod Counting
 mod Jobs
 -- Threads that work beside the tics.
 mod Beside
+-- Rows of groups, checkpoints, and a run that goes on from one.
+mod Recording
+-- Jobs of all classes.
+mod Classes
+-- Clients: sessions, their texts, and journals.
+mod Clients
+-- What actions and clients' lines say.
+mod Lines
+-- Plans that are not accepted.
+mod Refusals

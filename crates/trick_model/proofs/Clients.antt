@@ -1,0 +1,95 @@
+-- Clients: sessions, their texts, and journals.
+use Rattle.std.proofs.Common.{refl}
+use Rattle.std.specs.Fmt.{digits}
+use Rattle.std.specs.Int.{int_wrap}
+use Rattle.std.specs.Prelude.{◌≡◌, true, List, [], ◌∷◌, ◌++◌, codes, take}
+use Rattle.trick_model.proofs.Counting.{counter}
+use Rattle.trick_model.proofs.Samples.{Ends}
+use Rattle.trick_model.specs.Files.{session_text}
+use Rattle.trick_model.specs.Journal.{Noted, journal_text, lists_of}
+use Rattle.trick_model.specs.Plan.{Plan}
+use Rattle.trick_model.specs.Run.{after_turns, given, opened, start}
+use Rattle.trick_model.specs.State.{State}
+use Rattle.trick_model.specs.declared.entry.Cause.TheVariants.{HungUp}
+use Rattle.trick_model.specs.declared.entry.Entry.TheVariants.{Join, Said, Leave}
+use Rattle.trick_text.specs.Pieces as pieces
+
+-- a run that starts in Freeze
+abbrev pub waiting : Plan
+waiting = record counter { frozen = true }
+
+-- ---- a client that resumes the run
+
+abbrev pub resuming : List Noted
+resuming =
+    (0, Join 1) ∷ (0, Said 1 (codes "trick.var_add(\"counter.n\")")) ∷ (0, Said 1 (codes "trick.var_add(\"counter.zz\")"))
+    ∷ (0, Said 1 (codes "trick.var_cycle(0.000002)")) ∷ (0, Said 1 (codes "trick.exec_run()")) ∷ []
+
+-- The same end as without a client, and the journal with its lines.
+pub resuming_ends : Ends waiting (start waiting) (lists_of resuming 4 0) (
+    (codes "final.chk", codes "checkpoint = 1;\nturn = 4;\ntic = 7;\nlimit = 7;\nmode = Shutdown;\n" ++ codes "counter.n = 4;\njob[0] = 1;\nfaults = 0;\nend;\n")
+    ∷ (codes "journal.txt", journal_text 0 resuming 4)
+    ∷ [])
+unfolding int_wrap digits pieces.front pieces.name_front pieces.number_front pieces.mark_len pieces.text_front
+resuming_ends = record { goes = refl; over = refl; files = refl }
+
+pub resuming_journal : journal_text 0 resuming 4 ≡ codes "tricks journal 1\nfrom 0\n0 join 1\n0 cmd 1 trick.var_add(\"counter.n\")\n" ++ codes "0 cmd 1 trick.var_add(\"counter.zz\")\n0 cmd 1 trick.var_cycle(0.000002)\n0 cmd 1 trick.exec_run()\nend 4\n"
+unfolding int_wrap digits pieces.front pieces.name_front pieces.number_front pieces.mark_len pieces.text_front
+resuming_journal = refl
+
+-- The last frame runs one tic, in which no multiple of the cycle passes, so that no fourth line is sent.
+pub resuming_is_told : session_text waiting (start waiting) (lists_of resuming 4 0) 1 ≡ (codes "0\t1\tBAD_REF\n" ∷ codes "0\t2\tBAD_REF\n" ∷ codes "0\t3\tBAD_REF\n" ∷ [])
+unfolding int_wrap digits pieces.front pieces.name_front pieces.number_front pieces.mark_len pieces.text_front
+resuming_is_told = refl
+
+-- With an end after turn 5 or 3 the journal does not fit: the run is over at turn 4, or goes on there.
+pub end_too_late : given waiting (start waiting) resuming 5 ≡ 4
+unfolding int_wrap digits pieces.front pieces.name_front pieces.number_front pieces.mark_len pieces.text_front
+end_too_late = refl
+
+pub end_too_early : given waiting (start waiting) resuming 3 ≡ 4
+unfolding int_wrap digits pieces.front pieces.name_front pieces.number_front pieces.mark_len pieces.text_front
+end_too_early = refl
+
+-- ---- a client in Freeze
+
+abbrev pub asking : List Noted
+asking =
+    (0, Join 1) ∷ (0, Said 1 (codes "trick.var_exists(\"counter.n\")")) ∷ (0, Said 1 (codes "trick.var_exists(\"counter.m\")"))
+    ∷ (0, Said 1 (codes "hello")) ∷ (1, Said 1 (codes "trick.var_add(\"counter.n\")")) ∷ (1, Said 1 (codes "trick.var_send()"))
+    ∷ (2, Leave 1 HungUp) ∷ []
+
+-- No time passes, and the run ends in Freeze when no line is left.
+pub asking_ends : Ends waiting (start waiting) (lists_of asking 3 0) (
+    (codes "final.chk", codes "checkpoint = 1;\nturn = 3;\ntic = 0;\nlimit = 7;\nmode = Shutdown;\n" ++ codes "counter.n = 0;\njob[0] = 1;\nfaults = 0;\nend;\n")
+    ∷ (codes "journal.txt", journal_text 0 asking 3)
+    ∷ [])
+unfolding int_wrap digits pieces.front pieces.name_front pieces.number_front pieces.mark_len pieces.text_front
+asking_ends = record { goes = refl; over = refl; files = refl }
+
+pub asking_is_told : session_text waiting (start waiting) (lists_of asking 3 0) 1 ≡ (codes "1\t1\n" ∷ codes "1\t0\n" ∷ codes "4\tbad command\n" ∷ codes "0\t0\n" ∷ [])
+unfolding int_wrap digits pieces.front pieces.name_front pieces.number_front pieces.mark_len pieces.text_front
+asking_is_told = refl
+
+-- ---- sessions at a loaded state
+
+abbrev pub staying : List Noted
+staying =
+    (0, Join 1) ∷ (0, Said 1 (codes "trick.var_add(\"counter.n\")")) ∷ (0, Join 4) ∷ (0, Said 1 (codes "trick.exec_run()"))
+    ∷ (1, Leave 1 HungUp) ∷ (1, Join 5) ∷ (2, Said 4 (codes "trick.var_add(\"counter.n\")"))
+    ∷ (2, Said 4 (codes "trick.var_send()")) ∷ (3, Said 5 (codes "trick.var_exists(\"counter.n\")")) ∷ []
+
+-- the state after two turns
+abbrev pub halfway : State
+halfway = (after_turns waiting (opened (start waiting)) (take 2 (lists_of staying 4 0))).state
+
+-- From there sessions 4 and 5, which joined and did not leave, join first.
+pub staying_ends : Ends waiting halfway (lists_of staying 4 2) (
+    (codes "journal.txt", codes "tricks journal 1\nfrom 2\n2 join 4\n2 join 5\n2 cmd 4 trick.var_add(\"counter.n\")\n" ++ codes "2 cmd 4 trick.var_send()\n3 cmd 5 trick.var_exists(\"counter.n\")\nend 4\n")
+    ∷ [])
+unfolding int_wrap digits pieces.front pieces.name_front pieces.number_front pieces.mark_len pieces.text_front
+staying_ends = record { goes = refl; over = refl; files = refl }
+
+pub staying_is_told : session_text waiting halfway (lists_of staying 4 2) 4 ≡ (codes "0\t3\n" ∷ [])
+unfolding int_wrap digits pieces.front pieces.name_front pieces.number_front pieces.mark_len pieces.text_front
+staying_is_told = refl
