@@ -16,3 +16,11 @@ mod Clients
 mod Lines
 -- Plans that are not accepted.
 mod Refusals
+-- At an idle tic each part of a tic does nothing.
+pub mod Idle
+-- Sessions change nothing but messages.
+pub mod Sessions
+-- Runs, cut in two, and under a journal.
+pub mod Runs
+-- A turn keeps the lengths of all lists of a state.
+pub mod Sizes

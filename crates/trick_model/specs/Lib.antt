@@ -44,6 +44,8 @@ pub mod Forms
 pub mod Commands
 -- The condition of an event.
 pub mod Condition
+-- Laws of a run.
+pub mod Laws
 -- What a valid plan keeps.
 pub mod Valid
 -- The plan that a value of the code holds.

@@ -11,6 +11,7 @@ mod event;
 mod faults;
 mod flags;
 mod group;
+pub mod laws;
 mod mode;
 mod plan;
 mod read_at;

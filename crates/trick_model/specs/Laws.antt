@@ -1,0 +1,108 @@
+-- Laws of a run.
+use Rattle.std.specs.List.{list_any}
+use Rattle.std.specs.Prelude.{◌≡◌, ℕ, ◌<◌, ◌≤◌, ◌+◌, ◌%◌, ◌==◌, suc, Bool, false, ◌&&◌, ◌||◌, IsTrue, List, [], ◌∷◌, ◌++◌, length}
+use Rattle.trick_model.specs.Beside.{ends_at}
+use Rattle.trick_model.specs.Events.{Asking}
+use Rattle.trick_model.specs.Files.{turns_said, turns_writes}
+use Rattle.trick_model.specs.Order.{jobs_at, key}
+use Rattle.trick_model.specs.Plan.{Event, Plan, is_on, job_at, threads_beside}
+use Rattle.trick_model.specs.Run.{Fits, Lasts, after_turns, opened}
+use Rattle.trick_model.specs.State.{State, World}
+use Rattle.trick_model.specs.Tic.{tics}
+use Rattle.trick_model.specs.Turn.{Turned, turn}
+use Rattle.trick_model.specs.declared.entry.Entry.{Entry}
+use Rattle.trick_model.specs.declared.group.Group.{Group}
+use Rattle.trick_model.specs.declared.plan.Plan.{Plan as PlanValue}
+use Rattle.trick_model.specs.declared.read_at.ReadAt.{ReadAt}
+
+-- ---- idle tics
+
+-- an event that is active is due; k is the number of the first
+abbrev pub event_is_due : ℕ → ℕ → List Event → State → Bool
+event_is_due tic k [] s = false
+event_is_due tic k (event ∷ events) s =
+    (is_on s.events k && ((tic % event.cycle) == 0)) || event_is_due tic (suc k) events s
+
+-- a group that is on is due
+abbrev pub group_is_due : ℕ → ℕ → List Group → State → Bool
+group_is_due tic k [] s = false
+group_is_due tic k (group ∷ groups) s =
+    (is_on s.groups k && ((tic % group.cycle) == 0)) || group_is_due tic (suc k) groups s
+
+-- At the next tic nothing is to be done: no read, no active event and no group is due, no must-finish
+-- thread ends a cycle, and no job is due.
+pub record IsIdle (p : Plan) (s : State) : Type 0 where
+  pub reads : list_any (λ (read : ReadAt). read.tic == s.tic) p.read_ats ≡ false
+  pub events : event_is_due s.tic 0 p.events s ≡ false
+  pub threads : list_any (ends_at s.tic) (threads_beside p) ≡ false
+  pub jobs : jobs_at p s.jobs s.tic ≡ []
+  pub groups : group_is_due s.tic 0 p.groups s ≡ false
+
+-- so many tics later, with nothing else changed
+abbrev pub later : ℕ → Asking → Asking
+later count a = let s = a.state in record a { state = record s { tic = s.tic + count } }
+
+-- Idle tics below the limit pass and do nothing else, so that they can be left out.
+abbrev pub IdleTicsPass : Type 0
+IdleTicsPass =
+    (p : Plan) (a : Asking) (count more : ℕ) → a.state.tic + count ≤ a.state.limit
+    → ((k : ℕ) → k < count → IsIdle p (later k a).state) → tics p (count + more) a ≡ tics p more (later count a)
+
+-- From the limit on no tic is run.
+abbrev pub LimitStops : Type 0
+LimitStops =
+    (p : Plan) (a : Asking) (count : ℕ) → a.state.limit ≤ a.state.tic → tics p count a ≡ record { asking = a; writes = [] }
+
+-- ---- what a turn can change
+
+-- how many entries the lists of a state have
+abbrev pub sizes : State → List ℕ
+sizes s =
+    length s.memory ∷ length s.jobs.on ∷ length s.events.on ∷ length s.groups.on ∷ length s.last
+    ∷ length s.taken ∷ []
+
+-- A turn keeps the lengths of all lists.
+abbrev pub KeepsSizes : Type 0
+KeepsSizes = (p : Plan) (w : World) (entries : List Entry) → sizes (turn p w entries).world.state ≡ sizes w.state
+
+-- Two turns do the same but for their sessions and messages.
+pub record DoSame (one other : Turned) : Type 0 where
+  pub state : one.world.state ≡ other.world.state
+  pub noted : one.noted ≡ other.noted
+  pub writes : one.writes ≡ other.writes
+
+-- Sessions change nothing but messages: worlds of one state go on to one state and write the same.
+abbrev pub SessionsDoNotMatter : Type 0
+SessionsDoNotMatter =
+    (p : Plan) (w v : World) (entries : List Entry) → w.state ≡ v.state → DoSame (turn p w entries) (turn p v entries)
+
+-- ---- runs
+
+-- A run may be cut in two: it writes and says what the first turns do, and then what the others do.
+pub record RunsJoin : Type 0 where
+  pub writes : (p : Plan) (w : World) (early late : List (List Entry))
+      → turns_writes p w (early ++ late) ≡ turns_writes p w early ++ turns_writes p (after_turns p w early) late
+  pub said : (p : Plan) (w : World) (early late : List (List Entry))
+      → turns_said p w (early ++ late) ≡ turns_said p w early ++ turns_said p (after_turns p w early) late
+  pub worlds : (p : Plan) (w : World) (early late : List (List Entry))
+      → after_turns p w (early ++ late) ≡ after_turns p (after_turns p w early) late
+
+-- A journal gives a world one run at most.
+abbrev pub OneRun : Type 0
+OneRun =
+    (p : Plan) (w end other : World) (left lists more : List (List Entry))
+    → Lasts p w left lists end → Lasts p w left more other → (lists ≡ more) × (end ≡ other)
+
+-- Lists that are those of a whole run are what it is given under themselves.
+abbrev pub FittingLasts : Type 0
+FittingLasts =
+    (p : Plan) (s : State) (lists : List (List Entry)) → Fits p s lists
+    → Lasts p (opened s) lists lists (after_turns p (opened s) lists)
+
+-- ---- order
+
+-- No two jobs of a program have one key, so that key order is one order.
+abbrev pub KeysDiffer : Type 0
+KeysDiffer =
+    (plan : PlanValue) (a b : ℕ) → let jobs = plan.program.jobs in
+    a < length jobs → b < length jobs → key (job_at jobs a) ≡ key (job_at jobs b) → a ≡ b

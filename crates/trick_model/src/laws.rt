@@ -1,0 +1,44 @@
+//! Laws of a run, for every plan, state and journal. A function that calls one of them may rest on
+//! what it says; the call itself does nothing.
+
+ghost use Rattle.trick_model.specs.Laws.{FittingLasts, IdleTicsPass, KeepsSizes, KeysDiffer, LimitStops, OneRun, RunsJoin, SessionsDoNotMatter};
+
+/// Idle tics below the limit pass and do nothing else.
+pub fn idle_tics_pass()
+    ensures { IdleTicsPass }
+{}
+
+/// From the limit on no tic is run.
+pub fn limit_stops()
+    ensures { LimitStops }
+{}
+
+/// A turn keeps the lengths of all lists of a state.
+pub fn turns_keep_sizes()
+    ensures { KeepsSizes }
+{}
+
+/// Sessions change nothing but messages.
+pub fn sessions_do_not_matter()
+    ensures { SessionsDoNotMatter }
+{}
+
+/// A run may be cut in two.
+pub fn runs_join()
+    ensures { RunsJoin }
+{}
+
+/// A journal gives a world one run at most.
+pub fn one_run()
+    ensures { OneRun }
+{}
+
+/// Lists that are those of a whole run are what it is given under themselves.
+pub fn fitting_lists_last()
+    ensures { FittingLasts }
+{}
+
+/// No two jobs of a program have one key.
+pub fn keys_differ()
+    ensures { KeysDiffer }
+{}
