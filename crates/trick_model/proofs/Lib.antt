@@ -24,3 +24,5 @@ pub mod Sessions
 pub mod Runs
 -- A turn keeps the lengths of all lists of a state.
 pub mod Sizes
+-- No two jobs of a program have one key.
+pub mod Keys

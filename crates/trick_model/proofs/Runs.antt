@@ -31,7 +31,7 @@ worlds_join p w (entries ∷ early) late = worlds_join p (turn p w entries).worl
 pub runs_join : RunsJoin
 runs_join = record { writes = writes_join; said = said_join; worlds = worlds_join }
 
-not_both : (b : Bool) → IsTrue b → IsTrue (not b) → ⊥
+pub not_both : (b : Bool) → IsTrue b → IsTrue (not b) → ⊥
 not_both true holds fails = grind (arith, fails)
 not_both false holds fails = grind (arith, holds)
 
@@ -42,11 +42,11 @@ one_run p w end other left lists more (on h rest) (over g) = absurd (not_both (i
 one_run p w end other left lists more (on h rest) (on g others) =
     let same = one_run p _ end other _ _ _ rest others in (ap (λ (ls : List (List Entry)). next_of left ∷ ls) same.0, same.1)
 
-and_left : (a b : Bool) → IsTrue (a && b) → IsTrue a
+pub and_left : (a b : Bool) → IsTrue (a && b) → IsTrue a
 and_left true b h = refl
 and_left false b h = h
 
-and_right : (a b : Bool) → IsTrue (a && b) → IsTrue b
+pub and_right : (a b : Bool) → IsTrue (a && b) → IsTrue b
 and_right true b h = h
 and_right false b h = grind (arith, h)
 

@@ -148,6 +148,6 @@ abbrev pub noted_lines : List Noted → List ℕ
 noted_lines [] = []
 noted_lines (e ∷ es) = entry_line e.0 e.1 ++ noted_lines es
 
--- the text of a journal
+-- The text of a journal: where it begins, its entries, and its end.
 abbrev pub journal_text : (from : ℕ) → List Noted → (end : ℕ) → List ℕ
 journal_text from entries end = first_lines from ++ noted_lines entries ++ last_line end
