@@ -26,3 +26,5 @@ pub mod Runs
 pub mod Sizes
 -- No two jobs of a program have one key.
 pub mod Keys
+-- Lists whose entries keep what their places ask for.
+pub mod Ranges

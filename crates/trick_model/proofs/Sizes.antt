@@ -8,7 +8,8 @@ use Rattle.trick_lang.specs.declared.fault.Stop.{Stop}
 use Rattle.trick_model.specs.Access.{may_write}
 use Rattle.trick_model.specs.Beside.{each_thread, ends_at, find_thread, held_work, must_finish, publish, published, publish_round, replaced, start_round, take, taken_from, where_ends, work}
 use Rattle.trick_model.specs.Events.{Asking, Between, InTic, Moment, act_all, do_deed, do_found, enter_freeze, event_acts, events_done, fire, fired, fires, leave_freeze, names_of, reads_done}
-use Rattle.trick_model.specs.Laws.{KeepsSizes, sizes}
+use Rattle.trick_model.specs.Laws.{KeepsSizes}
+use Rattle.trick_model.specs.ValidState.{sizes}
 use Rattle.trick_model.specs.Names.{Deed, SetCell, SetJob, Freeze, Stop as StopRun, Checkpoint, SetGroup, SetEvent, deed_of}
 use Rattle.trick_model.specs.Order.{jobs_at, jobs_in}
 use Rattle.trick_model.specs.Plan.{Event, Plan, is_on, threads_beside}
@@ -56,7 +57,7 @@ jobs_length p on tic (k ∷ ks) memory = jobs_length p on tic ks (apply p (on k)
 abbrev others : State → List ℕ
 others s = length s.jobs.on ∷ length s.events.on ∷ length s.groups.on ∷ length s.last ∷ length s.taken ∷ []
 
-settled_keeps : (after : After) (s : State) → length after.memory ≡ length s.memory → sizes (settled after s) ≡ sizes s
+pub settled_keeps : (after : After) (s : State) → length after.memory ≡ length s.memory → sizes (settled after s) ≡ sizes s
 settled_keeps after s e = ap (λ (n : ℕ). n ∷ others s) e
 
 -- a choice of two keeps what both keep
@@ -69,7 +70,7 @@ class_keeps p c s = settled_keeps (after_jobs p (is_on s.jobs) s.tic (jobs_in p.
 
 -- ---- events
 
-deed_keeps : (moment : Moment) (deed : Deed) (a : Asking) → sizes (do_deed moment deed a).state ≡ sizes a.state
+pub deed_keeps : (moment : Moment) (deed : Deed) (a : Asking) → sizes (do_deed moment deed a).state ≡ sizes a.state
 deed_keeps moment (SetCell cell number) a = let s = a.state in ap (λ (n : ℕ). n ∷ others s) (length-set s.memory cell number)
 deed_keeps moment (SetJob job on) a = let s = a.state in
     ap (λ (n : ℕ). length s.memory ∷ n ∷ length s.events.on ∷ length s.groups.on ∷ length s.last ∷ length s.taken ∷ []) (length-set s.jobs.on job on)

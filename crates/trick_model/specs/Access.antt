@@ -30,4 +30,5 @@ scope p thread =
 -- may write, and every cell that a job may write which may read a cell of the set.
 pub data IsReached (p : Plan) : ℕ → Type 0 where
   Source : (k cell : ℕ) → k < length p.jobs → IsTrue (is_on_async p.jobs p.threads k) → IsTrue (writes_cell p k cell) → IsReached p cell
-  Passed : (k from cell : ℕ) → k < length p.jobs → IsReached p from → IsTrue (reads_cell p k from) → IsTrue (writes_cell p k cell) → IsReached p cell
+  Passed : (k from cell : ℕ) → k < length p.jobs → IsReached p from
+      → IsTrue (reads_cell p k from) → IsTrue (writes_cell p k cell) → IsReached p cell

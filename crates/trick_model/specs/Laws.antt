@@ -10,6 +10,7 @@ use Rattle.trick_model.specs.Run.{Fits, Lasts, after_turns, opened}
 use Rattle.trick_model.specs.State.{State, World}
 use Rattle.trick_model.specs.Tic.{tics}
 use Rattle.trick_model.specs.Turn.{Turned, turn}
+use Rattle.trick_model.specs.ValidState.{sizes}
 use Rattle.trick_model.specs.declared.entry.Entry.{Entry}
 use Rattle.trick_model.specs.declared.group.Group.{Group}
 use Rattle.trick_model.specs.declared.plan.Plan.{Plan as PlanValue}
@@ -54,12 +55,6 @@ LimitStops =
     (p : Plan) (a : Asking) (count : ℕ) → a.state.limit ≤ a.state.tic → tics p count a ≡ record { asking = a; writes = [] }
 
 -- ---- what a turn can change
-
--- how many entries the lists of a state have
-abbrev pub sizes : State → List ℕ
-sizes s =
-    length s.memory ∷ length s.jobs.on ∷ length s.events.on ∷ length s.groups.on ∷ length s.last
-    ∷ length s.taken ∷ []
 
 -- A turn keeps the lengths of all lists.
 abbrev pub KeepsSizes : Type 0

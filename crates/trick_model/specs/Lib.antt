@@ -44,6 +44,8 @@ pub mod Forms
 pub mod Commands
 -- The condition of an event.
 pub mod Condition
+-- What a valid state of a plan keeps.
+pub mod ValidState
 -- Laws of a run.
 pub mod Laws
 -- What a valid plan keeps.
