@@ -36,7 +36,7 @@ all_effects =
     ∷ stores ((0, λ m. pos 0) ∷ [])
     ∷ stores ((0, λ m. neg_ℤ (number_at m 0)) ∷ [])
     ∷ one_of is_even (stores ((0, plus 0 (pos 1)) ∷ []))
-      (stores ((0, plus 0 (pos 1)) ∷ (1, λ m. number_at m 1 -ℤ number_at m 2) ∷ []))
+    (stores ((0, plus 0 (pos 1)) ∷ (1, λ m. number_at m 1 -ℤ number_at m 2) ∷ []))
     ∷ []
 
 -- it fires where a is 15 at least and s is not 0, sets both, and asks for Freeze

@@ -7,7 +7,7 @@ use Rattle.trick_model.specs.Events.{Asking, events_done, fire, fires, holds, re
 use Rattle.trick_model.specs.Laws.{IdleTicsPass, IsIdle, LimitStops, event_is_due, group_is_due, later}
 use Rattle.trick_model.specs.Order.{jobs_at}
 use Rattle.trick_model.specs.Plan.{Event, Plan, is_on, threads_beside}
-use Rattle.trick_model.specs.Records.{Rows, row_kept, row_writes, rows, writes_row}
+use Rattle.trick_model.specs.Records.{row_kept, row_writes, rows, writes_row}
 use Rattle.trick_model.specs.Running.{after_jobs, settled}
 use Rattle.trick_model.specs.State.{State}
 use Rattle.trick_model.specs.Tic.{Ticked, jobs_done, tic, tic_below_limit, tics}

@@ -1,5 +1,5 @@
 -- No two jobs of a program have one key.
-use Rattle.std.proofs.Common.{◌≡◌, ℕ, zero, suc, ◌<◌, ◌==◌, List, [], ◌∷◌, length, Bool, true, false, not, ◌&&◌, IsTrue, inl, inr, refl, sym, ap}
+use Rattle.std.proofs.Common.{◌≡◌, ℕ, zero, suc, ◌<◌, ◌==◌, List, [], ◌∷◌, length, true, not, IsTrue, inl, inr, refl, sym, ap}
 use Rattle.std.proofs.lemmas.Bool.{cases_order}
 use Rattle.std.proofs.lemmas.List.Sums.{AllPass-from_list_all}
 use Rattle.std.specs.List.{list_all, slice_index_or}
@@ -18,7 +18,7 @@ apart_at (job ∷ jobs) zero zero apart order fits same = absurd (omega (arith, 
 apart_at (job ∷ jobs) zero (suc b) apart order fits same =
     not_both (of_one_number job (job_at jobs b)) same
     (AllPass-from_list_all (λ other. not (of_one_number job other)) jobs
-      (and_left (list_all (λ other. not (of_one_number job other)) jobs) _ apart) b no_job (omega arith))
+    (and_left (list_all (λ other. not (of_one_number job other)) jobs) _ apart) b no_job (omega arith))
 apart_at (job ∷ jobs) (suc a) zero apart order fits same = absurd (omega (arith, order))
 apart_at (job ∷ jobs) (suc a) (suc b) apart order fits same =
     apart_at jobs a b (and_right (list_all (λ other. not (of_one_number job other)) jobs) _ apart) (omega arith) (omega arith) same

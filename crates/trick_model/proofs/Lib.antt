@@ -28,3 +28,7 @@ pub mod Sizes
 pub mod Keys
 -- Lists whose entries keep what their places ask for.
 pub mod Ranges
+-- Each part of a turn keeps what a valid state keeps.
+pub mod States
+-- A turn, and the start of a run, keep what a valid state keeps.
+pub mod Turns

@@ -1,8 +1,8 @@
 -- Lists whose entries keep what their places ask for; numbers that stay in the ranges of their cells.
-use Rattle.std.proofs.Common.{◌≡◌, ℕ, zero, suc, ◌+◌, ◌<◌, ◌≤◌, ℤ, pos, List, [], ◌∷◌, ◌++◌, length, map, Bool, true, false, cond, Option, Some, None, refl, sym, subst, ap, ◌∙◌}
+use Rattle.std.proofs.Common.{◌≡◌, ℕ, zero, suc, ◌+◌, ◌<◌, ◌≤◌, ℤ, pos, List, [], ◌∷◌, ◌++◌, length, map, Bool, true, false, cond, Option, Some, None, refl, sym, subst}
 use Rattle.std.specs.Int.{int_wrap}
 use Rattle.std.specs.List.{slice_index_or}
-use Rattle.std.specs.Prelude.{All, filter, flat_map, replicate, slice_set}
+use Rattle.std.specs.Prelude.{filter, flat_map, replicate, slice_set}
 use native.Mathlib.Omega.{arith}
 use Rattle.trick_lang.specs.Effect.{overwritten}
 use Rattle.trick_lang.specs.Wrap.{IsInRange, IsOf, scalar_at}
@@ -80,7 +80,7 @@ replaced_each P chosen cell others (n ∷ ns) new each (suc k) =
     let shift : (i : ℕ) → cell + suc i ≡ cell + 1 + i = λ i. omega arith in
     subst (λ (i : ℕ). P i (number_at (replaced chosen (cell + 1) others ns) k)) (sym (shift k))
     (replaced_each P chosen (cell + 1) others ns new
-      (λ i. subst (λ (j : ℕ). P j (number_at ns i)) (shift i) (each (suc i))) k)
+    (λ i. subst (λ (j : ℕ). P j (number_at ns i)) (shift i) (each (suc i))) k)
 
 pub spread_each : (scalars : List Scalar) (cells : List ℕ) (ns memory : List ℤ) → AreNumbersOf scalars cells ns
     → AreInRange scalars memory → AreInRange scalars (spread cells ns memory)

@@ -33,6 +33,6 @@ pub race : IsAccepted racing → ⊥
 race accepted = elim (accepted.no_race 0 1 (omega arith) (omega arith)
     (record { in_order = refl; first_scheduled = refl; second_scheduled = refl; on_two_threads = λ e. absurd (omega (arith, e)) })
     3 (record { started = omega arith; not_over = omega arith; in_step = refl }, record { started = omega arith; not_over = omega arith; in_step = refl })) [
-  | inl independent ↦ independent.both 0 refl refl
-  | inr ordered ↦ absurd (omega (arith, ordered.2))
-]
+      | inl independent ↦ independent.both 0 refl refl
+      | inr ordered ↦ absurd (omega (arith, ordered.2))
+    ]

@@ -1,5 +1,5 @@
 -- Runs, cut in two, and under a journal.
-use Rattle.std.proofs.Common.{◌≡◌, ℕ, List, [], ◌∷◌, ◌++◌, Bool, true, false, not, ◌&&◌, IsTrue, refl, sym, ap, ◌∙◌, append_assoc}
+use Rattle.std.proofs.Common.{◌≡◌, List, [], ◌∷◌, ◌++◌, Bool, true, false, not, ◌&&◌, IsTrue, refl, sym, ap, ◌∙◌, append_assoc}
 use native.Mathlib.Omega.{arith}
 use Rattle.trick_model.specs.Files.{turn_writes, turns_said, turns_writes}
 use Rattle.trick_model.specs.Laws.{FittingLasts, OneRun, RunsJoin}

@@ -5,7 +5,7 @@ use Rattle.trick_model.specs.Laws.{SessionsDoNotMatter}
 use Rattle.trick_model.specs.Names.{Deed, deed_of}
 use Rattle.trick_model.specs.Plan.{Plan}
 use Rattle.trick_model.specs.Session.{Answer, acted, added, answered, bad, quiet}
-use Rattle.trick_model.specs.Turn.{Hearing, begun, checkpoint_jobs, checkpoint_writes, counted, do_between, framed, hear, heard, noted, resumed, rounds, runs, session_of, turn}
+use Rattle.trick_model.specs.Turn.{Hearing, begun, checkpoint_jobs, checkpoint_writes, counted, do_between, framed, hear, heard, noted, resumed, rounds, runs, session_of}
 use Rattle.trick_model.specs.Events.{Asking}
 use Rattle.trick_model.specs.State.{State}
 use Rattle.trick_model.specs.Tic.{Ticked}

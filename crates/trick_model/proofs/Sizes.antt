@@ -47,7 +47,7 @@ apply_length : (p : Plan) (on : Bool) (tic k : ℕ) (memory : List ℤ) → leng
 apply_length p false tic k memory = refl
 apply_length p true tic k memory = outcome_length tic k memory (p.effect k memory)
 
-jobs_length : (p : Plan) (on : ℕ → Bool) (tic : ℕ) (ks : List ℕ) (memory : List ℤ) → length (after_jobs p on tic ks memory).memory ≡ length memory
+pub jobs_length : (p : Plan) (on : ℕ → Bool) (tic : ℕ) (ks : List ℕ) (memory : List ℤ) → length (after_jobs p on tic ks memory).memory ≡ length memory
 jobs_length p on tic [] memory = refl
 jobs_length p on tic (k ∷ ks) memory = jobs_length p on tic ks (apply p (on k) tic k memory).memory ∙ apply_length p (on k) tic k memory
 
@@ -110,11 +110,11 @@ events_keep p tic k (event ∷ events) a =
 
 -- ---- beside the tics
 
-replaced_keeps : (chosen : ℕ → Bool) (cell : ℕ) (numbers ns : List ℤ) → length (replaced chosen cell numbers ns) ≡ length ns
+pub replaced_keeps : (chosen : ℕ → Bool) (cell : ℕ) (numbers ns : List ℤ) → length (replaced chosen cell numbers ns) ≡ length ns
 replaced_keeps chosen cell numbers [] = refl
 replaced_keeps chosen cell numbers (n ∷ ns) = ap suc (replaced_keeps chosen (cell + 1) numbers ns)
 
-taken_keeps : (s : State) (place : ℕ) (taken : Taken) → sizes (record s { taken = slice_set s.taken place taken }) ≡ sizes s
+pub taken_keeps : (s : State) (place : ℕ) (taken : Taken) → sizes (record s { taken = slice_set s.taken place taken }) ≡ sizes s
 taken_keeps s place taken =
     ap (λ (n : ℕ). length s.memory ∷ length s.jobs.on ∷ length s.events.on ∷ length s.groups.on ∷ length s.last ∷ n ∷ []) (length-set s.taken place taken)
 
@@ -125,7 +125,7 @@ publish_keeps p place thread tic s =
     pick sizes taken.held _ s _
     (taken_keeps after place nothing_taken
     ∙ settled_keeps (published p thread s.jobs tic taken s.memory) s
-      (replaced_keeps (may_write p (work p thread s.jobs tic)) 0 (held_work p thread s.jobs tic taken).memory s.memory))
+    (replaced_keeps (may_write p (work p thread s.jobs tic)) 0 (held_work p thread s.jobs tic taken).memory s.memory))
     refl
 
 threads_keep : (step : ℕ → Thread → State → State) → ((place : ℕ) (thread : Thread) (s : State) → sizes (step place thread s) ≡ sizes s)
@@ -145,7 +145,7 @@ must_keeps p tic s =
 jobs_keep : (p : Plan) (tic : ℕ) (s : State) → sizes (jobs_done p tic s) ≡ sizes s
 jobs_keep p tic s = settled_keeps (after_jobs p (is_on s.jobs) tic (jobs_at p s.jobs tic) s.memory) s (jobs_length p (is_on s.jobs) tic (jobs_at p s.jobs tic) s.memory)
 
-last_keeps : (s : State) (k : ℕ) (row : List ℤ) → sizes (record s { last = slice_set s.last k (Some row) }) ≡ sizes s
+pub last_keeps : (s : State) (k : ℕ) (row : List ℤ) → sizes (record s { last = slice_set s.last k (Some row) }) ≡ sizes s
 last_keeps s k row =
     ap (λ (n : ℕ). length s.memory ∷ length s.jobs.on ∷ length s.events.on ∷ length s.groups.on ∷ n ∷ length s.taken ∷ []) (length-set s.last k (Some row))
 

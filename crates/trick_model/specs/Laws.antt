@@ -1,16 +1,17 @@
 -- Laws of a run.
 use Rattle.std.specs.List.{list_any}
-use Rattle.std.specs.Prelude.{◌≡◌, ℕ, ◌<◌, ◌≤◌, ◌+◌, ◌%◌, ◌==◌, suc, Bool, false, ◌&&◌, ◌||◌, IsTrue, List, [], ◌∷◌, ◌++◌, length}
+use Rattle.std.specs.Prelude.{◌≡◌, ℕ, ◌<◌, ◌≤◌, ◌+◌, ◌%◌, ◌==◌, suc, Bool, false, ◌&&◌, ◌||◌, List, [], ◌∷◌, ◌++◌, length}
 use Rattle.trick_model.specs.Beside.{ends_at}
 use Rattle.trick_model.specs.Events.{Asking}
 use Rattle.trick_model.specs.Files.{turns_said, turns_writes}
 use Rattle.trick_model.specs.Order.{jobs_at, key}
 use Rattle.trick_model.specs.Plan.{Event, Plan, is_on, job_at, threads_beside}
-use Rattle.trick_model.specs.Run.{Fits, Lasts, after_turns, opened}
+use Rattle.trick_model.specs.PlanOf.{plan_of}
+use Rattle.trick_model.specs.Run.{Fits, Lasts, after_turns, opened, shut, start}
 use Rattle.trick_model.specs.State.{State, World}
 use Rattle.trick_model.specs.Tic.{tics}
 use Rattle.trick_model.specs.Turn.{Turned, turn}
-use Rattle.trick_model.specs.ValidState.{sizes}
+use Rattle.trick_model.specs.ValidState.{IsSound, IsStateOf, sizes}
 use Rattle.trick_model.specs.declared.entry.Entry.{Entry}
 use Rattle.trick_model.specs.declared.group.Group.{Group}
 use Rattle.trick_model.specs.declared.plan.Plan.{Plan as PlanValue}
@@ -59,6 +60,21 @@ LimitStops =
 -- A turn keeps the lengths of all lists.
 abbrev pub KeepsSizes : Type 0
 KeepsSizes = (p : Plan) (w : World) (entries : List Entry) → sizes (turn p w entries).world.state ≡ sizes w.state
+
+-- A turn of a plan keeps what a valid state keeps.
+abbrev pub KeepsValidity : Type 0
+KeepsValidity =
+    (p : Plan) → IsSound p → (w : World) (entries : List Entry) → IsStateOf p w.state
+    → IsStateOf p (turn p w entries).world.state
+
+-- A run starts with a valid state, and ends with one.
+pub record StartsValid : Type 0 where
+  pub start : (p : Plan) → IsSound p → IsStateOf p (start p)
+  pub shut : (p : Plan) → IsSound p → (s : State) → IsStateOf p s → IsStateOf p (shut p s)
+
+-- Every plan of the code is sound.
+abbrev pub PlansAreSound : Type 0
+PlansAreSound = (plan : PlanValue) → IsSound (plan_of plan)
 
 -- Two turns do the same but for their sessions and messages.
 pub record DoSame (one other : Turned) : Type 0 where

@@ -1,6 +1,6 @@
 -- What a valid state of a plan keeps, and what a plan gives its states.
 use Rattle.std.specs.List.{slice_index_or}
-use Rattle.std.specs.Prelude.{◌≡◌, ℕ, ◌+◌, ◌<◌, ◌≤◌, min, ℤ, pos, Bool, false, IsTrue, All, List, [], ◌∷◌, length, map, Option, Some, None, Ok}
+use Rattle.std.specs.Prelude.{◌≡◌, ℕ, ◌+◌, ◌<◌, ◌≤◌, min, ℤ, pos, false, IsTrue, All, List, [], ◌∷◌, length, map, Option, Some, None, Ok}
 use Rattle.trick_lang.specs.Wrap.{IsInRange}
 use Rattle.trick_lang.specs.declared.cells.Cell.{Cell}
 use Rattle.trick_lang.specs.declared.fault.JobFault.{JobFault}

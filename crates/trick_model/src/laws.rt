@@ -1,7 +1,7 @@
 //! Laws of a run, for every plan, state and journal. A function that calls one of them may rest on
 //! what it says; the call itself does nothing.
 
-ghost use Rattle.trick_model.specs.Laws.{FittingLasts, IdleTicsPass, KeepsSizes, KeysDiffer, LimitStops, OneRun, RunsJoin, SessionsDoNotMatter};
+ghost use Rattle.trick_model.specs.Laws.{FittingLasts, IdleTicsPass, KeepsSizes, KeepsValidity, KeysDiffer, LimitStops, OneRun, PlansAreSound, RunsJoin, SessionsDoNotMatter, StartsValid};
 
 /// Idle tics below the limit pass and do nothing else.
 pub fn idle_tics_pass()
@@ -17,6 +17,23 @@ pub fn limit_stops()
 pub fn turns_keep_sizes()
     ensures { KeepsSizes }
 {}
+
+/// A turn of a plan keeps what a valid state keeps.
+pub fn turns_keep_validity()
+    ensures { KeepsValidity }
+{}
+
+/// A run starts with a valid state, and ends with one.
+pub fn runs_start_valid()
+    ensures { StartsValid }
+{}
+
+/// Every plan is sound, so that its states stay valid.
+pub fn plans_are_sound()
+    ensures { PlansAreSound }
+{
+    trick_lang::laws::range_law();
+}
 
 /// Sessions change nothing but messages.
 pub fn sessions_do_not_matter()
