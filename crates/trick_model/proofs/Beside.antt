@@ -8,7 +8,7 @@ use Rattle.trick_lang.specs.declared.fault.FaultKind.TheVariants as kind
 use Rattle.trick_model.proofs.Samples.{Ends, all_on, cells, effects, one_of, job, main_thread, plan_of_cells, plus, scheduled, stops, stores, thread, turns}
 use Rattle.trick_model.specs.Journal.{lists_of}
 use Rattle.trick_model.specs.Plan.{Plan}
-use Rattle.trick_model.specs.Run.{AreSerial, opened, start}
+use Rattle.trick_model.specs.Run.{IsOwnJournal, start}
 use Rattle.trick_model.specs.State.{number_at}
 use Rattle.trick_model.specs.declared.entry.Entry.TheVariants.{Publish}
 use Rattle.trick_model.specs.declared.thread.Process.TheVariants as process
@@ -57,9 +57,12 @@ rounds = record copying {
 }
 
 -- Without clients each round is published in the next run frame.
-pub rounds_are_serial : AreSerial rounds (opened (start rounds)) ([] ∷ (Publish 1 ∷ []) ∷ (Publish 1 ∷ []) ∷ (Publish 1 ∷ []) ∷ [])
+pub rounds_are_serial : IsOwnJournal rounds (start rounds) ([] ∷ (Publish 1 ∷ []) ∷ (Publish 1 ∷ []) ∷ (Publish 1 ∷ []) ∷ [])
 unfolding int_wrap digits
-rounds_are_serial = (refl, (refl, (refl, (refl, tt))))
+rounds_are_serial = record {
+  fits = record { goes = refl; over = refl };
+  published = (refl, (refl, (refl, (refl, tt))));
+}
 
 pub rounds_end : Ends rounds (start rounds) ([] ∷ (Publish 1 ∷ []) ∷ (Publish 1 ∷ []) ∷ (Publish 1 ∷ []) ∷ []) (
     (codes "final.chk", codes "checkpoint = 1;\nturn = 4;\ntic = 7;\nlimit = 7;\nmode = Shutdown;\no.n = 4;\no.y = 3;\n" ++ codes "job[0] = 1;\njob[1] = 1;\ngroup[0] = 1;\ntaken[1] = held;\ntaken[1].o.n = 4;\ntaken[1].o.y = 3;\n" ++ codes "taken[1].job[1] = 1;\nfaults = 0;\nend;\n")

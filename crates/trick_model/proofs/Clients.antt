@@ -1,5 +1,6 @@
 -- Clients: sessions, their texts, and journals.
 use Rattle.std.proofs.Common.{refl}
+use native.Mathlib.Omega.{arith}
 use Rattle.std.specs.Fmt.{digits}
 use Rattle.std.specs.Int.{int_wrap}
 use Rattle.std.specs.Prelude.{◌≡◌, true, List, [], ◌∷◌, ◌++◌, codes, take}
@@ -7,8 +8,9 @@ use Rattle.trick_model.proofs.Counting.{counter}
 use Rattle.trick_model.proofs.Samples.{Ends}
 use Rattle.trick_model.specs.Files.{session_text}
 use Rattle.trick_model.specs.Journal.{Noted, journal_text, lists_of}
+use Rattle.trick_model.specs.JournalText.{IsJournal}
 use Rattle.trick_model.specs.Plan.{Plan}
-use Rattle.trick_model.specs.Run.{after_turns, given, opened, start}
+use Rattle.trick_model.specs.Run.{JournalFits, after_turns, given, opened, start}
 use Rattle.trick_model.specs.State.{State}
 use Rattle.trick_model.specs.declared.entry.Cause.TheVariants.{HungUp}
 use Rattle.trick_model.specs.declared.entry.Entry.TheVariants.{Join, Said, Leave}
@@ -36,6 +38,24 @@ resuming_ends = record { goes = refl; over = refl; files = refl }
 pub resuming_journal : journal_text 0 resuming 4 ≡ codes "tricks journal 1\nfrom 0\n0 join 1\n0 cmd 1 trick.var_add(\"counter.n\")\n" ++ codes "0 cmd 1 trick.var_add(\"counter.zz\")\n0 cmd 1 trick.var_cycle(0.000002)\n0 cmd 1 trick.exec_run()\nend 4\n"
 unfolding int_wrap digits pieces.front pieces.name_front pieces.number_front pieces.mark_len pieces.text_front
 resuming_journal = refl
+
+-- The text is a journal's, which keeps all rules, and fits.
+pub resuming_is_journal : IsJournal waiting 0 (journal_text 0 resuming 4) (record {
+  from = 0;
+  entries = resuming;
+  end = 4;
+  in_range = refl;
+  rising = refl;
+  within = refl;
+  joined = refl;
+  forward = omega arith;
+  end_right = omega arith;
+})
+resuming_is_journal = record { text = refl; not_later = omega arith; published = refl }
+
+pub resuming_fits : JournalFits waiting (start waiting) resuming 4
+unfolding int_wrap digits pieces.front pieces.name_front pieces.number_front pieces.mark_len pieces.text_front
+resuming_fits = record { not_below = omega arith; fits = record { goes = refl; over = refl } }
 
 -- The last frame runs one tic, in which no multiple of the cycle passes, so that no fourth line is sent.
 pub resuming_is_told : session_text waiting (start waiting) (lists_of resuming 4 0) 1 ≡ (codes "0\t1\tBAD_REF\n" ∷ codes "0\t2\tBAD_REF\n" ∷ codes "0\t3\tBAD_REF\n" ∷ [])

@@ -2,8 +2,6 @@
 -- of one comes to.
 use Rattle.std.specs.List.{slice_index_or}
 use Rattle.std.specs.Prelude.{◌≡◌, ℕ, ℤ, ◌+ℤ◌, Bool, cond, true, false, List, [], ◌∷◌, length, map, replicate, slice_set, Option, Some, None, Result, Ok, Err}
-use Rattle.trick_base.specs.Content.{content}
-use Rattle.trick_base.specs.Files.{Write}
 use Rattle.trick_lang.specs.declared.class.Class.{Class}
 use Rattle.trick_lang.specs.declared.class.Class.TheVariants as class
 use Rattle.trick_lang.specs.declared.fault.FaultKind.{FaultKind}
@@ -12,7 +10,7 @@ use Rattle.trick_lang.specs.declared.job.Job.{Job}
 use Rattle.trick_lang.specs.declared.range.CellRange.{CellRange}
 use Rattle.trick_lang.specs.declared.scalar.Scalar.TheVariants as scalar
 use Rattle.trick_model.specs.Commands.{command_of}
-use Rattle.trick_model.specs.Files.{run_writes}
+use Rattle.trick_model.specs.Files.{file}
 use Rattle.trick_model.specs.Plan.{Plan}
 use Rattle.trick_model.specs.Run.{after_turns, goes_on, is_over, opened}
 use Rattle.trick_model.specs.State.{State, number_at}
@@ -130,9 +128,10 @@ turns count = replicate count []
 abbrev pub Texts : Type 0
 Texts = List (List ℕ × List ℕ)
 
-abbrev pub found : Texts → List Write → List (Option (List ℕ))
-found [] writes = []
-found (t ∷ ts) writes = content t.0 writes None ∷ found ts writes
+-- what these names hold after a run
+abbrev pub found : Plan → State → List (List Entry) → Texts → List (Option (List ℕ))
+found p s lists [] = []
+found p s lists (t ∷ ts) = file t.0 p s lists None ∷ found p s lists ts
 
 abbrev pub told : Texts → List (Option (List ℕ))
 told [] = []
@@ -143,4 +142,4 @@ told (t ∷ ts) = Some t.1 ∷ told ts
 pub record Ends (p : Plan) (s : State) (lists : List (List Entry)) (texts : Texts) : Type 0 where
   pub goes : goes_on p (opened s) lists ≡ true
   pub over : is_over (after_turns p (opened s) lists).state [] ≡ true
-  pub files : found texts (run_writes p s lists) ≡ told texts
+  pub files : found p s lists texts ≡ told texts

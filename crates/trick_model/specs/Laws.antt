@@ -1,10 +1,11 @@
 -- Laws of a run.
 use Rattle.std.specs.List.{list_any}
-use Rattle.std.specs.Prelude.{◌≡◌, ℕ, ◌<◌, ◌≤◌, ◌+◌, ◌%◌, ◌==◌, suc, Bool, false, ◌&&◌, ◌||◌, List, [], ◌∷◌, ◌++◌, length}
+use Rattle.std.specs.Prelude.{◌≡◌, ℕ, ◌<◌, ◌≤◌, ◌+◌, ◌%◌, ◌==◌, suc, Bool, false, ◌&&◌, ◌||◌, IsTrue, List, [], ◌∷◌, ◌++◌, length}
+use Rattle.trick_lang.specs.declared.job.Job.{Job}
 use Rattle.trick_model.specs.Beside.{ends_at}
 use Rattle.trick_model.specs.Events.{Asking}
 use Rattle.trick_model.specs.Files.{turns_said, turns_writes}
-use Rattle.trick_model.specs.Order.{jobs_at, key}
+use Rattle.trick_model.specs.Order.{in_key_order, jobs_at, key, precedes}
 use Rattle.trick_model.specs.Plan.{Event, Plan, is_on, job_at, threads_beside}
 use Rattle.trick_model.specs.PlanOf.{plan_of}
 use Rattle.trick_model.specs.Run.{Fits, Lasts, after_turns, opened, shut, start}
@@ -112,8 +113,38 @@ FittingLasts =
 
 -- ---- order
 
--- No two jobs of a program have one key, so that key order is one order.
+-- No two jobs of a program have one key.
 abbrev pub KeysDiffer : Type 0
 KeysDiffer =
     (plan : PlanValue) (a b : ℕ) → let jobs = plan.program.jobs in
     a < length jobs → b < length jobs → key (job_at jobs a) ≡ key (job_at jobs b) → a ≡ b
+
+-- whether the number is one of these
+abbrev pub is_among : ℕ → List ℕ → Bool
+is_among k ks = list_any (λ j. j == k) ks
+
+-- the same numbers, in whatever order
+abbrev pub HaveSame : List ℕ → List ℕ → Type 0
+HaveSame ks js = (k : ℕ) → is_among k ks ≡ is_among k js
+
+-- different jobs of the program
+abbrev pub AreJobs : List Job → List ℕ → Type 0
+AreJobs jobs [] = Unit {0}
+AreJobs jobs (k ∷ ks) = (k < length jobs) × (is_among k ks ≡ false) × AreJobs jobs ks
+
+-- a job comes before all of these
+abbrev pub IsBefore : List Job → ℕ → List ℕ → Type 0
+IsBefore jobs k [] = Unit {0}
+IsBefore jobs k (j ∷ js) = IsTrue (precedes jobs k j) × IsBefore jobs k js
+
+-- each job comes before all later ones
+abbrev pub AreInKeyOrder : List Job → List ℕ → Type 0
+AreInKeyOrder jobs [] = Unit {0}
+AreInKeyOrder jobs (k ∷ ks) = IsBefore jobs k ks × AreInKeyOrder jobs ks
+
+-- Jobs have one key order: it has the same jobs, each before all later ones, and no other list has.
+pub record KeyOrderIsOne : Type 0 where
+  pub ordered : (plan : PlanValue) (ks : List ℕ) → AreJobs plan.program.jobs ks
+      → AreInKeyOrder plan.program.jobs (in_key_order plan.program.jobs ks)
+  pub same : (jobs : List Job) (ks : List ℕ) → HaveSame ks (in_key_order jobs ks)
+  pub one : (jobs : List Job) (ks js : List ℕ) → AreInKeyOrder jobs ks → AreInKeyOrder jobs js → HaveSame ks js → ks ≡ js

@@ -46,6 +46,8 @@ pub mod Commands
 pub mod Condition
 -- What a valid state of a plan keeps.
 pub mod ValidState
+-- Which texts are journals.
+pub mod JournalText
 -- Laws of a run.
 pub mod Laws
 -- What a valid plan keeps.

@@ -1,7 +1,7 @@
 //! Laws of a run, for every plan, state and journal. A function that calls one of them may rest on
 //! what it says; the call itself does nothing.
 
-ghost use Rattle.trick_model.specs.Laws.{FittingLasts, IdleTicsPass, KeepsSizes, KeepsValidity, KeysDiffer, LimitStops, OneRun, PlansAreSound, RunsJoin, SessionsDoNotMatter, StartsValid};
+ghost use Rattle.trick_model.specs.Laws.{FittingLasts, IdleTicsPass, KeepsSizes, KeepsValidity, KeyOrderIsOne, KeysDiffer, LimitStops, OneRun, PlansAreSound, RunsJoin, SessionsDoNotMatter, StartsValid};
 
 /// Idle tics below the limit pass and do nothing else.
 pub fn idle_tics_pass()
@@ -58,4 +58,9 @@ pub fn fitting_lists_last()
 /// No two jobs of a program have one key.
 pub fn keys_differ()
     ensures { KeysDiffer }
+{}
+
+/// Jobs have one key order.
+pub fn key_order_is_one()
+    ensures { KeyOrderIsOne }
 {}
