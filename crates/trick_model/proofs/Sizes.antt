@@ -6,7 +6,7 @@ use Rattle.trick_lang.specs.declared.class.Class.{Class}
 use Rattle.trick_lang.specs.declared.class.Class.TheVariants as class
 use Rattle.trick_lang.specs.declared.fault.Stop.{Stop}
 use Rattle.trick_model.specs.Access.{may_write}
-use Rattle.trick_model.specs.Beside.{each_thread, ends_at, find_thread, held_work, must_finish, publish, published, publish_round, replaced, start_round, take, taken_from, where_ends, work}
+use Rattle.trick_model.specs.Beside.{each_thread, ends_at, find_thread, has_round, held_work, must_finish, publish, published, publish_round, replaced, start_round, take, taken_from, where_ends, work}
 use Rattle.trick_model.specs.Events.{Asking, Between, InTic, Moment, act_all, do_deed, do_found, enter_freeze, event_acts, events_done, fire, fired, fires, leave_freeze, names_of, reads_done}
 use Rattle.trick_model.specs.Laws.{KeepsSizes}
 use Rattle.trick_model.specs.ValidState.{sizes}
@@ -208,10 +208,12 @@ heard_keeps : (p : Plan) (entries : List Entry) (h : Hearing) → sizes (heard p
 heard_keeps p [] h = refl
 heard_keeps p (entry ∷ entries) h = heard_keeps p entries _ ∙ hear_keeps p entry h
 
-by_place : (p : Plan) (found : Option (ℕ × Thread)) (s : State)
-    → sizes (elim found [ None ↦ s | Some found ↦ publish p found.0 found.1 s.tic s ]) ≡ sizes s
+by_place : (p : Plan) (found : Option (ℕ × Thread)) (s : State) → sizes (elim found [
+  | None ↦ s
+  | Some found ↦ elim (has_round s found.0 found.1) [ true ↦ publish p found.0 found.1 s.tic s | false ↦ s ]
+]) ≡ sizes s
 by_place p None s = refl
-by_place p (Some found) s = publish_keeps p found.0 found.1 s.tic s
+by_place p (Some found) s = pick sizes (has_round s found.0 found.1) _ s _ (publish_keeps p found.0 found.1 s.tic s) refl
 
 publish_all_keeps : (p : Plan) (entries : List Entry) (s : State) → sizes (publish_all p entries s) ≡ sizes s
 publish_all_keeps p [] s = refl

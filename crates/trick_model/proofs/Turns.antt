@@ -12,7 +12,7 @@ use Rattle.trick_model.proofs.Ranges.{Below, filter_below, flat_below, jobs_belo
 use Rattle.trick_model.proofs.Sizes.{last_keeps, replaced_keeps}
 use Rattle.trick_model.proofs.States.{IsAfter, IsFound, action_found, by_test, class_right, deed_right, due_right, enter_right, fire_right, jobs_right, leave_right, settled_right, with_last, with_memory, with_mode, with_taken, with_tic, with_turn}
 use Rattle.trick_model.specs.Access.{may_write, scope}
-use Rattle.trick_model.specs.Beside.{each_thread, ends_at, find_thread, flag_in, held_work, must_finish, one_later, publish, publish_round, published, spread, start_round, take, taken_from, tics_from, where_ends, work, zeros}
+use Rattle.trick_model.specs.Beside.{each_thread, ends_at, find_thread, flag_in, has_round, held_work, must_finish, one_later, publish, publish_round, published, spread, start_round, take, taken_from, tics_from, where_ends, work, zeros}
 use Rattle.trick_model.specs.Events.{Asking, Between, fire, names_of}
 use Rattle.trick_model.specs.Laws.{KeepsValidity, StartsValid}
 use Rattle.trick_model.specs.Names.{Deed, SetCell, SetJob, Freeze, Stop as StopRun, Checkpoint, SetGroup, SetEvent, deed_of}
@@ -294,13 +294,17 @@ find_at p place number (thread ∷ threads) at =
     either_found p place (thread.number == number) (Some (0, thread)) (one_later (find_thread number threads))
     (subst (λ (n : ℕ). IsAt p n thread) same at.0) (later_at p place (find_thread number threads) (find_at p (place + 1) number threads at.1))
 
-round_right : (p : Plan) → IsSound p → (found : Option (ℕ × Thread)) (s : State) → FoundAt p 0 found → IsStateOf p s
-    → IsStateOf p (elim found [ None ↦ s | Some found ↦ publish p found.0 found.1 s.tic s ])
+round_right : (p : Plan) → IsSound p → (found : Option (ℕ × Thread)) (s : State) → FoundAt p 0 found → IsStateOf p s → IsStateOf p (elim found [
+  | None ↦ s
+  | Some found ↦ elim (has_round s found.0 found.1) [ true ↦ publish p found.0 found.1 s.tic s | false ↦ s ]
+])
 round_right p sound None s at good = good
 round_right p sound (Some found) s at good =
     let same : 0 + found.0 ≡ found.0 = omega arith in
-    publish_right p sound found.0 found.1 s.tic s good.tic
-    (record_at p found.0 found.1 s (subst (λ (n : ℕ). IsAt p n found.1) same at) good) good
+    by_test p (has_round s found.0 found.1) _ s
+    (λ there. publish_right p sound found.0 found.1 s.tic s good.tic
+      (record_at p found.0 found.1 s (subst (λ (n : ℕ). IsAt p n found.1) same at) good) good)
+    (λ none. good)
 
 publish_all_right : (p : Plan) → IsSound p → (entries : List Entry) (s : State) → IsStateOf p s → IsStateOf p (publish_all p entries s)
 publish_all_right p sound [] s good = good

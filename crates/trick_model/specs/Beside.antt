@@ -1,8 +1,8 @@
 -- Work beside the tics: must-finish and asynchronous threads.
-use Rattle.std.specs.Prelude.{ℕ, suc, zero, ◌+◌, ◌-◌, ◌%◌, ◌==◌, ℤ, pos, Bool, true, false, cond, List, [], ◌∷◌, map, filter, flat_map, replicate, length, slice_set, Option, Some, None}
+use Rattle.std.specs.Prelude.{ℕ, suc, zero, ◌+◌, ◌-◌, ◌%◌, ◌==◌, ℤ, pos, Bool, true, false, ◌&&◌, cond, List, [], ◌∷◌, map, filter, flat_map, replicate, length, slice_set, Option, Some, None}
 use Rattle.trick_model.specs.Access.{may_write, scope}
 use Rattle.trick_model.specs.Order.{in_key_order, is_due}
-use Rattle.trick_model.specs.Plan.{Plan, is_on, jobs_of, threads_beside}
+use Rattle.trick_model.specs.Plan.{Plan, is_async, is_on, jobs_of, threads_beside}
 use Rattle.trick_model.specs.Running.{After, after_jobs, settled}
 use Rattle.trick_model.specs.State.{State, nothing_taken, number_at, taken_at}
 use Rattle.trick_model.specs.declared.flags.Flags.{Flags}
@@ -127,18 +127,22 @@ find_thread number [] = None
 find_thread number (thread ∷ threads) =
     elim (thread.number == number) [ true ↦ Some (0, thread) | false ↦ one_later (find_thread number threads) ]
 
--- A thread of this number has a round in flight.
+-- whether the thread at this place has a round in flight
+abbrev pub has_round : State → ℕ → Thread → Bool
+has_round s place thread = is_async thread.process && (taken_at s place).held
+
+-- The asynchronous thread of this number has a round in flight.
 abbrev pub is_in_flight : Plan → State → ℕ → Bool
 is_in_flight p s number = elim (find_thread number (threads_beside p)) [
   | None ↦ false
-  | Some found ↦ (taken_at s found.0).held
+  | Some found ↦ has_round s found.0 found.1
 ]
 
--- the round of a thread is published, with the state's `tic`
+-- The round of the thread of this number is published, with the state's `tic`.
 abbrev pub publish_round : Plan → ℕ → State → State
 publish_round p number s = elim (find_thread number (threads_beside p)) [
   | None ↦ s
-  | Some found ↦ publish p found.0 found.1 s.tic s
+  | Some found ↦ elim (has_round s found.0 found.1) [ true ↦ publish p found.0 found.1 s.tic s | false ↦ s ]
 ]
 
 -- An asynchronous thread that has nothing in flight takes its cells and starts a round.

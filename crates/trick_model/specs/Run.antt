@@ -6,7 +6,7 @@ use Rattle.trick_lang.specs.declared.class.Class.TheVariants as class
 use Rattle.trick_model.specs.Beside.{is_in_flight, zeros}
 use Rattle.trick_model.specs.Events.{enter_freeze}
 use Rattle.trick_model.specs.Journal.{Noted, is_of_session, lists_of}
-use Rattle.trick_model.specs.Plan.{Plan, is_async, threads_beside}
+use Rattle.trick_model.specs.Plan.{Plan, threads_beside}
 use Rattle.trick_model.specs.Running.{run_class}
 use Rattle.trick_model.specs.State.{State, World, nothing_taken}
 use Rattle.trick_model.specs.Turn.{is_frozen, runs, turn}
@@ -146,7 +146,7 @@ given p s entries end = elim (nat_lt end s.turn) [
 -- the publications of all rounds in flight, in the order of their threads
 abbrev pub all_published : Plan → List Thread → State → List Entry
 all_published p [] s = []
-all_published p (thread ∷ threads) s = elim (is_async thread.process && is_in_flight p s thread.number) [
+all_published p (thread ∷ threads) s = elim (is_in_flight p s thread.number) [
   | true ↦ Publish thread.number ∷ all_published p threads s
   | false ↦ all_published p threads s
 ]
