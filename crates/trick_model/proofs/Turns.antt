@@ -303,7 +303,7 @@ round_right p sound (Some found) s at good =
     let same : 0 + found.0 ≡ found.0 = omega arith in
     by_test p (has_round s found.0 found.1) _ s
     (λ there. publish_right p sound found.0 found.1 s.tic s good.tic
-      (record_at p found.0 found.1 s (subst (λ (n : ℕ). IsAt p n found.1) same at) good) good)
+    (record_at p found.0 found.1 s (subst (λ (n : ℕ). IsAt p n found.1) same at) good) good)
     (λ none. good)
 
 publish_all_right : (p : Plan) → IsSound p → (entries : List Entry) (s : State) → IsStateOf p s → IsStateOf p (publish_all p entries s)

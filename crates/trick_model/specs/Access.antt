@@ -24,11 +24,13 @@ may_write p ks cell = list_any (λ k. writes_cell p k cell) ks
 -- The scope of a thread is the set of all cells that its jobs may read or write, in cell order.
 abbrev pub scope : Plan → Thread → List ℕ
 scope p thread =
-    let ks = jobs_of p.jobs thread in filter (λ cell. may_read p ks cell || may_write p ks cell) (numbers_from 0 p.names)
+    let ks = jobs_of p.jobs thread in
+    filter (λ cell. may_read p ks cell || may_write p ks cell) (numbers_from 0 p.names)
 
 -- The asynchronous reach is the least set that has every cell that a job of an asynchronous thread
 -- may write, and every cell that a job may write which may read a cell of the set.
 pub data IsReached (p : Plan) : ℕ → Type 0 where
-  Source : (k cell : ℕ) → k < length p.jobs → IsTrue (is_on_async p.jobs p.threads k) → IsTrue (writes_cell p k cell) → IsReached p cell
+  Source : (k cell : ℕ) → k < length p.jobs → IsTrue (is_on_async p.jobs p.threads k)
+      → IsTrue (writes_cell p k cell) → IsReached p cell
   Passed : (k from cell : ℕ) → k < length p.jobs → IsReached p from
       → IsTrue (reads_cell p k from) → IsTrue (writes_cell p k cell) → IsReached p cell

@@ -87,6 +87,7 @@ publish p place thread tic s =
       | false ↦ s
     ]
 
+-- the cells and flags of a thread are taken into its record
 abbrev pub take : Plan → ℕ → Thread → State → State
 take p place thread s = record s { taken = slice_set s.taken place (taken_from p thread s) }
 
@@ -105,6 +106,7 @@ ends_at tic thread = elim (thread.process) [
   | process.MustFinish ↦ (tic % thread.cycle) == 0
 ]
 
+-- a step for the threads whose cycle ends at the tic
 abbrev pub where_ends : (ℕ → Thread → State → State) → ℕ → ℕ → Thread → State → State
 where_ends step tic place thread s = elim (ends_at tic thread) [ true ↦ step place thread s | false ↦ s ]
 
@@ -117,6 +119,7 @@ must_finish p tic s =
 
 -- ---- rounds of asynchronous threads
 
+-- what was found stands one place later
 abbrev pub one_later : Option (ℕ × Thread) → Option (ℕ × Thread)
 one_later None = None
 one_later (Some found) = Some (suc found.0, found.1)
@@ -153,5 +156,6 @@ start_round p place thread s = elim (thread.process) [
   | process.Async ↦ elim ((taken_at s place).held) [ true ↦ s | false ↦ take p place thread s ]
 ]
 
+-- each asynchronous thread, in thread order
 abbrev pub start_rounds : Plan → State → State
 start_rounds p s = each_thread (start_round p) 0 (threads_beside p) s

@@ -24,11 +24,13 @@ line name value = name ++ codes " = " ++ value ++ codes ";\n"
 abbrev pub at : List ℕ → ℕ → List ℕ
 at name k = name ++ codes "[" ++ decimal k ++ codes "]"
 
+-- a mode by its name
 abbrev pub mode_text : Mode → List ℕ
 mode_text mode.Run = codes "Run"
 mode_text mode.Freeze = codes "Freeze"
 mode_text mode.Shutdown = codes "Shutdown"
 
+-- 1 where it is on, else 0
 abbrev pub flag_text : Bool → List ℕ
 flag_text true = codes "1"
 flag_text false = codes "0"
@@ -55,6 +57,7 @@ with_commas [] = []
 with_commas (n ∷ []) = signed_decimal n
 with_commas (n ∷ m ∷ ns) = signed_decimal n ++ codes "," ++ with_commas (m ∷ ns)
 
+-- the numbers of a last row, or `none`
 abbrev pub last_text : Option (List ℤ) → List ℕ
 last_text None = codes "none"
 last_text (Some row) = with_commas row
@@ -84,12 +87,14 @@ taken_lines p thread taken = let name = at (codes "taken") thread.number in elim
   | false ↦ line name (codes "none")
 ]
 
+-- the records of all threads beside the tics
 abbrev pub all_taken_lines : Plan → List Thread → List Taken → List ℕ
 all_taken_lines p [] records = []
 all_taken_lines p (thread ∷ threads) [] = []
 all_taken_lines p (thread ∷ threads) (taken ∷ records) =
     taken_lines p thread taken ++ all_taken_lines p threads records
 
+-- a kind of fault by its name
 abbrev pub kind_text : FaultKind → List ℕ
 kind_text DivideByZero = codes "DivideByZero"
 kind_text IndexOutOfRange = codes "IndexOutOfRange"

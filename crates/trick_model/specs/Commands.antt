@@ -11,12 +11,15 @@ use Rattle.trick_model.specs.declared.command.Command.TheVariants as command
 
 -- ---- values, by their place
 
+-- the bytes of a value
 abbrev pub text_at : List Value → ℕ → List ℕ
 text_at values k = bytes_in (slice_index_or values k (Bytes []))
 
+-- the number of a value
 abbrev pub integer_at : List Value → ℕ → ℤ
 integer_at values k = number_in (slice_index_or values k (Bytes []))
 
+-- the number of a value that is none below 0
 abbrev pub whole_at : List Value → ℕ → ℕ
 whole_at values k = nat_abs (integer_at values k)
 
@@ -26,10 +29,14 @@ flag_at values k = not (int_eq (integer_at values k) (pos 0))
 
 -- ---- actions
 
+-- The forms of actions, in the order of the table of formats.
 abbrev pub action_forms : List (Form Action)
 action_forms =
     record { pieces = Path ∷ Is (codes "=") ∷ Literal ∷ []; made = λ v. action.SetCell (text_at v 0) (integer_at v 1) }
-    ∷ record { pieces = call (codes "var_set") (Quoted ∷ Literal ∷ []); made = λ v. action.SetCell (text_at v 0) (integer_at v 1) }
+    ∷ record {
+      pieces = call (codes "var_set") (Quoted ∷ Literal ∷ []);
+      made = λ v. action.SetCell (text_at v 0) (integer_at v 1);
+    }
     ∷ record {
       pieces = call (codes "exec_set_job_onoff") (Quoted ∷ Whole ∷ Literal ∷ []);
       made = λ v. action.SetJob (text_at v 0) (whole_at v 1) (flag_at v 2);
@@ -80,6 +87,7 @@ cycle_command tics = elim (tics == 0) [ true ↦ command.Bad | false ↦ command
 abbrev pub copy_command : ℕ → Command
 copy_command mode = elim ((mode == 1) || (mode == 2)) [ true ↦ command.Copy mode | false ↦ command.Bad ]
 
+-- The forms of clients' lines that are no actions; a line without words is one.
 abbrev pub command_forms : List (Form Command)
 command_forms =
     record { pieces = []; made = λ v. command.Nothing }

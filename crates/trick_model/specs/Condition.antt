@@ -35,6 +35,7 @@ is_safe (operator.Comparison o) = true
 is_safe operator.And = true
 is_safe operator.Or = true
 
+-- no index of the place is computed
 abbrev pub has_no_step : Steps → Bool
 has_no_step NoStep = true
 has_no_step (Step length stride e rest) = false
@@ -71,6 +72,7 @@ is_condition_of cells (Some e) = is_condition cells (term_of e)
 
 -- ---- what a condition says
 
+-- a condition has no fault, so that this 0 never matters
 abbrev pub number_or_0 : Result ℤ FaultKind → ℤ
 number_or_0 (Ok n) = n
 number_or_0 (Err kind) = pos 0
@@ -78,8 +80,10 @@ number_or_0 (Err kind) = pos 0
 -- the value of a condition in a memory
 abbrev pub condition_value : Term → List ℤ → ℤ
 condition_value term memory =
-    number_or_0 (value term (record { base = 0; cell = λ cell. slice_index_or memory cell (pos 0); local = λ slot. pos 0 }))
+    let numbers : ℕ → ℤ = λ cell. slice_index_or memory cell (pos 0) in
+    number_or_0 (value term (record { base = 0; cell = numbers; local = λ slot. pos 0 }))
 
+-- the value of an event's condition
 abbrev pub condition_of : Option Expr → Option (List ℤ → ℤ)
 condition_of None = None
 condition_of (Some e) = Some (condition_value (term_of e))

@@ -54,6 +54,7 @@ names_of p = record {
   events = map (λ (e : Event). e.name) p.events;
 }
 
+-- one flag set
 abbrev pub with_flag : Flags → ℕ → Bool → Flags
 with_flag flags k on = record { on = slice_set flags.on k on }
 

@@ -13,6 +13,7 @@ use Rattle.trick_model.specs.Turn.{Turned, file_writes, turn}
 use Rattle.trick_model.specs.declared.entry.Entry.{Entry}
 use Rattle.trick_model.specs.declared.group.Group.{Group}
 
+-- the name of the journal
 abbrev pub journal_name : List ℕ
 journal_name = codes "journal.txt"
 

@@ -35,6 +35,7 @@ pub record Read : Type 0 where
 
 -- ---- one word
 
+-- the word has these bytes
 abbrev pub is_word : List ℕ → Lexeme → Bool
 is_word bytes word = bytes_eq bytes word.bytes
 
@@ -68,6 +69,7 @@ name_of word = elim (word.kind) [
   | kinds.Mark ↦ None
 ]
 
+-- the tics, where they are a time
 abbrev pub tics_of : Result ℕ TimeFault → Option ℕ
 tics_of (Ok tics) = Some tics
 tics_of (Err fault) = None
@@ -105,6 +107,7 @@ abbrev pub read_negative : List Lexeme → Option Read
 read_negative [] = None
 read_negative (word ∷ behind) = one_value (λ n. Number (neg_ℤ (pos n))) (whole_of word) behind
 
+-- a literal: with or without `-`
 abbrev pub read_literal : List Lexeme → Option Read
 read_literal [] = None
 read_literal (word ∷ behind) = elim (is_word (codes "-") word) [
@@ -142,6 +145,7 @@ abbrev mutual
     ]
   ]
 
+-- a full name
 abbrev pub read_path : List Lexeme → Option Read
 read_path [] = None
 read_path (word ∷ behind) = elim (name_of word) [ None ↦ None | Some name ↦ read_members name behind ]
@@ -199,10 +203,12 @@ call name arguments =
 
 -- ---- values, by their place
 
+-- the bytes of a value
 abbrev pub bytes_in : Value → List ℕ
 bytes_in (Bytes bytes) = bytes
 bytes_in (Number number) = []
 
+-- the number of a value
 abbrev pub number_in : Value → ℤ
 number_in (Bytes bytes) = pos 0
 number_in (Number number) = number

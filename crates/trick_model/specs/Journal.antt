@@ -25,15 +25,18 @@ is_of_session (Publish thread) = false
 abbrev pub is_session : ℕ → Bool
 is_session session = nat_le 1 session && nat_le session 4294967295
 
+-- at most 4,096 bytes, and no line feed
 abbrev pub is_line : List ℕ → Bool
 is_line line = nat_le (length line) 4096 && not (list_any (λ byte. byte == 10) line)
 
+-- the entry's numbers and line are in their ranges
 abbrev pub is_entry : Entry → Bool
 is_entry (Join session) = is_session session
 is_entry (Said session line) = is_session session && is_line line
 is_entry (Leave session cause) = is_session session
 is_entry (Publish thread) = nat_le 1 thread && nat_le thread 15
 
+-- all turns and entries are in their ranges
 abbrev pub are_in_range : List Noted → Bool
 are_in_range [] = true
 are_in_range (e ∷ es) = nat_le e.0 last_turn && (is_entry e.1 && are_in_range es)
@@ -111,6 +114,7 @@ lists_of entries end start = with_joins (live_before start entries []) (lists_fr
 
 -- ---- texts
 
+-- a cause by its name
 abbrev pub cause_text : Cause → List ℕ
 cause_text cause.Exit = codes "Exit"
 cause_text cause.HungUp = codes "HungUp"
@@ -120,6 +124,7 @@ cause_text cause.Slow = codes "Slow"
 cause_text cause.NoThread = codes "NoThread"
 cause_text cause.OutOfMemory = codes "OutOfMemory"
 
+-- an entry as it stands behind its turn
 abbrev pub entry_text : Entry → List ℕ
 entry_text (Join session) = codes "join " ++ decimal session
 entry_text (Said session line) = codes "cmd " ++ decimal session ++ codes " " ++ line

@@ -13,6 +13,7 @@ may_publish p (Said session line) = true
 may_publish p (Leave session cause) = true
 may_publish p (Publish thread) = is_async (process_in p.threads thread)
 
+-- so it is with all publications
 abbrev pub all_may_publish : Plan → List Noted → Bool
 all_may_publish p [] = true
 all_may_publish p (e ∷ es) = may_publish p e.1 && all_may_publish p es

@@ -69,7 +69,8 @@ on_found deed (Some k) = Some (deed k)
 -- nothing that can be done.
 abbrev pub deed_of : Names → Action → Option Deed
 deed_of names (action.SetCell name number) = set_in_range names.scalars number (find_name name names.cells)
-deed_of names (action.SetJob name instance on) = on_found (λ k. SetJob k on) (find_job name instance names.job_names names.jobs)
+deed_of names (action.SetJob name instance on) =
+    on_found (λ k. SetJob k on) (find_job name instance names.job_names names.jobs)
 deed_of names action.Freeze = Some Freeze
 deed_of names (action.Stop at) = stop_after at
 deed_of names action.Checkpoint = Some Checkpoint

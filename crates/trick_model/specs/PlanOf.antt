@@ -9,6 +9,7 @@ use Rattle.trick_model.specs.Valid.{cell_names}
 use Rattle.trick_model.specs.declared.event.Event.{Event as EventValue}
 use Rattle.trick_model.specs.declared.plan.Plan.{Plan as PlanValue}
 
+-- the event that a value of the code holds
 abbrev pub event_of : EventValue → Event
 event_of event = record {
   name = event.name;

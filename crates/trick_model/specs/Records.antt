@@ -13,6 +13,7 @@ use Rattle.trick_model.specs.declared.group.Group.{Group}
 abbrev pub row_of : Group → State → List ℤ
 row_of group s = map (λ (cell : Cell). number_at s.memory cell.0) group.cells
 
+-- the rows have the same numbers
 abbrev pub same_row : List ℤ → List ℤ → Bool
 same_row [] [] = true
 same_row [] (y ∷ ys) = false
@@ -33,6 +34,7 @@ writes_row tic k group s =
 
 -- ---- texts
 
+-- the name of the log of a group
 abbrev pub log_name : Group → List ℕ
 log_name group = codes "log_" ++ group.name ++ codes ".csv"
 

@@ -24,6 +24,7 @@ abbrev pub assigned : List (Cell × ℤ) → List ℤ → List ℤ
 assigned [] memory = memory
 assigned (a ∷ more) memory = assigned more (slice_set memory (a.0).0 a.1)
 
+-- a state after the assignments
 abbrev pub with_assigns : Plan → State → State
 with_assigns p s = record s { memory = assigned p.assigns s.memory }
 
@@ -61,6 +62,7 @@ opened s = record { state = s; sessions = [] }
 
 -- ---- the end
 
+-- whether the mode is Shutdown
 abbrev pub is_shut : Mode → Bool
 is_shut mode.Run = false
 is_shut mode.Freeze = false

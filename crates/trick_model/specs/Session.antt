@@ -66,6 +66,7 @@ added p name session = elim (nat_lt (length session.variables) 256) [
 abbrev pub without : List ℕ → List (List ℕ × Option Cell) → List (List ℕ × Option Cell)
 without name variables = filter (λ (v : List ℕ × Option Cell). not (bytes_eq v.0 name)) variables
 
+-- whether there is a cell of that name
 abbrev pub existence : Option ℕ → List ℕ
 existence None = codes "1\t0\n"
 existence (Some cell) = codes "1\t1\n"
@@ -92,6 +93,7 @@ answered p command.Bad session = bad session
 abbrev pub passes_multiple : ℕ → ℕ → ℕ → Bool
 passes_multiple cycle from to = nat_lt (from / cycle) (to / cycle)
 
+-- whether a list has no items
 abbrev pub is_empty : {A : Type 0} → List A → Bool
 is_empty [] = true
 is_empty (x ∷ xs) = false
@@ -108,6 +110,7 @@ abbrev pub shown : List ℤ → Option Cell → List ℕ
 shown memory None = codes "BAD_REF"
 shown memory (Some cell) = signed_decimal (number_at memory cell.0)
 
+-- the variables, each behind a tab, and a line feed
 abbrev pub sample_fields : List ℤ → List (List ℕ × Option Cell) → List ℕ
 sample_fields memory [] = codes "\n"
 sample_fields memory (v ∷ vs) = codes "\t" ++ shown memory v.1 ++ sample_fields memory vs

@@ -8,6 +8,7 @@ use Rattle.trick_model.specs.declared.session.Session.{Session}
 use Rattle.trick_model.specs.declared.state.State.{State as StateValue}
 use Rattle.trick_model.specs.declared.taken.Taken.{Taken}
 
+-- All that a run goes on from, and what a checkpoint keeps.
 pub record State : Type 0 where
   -- the turns that are done
   pub turn : ℕ

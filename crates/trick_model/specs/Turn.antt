@@ -37,6 +37,7 @@ do_between p (Some Checkpoint) a = do_deed Between Checkpoint a
 do_between p (Some (SetGroup group on)) a = do_deed Between (SetGroup group on) a
 do_between p (Some (SetEvent event on)) a = do_deed Between (SetEvent event on) a
 
+-- Freeze is left where a line asks for it
 abbrev pub resumed : Plan → Bool → Asking → Asking
 resumed p false a = a
 resumed p true a = record a { state = leave_freeze p a.state }
@@ -92,6 +93,7 @@ begun w = record { asking = record { state = w.state; freeze = false; checkpoint
 
 -- ---- steps 2 to 7: a run frame
 
+-- whether the mode is Freeze
 abbrev pub is_frozen : Mode → Bool
 is_frozen mode.Run = false
 is_frozen mode.Freeze = true
@@ -154,6 +156,7 @@ counted s = record s { turn = min (s.turn + 1) last_turn }
 abbrev pub file_writes : List ℕ → List ℕ → List Write
 file_writes name bytes = Create name ∷ Append name bytes ∷ []
 
+-- the name of the checkpoint of a turn
 abbrev pub checkpoint_name : ℕ → List ℕ
 checkpoint_name turn = codes "chkpnt_" ++ decimal turn ++ codes ".chk"
 

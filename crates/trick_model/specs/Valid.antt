@@ -37,12 +37,15 @@ all_differ (name ∷ names) = not (list_any (bytes_eq name) names) && all_differ
 
 -- ---- names
 
+-- the full names of cells
 abbrev pub cell_names : List Variable → List (List ℕ)
 cell_names cells = map (λ (v : Variable). v.name) cells
 
+-- the names of groups
 abbrev pub group_names : List Group → List (List ℕ)
 group_names groups = map (λ (g : Group). g.name) groups
 
+-- the names of events
 abbrev pub event_names : List Event → List (List ℕ)
 event_names events = map (λ (e : Event). e.name) events
 
@@ -59,6 +62,7 @@ names_in p groups events = record {
 
 -- ---- threads
 
+-- the numbers of threads
 abbrev pub thread_numbers : List Thread → List ℕ
 thread_numbers threads = map (λ (thread : Thread). thread.number) threads
 
@@ -74,6 +78,7 @@ IsMainRight thread = thread.number ≡ 0 → (IsTrue thread.named → ⊥) → t
 abbrev pub queues_of : List Job → List (List ℕ)
 queues_of jobs = map (jobs_in jobs) classes
 
+-- the numbers of jobs
 abbrev pub ids : List JobId → List ℕ
 ids jobs = map (λ (job : JobId). job.0) jobs
 
@@ -96,6 +101,7 @@ abbrev pub can_depend : List Job → List Thread → JobId → Bool
 can_depend jobs threads job =
     nat_lt job.0 (length jobs) && (is_of_class jobs class.Scheduled job.0 && is_on_scheduled jobs threads job.0)
 
+-- both jobs of a pair can depend on each other
 abbrev pub IsPair : List Job → List Thread → Depends → Type 0
 IsPair jobs threads pair = IsTrue (can_depend jobs threads pair.target && can_depend jobs threads pair.depended)
 

@@ -31,6 +31,7 @@ AreNumbersOf scalars [] (n ∷ ns) = ⊥
 AreNumbersOf scalars (cell ∷ cells) [] = ⊥
 AreNumbersOf scalars (cell ∷ cells) (n ∷ ns) = IsInRange scalars cell n × AreNumbersOf scalars cells ns
 
+-- the cells of a group, by number
 abbrev pub cell_numbers : Group → List ℕ
 cell_numbers group = map (λ (cell : Cell). cell.0) group.cells
 
@@ -70,6 +71,7 @@ sizes s =
 abbrev pub OfGroup : Plan → (Group → Type 0) → ℕ → Type 0
 OfGroup p P k = (d : Group) → k < length p.groups → P (slice_index_or p.groups k d)
 
+-- the same of the thread of a place among those beside the tics
 abbrev pub OfThread : Plan → (Thread → Type 0) → ℕ → Type 0
 OfThread p P k = (d : Thread) → k < length (threads_beside p) → P (slice_index_or (threads_beside p) k d)
 
