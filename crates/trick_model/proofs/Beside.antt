@@ -5,11 +5,12 @@ use Rattle.std.specs.Int.{int_wrap}
 use Rattle.std.specs.Prelude.{pos, int_lt, false, [], ◌∷◌, ◌++◌, codes}
 use Rattle.trick_lang.specs.declared.class.Class.TheVariants as class
 use Rattle.trick_lang.specs.declared.fault.FaultKind.TheVariants as kind
-use Rattle.trick_model.proofs.Samples.{Ends, all_on, cells, effects, one_of, job, main_thread, plan_of_cells, plus, scheduled, stops, stores, thread, turns}
+use Rattle.trick_model.proofs.Samples.{Ends, all_on, cells, effects, one_of, job, main_thread, plan_of_cells, plus, scheduled, stops, stores, read, thread, turns}
 use Rattle.trick_model.specs.Journal.{lists_of}
 use Rattle.trick_model.specs.Plan.{Plan}
 use Rattle.trick_model.specs.Run.{IsOwnJournal, start}
 use Rattle.trick_model.specs.State.{number_at}
+use Rattle.trick_model.specs.declared.action.Action.TheVariants as action
 use Rattle.trick_model.specs.declared.entry.Entry.TheVariants.{Publish}
 use Rattle.trick_model.specs.declared.thread.Process.TheVariants as process
 
@@ -44,6 +45,31 @@ pub finishing_ends : Ends finishing (start finishing) (turns 3) (
     ∷ [])
 unfolding int_wrap digits
 finishing_ends = record { goes = refl; over = refl; files = refl }
+
+-- Thread 1 copies z to y, and thread 2 copies n to z, both with a cycle of 2 tics. At tic 5 the job of
+-- thread 2 is turned off.
+abbrev pub relay : Plan
+relay = record (plan_of_cells (codes "o.n" ∷ codes "o.y" ∷ codes "o.z" ∷ [])) {
+  limit = 9;
+  jobs = scheduled 0 1 0 ∷ scheduled 1 2 1 ∷ scheduled 2 2 2 ∷ [];
+  job_names = codes "o.count" ∷ codes "o.second" ∷ codes "o.first" ∷ [];
+  effect = effects (stores ((0, plus 0 (pos 1)) ∷ []) ∷ stores ((1, λ m. number_at m 2) ∷ []) ∷ stores ((2, λ m. number_at m 0) ∷ []) ∷ []);
+  reads = cells ((0 ∷ []) ∷ (2 ∷ []) ∷ (0 ∷ []) ∷ []);
+  writes = cells ((0 ∷ []) ∷ (1 ∷ []) ∷ (2 ∷ []) ∷ []);
+  threads = main_thread ∷ thread 1 process.MustFinish 2 ∷ thread 2 process.MustFinish 2 ∷ [];
+  read_ats = read 5 (action.SetJob (codes "o.first") 1 false ∷ []) ∷ [];
+  groups = record { name = codes "g"; cycle = 2; changes = false; cells = record { 0 = 1 } ∷ record { 0 = 2 } ∷ [] } ∷ [];
+  jobs_on = all_on 3;
+  groups_on = all_on 1;
+}
+
+-- Both publish before any of them takes, so that thread 1 takes at tic 4 what thread 2 publishes there.
+-- At tic 6 the job of thread 2 still counts as on, as it was when its cells were taken; at tic 8 it is
+-- off, and z gets the number that was taken.
+pub relay_ends : Ends relay (start relay) (turns 5) (
+    (codes "log_g.csv", codes "tic,o.y,o.z\n0,0,0\n2,0,0\n4,0,2\n6,2,4\n8,4,4\n") ∷ [])
+unfolding int_wrap digits
+relay_ends = record { goes = refl; over = refl; files = refl }
 
 -- ---- asynchronous
 
@@ -113,6 +139,7 @@ faulting = record (plan_of_cells (codes "o.n" ∷ codes "o.q" ∷ codes "o.r" �
 -- The fault of a round has the tic of publication.
 pub faulting_ends : Ends faulting (start faulting) ([] ∷ (Publish 1 ∷ []) ∷ (Publish 1 ∷ []) ∷ []) (
     (codes "faults.txt", codes "0 o.init 1 DivideByZero 9\n3 o.count 1 IndexOutOfRange 4\n4 p.run 1 DivideByZero 15\n" ++ codes "4 o.count 1 IndexOutOfRange 4\n5 o.count 1 IndexOutOfRange 4\ntotal 5\n")
+    ∷ (codes "final.chk", codes "checkpoint = 1;\nturn = 3;\ntic = 6;\nlimit = 6;\nmode = Shutdown;\no.n = 3;\no.q = 2;\no.r = 3;\np.z = 0;\n" ++ codes "job[0] = 1;\njob[1] = 1;\njob[2] = 1;\njob[3] = 1;\ntaken[1] = held;\ntaken[1].o.n = 3;\ntaken[1].p.z = 0;\n" ++ codes "taken[1].job[3] = 1;\ntaken[2] = held;\ntaken[2].o.n = 3;\ntaken[2].o.q = 2;\ntaken[2].o.r = 3;\ntaken[2].job[2] = 1;\n" ++ codes "faults = 5;\nfault[0] = 0 o.init 1 DivideByZero 9;\nfault[1] = 3 o.count 1 IndexOutOfRange 4;\n" ++ codes "fault[2] = 4 p.run 1 DivideByZero 15;\nfault[3] = 4 o.count 1 IndexOutOfRange 4;\n" ++ codes "fault[4] = 5 o.count 1 IndexOutOfRange 4;\nend;\n")
     ∷ (codes "journal.txt", codes "tricks journal 1\nfrom 0\n1 publish 1\n2 publish 1\nend 3\n")
     ∷ [])
 unfolding int_wrap digits

@@ -12,7 +12,7 @@ use Rattle.trick_model.specs.JournalText.{IsJournal}
 use Rattle.trick_model.specs.Plan.{Plan}
 use Rattle.trick_model.specs.Run.{JournalFits, after_turns, given, opened, start}
 use Rattle.trick_model.specs.State.{State}
-use Rattle.trick_model.specs.declared.entry.Cause.TheVariants.{HungUp}
+use Rattle.trick_model.specs.declared.entry.Cause.TheVariants.{Exit, HungUp}
 use Rattle.trick_model.specs.declared.entry.Entry.TheVariants.{Join, Said, Leave}
 use Rattle.trick_text.specs.Pieces as pieces
 
@@ -90,6 +90,33 @@ asking_ends = record { goes = refl; over = refl; files = refl }
 pub asking_is_told : session_text waiting (start waiting) (lists_of asking 3 0) 1 ≡ (codes "1\t1\n" ∷ codes "1\t0\n" ∷ codes "4\tbad command\n" ∷ codes "0\t0\n" ∷ [])
 unfolding int_wrap digits pieces.front pieces.name_front pieces.number_front pieces.mark_len pieces.text_front
 asking_is_told = refl
+
+-- ---- a client that stops the run
+
+-- From turn 1, at which tic 2 is next: a stop after tic 3 makes the limit 4, and a stop at once makes it 2,
+-- so that the turn is a freeze frame.
+pub stopped_later : Ends counter (start counter) (lists_of ((1, Join 1) ∷ (1, Said 1 (codes "trick.stop(0.000003)")) ∷ []) 2 0) (
+    (codes "final.chk", codes "checkpoint = 1;\nturn = 2;\ntic = 4;\nlimit = 4;\nmode = Shutdown;\n" ++ codes "counter.n = 2;\njob[0] = 1;\nfaults = 0;\nend;\n") ∷ [])
+unfolding int_wrap digits pieces.front pieces.name_front pieces.number_front pieces.mark_len pieces.text_front
+stopped_later = record { goes = refl; over = refl; files = refl }
+
+pub stopped_at_once : Ends counter (start counter) (lists_of ((1, Join 1) ∷ (1, Said 1 (codes "trick.stop()")) ∷ []) 2 0) (
+    (codes "final.chk", codes "checkpoint = 1;\nturn = 2;\ntic = 2;\nlimit = 2;\nmode = Shutdown;\n" ++ codes "counter.n = 1;\njob[0] = 1;\nfaults = 0;\nend;\n") ∷ [])
+unfolding int_wrap digits pieces.front pieces.name_front pieces.number_front pieces.mark_len pieces.text_front
+stopped_at_once = record { goes = refl; over = refl; files = refl }
+
+-- ---- a client that pauses, and leaves
+
+abbrev pub pausing : List Noted
+pausing =
+    (0, Join 1) ∷ (0, Said 1 (codes "trick.var_add(\"counter.n\")")) ∷ (0, Said 1 (codes "trick.var_cycle(0.000002)"))
+    ∷ (0, Said 1 (codes "trick.var_pause()")) ∷ (1, Said 1 (codes "trick.var_unpause()")) ∷ (2, Said 1 (codes "trick.var_clear()"))
+    ∷ (3, Said 1 (codes "trick.var_add(\"counter.n\")")) ∷ (3, Said 1 (codes "trick.var_exit()")) ∷ (3, Leave 1 Exit) ∷ []
+
+-- While it is paused, without variables, or leaving, no sample is sent.
+pub pausing_is_told : session_text counter (start counter) (lists_of pausing 4 0) 1 ≡ (codes "0\t2\n" ∷ [])
+unfolding int_wrap digits pieces.front pieces.name_front pieces.number_front pieces.mark_len pieces.text_front
+pausing_is_told = refl
 
 -- ---- sessions at a loaded state
 

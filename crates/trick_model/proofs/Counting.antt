@@ -2,7 +2,7 @@
 use Rattle.std.proofs.Common.{refl}
 use Rattle.std.specs.Fmt.{digits}
 use Rattle.std.specs.Int.{int_wrap}
-use Rattle.std.specs.Prelude.{ℤ, pos, int_le, false, List, [], ◌∷◌, ◌++◌, codes, Some, None}
+use Rattle.std.specs.Prelude.{ℤ, pos, int_le, true, false, List, [], ◌∷◌, ◌++◌, codes, Some, None}
 use Rattle.trick_lang.specs.Numbers.{number_of}
 use Rattle.trick_model.proofs.Samples.{Ends, all_on, cells, effects, plan_of_cells, plus, read, scheduled, stores, turns}
 use Rattle.trick_model.specs.Plan.{Plan, Event}
@@ -65,6 +65,13 @@ pub frozen_by_event : Ends (with_event (pos 2) (action.Freeze ∷ [])) (start (w
     ∷ [])
 unfolding int_wrap digits
 frozen_by_event = record { goes = refl; over = refl; files = refl }
+
+-- After its actions the event is inactive, even if one of them activates it.
+pub fires_once : Ends (with_event (pos 2) (action.SetCell (codes "counter.n") (pos 0) ∷ action.SetEvent (codes "e") true ∷ []))
+    (start (with_event (pos 2) (action.SetCell (codes "counter.n") (pos 0) ∷ action.SetEvent (codes "e") true ∷ []))) (turns 11) (
+    (codes "final.chk", codes "checkpoint = 1;\nturn = 11;\ntic = 21;\nlimit = 21;\nmode = Shutdown;\n" ++ codes "counter.n = 9;\njob[0] = 1;\nevent[0] = 0;\nfaults = 0;\nend;\n") ∷ [])
+unfolding int_wrap digits
+fires_once = record { goes = refl; over = refl; files = refl }
 
 -- a stop within a frame of four tics, at tic 5: this tic still runs, and no later one
 abbrev pub stopped_early : Plan

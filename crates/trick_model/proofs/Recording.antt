@@ -2,7 +2,7 @@
 use Rattle.std.proofs.Common.{refl}
 use Rattle.std.specs.Fmt.{digits}
 use Rattle.std.specs.Int.{int_wrap}
-use Rattle.std.specs.Prelude.{ℕ, pos, true, List, [], ◌∷◌, ◌++◌, codes}
+use Rattle.std.specs.Prelude.{ℕ, pos, true, false, List, [], ◌∷◌, ◌++◌, codes}
 use Rattle.trick_model.proofs.Samples.{Ends, all_on, cells, effects, main_thread, plan_of_cells, plus, read, scheduled, stores, thread, turns}
 use Rattle.trick_model.specs.Plan.{Plan}
 use Rattle.trick_model.specs.Run.{after_turns, opened, start}
@@ -29,6 +29,18 @@ pub changing_ends : Ends changing (start changing) (turns 5) (
     ∷ [])
 unfolding int_wrap digits
 changing_ends = record { goes = refl; over = refl; files = refl }
+
+-- A group that is off writes no row and keeps its last one: from tic 2 to tic 5 it is off.
+abbrev pub muted : Plan
+muted = record changing {
+  read_ats =
+      read 2 (action.SetGroup (codes "g") false ∷ []) ∷ read 4 (action.SetCell (codes "o.v") (pos 7) ∷ [])
+      ∷ read 6 (action.SetGroup (codes "g") true ∷ []) ∷ [];
+}
+
+pub muted_ends : Ends muted (start muted) (turns 5) ((codes "log_g.csv", codes "tic,o.v\n0,5\n6,7\n") ∷ [])
+unfolding int_wrap digits
+muted_ends = record { goes = refl; over = refl; files = refl }
 
 -- ---- a checkpoint
 
