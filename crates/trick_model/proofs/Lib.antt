@@ -14,8 +14,8 @@ mod Classes
 mod Clients
 -- What actions and clients' lines say.
 mod Lines
--- Plans that are not accepted.
-mod Refusals
+-- Plans that are accepted, and plans that are not.
+mod Acceptance
 -- At an idle tic each part of a tic does nothing.
 pub mod Idle
 -- Sessions change nothing but messages.
