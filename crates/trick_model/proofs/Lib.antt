@@ -32,3 +32,5 @@ pub mod Ranges
 pub mod States
 -- A turn, and the start of a run, keep what a valid state keeps.
 pub mod Turns
+-- A run from the state after some turns goes on as the original.
+pub mod Continue

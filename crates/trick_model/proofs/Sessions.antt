@@ -58,7 +58,7 @@ same_hear p (Said number line) h g e =
 same_hear p (Leave number cause) h g e = e
 same_hear p (Publish thread) h g e = e
 
-same_heard : (p : Plan) (entries : List Entry) (h g : Hearing) → h.asking ≡ g.asking → (heard p entries h).asking ≡ (heard p entries g).asking
+pub same_heard : (p : Plan) (entries : List Entry) (h g : Hearing) → h.asking ≡ g.asking → (heard p entries h).asking ≡ (heard p entries g).asking
 same_heard p [] h g e = e
 same_heard p (entry ∷ entries) h g e = same_heard p entries (hear p entry h) (hear p entry g) (same_hear p entry h g e)
 

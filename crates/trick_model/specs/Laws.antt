@@ -1,19 +1,20 @@
 -- Laws of a run.
 use Rattle.std.specs.List.{list_any}
-use Rattle.std.specs.Prelude.{◌≡◌, ℕ, ◌<◌, ◌≤◌, ◌+◌, ◌%◌, ◌==◌, suc, Bool, false, ◌&&◌, ◌||◌, IsTrue, List, [], ◌∷◌, ◌++◌, length}
+use Rattle.std.specs.Prelude.{◌≡◌, ℕ, ◌<◌, ◌≤◌, ◌+◌, ◌%◌, ◌==◌, suc, Bool, false, ◌&&◌, ◌||◌, IsTrue, List, [], ◌∷◌, ◌++◌, length, map}
 use Rattle.trick_lang.specs.declared.job.Job.{Job}
 use Rattle.trick_model.specs.Beside.{ends_at}
 use Rattle.trick_model.specs.Events.{Asking}
-use Rattle.trick_model.specs.Files.{turns_said, turns_writes}
+use Rattle.trick_model.specs.Files.{end_writes, run_writes, start_writes, turns_said, turns_writes}
 use Rattle.trick_model.specs.Order.{in_key_order, jobs_at, key, precedes}
 use Rattle.trick_model.specs.Plan.{Event, Plan, is_on, job_at, threads_beside}
 use Rattle.trick_model.specs.PlanOf.{plan_of}
-use Rattle.trick_model.specs.Run.{Fits, Lasts, after_turns, opened, shut, start}
+use Rattle.trick_model.specs.Run.{Fits, Lasts, after_turns, final, opened, shut, start}
 use Rattle.trick_model.specs.State.{State, World}
 use Rattle.trick_model.specs.Tic.{tics}
 use Rattle.trick_model.specs.Turn.{Turned, turn}
 use Rattle.trick_model.specs.ValidState.{IsSound, IsStateOf, sizes}
 use Rattle.trick_model.specs.declared.entry.Entry.{Entry}
+use Rattle.trick_model.specs.declared.entry.Entry.TheVariants.{Join}
 use Rattle.trick_model.specs.declared.group.Group.{Group}
 use Rattle.trick_model.specs.declared.plan.Plan.{Plan as PlanValue}
 use Rattle.trick_model.specs.declared.read_at.ReadAt.{ReadAt}
@@ -98,6 +99,32 @@ pub record RunsJoin : Type 0 where
       → turns_said p w (early ++ late) ≡ turns_said p w early ++ turns_said p (after_turns p w early) late
   pub worlds : (p : Plan) (w : World) (early late : List (List Entry))
       → after_turns p w (early ++ late) ≡ after_turns p (after_turns p w early) late
+
+-- What a run comes to from the state after its first turns on: it fits and ends alike, and the whole run
+-- writes its start, its first turns, and then what the other one writes behind its start.
+pub record Continues (p : Plan) (s after : State) (early late : List (List Entry)) : Type 0 where
+  pub fits : Fits p after late
+  pub ends : final p s (early ++ late) ≡ final p after late
+  pub writes : run_writes p s (early ++ late)
+      ≡ start_writes p s.turn ++ turns_writes p (opened s) early
+      ++ turns_writes p (opened after) late ++ end_writes p (final p after late)
+
+-- A run from the state after some turns goes on as the original does under the entries that are left.
+abbrev pub RunsContinue : Type 0
+RunsContinue =
+    (p : Plan) (s : State) (early late : List (List Entry)) → Fits p s (early ++ late)
+    → Continues p s (after_turns p (opened s) early).state early late
+
+-- Joins in front of a turn's entries are noted in front of the others, and change no state, row or
+-- checkpoint.
+pub record JoinsAreNoted : Type 0 where
+  pub state : (p : Plan) (w : World) (live : List ℕ) (entries : List Entry)
+      → (turn p w (map (λ session. Join session) live ++ entries)).world.state ≡ (turn p w entries).world.state
+  pub noted : (p : Plan) (w : World) (live : List ℕ) (entries : List Entry)
+      → (turn p w (map (λ session. Join session) live ++ entries)).noted
+      ≡ map (λ session. Join session) live ++ (turn p w entries).noted
+  pub writes : (p : Plan) (w : World) (live : List ℕ) (entries : List Entry)
+      → (turn p w (map (λ session. Join session) live ++ entries)).writes ≡ (turn p w entries).writes
 
 -- A journal gives a world one run at most.
 abbrev pub OneRun : Type 0

@@ -1,7 +1,7 @@
 //! Laws of a run, for every plan, state and journal. A function that calls one of them may rest on
 //! what it says; the call itself does nothing.
 
-ghost use Rattle.trick_model.specs.Laws.{FittingLasts, IdleTicsPass, KeepsSizes, KeepsValidity, KeyOrderIsOne, KeysDiffer, LimitStops, OneRun, PlansAreSound, RunsJoin, SessionsDoNotMatter, StartsValid};
+ghost use Rattle.trick_model.specs.Laws.{FittingLasts, IdleTicsPass, JoinsAreNoted, KeepsSizes, KeepsValidity, KeyOrderIsOne, KeysDiffer, LimitStops, OneRun, PlansAreSound, RunsContinue, RunsJoin, SessionsDoNotMatter, StartsValid};
 
 /// Idle tics below the limit pass and do nothing else.
 pub fn idle_tics_pass()
@@ -43,6 +43,16 @@ pub fn sessions_do_not_matter()
 /// A run may be cut in two.
 pub fn runs_join()
     ensures { RunsJoin }
+{}
+
+/// A run from the state after some turns goes on as the original does.
+pub fn runs_continue()
+    ensures { RunsContinue }
+{}
+
+/// Joins in front of a turn's entries are noted and change nothing else but sessions.
+pub fn joins_are_noted()
+    ensures { JoinsAreNoted }
 {}
 
 /// A journal gives a world one run at most.
