@@ -2,7 +2,7 @@
 use Rattle.std.proofs.Common.{refl}
 use Rattle.std.specs.Fmt.{digits}
 use Rattle.std.specs.Int.{int_wrap}
-use Rattle.std.specs.Prelude.{pos, int_lt, false, [], ◌∷◌, ◌++◌, codes}
+use Rattle.std.specs.Prelude.{pos, int_lt, true, false, [], ◌∷◌, ◌++◌, codes}
 use Rattle.trick_lang.specs.declared.class.Class.TheVariants as class
 use Rattle.trick_lang.specs.declared.fault.FaultKind.TheVariants as kind
 use Rattle.trick_model.proofs.Samples.{Ends, all_on, cells, effects, one_of, job, main_thread, plan_of_cells, plus, scheduled, stops, stores, read, thread, turns}
@@ -112,6 +112,22 @@ pub idle_publication_ends : Ends rounds (start rounds) ((Publish 1 ∷ []) ∷ t
     (codes "journal.txt", codes "tricks journal 1\nfrom 0\nend 4\n") ∷ [])
 unfolding int_wrap digits
 idle_publication_ends = record { goes = refl; over = refl; files = refl }
+
+-- A run whose limit is 0 is over at once: nothing is taken and no row is written.
+abbrev pub stopped : Plan
+stopped = record rounds {
+  limit = 0;
+  groups = record { name = codes "g"; cycle = 2; changes = true; cells = record { 0 = 0 } ∷ [] } ∷ [];
+  groups_on = record { on = false ∷ [] };
+}
+
+pub stopped_ends : Ends stopped (start stopped) [] (
+    (codes "final.chk", codes "checkpoint = 1;\nturn = 0;\ntic = 0;\nlimit = 0;\nmode = Shutdown;\no.n = 0;\no.y = 0;\n" ++ codes "job[0] = 1;\njob[1] = 1;\ngroup[0] = 0;\nlast[0] = none;\ntaken[1] = none;\nfaults = 0;\nend;\n")
+    ∷ (codes "journal.txt", codes "tricks journal 1\nfrom 0\nend 0\n")
+    ∷ (codes "log_g.csv", codes "tic,o.n\n")
+    ∷ [])
+unfolding int_wrap digits
+stopped_ends = record { goes = refl; over = refl; files = refl }
 
 -- ---- faults, and their tics
 

@@ -30,15 +30,24 @@ pub changing_ends : Ends changing (start changing) (turns 5) (
 unfolding int_wrap digits
 changing_ends = record { goes = refl; over = refl; files = refl }
 
--- A group that is off writes no row and keeps its last one: from tic 2 to tic 5 it is off.
+-- A group that is off writes no row and keeps its last one: from tic 2 to tic 5 group g is off. Group h
+-- has no variables: its rows are the tic alone, and on change it has one.
 abbrev pub muted : Plan
 muted = record changing {
   read_ats =
       read 2 (action.SetGroup (codes "g") false ∷ []) ∷ read 4 (action.SetCell (codes "o.v") (pos 7) ∷ [])
       ∷ read 6 (action.SetGroup (codes "g") true ∷ []) ∷ [];
+  groups =
+      record { name = codes "g"; cycle = 2; changes = true; cells = record { 0 = 0 } ∷ record { 0 = 0 } ∷ [] }
+      ∷ record { name = codes "h"; cycle = 2; changes = true; cells = [] } ∷ [];
+  groups_on = all_on 2;
 }
 
-pub muted_ends : Ends muted (start muted) (turns 5) ((codes "log_g.csv", codes "tic,o.v\n0,5\n6,7\n") ∷ [])
+pub muted_ends : Ends muted (start muted) (turns 5) (
+    (codes "final.chk", codes "checkpoint = 1;\nturn = 5;\ntic = 9;\nlimit = 9;\nmode = Shutdown;\no.v = 7;\n" ++ codes "group[0] = 1;\nlast[0] = 7,7;\ngroup[1] = 1;\nlast[1] = ;\nfaults = 0;\nend;\n")
+    ∷ (codes "log_g.csv", codes "tic,o.v,o.v\n0,5,5\n6,7,7\n")
+    ∷ (codes "log_h.csv", codes "tic\n0\n")
+    ∷ [])
 unfolding int_wrap digits
 muted_ends = record { goes = refl; over = refl; files = refl }
 

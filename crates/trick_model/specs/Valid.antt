@@ -123,6 +123,6 @@ pub record AreNumbered (event : Event) : Type 0 where
   pub rising : IsTrue (rises (map (λ (numbered : ℕ × List Action). numbered.0) event.actions))
   pub in_range : All (λ (numbered : ℕ × List Action). numbered.0 ≤ 15) event.actions
 
--- all actions of an event, of a read
+-- all actions of an event can be done
 abbrev pub AreDoable : Names → Event → Type 0
 AreDoable names event = All (λ (numbered : ℕ × List Action). All (IsDoable names) numbered.1) event.actions
