@@ -1,0 +1,11 @@
+mod Small
+mod Rows
+mod Turns
+mod Lines
+mod Main
+mod Tops
+mod Reading
+mod Unique
+mod Values
+mod Digits
+mod OneCommand
