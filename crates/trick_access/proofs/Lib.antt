@@ -1,0 +1,6 @@
+pub mod Ends
+pub mod Loops
+pub mod Reached
+pub mod Spans
+pub mod There
+pub mod Weights
