@@ -160,11 +160,12 @@ fn a_close_gives_what_two_threads_stored(rt: HostRuntime) -> Result<(), Fail> {
     let two = thread::spawn_with(&rt, same_right, move || work_right(&rt, right, &for_right))?;
     thread::sleep(&rt, Duration::from_millis(NAP));
     open(&rt, &mut chief, row);
-    let left = one.join(&rt);
+    let mut left = one.join(&rt);
     let right = two.join(&rt);
+    assert_eq!(rt; code(left.try_store(2, 6)), 0);
     gather(&mut chief, left, right);
     let row = chief.close(&rt);
     assert_eq!(rt; signals.holder.load(SeqCst), 2);
-    assert_eq!(rt; row.items.as_slice(), [TURNS - 1, TURNS - 1, 30].as_slice());
+    assert_eq!(rt; row.items.as_slice(), [TURNS - 1, TURNS - 1, 6].as_slice());
     Ok(())
 }
