@@ -1,6 +1,7 @@
 pub mod CauseLemmas
-pub mod WriteLemmas
+pub mod CallLemmas
 pub mod DoesLemmas
-pub mod GetLemmas
+pub mod WriteLemmas
+pub mod PieceLemmas
 pub mod KeptLemmas
-pub mod PutLemmas
+mod Examples

@@ -6,6 +6,8 @@ use Rattle.trick_base.specs.Files.{Files}
 use Rattle.trick_outside.specs.declared.memory_shelf.File.{File}
 use Rattle.trick_outside.specs.declared.memory_shelf.MemoryShelf.{MemoryShelf}
 use Rattle.trick_outside.specs.declared.memory_sink.MemorySink.{MemorySink}
+use Rattle.trick_outside.specs.declared.sink.Taken1.TheVariants.{Took, Failed, OutOfMemory}
+use Rattle.trick_outside.specs.declared.sink.Taken1.{Taken1}
 
 -- The files of a list, by name. The first of a name counts.
 abbrev pub kept : List File → Files
@@ -63,3 +65,9 @@ SameSinkPlan old new = new.plan ≡ old.plan
 -- How many bytes of a piece the sink takes at most.
 abbrev pub most_taken : MemorySink → ℕ
 most_taken sink = sink.most
+
+-- Where it takes, it takes the whole piece, or as much as it takes at most.
+abbrev pub TakesMost : Taken1 → (length most : ℕ) → Type 0
+TakesMost (Took count) length most = count ≡ min length most
+TakesMost Failed length most = Unit {0}
+TakesMost OutOfMemory length most = Unit {0}

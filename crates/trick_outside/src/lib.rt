@@ -9,13 +9,15 @@ mod print;
 mod shelf;
 mod sink;
 mod steps;
+mod stop;
 
 pub use memory_shelf::MemoryShelf;
 pub use memory_sink::MemorySink;
 pub use print::{Printed, put};
 pub use shelf::{Got, Shelf, Wrote};
 pub use sink::{Sink, Taken1};
-pub use steps::{Stop, append, create, get, write_file};
+pub use steps::{append, create, get, write_file};
+pub use stop::Stop;
 
 #[cfg(test)]
 mod tests;

@@ -164,10 +164,8 @@ impl MemoryShelf {
 }
 
 impl Shelf for MemoryShelf {
-    ghost use Rattle.trick_outside.specs.Answers.{AreOf, told_by};
-    ghost use Rattle.trick_outside.specs.Causes.{HasCause};
-    ghost use Rattle.trick_base.specs.Files.{Append, Create, Files};
-    ghost use Rattle.trick_outside.specs.Files.{Writes};
+    ghost use Rattle.trick_base.specs.Files.{Append, Create};
+    ghost use Rattle.trick_outside.specs.Calls.{Calls, get_call, write_call};
     ghost use Rattle.trick_outside.specs.Kept.{ShelfCountsOne, ShelfFailsNext, ShelfNeverFails};
     ghost use Rattle.trick_outside.specs.Kept.{contents};
 
@@ -175,20 +173,18 @@ impl Shelf for MemoryShelf {
 
     ghost failures = { λ shelf. shelf.plan.faults };
 
-    // What it was asked need not be known, since it tells what it holds. A shelf that never fails
+    // Which calls were made need not be known, since it tells what it holds. A shelf that never fails
     // is still one after any calls.
-    ghost asked = { λ old _ new. ShelfNeverFails old → ShelfNeverFails new };
+    ghost called = { λ old _ new. ShelfNeverFails old → ShelfNeverFails new };
 
-    ghost asked_none = { λ _ never. never };
+    ghost called_none = { λ _ never. never };
 
-    ghost asked_join = { λ _ _ _ _ _ early late never. late (early never) };
+    ghost called_join = { λ _ _ _ _ _ early late never. late (early never) };
 
     fn get(&mut self, alloc: Global, name: &Word) -> Got
-        ensures answer { ShelfNeverFails self.old → ShelfNeverFails self.new }
-        ensures held { (files : Files) → Some (contents self.old) ≡ Some files
-            → AreOf files (told_by name.now result) }
-        ensures same { Writes (Some (contents self.old)) (Some (contents self.new)) (Unit {0}) [] }
-        ensures cause { HasCause self.old.plan.faults self.new.plan.faults (result ≡ Got.Failed) }
+        ensures told { ShelfNeverFails self.old → ShelfNeverFails self.new }
+        ensures went { Calls (Some (contents self.old)) (Some (contents self.new))
+            self.old.plan.faults self.new.plan.faults (get_call name.now result ∷ []) }
 
         // What this form promises beyond the trait.
         ensures unchanged { contents self.new ≡ contents self.old }
@@ -208,10 +204,9 @@ impl Shelf for MemoryShelf {
     }
 
     fn create(&mut self, name: &Word) -> Wrote
-        ensures answer { ShelfNeverFails self.old → ShelfNeverFails self.new }
-        ensures written { Writes (Some (contents self.old)) (Some (contents self.new))
-            (result ≡ Wrote.Done) (Create name.now ∷ []) }
-        ensures cause { HasCause self.old.plan.faults self.new.plan.faults (result ≡ Wrote.Failed) }
+        ensures told { ShelfNeverFails self.old → ShelfNeverFails self.new }
+        ensures went { Calls (Some (contents self.old)) (Some (contents self.new))
+            self.old.plan.faults self.new.plan.faults (write_call (Create name.now) result ∷ []) }
 
         // What this form promises beyond the trait.
         ensures unless_done { result ≢ Wrote.Done → contents self.new ≡ contents self.old }
@@ -228,10 +223,9 @@ impl Shelf for MemoryShelf {
     }
 
     fn append(&mut self, name: &Word, bytes: &[u8]) -> Wrote
-        ensures answer { ShelfNeverFails self.old → ShelfNeverFails self.new }
-        ensures written { Writes (Some (contents self.old)) (Some (contents self.new))
-            (result ≡ Wrote.Done) (Append name.now bytes.now ∷ []) }
-        ensures cause { HasCause self.old.plan.faults self.new.plan.faults (result ≡ Wrote.Failed) }
+        ensures told { ShelfNeverFails self.old → ShelfNeverFails self.new }
+        ensures went { Calls (Some (contents self.old)) (Some (contents self.new))
+            self.old.plan.faults self.new.plan.faults (write_call (Append name.now bytes.now) result ∷ []) }
 
         // What this form promises beyond the trait.
         ensures unless_done { result ≢ Wrote.Done → contents self.new ≡ contents self.old }

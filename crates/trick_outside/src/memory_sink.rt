@@ -1,5 +1,4 @@
-ghost use Rattle.std.specs.Prelude.{◌≡◌, ◌≢◌, ◌↔◌, ◌++◌, ◌<◌, ◌≤◌, ℕ, List, [], Some, length};
-ghost use Rattle.trick_outside.specs.Causes.{HasCause};
+ghost use Rattle.std.specs.Prelude.{◌≡◌, ◌↔◌, ◌∷◌, ◌<◌, [], Some, length};
 
 use crate::fault_plan::FaultPlan;
 use crate::{Sink, Taken1};
@@ -76,26 +75,31 @@ impl MemorySink {
 }
 
 impl Sink for MemorySink {
-    ghost use Rattle.trick_outside.specs.Kept.{SinkCountsOne, SinkFailsNext, SinkNeverFails};
+    ghost use Rattle.trick_outside.specs.Kept.{SinkCountsOne, SinkFailsNext, SinkNeverFails, TakesMost};
     ghost use Rattle.trick_outside.specs.Kept.{most_taken};
-    ghost use Rattle.trick_outside.specs.Taken.{taken_of, Progress, TakesMost};
+    ghost use Rattle.trick_outside.specs.Pieces.{Pieces, Progress, piece_call};
 
     ghost holds = { λ sink. Some sink.bytes.items };
 
     ghost failures = { λ sink. sink.plan.faults };
 
+    // Which pieces it was given need not be known, since it tells what it has taken. A sink that
+    // never fails is still one after any pieces.
+    ghost called = { λ old _ new. SinkNeverFails old → SinkNeverFails new };
+
+    ghost called_none = { λ _ never. never };
+
+    ghost called_join = { λ _ _ _ _ _ early late never. late (early never) };
+
     fn write(&mut self, piece: &[u8]) -> Taken1
-        ensures taken { (bytes : List ℕ) → Some self.old.bytes.items ≡ Some bytes
-            → Some self.new.bytes.items ≡ Some (bytes ++ taken_of result piece.now) }
+        ensures told { SinkNeverFails self.old → SinkNeverFails self.new }
         ensures progress { Progress result (length piece.now) }
-        ensures cause { HasCause self.old.plan.faults self.new.plan.faults
-            (result ≡ Taken1.Failed) }
+        ensures went { Pieces (Some self.old.bytes.items) (Some self.new.bytes.items)
+            self.old.plan.faults self.new.plan.faults (piece_call piece.now result ∷ []) }
 
         // What this form promises beyond the trait.
         ensures fails { (result ≡ Taken1.Failed) ↔ SinkFailsNext self.old }
         ensures counted { SinkCountsOne self.old self.new }
-        ensures quiet { SinkNeverFails self.old → SinkNeverFails self.new }
-        ensures never { SinkNeverFails self.old → result ≢ Taken1.Failed }
         ensures most { TakesMost result (length piece.now) (most_taken self.old) }
         ensures most_stays { most_taken self.new ≡ most_taken self.old }
     {

@@ -1,5 +1,3 @@
-ghost use Rattle.std.specs.Prelude.{◌≡◌};
-ghost use Rattle.trick_outside.specs.Causes.{HasCause};
 ghost use Rattle.trick_outside.specs.Puts.{Puts};
 
 use crate::{Sink, Taken1};
@@ -17,8 +15,7 @@ pub enum Printed {
 
 /// Puts these bytes to a sink, piece after piece, since a sink may take a part of a piece.
 pub fn put<O: Sink>(out: &mut O, bytes: &[u8]) -> Printed
-    ensures taken { Puts (O.holds out.old) (O.holds out.new) (result ≡ Printed.Done) bytes.now }
-    ensures cause { HasCause (O.failures out.old) (O.failures out.new) (result ≡ Printed.Failed) }
+    ensures { Puts O.Sink out.old out.new result bytes.now }
 {
     let mut at = 0;
     while at < bytes.len() {

@@ -151,10 +151,20 @@ fn count_after_writing(alloc: Global, name: &Word) -> u64
     shelf.faults()
 }
 
+/// The count of faults of a sink that never fails, after a text that was put to it.
+fn count_after_putting(alloc: Global) -> u64
+    ensures { result ≡ 0 }
+{
+    let mut sink = MemorySink::new(alloc);
+    let _ = put(&mut sink, b"bytes");
+    sink.faults()
+}
+
 #[test]
-fn a_shelf_that_never_fails_counts_none(rt: HostRuntime) -> Result<(), Fail> {
+fn forms_that_never_fail_count_none(rt: HostRuntime) -> Result<(), Fail> {
     let name = Word::from_bytes(rt.alloc(), b"final.chk")?;
     assert_eq!(rt; count_after_writing(rt.alloc(), &name), 0);
+    assert_eq!(rt; count_after_putting(rt.alloc()), 0);
     Ok(())
 }
 

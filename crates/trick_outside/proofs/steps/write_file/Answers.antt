@@ -11,7 +11,7 @@ returns-in_err-create g c =
 pub returns-in_err-append : goal.returns-in_err-append
 returns-in_err-append g c =
     let p = err_from_is_err_and c.from_residual-in_err-append.result c.from_residual-in_err-append.ensures.1 in
-    rw (p.1, p.2) (does_then g.met.F.Shelf.asked_join c.in_ok-create.ensures refl c.in_err-append.ensures)
+    rw (p.1, p.2) (does_then g.met.F.Shelf.called_join c.in_ok-create.ensures refl c.in_err-append.ensures)
 
 pub returns : goal.returns
-returns g c = does_then g.met.F.Shelf.asked_join c.in_ok-create.ensures refl c.in_ok-append.ensures
+returns g c = does_then g.met.F.Shelf.called_join c.in_ok-create.ensures refl c.in_ok-append.ensures
