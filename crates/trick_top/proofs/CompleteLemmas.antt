@@ -1,91 +1,73 @@
--- Which row it is, where the shelf tells what it holds and does not fail.
-use Rattle.std.proofs.Common.{◌≡◌, ℕ, List, None, Some, inl, inr, refl, sym, subst}
+-- Which row it is, where the shelf tells what it holds and no call failed.
+use Rattle.std.proofs.Common.{◌≡◌, ℕ, List, ◌∷◌, ◌++◌, None, Some, inl, inr, refl, sym, ◌∙◌, ap, subst, map, Contains, true}
 use Rattle.std.specs.FinMap.{get}
 use Rattle.std.specs.Prelude.{Option, ◌⊎◌}
-use Rattle.trick_outside.specs.Answers.{Asked, AreOf}
-use Rattle.trick_base.specs.Files.{Files, Write}
+use Rattle.trick_base.specs.Files.{Files}
+use Rattle.trick_outside.proofs.CallLemmas.{fails-late}
+use Rattle.trick_outside.specs.Calls.{AllLeave, Call, fails}
+use Rattle.trick_top.proofs.FoundLemmas.{in_the_midst, lacks_none, leave_reads, reads_quiet, same_texts}
+use Rattle.trick_top.proofs.OutcomeLemmas.{faults}
 use Rattle.trick_top.specs.Counting.{IsCounting, IsStop}
-use Rattle.trick_top.specs.Outcome.{IsWanted, Outcome, Simulated, ended, input_not_read, input_refused, no_input, no_memory_for_input, no_memory_for_s_define, no_memory_to_read, no_memory_to_write, no_s_define, not_written, s_define_not_read, s_define_refused, simulated, usage}
+use Rattle.trick_top.specs.Found.{names, reads, texts}
+use Rattle.trick_top.specs.Outcome.{Goes, GoesOn, Simulated, ended, gone_on, input_refused, missing, no_memory_to_keep, no_memory_to_read, no_memory_to_write, not_read, not_understood, not_written, s_define_refused, unread}
 use Rattle.trick_top.specs.Status.{Refuses}
 use Rattle.trick_top.specs.Verdict.{Verdict, status_of}
-use Rattle.trick_top.specs.Words.{Asks, Command, Serial}
+use Rattle.trick_top.specs.Words.{Asks, Command, IsWanted, Serial, names_of}
 use Rattle.trick_top.specs.declared.counting.Counting.{Counting}
 use Rattle.trick_top.specs.declared.verdict.Source.TheVariants.{Input, SDefine}
 use Rattle.trick_top.specs.declared.verdict.Source.{Source}
 
 -- words that ask for something ask for nothing else
-pub same_command : (words : List (List ℕ)) (s_define input : List ℕ) (command : Option Command) → Asks words (Serial s_define input) → IsWanted words command
-    → command ≡ Some (Serial s_define input)
-same_command words s_define input None asks wanted = absurd (wanted (Serial s_define input) asks)
-same_command words s_define input (Some (Serial name other)) asks wanted =
+pub same_command : (words : List (List ℕ)) (command : Command) (wanted : Option Command) → Asks words command → IsWanted words wanted → wanted ≡ Some command
+same_command words command None asks is = absurd (is command asks)
+same_command words (Serial s_define input) (Some (Serial name other)) asks is =
     let one = asks.0 in
-    let two = wanted.0 in
+    let two = is.0 in
     cc
 
-none_is_some : {A : Type 0} {x : A} (o : Option A) → o ≡ None → o ≡ Some x → ⊥
-none_is_some o none some = cc
-
-some_is : {A : Type 0} (x y : A) (o : Option A) → o ≡ Some x → o ≡ Some y → x ≡ y
-some_is x y o one two = cc
-
-name_is : (name other s_define input : List ℕ) → Some (Serial name other) ≡ Some (Serial s_define input) → name ≡ s_define
-name_is name other s_define input e = cc
-
-other_is : (name other s_define input : List ℕ) → Some (Serial name other) ≡ Some (Serial s_define input) → other ≡ input
-other_is name other s_define input e = cc
-
-module _ {F : Type 0} (never : F → ⊥) (files : Files) (s_define input : List ℕ) where
+module _ (command : Command) (held now : Files) where
   -- a file is missing
-  pub missing_ends : {command : Option Command} {answers : List Asked} {writes : List Write} {verdict : Verdict} → Outcome F command answers writes verdict
-      → command ≡ Some (Serial s_define input) → AreOf files answers → (get files s_define ≡ None) ⊎ (get files input ≡ None)
-      → (status_of verdict ≡ 9) ⊎ (status_of verdict ≡ 6)
-  missing_ends usage is held missing = cc
-  missing_ends no_s_define is held missing = inl refl
-  missing_ends no_input is held missing = inl refl
-  missing_ends (s_define_not_read fails) is held missing = absurd (never fails)
-  missing_ends (input_not_read fails) is held missing = absurd (never fails)
-  missing_ends no_memory_for_s_define is held missing = inr refl
-  missing_ends no_memory_for_input is held missing = inr refl
-  missing_ends (simulated {name = name} {other = other} run) is held (inl none) =
-      absurd (none_is_some (get files name) (subst (λ n. get files n ≡ None) (sym (name_is name other s_define input is)) none) held.0)
-  missing_ends (simulated {name = name} {other = other} run) is held (inr none) =
-      absurd (none_is_some (get files other) (subst (λ n. get files n ≡ None) (sym (other_is name other s_define input is)) none) held.1.0)
+  pub missing_ends : {calls : List Call} {verdict : Verdict} → Goes command calls verdict → (fails calls ≡ true → ⊥) → AllLeave calls held now
+      → Contains (map (get held) (names_of command)) None → (status_of verdict ≡ 9) ⊎ (status_of verdict ≡ 6)
+  missing_ends (unread (missing files name others named)) never left lacks = inl refl
+  missing_ends (unread (not_read files name others named)) never left lacks = absurd (never ((faults (Some command) _ _ (unread (not_read files name others named))).back refl))
+  missing_ends (unread (no_memory_to_read files name others named)) never left lacks = inr refl
+  missing_ends (unread (no_memory_to_keep files others named)) never left lacks = inr refl
+  missing_ends (gone_on files calls named goes) never left lacks =
+      let all : map (get held) (names_of command) ≡ map Some (texts files) = ap (map (get held)) named ∙ (leave_reads files calls held now left).0 in
+      absurd (lacks_none (texts files) (subst (λ list. Contains list None) all lacks))
 
-  module _ (s_define_text input_text : List ℕ) (s_define_held : get files s_define ≡ Some s_define_text) (input_held : get files input ≡ Some input_text) where
-    -- both files are there, so their texts are run
-    pub both_run : {command : Option Command} {answers : List Asked} {writes : List Write} {verdict : Verdict} → Outcome F command answers writes verdict
-        → command ≡ Some (Serial s_define input) → AreOf files answers → Simulated F s_define_text input_text writes verdict ⊎ (status_of verdict ≡ 6)
-    both_run usage is held = cc
-    both_run (no_s_define {name = name} {other = other}) is held =
-        absurd (none_is_some (get files name) held.0 (subst (λ n. get files n ≡ Some s_define_text) (sym (name_is name other s_define input is)) s_define_held))
-    both_run (no_input {name = name} {other = other}) is held =
-        absurd (none_is_some (get files other) held.1.0 (subst (λ n. get files n ≡ Some input_text) (sym (other_is name other s_define input is)) input_held))
-    both_run (s_define_not_read fails) is held = absurd (never fails)
-    both_run (input_not_read fails) is held = absurd (never fails)
-    both_run no_memory_for_s_define is held = inr refl
-    both_run no_memory_for_input is held = inr refl
-    both_run {writes = writes} {verdict = verdict} (simulated {name = name} {other = other} {s_define = one} {input = two} run) is held =
-        let first : one ≡ s_define_text = some_is one s_define_text (get files name) held.0 (subst (λ n. get files n ≡ Some s_define_text) (sym (name_is name other s_define input is)) s_define_held) in
-        let second : two ≡ input_text = some_is two input_text (get files other) held.1.0 (subst (λ n. get files n ≡ Some input_text) (sym (other_is name other s_define input is)) input_held) in
-        inl (subst (λ text. Simulated F s_define_text text writes verdict) second (subst (λ text. Simulated F text two writes verdict) first run))
+  -- all files are there, so it goes on with their texts
+  pub found_goes : {calls : List Call} {verdict : Verdict} (given : List (List ℕ)) → Goes command calls verdict → (fails calls ≡ true → ⊥) → AllLeave calls held now
+      → map (get held) (names_of command) ≡ map Some given → ((late : List Call) × GoesOn command given late verdict × (fails late ≡ true → ⊥)) ⊎ (status_of verdict ≡ 6)
+  found_goes given (unread (missing files name others named)) never left all =
+      let none = (leave_reads files _ held now left).1.1.0 in
+      let lacks : Contains (map (get held) (names files ++ name ∷ others)) None = in_the_midst (get held) (names files) name others none in
+      absurd (lacks_none given (subst (λ list. Contains list None) (ap (map (get held)) (sym named) ∙ all) lacks))
+  found_goes given (unread (not_read files name others named)) never left all = absurd (never ((faults (Some command) _ _ (unread (not_read files name others named))).back refl))
+  found_goes given (unread (no_memory_to_read files name others named)) never left all = inr refl
+  found_goes given (unread (no_memory_to_keep files others named)) never left all = inr refl
+  found_goes {verdict = verdict} given (gone_on files calls named goes) never left all =
+      let same : texts files ≡ given = same_texts (texts files) given (sym (leave_reads files calls held now left).0 ∙ ap (map (get held)) (sym named) ∙ all) in
+      inl (calls, subst (λ texts. GoesOn command texts calls verdict) same goes, λ e. never (fails-late (reads files) calls (reads_quiet files) ∙ e))
 
 -- both texts are of the language, so the run is done
-pub described_ends : {F : Type 0} {s_define input : List ℕ} {writes : List Write} {verdict : Verdict} → (F → ⊥) → (simulation : Counting) → IsCounting s_define simulation → (stop : ℕ) → IsStop input stop
-    → Simulated F s_define input writes verdict → (status_of verdict ≡ 0) ⊎ (status_of verdict ≡ 6)
+pub described_ends : {s_define input : List ℕ} {calls : List Call} {verdict : Verdict} → (fails calls ≡ true → ⊥) → (simulation : Counting) → IsCounting s_define simulation → (stop : ℕ) → IsStop input stop
+    → Simulated s_define input calls verdict → (status_of verdict ≡ 0) ⊎ (status_of verdict ≡ 6)
 described_ends never simulation counting stop stops (s_define_refused none) = absurd (none simulation counting)
 described_ends never simulation counting stop stops (input_refused other none) = absurd (none stop stops)
+described_ends never simulation counting stop stops not_understood = inr refl
 described_ends never simulation counting stop stops (ended describes) = inl refl
-described_ends never simulation counting stop stops (not_written describes part fails) = absurd (never fails)
-described_ends never simulation counting stop stops no_memory_to_read = inr refl
-described_ends never simulation counting stop stops (no_memory_to_write describes part) = inr refl
+described_ends never simulation counting stop stops (not_written describes part fault) = absurd (never fault)
+described_ends never simulation counting stop stops (no_memory_to_write describes part none) = inr refl
 
 -- a text is not of the language, so it is refused
-pub refused_ends : {F : Type 0} {s_define input : List ℕ} {writes : List Write} {verdict : Verdict} (source : Source) → (F → ⊥) → Refuses source s_define input
-    → Simulated F s_define input writes verdict → (status_of verdict ≡ 2) ⊎ (status_of verdict ≡ 6)
+pub refused_ends : {s_define input : List ℕ} {calls : List Call} {verdict : Verdict} (source : Source) → (fails calls ≡ true → ⊥) → Refuses source s_define input
+    → Simulated s_define input calls verdict → (status_of verdict ≡ 2) ⊎ (status_of verdict ≡ 6)
 refused_ends source never refuses (s_define_refused none) = inl refl
 refused_ends source never refuses (input_refused counting none) = inl refl
+refused_ends source never refuses not_understood = inr refl
 refused_ends SDefine never refuses (ended {simulation = simulation} describes) = absurd (refuses simulation describes.counting)
 refused_ends Input never refuses (ended describes) = absurd (refuses.1 describes.stop describes.stops)
-refused_ends source never refuses (not_written describes part fails) = absurd (never fails)
-refused_ends source never refuses no_memory_to_read = inr refl
-refused_ends source never refuses (no_memory_to_write describes part) = inr refl
+refused_ends source never refuses (not_written describes part fault) = absurd (never fault)
+refused_ends source never refuses (no_memory_to_write describes part none) = inr refl

@@ -1,53 +1,69 @@
 -- How a command goes on a shelf.
-use Rattle.std.proofs.Common.{◌≡◌, ℕ, List, [], ◌∷◌, ◌++◌, None, Some}
-use Rattle.std.specs.Prelude.{Option}
-use Rattle.trick_outside.proofs.CauseLemmas.{rose_earlier}
-use Rattle.trick_outside.proofs.DoesLemmas.{Joins}
-use Rattle.trick_outside.proofs.GetLemmas.{went_get, went_gets, went_nothing, went_then}
-use Rattle.trick_outside.specs.Answers.{told_by}
-use Rattle.trick_outside.specs.Causes.{Rose}
-use Rattle.trick_base.specs.Files.{Write}
-use Rattle.trick_outside.specs.Gets.{Gets}
-use Rattle.trick_outside.specs.declared.shelf.Got.{Got}
+use Rattle.std.proofs.Common.{◌≡◌, ℕ, List, [], ◌∷◌, ◌++◌, None, Some, refl, sym, ◌∙◌, ap, subst, append_assoc, length, suc}
+use Rattle.trick_outside.proofs.DoesLemmas.{Joins, went_none, went_then}
+use Rattle.trick_outside.specs.Calls.{Call, Read}
+use Rattle.trick_outside.specs.Does.{Went}
 use Rattle.trick_outside.specs.declared.shelf.Shelf.{Ghosts}
-use Rattle.trick_top.specs.Outcome.{HasGone, HasSimulated, Outcome, Simulated, ended, input_refused, no_memory_to_read, no_memory_to_write, not_written, s_define_refused, simulated, usage}
-use Rattle.trick_top.specs.Verdict.{Usage, Verdict}
-use Rattle.trick_top.specs.Words.{Command, Serial}
+use Rattle.trick_top.proofs.FoundLemmas.{names-append, reads-append, texts-append}
+use Rattle.trick_top.specs.Found.{Found, names, reads, texts}
+use Rattle.trick_top.specs.Outcome.{GoesOn, HasFound, HasGone, HasGoneOn, HasNotFound, Unread, gone_on, no_memory_to_keep, unread}
+use Rattle.trick_top.specs.Verdict.{OutOfMemory, Usage, Verdict}
+use Rattle.trick_top.specs.Words.{Command, names_of}
 
 -- the words ask for nothing
-pub gone_nowhere : {S : Type 0} {shelf : Ghosts S} (s : S) → shelf.asked s [] s → HasGone shelf s s None Usage
-gone_nowhere s none = record { answers = []; writes = []; went = went_nothing s none; outcome = usage }
+pub gone_nowhere : {S : Type 0} {shelf : Ghosts S} (s : S) → shelf.called s [] s → HasGone shelf s s None Usage
+gone_nowhere s none = record { calls = []; went = went_none s none; outcome = (refl, refl) }
 
--- it ends with the first answer
-pub gone_by_get : {S : Type 0} {shelf : Ghosts S} {old new : S} {name : List ℕ} {answer : Got} (command : Option Command) (verdict : Verdict) → Gets shelf old new name answer
-    → Outcome (Rose (shelf.failures old) (shelf.failures new)) command (told_by name answer) [] verdict → HasGone shelf old new command verdict
-gone_by_get {name = name} {answer = answer} command verdict gets outcome = record { answers = told_by name answer; writes = []; went = went_get gets; outcome = outcome }
+-- a file was not read
+pub gone_unread : {S : Type 0} {shelf : Ghosts S} {old new : S} {wanted : List (List ℕ)} (command : Command) (verdict : Verdict) → wanted ≡ names_of command
+    → HasNotFound shelf old new wanted verdict → HasGone shelf old new (Some command) verdict
+gone_unread command verdict same is = record { calls = is.calls; went = is.went; outcome = unread (subst (λ names. Unread names is.calls verdict) same is.unread) }
 
--- it ends with the second answer
-pub gone_by_gets : {S : Type 0} {shelf : Ghosts S} {old mid new : S} {name other : List ℕ} {answer next : Got} (command : Option Command) (verdict : Verdict) → Joins shelf
-    → Gets shelf old mid name answer → Gets shelf mid new other next
-    → Outcome (Rose (shelf.failures old) (shelf.failures new)) command (told_by name answer ++ told_by other next) [] verdict → HasGone shelf old new command verdict
-gone_by_gets {name = name} {other = other} {answer = answer} {next = next} command verdict join first second outcome =
-    record { answers = told_by name answer ++ told_by other next; writes = []; went = went_gets join first second; outcome = outcome }
+-- all files were found, and it went on with their texts
+pub gone_further : {S : Type 0} {shelf : Ghosts S} {old mid new : S} {wanted given : List (List ℕ)} (command : Command) (kept : List (List ℕ)) (verdict : Verdict) → Joins shelf
+    → wanted ≡ names_of command → kept ≡ given → HasFound shelf old mid wanted given → HasGoneOn shelf mid new command kept verdict → HasGone shelf old new (Some command) verdict
+gone_further command kept verdict join same held found on = record {
+  calls = reads found.files ++ on.calls;
+  went = went_then join found.went on.went;
+  outcome = gone_on found.files on.calls (sym same ∙ found.named) (subst (λ texts. GoesOn command texts on.calls verdict) (held ∙ found.is) on.goes);
+}
 
--- a rise in a later part of the call is one in the call
-later_rise : {A B : Type 0} {s_define input : List ℕ} {writes : List Write} {verdict : Verdict} → (A → B) → Simulated A s_define input writes verdict → Simulated B s_define input writes verdict
-later_rise f (s_define_refused none) = s_define_refused none
-later_rise f (input_refused counting none) = input_refused counting none
-later_rise f (ended describes) = ended describes
-later_rise f (not_written describes part failed) = not_written describes part (f failed)
-later_rise f no_memory_to_read = no_memory_to_read
-later_rise f (no_memory_to_write describes part) = no_memory_to_write describes part
+-- as many texts as names
+pub as_many : {S : Type 0} {shelf : Ghosts S} {old new : S} {wanted given : List (List ℕ)} (command : Command) (kept : List (List ℕ)) → wanted ≡ names_of command → kept ≡ given
+    → HasFound shelf old new wanted given → length kept ≡ length (names_of command)
+as_many command kept same held found = ap length (held ∙ found.is) ∙ counted found.files ∙ ap length (sym found.named ∙ same)
+  where
+    counted : (files : List Found) → length (texts files) ≡ length (names files)
+    counted [] = refl
+    counted (file ∷ files) = ap suc (counted files)
 
--- both texts were found, and their run went on
-pub gone_on : {S : Type 0} {shelf : Ghosts S} {old mid next new : S} (name other : List ℕ) (first second : Got) (s_define input : List ℕ) (verdict : Verdict) → Joins shelf
-    → Gets shelf old mid name first → Gets shelf mid next other second → told_by name first ≡ (name, Some s_define) ∷ [] → told_by other second ≡ (other, Some input) ∷ []
-    → HasSimulated shelf next new s_define input verdict → HasGone shelf old new (Some (Serial name other)) verdict
-gone_on {shelf = shelf} {old = old} {next = next} {new = new} name other first second s_define input verdict join gets more found found_too run =
-    let both = went_gets join gets more in
-    record {
-      answers = (told_by name first ++ told_by other second) ++ [];
-      writes = run.writes;
-      went = went_then join both run.went;
-      outcome = rw (found, found_too) (simulated (later_rise (rose_earlier (shelf.failures old) (shelf.failures next) (shelf.failures new) both.later) run.simulated));
-    }
+module _ {S : Type 0} {shelf : Ghosts S} {old mid new : S} (join : Joins shelf) {front given : List (List ℕ)} (found : HasFound shelf old mid front given) where
+  -- one more was found
+  pub found_more : (name text : List ℕ) → Went shelf mid new (Read name (Some text) ∷ []) → HasFound shelf old new (front ++ name ∷ []) (given ++ text ∷ [])
+  found_more name text went =
+      let file : Found = record { name = name; text = text } in
+      record {
+        files = found.files ++ file ∷ [];
+        named = ap (λ n. n ++ name ∷ []) found.named ∙ sym (names-append found.files (file ∷ []));
+        is = ap (λ t. t ++ text ∷ []) found.is ∙ sym (texts-append found.files (file ∷ []));
+        went = subst (λ c. Went shelf old new c) (sym (reads-append found.files (file ∷ []))) (went_then join found.went went);
+      }
+
+  -- the next one was not read
+  pub not_found : (wanted others : List (List ℕ)) (name : List ℕ) (call : Call) (verdict : Verdict) → Went shelf mid new (call ∷ []) → wanted ≡ front ++ name ∷ others
+      → ((files : List Found) → wanted ≡ names files ++ name ∷ others → Unread wanted (reads files ++ call ∷ []) verdict) → HasNotFound shelf old new wanted verdict
+  not_found wanted others name call verdict went named row = record {
+    calls = reads found.files ++ call ∷ [];
+    went = went_then join found.went went;
+    unread = row found.files (named ∙ ap (λ n. n ++ name ∷ others) found.named);
+  }
+
+  -- the next one was found, and there was no room for it
+  pub not_kept : (wanted others : List (List ℕ)) (name text : List ℕ) → Went shelf mid new (Read name (Some text) ∷ []) → wanted ≡ front ++ name ∷ others → HasNotFound shelf old new wanted OutOfMemory
+  not_kept wanted others name text went named =
+      let more = found_more name text went in
+      record {
+        calls = reads more.files;
+        went = more.went;
+        unread = no_memory_to_keep more.files others (named ∙ sym (append_assoc front (name ∷ []) others) ∙ ap (λ n. n ++ others) more.named);
+      }

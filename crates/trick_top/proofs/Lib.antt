@@ -1,9 +1,10 @@
 pub mod RunLemmas
 pub mod PieceLemmas
+pub mod FoundLemmas
+pub mod OutcomeLemmas
+pub mod SaysLemmas
+pub mod CompleteLemmas
+pub mod PrintLemmas
 pub mod SimulatedLemmas
 pub mod GoneLemmas
-pub mod PrintedLemmas
-pub mod StatusLemmas
-pub mod RowLemmas
-pub mod CompleteLemmas
 pub mod TopLemmas

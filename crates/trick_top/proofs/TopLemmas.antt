@@ -1,24 +1,27 @@
 -- The clauses of the top call, from its row of the table.
-use Rattle.std.proofs.Common.{◌≡◌, ◌≢◌, ℕ, List, None, Some, inl, inr, refl, sym, subst, ◌∙◌, arith}
+use Rattle.std.proofs.Common.{◌≡◌, ◌≢◌, ℕ, List, [], ◌∷◌, None, Some, inl, inr, refl, sym, subst, ap, arith, Contains, true}
 use Rattle.std.specs.Prelude.{Option, ◌⊎◌}
+use Rattle.trick_outside.specs.Calls.{Call, fails}
 use Rattle.trick_outside.specs.Causes.{Rose}
+use Rattle.trick_outside.specs.Does.{Went}
 use Rattle.trick_outside.specs.declared.shelf.Shelf.{Ghosts}
-use Rattle.trick_top.proofs.CompleteLemmas.{both_run, described_ends, missing_ends, refused_ends, same_command}
-use Rattle.trick_top.proofs.RowLemmas.{holds_same, misses_file, refusal_writes, refuses_text, runs_to_end, shelf_failed}
-use Rattle.trick_top.proofs.StatusLemmas.{Shown, ends_with, failed, no_memory, shown_of, sink_failed, status_is, taken, usage_due, usage_is}
+use Rattle.trick_outside.specs.declared.sink.Sink as sink
+use Rattle.trick_top.proofs.CompleteLemmas.{described_ends, found_goes, missing_ends, refused_ends, same_command}
+use Rattle.trick_top.proofs.OutcomeLemmas.{faults}
+use Rattle.trick_top.proofs.PrintLemmas.{Given, decided, ends_with, given}
+use Rattle.trick_top.proofs.SaysLemmas as row
+use Rattle.trick_top.specs.Called.{HasCalled}
 use Rattle.trick_top.specs.Counting.{IsCounting, IsStop}
-use Rattle.trick_top.specs.Outcome.{HasGone, IsWanted}
+use Rattle.trick_top.specs.Outcome.{Goes, GoesOn, HasGone, Outcome, Simulated}
 use Rattle.trick_top.specs.Printed.{Prints}
-use Rattle.trick_top.specs.Status.{EndsWith, Finds, HoldsSame, IsRefusal, MissesFile, Refuses, RefusesText, RunsToEnd, TookLine}
+use Rattle.trick_top.specs.Status.{EndsWith, Finds, HoldsSame, IsRefusal, MissesFile, Refuses, RefusesText, RunsToEnd, Says, Stands, TookLine}
 use Rattle.trick_top.specs.Verdict.{Ended, NoFile, OutOfMemory, ShelfFault, TextRefused, Usage, Verdict, line_of, status_of}
-use Rattle.trick_top.specs.Words.{AreRefused, Command}
+use Rattle.trick_top.specs.Words.{AreRefused, Asks, Command, IsWanted, Serial}
 use Rattle.trick_top.specs.declared.counting.Counting.{Counting}
+use Rattle.trick_top.specs.declared.state.State.{State}
 use Rattle.trick_top.specs.declared.verdict.Source.{Source}
 
--- no status is two
-pub not_both : (status due other : ℕ) → status ≡ due → due ≢ other → status ≢ other
-not_both status due other is differ same = differ (sym is ∙ same)
-
+-- which verdict a status is of
 is_usage : (verdict : Verdict) → status_of verdict ≡ 1 → verdict ≡ Usage
 is_usage Usage e = refl
 is_usage (NoFile name) e = absurd (omega (arith, e))
@@ -27,90 +30,166 @@ is_usage (Ended turn tic) e = absurd (omega (arith, e))
 is_usage ShelfFault e = absurd (omega (arith, e))
 is_usage OutOfMemory e = absurd (omega (arith, e))
 
-no_command : (words : List (List ℕ)) (command : Option Command) → IsWanted words command → command ≡ None → AreRefused words
-no_command words None wanted e = wanted
-no_command words (Some command) wanted e = cc
+is_no_file : (verdict : Verdict) → status_of verdict ≡ 9 → (name : List ℕ) × (verdict ≡ NoFile name)
+is_no_file Usage e = absurd (omega (arith, e))
+is_no_file (NoFile name) e = (name, refl)
+is_no_file (TextRefused source) e = absurd (omega (arith, e))
+is_no_file (Ended turn tic) e = absurd (omega (arith, e))
+is_no_file ShelfFault e = absurd (omega (arith, e))
+is_no_file OutOfMemory e = absurd (omega (arith, e))
 
-none_wanted : (words : List (List ℕ)) (command : Option Command) → IsWanted words command → AreRefused words → command ≡ None
-none_wanted words None wanted refused = refl
-none_wanted words (Some command) wanted refused = absurd (refused command wanted)
+is_text_refused : (verdict : Verdict) → status_of verdict ≡ 2 → (source : Source) × (verdict ≡ TextRefused source)
+is_text_refused Usage e = absurd (omega (arith, e))
+is_text_refused (NoFile name) e = absurd (omega (arith, e))
+is_text_refused (TextRefused source) e = (source, refl)
+is_text_refused (Ended turn tic) e = absurd (omega (arith, e))
+is_text_refused ShelfFault e = absurd (omega (arith, e))
+is_text_refused OutOfMemory e = absurd (omega (arith, e))
 
-done_or_none : {F : Type 0} {old new : Option (List ℕ)} {verdict : Verdict} {status : ℕ} → (F → ⊥) → Shown F old new verdict status
-    → (status_of verdict ≡ 0) ⊎ (status_of verdict ≡ 6) → (status ≡ 0) ⊎ (status ≡ 6)
-done_or_none never (taken same line) (inl is) = inl (same ∙ is)
-done_or_none never (taken same line) (inr is) = inr (same ∙ is)
-done_or_none never (no_memory same) is = inr same
-done_or_none never (failed same fails) is = absurd (never fails)
+is_ended : (verdict : Verdict) → status_of verdict ≡ 0 → (turn tic : ℕ) × (verdict ≡ Ended turn tic)
+is_ended Usage e = absurd (omega (arith, e))
+is_ended (NoFile name) e = absurd (omega (arith, e))
+is_ended (TextRefused source) e = absurd (omega (arith, e))
+is_ended (Ended turn tic) e = (turn, tic, refl)
+is_ended ShelfFault e = absurd (omega (arith, e))
+is_ended OutOfMemory e = absurd (omega (arith, e))
 
-module _ {S : Type 0} (shelf : Ghosts S) (old new : S) (words : List (List ℕ)) (SinkFailed : Type 0) (taken_old taken_new : Option (List ℕ)) (command : Option Command) (verdict : Verdict) (status : ℕ)
-    (wanted : IsWanted words command) (gone : HasGone shelf old new command verdict) (prints : Prints SinkFailed taken_old taken_new verdict status) where
-  shown : Shown SinkFailed taken_old taken_new verdict status
-  shown = shown_of prints
+is_shelf_fault : (verdict : Verdict) → status_of verdict ≡ 5 → verdict ≡ ShelfFault
+is_shelf_fault Usage e = absurd (omega (arith, e))
+is_shelf_fault (NoFile name) e = absurd (omega (arith, e))
+is_shelf_fault (TextRefused source) e = absurd (omega (arith, e))
+is_shelf_fault (Ended turn tic) e = absurd (omega (arith, e))
+is_shelf_fault ShelfFault e = refl
+is_shelf_fault OutOfMemory e = absurd (omega (arith, e))
 
-  -- the verdict's status, where it is one of those that are neither 6 nor 8
-  decided : (due : ℕ) → status ≡ due → due ≢ 6 → due ≢ 8 → (status_of verdict ≡ due) × TookLine taken_old taken_new (line_of verdict)
-  decided due is six eight =
-      let both = status_is shown (not_both status due 6 is six) (not_both status due 8 is eight) in
-      (sym both.0 ∙ is, both.1)
+usage_due : (words : List (List ℕ)) (command : Option Command) (calls : List Call) (verdict : Verdict) → IsWanted words command → AreRefused words → Outcome command calls verdict → status_of verdict ≡ 1
+usage_due words None calls verdict wanted refused (none, is) = ap status_of is
+usage_due words (Some command) calls verdict wanted refused outcome = absurd (refused command wanted)
 
-  pub done : status ≡ 0 → RunsToEnd shelf old new words taken_old taken_new
-  done is =
-      let both = decided 0 is (λ e. omega (arith, e)) (λ e. omega (arith, e)) in
-      runs_to_end shelf old new words taken_old taken_new gone.outcome both.0 wanted gone.went both.1
+-- what a command does with two texts
+simulated_of : (command : Command) (s_define input : List ℕ) {calls : List Call} {verdict : Verdict} → GoesOn command (s_define ∷ input ∷ []) calls verdict → Simulated s_define input calls verdict
+simulated_of (Serial name other) s_define input goes = goes
 
-  pub usage_words : status ≡ 1 → AreRefused words
-  usage_words is = no_command words command wanted (usage_is gone.outcome (decided 1 is (λ e. omega (arith, e)) (λ e. omega (arith, e))).0)
+module _ {S O : Type 0} (shelf : Ghosts S) (sink : sink.Ghosts O) (old new : S) (before now : O) (words : List (List ℕ)) (command : Option Command) (verdict : Verdict) (status : ℕ)
+    (wanted : IsWanted words command) (gone : HasGone shelf old new command verdict) (prints : Prints sink before now verdict status) where
+  so : Given sink before now verdict status
+  so = given prints
 
-  pub usage_line : status ≡ 1 → TookLine taken_old taken_new (line_of Usage)
-  usage_line is =
-      let both = decided 1 is (λ e. omega (arith, e)) (λ e. omega (arith, e)) in
-      subst (λ v. TookLine taken_old taken_new (line_of v)) (is_usage verdict both.0) both.1
+  says : Says shelf old new words verdict
+  says = row.says shelf old new words verdict command gone.outcome wanted gone.went
 
-  pub text_refused : status ≡ 2 → RefusesText shelf old new words taken_old taken_new
-  text_refused is =
-      let both = decided 2 is (λ e. omega (arith, e)) (λ e. omega (arith, e)) in
-      refuses_text shelf old new words taken_old taken_new gone.outcome both.0 wanted gone.went both.1
+  abbrev pub Took : Verdict → Type 0
+  Took v = TookLine (sink.holds before) (sink.holds now) (line_of v)
 
-  pub no_file : status ≡ 9 → MissesFile shelf old new words taken_old taken_new
+  -- what a status says that is neither 6 nor 8
+  told : (due : ℕ) → status ≡ due → due ≢ 6 → due ≢ 8 → (status_of verdict ≡ due) × Took verdict
+  told due is six eight = decided so due is six eight
+
+  usage_is : status ≡ 1 → Says shelf old new words Usage × Took Usage
+  usage_is is =
+      let both = told 1 is (λ e. omega (arith, e)) (λ e. omega (arith, e)) in
+      let same = is_usage verdict both.0 in
+      (subst (Says shelf old new words) same says, subst Took same both.1)
+
+  pub usage : status ≡ 1 → AreRefused words × Went shelf old new [] × Took Usage
+  usage is = let both = usage_is is in (both.0.0, both.0.1, both.1)
+
+  pub no_file : status ≡ 9 → (name : List ℕ) × MissesFile shelf old new words name × Took (NoFile name)
   no_file is =
-      let both = decided 9 is (λ e. omega (arith, e)) (λ e. omega (arith, e)) in
-      misses_file shelf old new words taken_old taken_new gone.outcome both.0 wanted gone.went both.1
+      let both = told 9 is (λ e. omega (arith, e)) (λ e. omega (arith, e)) in
+      let same = is_no_file verdict both.0 in
+      (same.0, subst (Says shelf old new words) same.1 says, subst Took same.1 both.1)
+
+  pub text_refused : status ≡ 2 → (source : Source) × RefusesText shelf old new words source × Took (TextRefused source)
+  text_refused is =
+      let both = told 2 is (λ e. omega (arith, e)) (λ e. omega (arith, e)) in
+      let same = is_text_refused verdict both.0 in
+      (same.0, subst (Says shelf old new words) same.1 says, subst Took same.1 both.1)
+
+  pub done : status ≡ 0 → (final : State) × RunsToEnd shelf old new words final × Took (Ended final.turn final.tic)
+  done is =
+      let both = told 0 is (λ e. omega (arith, e)) (λ e. omega (arith, e)) in
+      let same = is_ended verdict both.0 in
+      let ends : Says shelf old new words (Ended same.0 same.1) = subst (Says shelf old new words) same.2 says in
+      let line : Took (Ended same.0 same.1) = subst Took same.2 both.1 in
+      (ends.0, ends.1, rw (ends.2, ends.3) line)
 
   pub shelf_fault : status ≡ 5 → Rose (shelf.failures old) (shelf.failures new)
-  shelf_fault is = shelf_failed gone.outcome (decided 5 is (λ e. omega (arith, e)) (λ e. omega (arith, e))).0
+  shelf_fault is = subst (Says shelf old new words) (is_shelf_fault verdict (told 5 is (λ e. omega (arith, e)) (λ e. omega (arith, e))).0) says
 
-  pub sink_fault : status ≡ 8 → SinkFailed
-  sink_fault is = sink_failed shown is
+  pub sink_fault : status ≡ 8 → Rose (sink.failures before) (sink.failures now)
+  sink_fault is = so.took.cause.failed (so.failed is)
+
+  pub called : HasCalled shelf sink old new before now status
+  called =
+      let all = faults command gone.calls verdict gone.outcome in
+      record {
+        calls = gone.calls;
+        went = gone.went;
+        ends = all.ends;
+        verdict = so.shown;
+        pieces = so.pieces;
+        told = so.told;
+        took = so.took;
+        one_line = so.one_line;
+        shelf_failed = λ is. all.back (is_shelf_fault verdict (told 5 is (λ e. omega (arith, e)) (λ e. omega (arith, e))).0);
+        shelf_fault = λ e. so.shelf_fault (all.there e);
+        sink_failed = so.failed;
+        sink_fault = so.fault;
+      }
 
   pub refused_same : IsRefusal status → HoldsSame (shelf.holds old) (shelf.holds new)
-  refused_same (inl is) = holds_same gone.went (refusal_writes gone.outcome (inl (decided 1 is (λ e. omega (arith, e)) (λ e. omega (arith, e))).0))
-  refused_same (inr (inl is)) = holds_same gone.went (refusal_writes gone.outcome (inr (inl (decided 2 is (λ e. omega (arith, e)) (λ e. omega (arith, e))).0)))
-  refused_same (inr (inr is)) = holds_same gone.went (refusal_writes gone.outcome (inr (inr (decided 9 is (λ e. omega (arith, e)) (λ e. omega (arith, e))).0)))
+  refused_same (inl is) = row.usage_same shelf old new words (usage_is is).0
+  refused_same (inr (inl is)) = let refused = text_refused is in row.text_same shelf old new words refused.0 refused.1
+  refused_same (inr (inr is)) = let misses = no_file is in row.missing_same shelf old new words misses.0 misses.1
+
+  pub stopped : Stands shelf old new words
+  stopped = row.stands shelf old new words verdict command gone.outcome wanted gone.went
 
   pub usage_all : AreRefused words → EndsWith status 1
-  usage_all refused = ends_with 1 shown (inl (usage_due gone.outcome (none_wanted words command wanted refused)))
+  usage_all refused = ends_with so 1 (inl (usage_due words command gone.calls verdict wanted refused gone.outcome))
 
-  pub no_file_all : (s_define input : Option (List ℕ)) → Finds shelf old words s_define input → (s_define ≡ None) ⊎ (input ≡ None)
-      → (Rose (shelf.failures old) (shelf.failures new) → ⊥) → EndsWith status 9
-  no_file_all s_define input finds missing never =
-      ends_with 9 shown
-      (missing_ends never finds.files finds.s_define finds.input gone.outcome (same_command words finds.s_define finds.input command finds.asks wanted) (gone.went.held finds.files finds.told)
-      (elim missing [ inl none ↦ inl (finds.s_define_held ∙ none) | inr none ↦ inr (finds.input_held ∙ none) ]))
+  -- no call failed
+  quiet : (Rose (shelf.failures old) (shelf.failures new) → ⊥) → fails gone.calls ≡ true → ⊥
+  quiet never e = never (gone.went.went.cause.failed e)
 
-  pub text_refused_all : (source : Source) (s_define input : List ℕ) → Finds shelf old words (Some s_define) (Some input) → Refuses source s_define input
+  -- the row of a command
+  goes : (asked : Command) → Asks words asked → Goes asked gone.calls verdict
+  goes asked asks = subst (λ c. Outcome c gone.calls verdict) (same_command words asked command asks wanted) gone.outcome
+
+  pub no_file_all : (given : List (Option (List ℕ))) → Finds shelf old words given → Contains given None → (Rose (shelf.failures old) (shelf.failures new) → ⊥) → EndsWith status 9
+  no_file_all given finds lacks never =
+      let left = gone.went.went.left finds.files finds.told in
+      ends_with so 9 (missing_ends finds.command finds.files left.0 (goes finds.command finds.asks) (quiet never) left.2 (subst (λ list. Contains list None) (sym finds.held) lacks))
+
+  -- both files are there, so their texts are run
+  both_run : (s_define input : List ℕ) → Finds shelf old words (Some s_define ∷ Some input ∷ []) → (Rose (shelf.failures old) (shelf.failures new) → ⊥)
+      → ((late : List Call) × Simulated s_define input late verdict × (fails late ≡ true → ⊥)) ⊎ (status_of verdict ≡ 6)
+  both_run s_define input finds never =
+      let left = gone.went.went.left finds.files finds.told in
+      elim (found_goes finds.command finds.files left.0 (s_define ∷ input ∷ []) (goes finds.command finds.asks) (quiet never) left.2 finds.held) [
+        | inl on ↦ inl (on.0, simulated_of finds.command s_define input on.1, on.2)
+        | inr none ↦ inr none
+      ]
+
+  pub text_refused_all : (source : Source) (s_define input : List ℕ) → Finds shelf old words (Some s_define ∷ Some input ∷ []) → Refuses source s_define input
       → (Rose (shelf.failures old) (shelf.failures new) → ⊥) → EndsWith status 2
   text_refused_all source s_define input finds refuses never =
-      ends_with 2 shown
-      (elim (both_run never finds.files finds.s_define finds.input s_define input finds.s_define_held finds.input_held gone.outcome (same_command words finds.s_define finds.input command finds.asks wanted) (gone.went.held finds.files finds.told)) [
-        | inl run ↦ refused_ends source never refuses run
+      ends_with so 2
+      (elim (both_run s_define input finds never) [
+        | inl run ↦ refused_ends source run.2 refuses run.1
         | inr none ↦ inr none
       ])
 
-  pub complete : (s_define input : List ℕ) (simulation : Counting) (stop : ℕ) → Finds shelf old words (Some s_define) (Some input) → IsCounting s_define simulation → IsStop input stop
-      → (Rose (shelf.failures old) (shelf.failures new) → ⊥) → (SinkFailed → ⊥) → (status ≡ 0) ⊎ (status ≡ 6)
-  complete s_define input simulation stop finds counting stops never sink =
-      done_or_none sink shown
-      (elim (both_run never finds.files finds.s_define finds.input s_define input finds.s_define_held finds.input_held gone.outcome (same_command words finds.s_define finds.input command finds.asks wanted) (gone.went.held finds.files finds.told)) [
-        | inl run ↦ described_ends never simulation counting stop stops run
+  pub complete : (s_define input : List ℕ) (simulation : Counting) (stop : ℕ) → Finds shelf old words (Some s_define ∷ Some input ∷ []) → IsCounting s_define simulation → IsStop input stop
+      → (Rose (shelf.failures old) (shelf.failures new) → ⊥) → (Rose (sink.failures before) (sink.failures now) → ⊥) → (status ≡ 0) ⊎ (status ≡ 6)
+  complete s_define input simulation stop finds counting stops never sink_never =
+      elim (ends_with so 0
+      (elim (both_run s_define input finds never) [
+        | inl run ↦ described_ends run.2 simulation counting stop stops run.1
         | inr none ↦ inr none
-      ])
+      ])) [
+        | inl is ↦ inl is
+        | inr (inl is) ↦ inr is
+        | inr (inr is) ↦ absurd (sink_never (sink_fault is))
+      ]

@@ -24,9 +24,13 @@ pub mod Form
 -- Which texts describe a counting simulation, and when it stops.
 pub mod Counting
 pub mod Seen
+-- Files that were read one after another, and found.
+pub mod Found
 -- How a command may go on a shelf.
 pub mod Outcome
 -- How its verdict is printed.
 pub mod Printed
 -- What each status says.
 pub mod Status
+-- What the calls say of the status.
+pub mod Called

@@ -1,15 +1,17 @@
 -- How a verdict was printed, and the status that the program ends with.
-use Rattle.std.specs.Prelude.{ℕ, List, Option}
+use Rattle.std.specs.Prelude.{◌≡◌, ℕ, true}
 use Rattle.trick_outside.specs.Puts.{Puts}
-use Rattle.trick_top.specs.Verdict.{Verdict, OutOfMemory, line_of, status_of}
+use Rattle.trick_outside.specs.declared.print.Printed.TheVariants as answer
+use Rattle.trick_outside.specs.declared.sink.Sink.{Ghosts}
+use Rattle.trick_top.specs.Verdict.{Verdict, OutOfMemory, is_made, line_of, status_of}
 
--- From old to new the sink took the verdict's line, or a part of one.
-pub data Prints (SinkFailed : Type 0) (old new : Option (List ℕ)) : Verdict → ℕ → Type 0 where
+-- From old to new the sink was given one line, piece after piece, and nothing else.
+pub data Prints {O : Type 0} (sink : Ghosts O) (old new : O) : Verdict → ℕ → Type 0 where
   -- the line was taken
-  printed : {verdict : Verdict} → Puts old new (Unit {0}) (line_of verdict) → Prints SinkFailed old new verdict (status_of verdict)
+  printed : {verdict : Verdict} → Puts sink old new answer.Done (line_of verdict) → Prints sink old new verdict (status_of verdict)
   -- the sink failed, which decides over all else
-  not_printed : {verdict : Verdict} → Puts old new ⊥ (line_of verdict) → SinkFailed → Prints SinkFailed old new verdict 8
+  not_printed : {verdict : Verdict} → Puts sink old new answer.Failed (line_of verdict) → Prints sink old new verdict 8
   -- the sink had no memory
-  cut_off : {verdict : Verdict} → Puts old new ⊥ (line_of verdict) → Prints SinkFailed old new verdict 6
+  cut_off : {verdict : Verdict} → Puts sink old new answer.OutOfMemory (line_of verdict) → Prints sink old new verdict 6
   -- there was no memory for the line, so that of want of memory was printed
-  no_line : {verdict : Verdict} {status : ℕ} → Prints SinkFailed old new OutOfMemory status → Prints SinkFailed old new verdict status
+  no_line : {verdict : Verdict} {status : ℕ} → is_made verdict ≡ true → Prints sink old new OutOfMemory status → Prints sink old new verdict status

@@ -1,5 +1,5 @@
 -- How a command ends, with the status and the printed line of each end.
-use Rattle.std.specs.Prelude.{ℕ, List, ◌++◌, codes, decimal}
+use Rattle.std.specs.Prelude.{ℕ, Bool, true, false, List, ◌++◌, codes, decimal}
 use Rattle.trick_top.specs.declared.refusal.Refusal.TheVariants as refusal
 use Rattle.trick_top.specs.declared.refusal.Refusal.{Refusal}
 use Rattle.trick_top.specs.declared.verdict.Source.{Source}
@@ -40,6 +40,15 @@ line_of (TextRefused source) = codes "refused NotInProfile " ++ source_text sour
 line_of (Ended turn tic) = codes "ended turns=" ++ decimal turn ++ codes " tic=" ++ decimal tic ++ codes " faults=0 sessions=0\n"
 line_of ShelfFault = codes "refused ShelfFault\n"
 line_of OutOfMemory = codes "refused OutOfMemory\n"
+
+-- Whether its line has to be made, for which memory is needed. The others are always the same.
+abbrev pub is_made : Verdict → Bool
+is_made Usage = false
+is_made (NoFile name) = true
+is_made (TextRefused source) = true
+is_made (Ended turn tic) = true
+is_made ShelfFault = false
+is_made OutOfMemory = false
 
 -- the verdict that a value of the program stands for
 abbrev pub verdict_of : declared.Verdict → Verdict

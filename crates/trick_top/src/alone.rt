@@ -1,15 +1,20 @@
-ghost use Rattle.std.specs.Prelude.{◌≡◌, ◌⊎◌, ℕ, None, Some};
+ghost use Rattle.std.specs.Prelude.{◌≡◌, ◌⊎◌, ℕ, List, [], ◌∷◌, None, Some, Contains, length};
 ghost use Rattle.trick_outside.specs.Causes.{Rose};
+ghost use Rattle.trick_outside.specs.Does.{Went};
+ghost use Rattle.trick_top.specs.Called.{HasCalled};
 ghost use Rattle.trick_top.specs.Counting.{IsCounting, IsStop};
-ghost use Rattle.trick_top.specs.Outcome.{HasGone, HasSimulated, IsWanted};
+ghost use Rattle.trick_top.specs.Outcome.{HasGone, HasGoneOn, HasSimulated};
 ghost use Rattle.trick_top.specs.Printed.{Prints};
-ghost use Rattle.trick_top.specs.Status.{EndsWith, Finds, HoldsSame, IsRefusal, MissesFile, Refuses, RefusesText, RunsToEnd, TookLine};
-ghost use Rattle.trick_top.specs.Verdict.{Usage, line_of, refused_text, verdict_of};
-ghost use Rattle.trick_top.specs.Words.{AreRefused, Serial};
+ghost use Rattle.trick_top.specs.Said.{said};
+ghost use Rattle.trick_top.specs.Status.{EndsWith, Finds, HoldsSame, IsRefusal, MissesFile, Refuses, RefusesText, RunsToEnd, Stands, TookLine};
+ghost use Rattle.trick_top.specs.Verdict.{Ended, NoFile, OutOfMemory, TextRefused, Usage, line_of, refused_text, verdict_of};
+ghost use Rattle.trick_top.specs.Words.{AreRefused, IsWanted, names_of};
 ghost use Rattle.trick_top.specs.declared.counting.Counting.{Counting};
+ghost use Rattle.trick_top.specs.declared.state.State.{State};
 ghost use Rattle.trick_top.specs.declared.verdict.Source.{Source};
 
 use crate::executive::run;
+use crate::files::read_files;
 use crate::finish::write_final;
 use crate::input::read_input;
 use crate::refusal::Refusal;
@@ -17,8 +22,8 @@ use crate::s_define::read_s_define;
 use crate::verdict::{Source, Verdict};
 use crate::words::{Command, read_words};
 use std::alloc::Global;
-use trick_base::Word;
-use trick_outside::{Got, Printed, Shelf, Sink, Stop, get, put};
+use trick_base::{Items, Word};
+use trick_outside::{Printed, Shelf, Sink, Stop, put};
 
 /// The verdict on a text that was not read.
 fn refused(refusal: Refusal, source: Source) -> Verdict<'static>
@@ -58,44 +63,38 @@ fn simulate<F: Shelf>(
     }
 }
 
-/// One run on one thread, of the texts in two files.
-fn serial<'a, F: Shelf>(
+/// What a command does once its files are found, by their texts.
+fn go_on<F: Shelf>(
     alloc: Global,
-    s_define: &'a Word,
-    input: &'a Word,
+    command: Command,
+    texts: &[Items<u8>],
     shelf: &mut F,
-) -> Verdict<'a>
-    ensures { HasGone F.Shelf shelf.old shelf.new (Some (Serial s_define.now input.now)) (verdict_of result) }
+) -> Verdict<'static>
+    requires { length texts.now ≡ length (names_of (said command)) }
+    ensures { HasGoneOn F.Shelf shelf.old shelf.new (said command.entry) texts.now (verdict_of result) }
 {
-    let s_define_text = match get(shelf, alloc, s_define) {
-        Got::Found(text) => text,
-        Got::Missing => return Verdict::NoFile(s_define),
-        Got::Failed => return Verdict::ShelfFault,
-        Got::OutOfMemory => return Verdict::OutOfMemory,
-    };
-    let input_text = match get(shelf, alloc, input) {
-        Got::Found(text) => text,
-        Got::Missing => return Verdict::NoFile(input),
-        Got::Failed => return Verdict::ShelfFault,
-        Got::OutOfMemory => return Verdict::OutOfMemory,
-    };
-    simulate(alloc, &s_define_text, &input_text, shelf)
+    match command {
+        Command::Serial { .. } => simulate(alloc, texts[0].as_slice(), texts[1].as_slice(), shelf),
+    }
 }
 
 /// What the words ask for, done; its verdict is not printed yet.
 fn decide<'a, F: Shelf>(alloc: Global, words: &'a [Word], shelf: &mut F) -> Verdict<'a>
     ensures { (command : _) × IsWanted words.now command × HasGone F.Shelf shelf.old shelf.new command (verdict_of result) }
 {
-    match read_words(words) {
-        None => Verdict::Usage,
-        Some(Command::Serial { s_define, input }) => serial(alloc, s_define, input, shelf),
+    let Some(command) = read_words(words) else {
+        return Verdict::Usage;
+    };
+    match read_files(alloc, &command.names(), shelf) {
+        Ok(texts) => go_on(alloc, command, &texts, shelf),
+        Err(verdict) => verdict,
     }
 }
 
 /// Prints a verdict's line. The status of the program.
 fn print_line<O: Sink>(verdict: Verdict, line: &[u8], out: &mut O) -> u8
     requires { line.now ≡ line_of (verdict_of verdict) }
-    ensures { Prints (Rose (O.failures out.old) (O.failures out.new)) (O.holds out.old) (O.holds out.new) (verdict_of verdict.entry) result }
+    ensures { Prints O.Sink out.old out.new (verdict_of verdict.entry) result }
 {
     match put(out, line) {
         Printed::Done => verdict.status(),
@@ -106,12 +105,23 @@ fn print_line<O: Sink>(verdict: Verdict, line: &[u8], out: &mut O) -> u8
 
 /// Prints a verdict, or want of memory where there is none for its line. The status of the program.
 fn print<O: Sink>(alloc: Global, verdict: Verdict, out: &mut O) -> u8
-    ensures { Prints (Rose (O.failures out.old) (O.failures out.new)) (O.holds out.old) (O.holds out.new) (verdict_of verdict.entry) result }
+    ensures { Prints O.Sink out.old out.new (verdict_of verdict.entry) result }
 {
+    if let Some(line) = verdict.fixed_line() {
+        return print_line(verdict, line, out);
+    }
     match verdict.line(alloc) {
         Ok(line) => print_line(verdict, &line, out),
-        Err(_) => print_line(Verdict::OutOfMemory, b"refused OutOfMemory\n", out),
+        Err(_) => print_out_of_memory(out),
     }
+}
+
+/// Prints the line of want of memory, for which no memory is needed. Answers the status of the program:
+/// 6, or 8 where the sink failed.
+pub fn print_out_of_memory<O: Sink>(out: &mut O) -> u8
+    ensures { Prints O.Sink out.old out.new OutOfMemory result }
+{
+    print_line(Verdict::OutOfMemory, b"refused OutOfMemory\n", out)
 }
 
 /// Does what the words of a command line ask for, but for the command that runs threads: it waits
@@ -126,28 +136,36 @@ pub fn tricks_alone<F: Shelf, O: Sink>(
     shelf: &mut F,
     out: &mut O,
 ) -> u8
-    // One row of the table of statuses, and its printed line.
+    // One row of the table of statuses, with all calls of the shelf and all pieces that the sink was
+    // given.
     ensures row { (command : _) × (verdict : _) × IsWanted words.now command
         × HasGone F.Shelf shelf.old shelf.new command verdict
-        × Prints (Rose (O.failures out.old) (O.failures out.new)) (O.holds out.old) (O.holds out.new) verdict result }
+        × Prints O.Sink out.old out.new verdict result }
+    ensures called { HasCalled F.Shelf O.Sink shelf.old shelf.new out.old out.new result }
 
     // What each status says.
-    ensures done { result ≡ 0 → RunsToEnd F.Shelf shelf.old shelf.new words.now (O.holds out.old) (O.holds out.new) }
-    ensures usage { result ≡ 1 → AreRefused words.now }
-    ensures usage_line { result ≡ 1 → TookLine (O.holds out.old) (O.holds out.new) (line_of Usage) }
-    ensures text_refused { result ≡ 2 → RefusesText F.Shelf shelf.old shelf.new words.now (O.holds out.old) (O.holds out.new) }
+    ensures done { result ≡ 0 → (final : State) × RunsToEnd F.Shelf shelf.old shelf.new words.now final
+        × TookLine (O.holds out.old) (O.holds out.new) (line_of (Ended final.turn final.tic)) }
+    ensures usage { result ≡ 1 → AreRefused words.now × Went F.Shelf shelf.old shelf.new []
+        × TookLine (O.holds out.old) (O.holds out.new) (line_of Usage) }
+    ensures text_refused { result ≡ 2 → (source : Source) × RefusesText F.Shelf shelf.old shelf.new words.now source
+        × TookLine (O.holds out.old) (O.holds out.new) (line_of (TextRefused source)) }
     ensures shelf_fault { result ≡ 5 → Rose (F.failures shelf.old) (F.failures shelf.new) }
     ensures sink_fault { result ≡ 8 → Rose (O.failures out.old) (O.failures out.new) }
-    ensures no_file { result ≡ 9 → MissesFile F.Shelf shelf.old shelf.new words.now (O.holds out.old) (O.holds out.new) }
+    ensures no_file { result ≡ 9 → (name : List ℕ) × MissesFile F.Shelf shelf.old shelf.new words.now name
+        × TookLine (O.holds out.old) (O.holds out.new) (line_of (NoFile name)) }
     ensures refused_same { IsRefusal result → HoldsSame (F.holds shelf.old) (F.holds shelf.new) }
+
+    // Whatever the status is, and so at 5, 6 and 8 too: what stands of the writes.
+    ensures stopped { Stands F.Shelf shelf.old shelf.new words.now }
 
     // When each comes. Want of memory is free, and a failed sink decides over all else.
     ensures usage_all { AreRefused words.now → EndsWith result 1 }
-    ensures no_file_all { (s_define input : _) → Finds F.Shelf shelf.old words.now s_define input → (s_define ≡ None) ⊎ (input ≡ None)
+    ensures no_file_all { (given : _) → Finds F.Shelf shelf.old words.now given → Contains given None
         → ¬ Rose (F.failures shelf.old) (F.failures shelf.new) → EndsWith result 9 }
-    ensures text_refused_all { (source : Source) (s_define input : _) → Finds F.Shelf shelf.old words.now (Some s_define) (Some input)
+    ensures text_refused_all { (source : Source) (s_define input : _) → Finds F.Shelf shelf.old words.now (Some s_define ∷ Some input ∷ [])
         → Refuses source s_define input → ¬ Rose (F.failures shelf.old) (F.failures shelf.new) → EndsWith result 2 }
-    ensures complete { (s_define input : _) (simulation : Counting) (stop : ℕ) → Finds F.Shelf shelf.old words.now (Some s_define) (Some input)
+    ensures complete { (s_define input : _) (simulation : Counting) (stop : ℕ) → Finds F.Shelf shelf.old words.now (Some s_define ∷ Some input ∷ [])
         → IsCounting s_define simulation → IsStop input stop
         → ¬ Rose (F.failures shelf.old) (F.failures shelf.new) → ¬ Rose (O.failures out.old) (O.failures out.new)
         → (result ≡ 0) ⊎ (result ≡ 6) }

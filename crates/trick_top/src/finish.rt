@@ -1,6 +1,6 @@
 ghost use Rattle.std.specs.Prelude.{◌≡◌, length};
 ghost use Rattle.trick_outside.specs.Does.{Does};
-ghost use Rattle.trick_top.specs.Outcome.{final_writes};
+ghost use Rattle.trick_top.specs.Outcome.{final_steps};
 
 use crate::checkpoint::print;
 use crate::counting::Counting;
@@ -17,7 +17,7 @@ pub(crate) fn write_final<F: Shelf>(
     shelf: &mut F,
 ) -> Result<(), Stop>
     requires { length state.now.memory ≡ 1 }
-    ensures { Does F.Shelf shelf.old shelf.new result (final_writes simulation.now state.now) }
+    ensures { Does F.Shelf shelf.old shelf.new result (final_steps simulation.now state.now) }
 {
     let Ok(name) = Word::from_bytes(alloc, b"final.chk") else {
         return Err(Stop::Memory);

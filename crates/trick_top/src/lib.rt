@@ -5,6 +5,7 @@ mod alone;
 mod checkpoint;
 mod counting;
 mod executive;
+mod files;
 mod finish;
 mod input;
 mod keyword;
@@ -17,7 +18,7 @@ mod state;
 mod verdict;
 mod words;
 
-pub use alone::tricks_alone;
+pub use alone::{print_out_of_memory, tricks_alone};
 
 #[cfg(test)]
 mod tests;

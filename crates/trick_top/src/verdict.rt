@@ -1,9 +1,15 @@
-ghost use Rattle.std.specs.Prelude.{◌≡◌, ◌++◌, IfOk};
-ghost use Rattle.trick_top.specs.Verdict.{Ended, line_of, source_text, status_of, verdict_of};
+ghost use Rattle.std.specs.Prelude.{◌≡◌, ◌++◌, IfNone, IfOk, IfSome, true};
+ghost use Rattle.trick_top.specs.Verdict.{Ended, is_made, line_of, source_text, status_of, verdict_of};
 
 use itoa::Buffer;
 use std::alloc::{AllocError, Global};
 use trick_base::Word;
+
+const USAGE: &[u8] = b"usage: tricks serial|run|replay|check|list|gen\n";
+
+const SHELF_FAULT: &[u8] = b"refused ShelfFault\n";
+
+const OUT_OF_MEMORY: &[u8] = b"refused OutOfMemory\n";
 
 /// One of the two texts that describe a simulation.
 #[derive(Clone, Copy, Debug, PartialEq, Eq)]
@@ -66,15 +72,25 @@ impl Verdict<'_> {
         }
     }
 
+    /// The line to be printed, where it is always the same.
+    pub(crate) fn fixed_line(self) -> Option<&'static [u8]>
+        ensures fixed { IfSome result (λ line. line.now ≡ line_of (verdict_of self.entry)) }
+        ensures made { IfNone result (is_made (verdict_of self.entry) ≡ true) }
+    {
+        match self {
+            Verdict::Usage => Some(USAGE),
+            Verdict::NoFile(_) | Verdict::TextRefused(_) | Verdict::Ended { .. } => None,
+            Verdict::ShelfFault => Some(SHELF_FAULT),
+            Verdict::OutOfMemory => Some(OUT_OF_MEMORY),
+        }
+    }
+
     /// The line to be printed.
     pub(crate) fn line(self, alloc: Global) -> Result<Vec<u8>, AllocError>
         ensures { IfOk result (λ line. line.items ≡ line_of (verdict_of self.entry)) }
     {
         match self {
-            Verdict::Usage => Vec::from_slice(
-                alloc,
-                b"usage: tricks serial|run|replay|check|list|gen\n",
-            ),
+            Verdict::Usage => Vec::from_slice(alloc, USAGE),
             Verdict::NoFile(name) => joined(alloc, b"refused NoFile ", name.as_slice(), b"\n"),
             Verdict::TextRefused(source) => joined(
                 alloc,
@@ -83,8 +99,8 @@ impl Verdict<'_> {
                 b" 0\n",
             ),
             Verdict::Ended { turn, tic } => ended_line(alloc, turn, tic),
-            Verdict::ShelfFault => Vec::from_slice(alloc, b"refused ShelfFault\n"),
-            Verdict::OutOfMemory => Vec::from_slice(alloc, b"refused OutOfMemory\n"),
+            Verdict::ShelfFault => Vec::from_slice(alloc, SHELF_FAULT),
+            Verdict::OutOfMemory => Vec::from_slice(alloc, OUT_OF_MEMORY),
         }
     }
 }

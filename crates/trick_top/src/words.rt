@@ -11,6 +11,20 @@ pub(crate) enum Command<'a> {
     Serial { s_define: &'a Word, input: &'a Word },
 }
 
+impl<'a> Command<'a> {
+    ghost use Rattle.std.specs.Prelude.{map};
+    ghost use Rattle.trick_top.specs.Words.{names_of};
+
+    /// The names of the files that it reads, in this order.
+    pub(crate) fn names(self) -> [&'a Word; 2]
+        ensures { map (λ name. name.now) result ≡ names_of (said self.entry) }
+    {
+        match self {
+            Command::Serial { s_define, input } => [s_define, input],
+        }
+    }
+}
+
 fn is_option(word: &Word) -> bool
     ensures { result ≡ is_option word.now }
 {

@@ -1,14 +1,14 @@
 use Rattle.trick_top.proofs.TopLemmas as top
 use Rattle.trick_top.proofs.alone.tricks_alone.Goals as goal
 
+pub returns-clause-called : goal.returns-clause-called
+returns-clause-called g c = top.called _ _ _ _ _ _ _ _ _ _ c.decide-verdict.ensures.1 c.decide-verdict.ensures.2 c.print.ensures
+
 pub returns-clause-done : goal.returns-clause-done
 returns-clause-done g c = top.done _ _ _ _ _ _ _ _ _ _ c.decide-verdict.ensures.1 c.decide-verdict.ensures.2 c.print.ensures
 
 pub returns-clause-usage : goal.returns-clause-usage
-returns-clause-usage g c = top.usage_words _ _ _ _ _ _ _ _ _ _ c.decide-verdict.ensures.1 c.decide-verdict.ensures.2 c.print.ensures
-
-pub returns-clause-usage_line : goal.returns-clause-usage_line
-returns-clause-usage_line g c = top.usage_line _ _ _ _ _ _ _ _ _ _ c.decide-verdict.ensures.1 c.decide-verdict.ensures.2 c.print.ensures
+returns-clause-usage g c = top.usage _ _ _ _ _ _ _ _ _ _ c.decide-verdict.ensures.1 c.decide-verdict.ensures.2 c.print.ensures
 
 pub returns-clause-text_refused : goal.returns-clause-text_refused
 returns-clause-text_refused g c = top.text_refused _ _ _ _ _ _ _ _ _ _ c.decide-verdict.ensures.1 c.decide-verdict.ensures.2 c.print.ensures
@@ -24,6 +24,9 @@ returns-clause-no_file g c = top.no_file _ _ _ _ _ _ _ _ _ _ c.decide-verdict.en
 
 pub returns-clause-refused_same : goal.returns-clause-refused_same
 returns-clause-refused_same g c = top.refused_same _ _ _ _ _ _ _ _ _ _ c.decide-verdict.ensures.1 c.decide-verdict.ensures.2 c.print.ensures
+
+pub returns-clause-stopped : goal.returns-clause-stopped
+returns-clause-stopped g c = top.stopped _ _ _ _ _ _ _ _ _ _ c.decide-verdict.ensures.1 c.decide-verdict.ensures.2 c.print.ensures
 
 pub returns-clause-usage_all : goal.returns-clause-usage_all
 returns-clause-usage_all g c = top.usage_all _ _ _ _ _ _ _ _ _ _ c.decide-verdict.ensures.1 c.decide-verdict.ensures.2 c.print.ensures

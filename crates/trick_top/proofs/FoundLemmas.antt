@@ -1,0 +1,76 @@
+-- Files that are read one after another.
+use Rattle.std.proofs.Common.{◌≡◌, ◌<◌, ◌+◌, ℕ, suc, List, [], ◌∷◌, ◌++◌, Some, None, refl, sym, ◌∙◌, ap, subst, false, inl, inr, map, Contains, arith, length, slice_index_or, take, drop}
+use Rattle.std.proofs.Math.Seq.{split_at, take-suc}
+use Rattle.std.proofs.lemmas.List.Elements.{Contains-append_cases, Contains-append_right, Contains-push_cases}
+use Rattle.std.proofs.lemmas.List.{map-append}
+use Rattle.std.specs.FinMap.{get}
+use Rattle.std.specs.Prelude.{Option}
+use Rattle.trick_base.specs.Files.{Files}
+use Rattle.trick_outside.specs.Calls.{AllLeave, Call, Read, fails}
+use Rattle.trick_top.specs.Found.{Found, names, reads, texts}
+
+pub names-append : (early late : List Found) → names (early ++ late) ≡ names early ++ names late
+names-append [] late = refl
+names-append (file ∷ early) late = ap (λ n. file.name ∷ n) (names-append early late)
+
+pub texts-append : (early late : List Found) → texts (early ++ late) ≡ texts early ++ texts late
+texts-append [] late = refl
+texts-append (file ∷ early) late = ap (λ t. file.text ∷ t) (texts-append early late)
+
+pub reads-append : (early late : List Found) → reads (early ++ late) ≡ reads early ++ reads late
+reads-append [] late = refl
+reads-append (file ∷ early) late = ap (λ c. Read file.name (Some file.text) ∷ c) (reads-append early late)
+
+-- no call of these failed
+pub reads_quiet : (files : List Found) → fails (reads files) ≡ false
+reads_quiet [] = refl
+reads_quiet (file ∷ files) = reads_quiet files
+
+-- the texts are those that are held, and nothing that is held has changed
+pub leave_reads : (files : List Found) (calls : List Call) (held now : Files) → AllLeave (reads files ++ calls) held now
+    → (map (get held) (names files) ≡ map Some (texts files)) × AllLeave calls held now
+leave_reads [] calls held now left = (refl, left)
+leave_reads (file ∷ files) calls held now (mid, (is, same), left) =
+    let later = leave_reads files calls held now (subst (λ f. AllLeave (reads files ++ calls) f now) same left) in
+    (ap (λ t. t ∷ map (get held) (names files)) is ∙ ap (λ t. Some file.text ∷ t) later.0, later.1)
+
+-- a list of texts that are all there lacks none
+pub lacks_none : (given : List (List ℕ)) → Contains (map Some given) None → ⊥
+lacks_none [] (k, less, at) = absurd (omega (arith, less))
+lacks_none (text ∷ given) is = elim (Contains-append_cases (Some text ∷ []) (map Some given) None is) [
+  | inl one ↦ elim (Contains-push_cases [] (Some text) None one) [
+    | inl (k, less, at) ↦ absurd (omega (arith, less))
+    | inr same ↦ cc
+  ]
+  | inr later ↦ lacks_none given later
+]
+
+-- one that is in the midst of a list is of it
+pub in_the_midst : (f : List ℕ → Option (List ℕ)) (front : List (List ℕ)) (name : List ℕ) (others : List (List ℕ)) → f name ≡ None → Contains (map f (front ++ name ∷ others)) None
+in_the_midst f front name others none =
+    subst (λ all. Contains all None) (sym (map-append f front (name ∷ others)))
+    (Contains-append_right (map f front) (f name ∷ map f others) None
+    (subst (λ o. Contains (o ∷ map f others) None) (sym none) (0, omega arith, refl)))
+
+pub same_texts : (one two : List (List ℕ)) → map Some one ≡ map Some two → one ≡ two
+same_texts [] [] is = refl
+same_texts [] (text ∷ two) is = cc
+same_texts (text ∷ one) [] is = cc
+same_texts (text ∷ one) (other ∷ two) is =
+    let first : text ≡ other = cc in
+    let later : map Some one ≡ map Some two = cc in
+    ap (λ t. t ∷ one) first ∙ ap (λ t. other ∷ t) (same_texts one two later)
+
+module _ {A : Type 0} (f : A → List ℕ) (all : List A) (at : ℕ) (item : A) (less : at < length all) (is : item ≡ slice_index_or all at item) where
+  -- a list before, at and behind a place
+  pub next_name : map f all ≡ map f (take at all) ++ f item ∷ map f (drop (suc at) all)
+  next_name =
+      ap (map f) (split_at all at item less) ∙ map-append f (take at all) (slice_index_or all at item ∷ drop (suc at) all)
+      ∙ ap (λ i. map f (take at all) ++ f i ∷ map f (drop (suc at) all)) (sym is)
+
+  -- one more of them
+  pub more_names : map f (take (at + 1) all) ≡ map f (take at all) ++ f item ∷ []
+  more_names =
+      let next : at + 1 ≡ suc at = omega arith in
+      ap (λ n. map f (take n all)) next ∙ ap (map f) (take-suc all at item less) ∙ map-append f (take at all) (slice_index_or all at item ∷ [])
+      ∙ ap (λ i. map f (take at all) ++ f i ∷ []) (sym is)
