@@ -11,26 +11,41 @@ use trick_outside::{Got, Shelf, Wrote};
 /// How many bytes of a file are read at the most: two to the power of 31.
 const FILE_LIMIT: u64 = 2_147_483_648;
 
-/// The folder that the program is run in, as a shelf. It tells nothing of what it holds. A name
-/// that is no plain file name, as one with a `/`, is the name of no file: it never leaves the folder.
+/// The folder that the program is run in, as a shelf. It tells nothing of what it holds.
+///
+/// A name is the path of a file, from that folder or from the root, and links are followed. What is
+/// there and is no regular file, as a folder, a pipe or a device, is not opened: the call fails, and
+/// waits for nobody.
 #[derive(Drop)]
 pub(crate) struct Folder<'a, R: Files> {
     rt: &'a R,
     faults: u64,
 }
 
-/// The name, where a file of the folder can have it.
-fn file_name(name: &Word) -> Option<&str> {
-    match str::from_utf8(name.as_slice()) {
-        Ok("" | "." | "..") | Err(_) => None,
-        Ok(name) if name.contains(['/', '\0']) => None,
-        Ok(name) => Some(name),
+/// The path that a name is. One that is no text is the name of nothing that can be opened.
+fn path_of(name: &Word) -> io::Result<&str> {
+    str::from_utf8(name.as_slice()).map_err(|_| io::Error::from(ErrorKind::InvalidInput))
+}
+
+/// Whether a regular file has this path. It is an error if something else has it.
+fn is_there<R: Files>(rt: &R, path: &str) -> io::Result<bool> {
+    match fs::metadata(rt, path) {
+        Ok(found) if found.is_file() => Ok(true),
+        Ok(_) => Err(io::Error::from(ErrorKind::InvalidInput)),
+        Err(error) => match error.kind() {
+            ErrorKind::NotFound | ErrorKind::NotADirectory => Ok(false),
+            _ => Err(error),
+        },
     }
 }
 
-/// The bytes of a file that is not too large.
-fn read_file<R: Files>(rt: &R, alloc: Global, name: &str) -> io::Result<Vec<u8>> {
-    let file = fs::open(rt, name)?;
+/// The bytes of a file that is not too large, or none where there is no file.
+fn read_file<R: Files>(rt: &R, alloc: Global, name: &Word) -> io::Result<Option<Vec<u8>>> {
+    let path = path_of(name)?;
+    if !is_there(rt, path)? {
+        return Ok(None);
+    }
+    let file = fs::open(rt, path)?;
     if file.metadata()?.len() > FILE_LIMIT {
         return Err(io::Error::from(ErrorKind::FileTooLarge));
     }
@@ -39,12 +54,21 @@ fn read_file<R: Files>(rt: &R, alloc: Global, name: &str) -> io::Result<Vec<u8>>
     if bytes.len() as u64 > FILE_LIMIT {
         return Err(io::Error::from(ErrorKind::FileTooLarge));
     }
-    Ok(bytes)
+    Ok(Some(bytes))
+}
+
+/// Makes an empty file, in place of one that is there.
+fn make_empty<R: Files>(rt: &R, name: &Word) -> io::Result<()> {
+    let path = path_of(name)?;
+    is_there(rt, path)?;
+    fs::create(rt, path).map(drop)
 }
 
 /// Adds bytes at a file's end.
-fn append_to<R: Files>(rt: &R, name: &str, bytes: &[u8]) -> io::Result<()> {
-    let mut file = OpenOptions::new().append(true).create(true).open(rt, name)?;
+fn append_to<R: Files>(rt: &R, name: &Word, bytes: &[u8]) -> io::Result<()> {
+    let path = path_of(name)?;
+    is_there(rt, path)?;
+    let mut file = OpenOptions::new().append(true).create(true).open(rt, path)?;
     file.write_all(bytes)
 }
 
@@ -81,56 +105,44 @@ impl<R: Files> Shelf for Folder<'_, R> {
 
     ghost failures = { λ folder. folder.faults };
 
-    ghost asked = { λ _ _ _. Unit {0} };
+    ghost called = { λ _ _ _. Unit {0} };
+
+    ghost called_none = { λ _. tt };
+
+    ghost called_join = { λ _ _ _ _ _ _ _. tt };
 
     fn get(&mut self, alloc: Global, name: &Word) -> Got {
-        let Some(name) = file_name(name) else {
-            return Got::Missing;
-        };
         match read_file(self.rt, alloc, name) {
-            Ok(bytes) => Got::Found(bytes),
-            Err(error) => match error.kind() {
-                ErrorKind::NotFound => Got::Missing,
-                ErrorKind::OutOfMemory => Got::OutOfMemory,
-                _ => {
-                    self.fail();
-                    Got::Failed
-                }
-            },
+            Ok(Some(bytes)) => Got::Found(bytes),
+            Ok(None) => Got::Missing,
+            Err(error) if error.kind() == ErrorKind::OutOfMemory => Got::OutOfMemory,
+            Err(_) => {
+                self.fail();
+                Got::Failed
+            }
         }
     }
 
     fn create(&mut self, name: &Word) -> Wrote {
-        let Some(name) = file_name(name) else {
-            self.fail();
-            return Wrote::Failed;
-        };
-        let done = fs::create(self.rt, name).map(drop);
+        let done = make_empty(self.rt, name);
         self.wrote(done)
     }
 
     fn append(&mut self, name: &Word, bytes: &[u8]) -> Wrote {
-        let Some(name) = file_name(name) else {
-            self.fail();
-            return Wrote::Failed;
-        };
         let done = append_to(self.rt, name, bytes);
         self.wrote(done)
     }
 
     fn faults(&self) -> u64 {
         self.faults
-    }
-
-    ghost asked_none = { λ _. tt };
-
-    ghost asked_join = { λ _ _ _ _ _ _ _. tt };
-}
+    }}
 
 #[cfg(test)]
 mod tests {
     use super::*;
     use std::fs::File;
+    use std::os::fd::AsRawFd;
+    use std::process::Abort;
     use std::test::Fail;
 
     #[test]
@@ -149,26 +161,54 @@ mod tests {
         assert!(rt; matches!(folder.get(alloc, &name), Got::Found(bytes) if bytes.is_empty()));
         assert_eq!(rt; folder.faults(), 0);
 
-        // Names of no file of the folder: they are missing, and cannot be made.
-        for other in ["", ".", "..", "../a.chk", "/a.chk", "./a.chk", "a\0"] {
-            let faults = folder.faults();
+        // A name is a path, from here or from the root. These have no file.
+        fs::create_dir(&rt, "b")?;
+        for other in ["b/a.chk", "./b/a.chk"] {
+            let other = Word::from_bytes(alloc, other.as_bytes())?;
+            assert_eq!(rt; folder.append(&other, b"one;\n"), Wrote::Done);
+        }
+        let path = Word::from_bytes(alloc, b"b/../b/a.chk")?;
+        assert!(rt;
+            matches!(folder.get(alloc, &path), Got::Found(bytes) if bytes.as_slice() == b"one;\none;\n".as_slice())
+        );
+        for other in ["", "c", "b/c", "a.chk/c", "/no such folder/c"] {
             let other = Word::from_bytes(alloc, other.as_bytes())?;
             assert!(rt; matches!(folder.get(alloc, &other), Got::Missing));
-            assert_eq!(rt; folder.faults(), faults);
-            assert_eq!(rt; folder.create(&other), Wrote::Failed);
-            assert_eq!(rt; folder.append(&other, b"one"), Wrote::Failed);
-            assert_eq!(rt; folder.faults().checked_sub(faults), Some(2));
         }
+        assert_eq!(rt; folder.faults(), 0);
+        Ok(())
+    }
 
-        // A folder is no file, and a file may have so many bytes and no more.
-        fs::create_dir(&rt, "b")?;
-        File::create(&rt, "c")?.set_len(FILE_LIMIT + 1)?;
-        for other in [b"b", b"c"] {
-            let faults = folder.faults();
-            let other = Word::from_bytes(alloc, other)?;
-            assert!(rt; matches!(folder.get(alloc, &other), Got::Failed));
-            assert_eq!(rt; folder.faults().checked_sub(faults), Some(1));
+    /// Each call fails at once, and adds one to the count.
+    fn fails_at_once(
+        rt: &(impl Abort + AllocGlobal + Files),
+        folder: &mut Folder<impl Files>,
+        path: &str,
+    ) -> Result<(), Fail> {
+        let faults = folder.faults();
+        let name = Word::from_bytes(rt.alloc(), path.as_bytes())?;
+        assert!(rt; matches!(folder.get(rt.alloc(), &name), Got::Failed), "{path}");
+        assert_eq!(rt; folder.create(&name), Wrote::Failed, "{path}");
+        assert_eq!(rt; folder.append(&name, b"one"), Wrote::Failed, "{path}");
+        assert_eq!(rt; folder.faults().checked_sub(faults), Some(3), "{path}");
+        Ok(())
+    }
+
+    #[test]
+    fn what_is_no_file_fails_at_once(rt: HostRuntime) -> Result<(), Fail> {
+        let alloc = rt.alloc();
+        let mut folder = Folder::new(&rt);
+        fs::create_dir(&rt, "d")?;
+        // A pipe of which one end is open and nothing comes: to open or to read it would wait.
+        let (reader, _writer) = io::pipe(&rt)?;
+        let pipe = format!(in alloc; "/proc/self/fd/{}", reader.as_raw_fd())?;
+        for path in ["d", ".", "/", "/dev/null", "/dev/zero", "a\0", pipe.as_str()] {
+            fails_at_once(&rt, &mut folder, path)?;
         }
+        // A file may have so many bytes and no more.
+        File::create(&rt, "large")?.set_len(FILE_LIMIT + 1)?;
+        let large = Word::from_bytes(alloc, b"large")?;
+        assert!(rt; matches!(folder.get(alloc, &large), Got::Failed));
         Ok(())
     }
 }

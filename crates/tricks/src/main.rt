@@ -12,7 +12,7 @@ use std::process::ExitCode;
 use std::rt::Env;
 use std::{env, io};
 use trick_base::Word;
-use trick_top::tricks_alone;
+use trick_top::{print_out_of_memory, tricks_alone};
 
 /// The words of the command line, without the program's name.
 fn read_words<R: Env + AllocGlobal>(rt: &R, alloc: Global) -> io::Result<Vec<Word>> {
@@ -25,13 +25,15 @@ fn read_words<R: Env + AllocGlobal>(rt: &R, alloc: Global) -> io::Result<Vec<Wor
 
 fn main(rt: HostRuntime) -> ExitCode {
     let alloc = rt.alloc();
+    let mut out = StandardOutput::new(&rt);
     let words = match read_words(&rt, alloc) {
         Ok(words) => words,
-        Err(error) if error.kind() == io::ErrorKind::OutOfMemory => return ExitCode::from(6),
+        Err(error) if error.kind() == io::ErrorKind::OutOfMemory => {
+            return ExitCode::from(print_out_of_memory(&mut out));
+        }
         // Words that are no text ask for no command.
         Err(_) => Vec::new(alloc),
     };
     let mut shelf = Folder::new(&rt);
-    let mut out = StandardOutput::new(&rt);
     ExitCode::from(tricks_alone(alloc, &words, &mut shelf, &mut out))
 }

@@ -21,6 +21,12 @@ impl<R: Print> Sink for StandardOutput<'_, R> {
 
     ghost failures = { λ out. out.faults };
 
+    ghost called = { λ _ _ _. Unit {0} };
+
+    ghost called_none = { λ _. tt };
+
+    ghost called_join = { λ _ _ _ _ _ _ _. tt };
+
     fn write(&mut self, piece: &[u8]) -> Taken1 {
         match self.rt.write_some(piece) {
             Ok(count) if count > 0 || piece.is_empty() => Taken1::Took(count),
