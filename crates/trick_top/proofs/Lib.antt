@@ -8,3 +8,4 @@ pub mod PrintLemmas
 pub mod SimulatedLemmas
 pub mod GoneLemmas
 pub mod TopLemmas
+mod Examples

@@ -1,6 +1,5 @@
 -- The two texts of this milestone: the pieces of each, in order. White space and comments may stand
 -- between two pieces, as the tokens of a text leave them out.
-use Rattle.std.specs.List.{slice_index_or}
 use Rattle.std.specs.Prelude.{ℕ, List, [], ◌∷◌, codes}
 use Rattle.trick_top.specs.Piece.{Piece, mark, quoted, word}
 
@@ -30,18 +29,3 @@ s_define_pieces names =
 -- trick.stop(TIME)
 abbrev pub input_pieces : Piece → List Piece
 input_pieces time = word (codes "trick") ∷ mark (codes ".") ∷ word (codes "stop") ∷ mark (codes "(") ∷ time ∷ mark (codes ")") ∷ []
-
--- the piece at a place; past the end it is no piece of a text
-abbrev pub piece_at : List Piece → ℕ → Piece
-piece_at pieces place = slice_index_or pieces place (word [])
-
--- what was chosen, from the pieces
-abbrev pub names_in : List Piece → Names
-names_in pieces = record {
-  class = (piece_at pieces 1).bytes;
-  member = (piece_at pieces 11).bytes;
-  method = (piece_at pieces 14).bytes;
-  amount = piece_at pieces 20;
-  cycle = piece_at pieces 28;
-  object = (piece_at pieces 40).bytes;
-}

@@ -6,15 +6,12 @@ pub mod Running
 pub mod Turn
 -- The run from its start to its last turn.
 pub mod Run
--- What the executive keeps between two turns.
-pub mod Going
 -- The text of a checkpoint.
 pub mod Checkpoint
 -- How a command ends: statuses and printed lines.
 pub mod Verdict
 -- The words of the command line.
 pub mod Words
-pub mod Said
 -- Tokens by kind and bytes.
 pub mod Piece
 -- The words that are no names.
@@ -23,7 +20,6 @@ pub mod Keywords
 pub mod Form
 -- Which texts describe a counting simulation, and when it stops.
 pub mod Counting
-pub mod Seen
 -- Files that were read one after another, and found.
 pub mod Found
 -- How a command may go on a shelf.
@@ -34,3 +30,9 @@ pub mod Printed
 pub mod Status
 -- What the calls say of the status.
 pub mod Called
+-- Of the code alone, for the contracts inside the crate: the command that a value stands for,
+pub mod Said
+-- the pieces that values stand for, and those at the places that the code takes,
+pub mod Seen
+-- and what the executive keeps between two turns.
+pub mod Going

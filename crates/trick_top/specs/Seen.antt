@@ -1,7 +1,8 @@
--- What values of the program stand for.
-use Rattle.std.specs.Prelude.{ℕ, List}
+-- What values of the program stand for, and the pieces that it takes by their places.
+use Rattle.std.specs.List.{slice_index_or}
+use Rattle.std.specs.Prelude.{ℕ, List, []}
 use Rattle.trick_top.specs.Form.{Names}
-use Rattle.trick_top.specs.Piece.{Piece, piece_of}
+use Rattle.trick_top.specs.Piece.{Piece, piece_of, word}
 use Rattle.trick_top.specs.declared.piece.Piece as declared
 use Rattle.trick_top.specs.declared.s_define.Names as declared_names
 
@@ -17,4 +18,19 @@ names_seen text names = record {
   amount = piece_of text names.amount;
   cycle = piece_of text names.cycle;
   object = names.object.bytes.now;
+}
+
+-- the piece at a place; past the end it is no piece of a text
+abbrev pub piece_at : List Piece → ℕ → Piece
+piece_at pieces place = slice_index_or pieces place (word [])
+
+-- what was chosen, from the pieces
+abbrev pub names_in : List Piece → Names
+names_in pieces = record {
+  class = (piece_at pieces 1).bytes;
+  member = (piece_at pieces 11).bytes;
+  method = (piece_at pieces 14).bytes;
+  amount = piece_at pieces 20;
+  cycle = piece_at pieces 28;
+  object = (piece_at pieces 40).bytes;
 }

@@ -1,8 +1,7 @@
 ghost use Rattle.std.specs.Prelude.{◌≡◌, ◌↔◌, ◌<◌, All, IsTrue, length, map};
 ghost use Rattle.trick_text.specs.Tokens.{IsTokenOf};
-ghost use Rattle.trick_top.specs.Form.{piece_at};
 ghost use Rattle.trick_top.specs.Piece.{mark, piece_of, quoted, word};
-ghost use Rattle.trick_top.specs.Seen.{piece_seen};
+ghost use Rattle.trick_top.specs.Seen.{piece_at, piece_seen};
 
 use trick_text::{Token, TokenKind};
 

@@ -1,10 +1,10 @@
 ghost use Rattle.std.specs.Prelude.{◌≡◌, ◌↔◌, ◌++◌, All, IfNone, IfOk, IfSome, IsErrOf, IsTrue, codes, length, map};
 ghost use Rattle.trick_text.specs.Tokens.{IsTokenOf};
 ghost use Rattle.trick_top.specs.Counting.{AreDistinct, AreFit, AreNamed, IsCounting, IsOwnName};
-ghost use Rattle.trick_top.specs.Form.{names_in, s_define_pieces};
+ghost use Rattle.trick_top.specs.Form.{s_define_pieces};
 ghost use Rattle.trick_top.specs.Piece.{piece_of};
 ghost use Rattle.trick_top.specs.declared.counting.Counting as declared;
-ghost use Rattle.trick_top.specs.Seen.{names_seen, piece_seen};
+ghost use Rattle.trick_top.specs.Seen.{names_in, names_seen, piece_seen};
 
 use crate::counting::Counting;
 use crate::keyword::is_keyword;

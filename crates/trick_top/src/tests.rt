@@ -5,7 +5,7 @@ use std::alloc::Global;
 use std::process::Abort;
 use std::test::Fail;
 use trick_base::Word;
-use trick_outside::{MemoryShelf, MemorySink};
+use trick_outside::{MemoryShelf, MemorySink, Shelf};
 
 const S_DEFINE: &str = "class Counter : public Trick::SimObject {
   public:
@@ -259,13 +259,19 @@ fn texts_that_are_run(rt: HostRuntime) -> Result<(), Fail> {
 
 #[test]
 fn the_shelf_fails_at_each_call(rt: HostRuntime) -> Result<(), Fail> {
-    // get, get, create, append: what is left of the final checkpoint after each failure
-    let cases = [(0, None), (1, None), (2, None), (3, Some(b"".as_slice()))];
-    for (call, left) in cases {
-        let shelf = MemoryShelf::failing(rt.alloc(), vec![in rt.alloc(); call]?);
+    // each call, and what is left of the final checkpoint where it fails
+    let cases = [
+        ("get of s", None),
+        ("get of i", None),
+        ("create of final.chk", None),
+        ("append to final.chk", Some(b"".as_slice())),
+    ];
+    for (number, (call, left)) in cases.into_iter().enumerate() {
+        let shelf = MemoryShelf::failing(rt.alloc(), vec![in rt.alloc(); number as u64]?);
         let mut shelf = with_texts(shelf, S_DEFINE, INPUT)?;
         runs(&rt, &mut shelf, 5, "refused ShelfFault\n")?;
-        assert_eq!(rt; shelf.file(b"final.chk"), left, "at call {call}");
+        assert_eq!(rt; shelf.file(b"final.chk"), left, "at {call}");
+        assert_eq!(rt; shelf.faults(), 1, "at {call}");
     }
     let shelf = MemoryShelf::failing(rt.alloc(), vec![in rt.alloc(); 4]?);
     runs(&rt, &mut with_texts(shelf, S_DEFINE, INPUT)?, 0, ENDED)

@@ -135,7 +135,8 @@ impl<R: Files> Shelf for Folder<'_, R> {
 
     fn faults(&self) -> u64 {
         self.faults
-    }}
+    }
+}
 
 #[cfg(test)]
 mod tests {
@@ -187,7 +188,10 @@ mod tests {
     ) -> Result<(), Fail> {
         let faults = folder.faults();
         let name = Word::from_bytes(rt.alloc(), path.as_bytes())?;
-        assert!(rt; matches!(folder.get(rt.alloc(), &name), Got::Failed), "{path}");
+        assert!(rt;
+            matches!(folder.get(rt.alloc(), &name), Got::Failed),
+            "{path}"
+        );
         assert_eq!(rt; folder.create(&name), Wrote::Failed, "{path}");
         assert_eq!(rt; folder.append(&name, b"one"), Wrote::Failed, "{path}");
         assert_eq!(rt; folder.faults().checked_sub(faults), Some(3), "{path}");
@@ -202,7 +206,15 @@ mod tests {
         // A pipe of which one end is open and nothing comes: to open or to read it would wait.
         let (reader, _writer) = io::pipe(&rt)?;
         let pipe = format!(in alloc; "/proc/self/fd/{}", reader.as_raw_fd())?;
-        for path in ["d", ".", "/", "/dev/null", "/dev/zero", "a\0", pipe.as_str()] {
+        for path in [
+            "d",
+            ".",
+            "/",
+            "/dev/null",
+            "/dev/zero",
+            "a\0",
+            pipe.as_str(),
+        ] {
             fails_at_once(&rt, &mut folder, path)?;
         }
         // A file may have so many bytes and no more.
