@@ -8,7 +8,7 @@ PREFIX ?= /usr/local
 .PHONY: demo test tricks install clean
 
 demo: tricks
-	rm -rf build/demo && mkdir -p build/demo && cp examples/counter/* build/demo
+	rm -rf build/demo && mkdir -p build/demo && cp crates/tricks/data/* build/demo
 	cd build/demo && ../tricks serial counter.S_define counter_input.py && cat final.chk
 
 test:
