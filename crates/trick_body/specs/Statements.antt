@@ -1,13 +1,14 @@
 -- The grammar of types and statements. The text gives the bytes of names, the limit bounds each
 -- list, and n says how many levels may still nest: braces, brackets, and each statement of an `if`,
 -- an `else` or a `for` that is no block and, behind `else`, no `if`.
-use Rattle.std.specs.Prelude.{ℕ, zero, suc, false, List, [], ◌∷◌, ◌++◌, Option, Some, None}
+use Rattle.std.specs.Prelude.{ℕ, zero, suc, ◌-◌, false, List, [], ◌∷◌, ◌++◌, Option, Some, None}
 use Rattle.trick_body.specs.Expressions.{Of, names, wholes, name_of, Step, parts_of, place_more, step, place_with, brackets, expression}
 use Rattle.trick_body.specs.Symbols.{Token}
 use Rattle.trick_body.specs.declared.symbol.Symbol.{Symbol}
 use Rattle.trick_body.specs.declared.symbol.Symbol.TheVariants as the
-use Rattle.trick_grammar.specs.Grammar.{Link, onward, last, outline, token, refuse, repetition, nearest, rule, hint, act, one, optional, ◌⨾◌, ◌∣◌}
-use Rattle.trick_grammar.specs.declared.refusal.Refusal.TheVariants.{TooDeep, BadLoop}
+use Rattle.trick_grammar.specs.Gives.{is_in_scope, text_of}
+use Rattle.trick_grammar.specs.Grammar.{Link, onward, last, outline, token, refuse, repetition, nearest, rule, hint, scope, after, again, alone, act, one, optional, ◌⨾◌, ◌∣◌}
+use Rattle.trick_grammar.specs.declared.refusal.Refusal.TheVariants.{Expected, TooDeep, BadHeader, BadLoop}
 use Rattle.trick_lang.specs.SyntaxTree as tree
 use Rattle.trick_lang.specs.SyntaxTree.{Expression, Path, TypeName, Change, Statement, Branches, Statements}
 use Rattle.trick_lang.specs.declared.bound.Bound.{Bound}
@@ -84,41 +85,42 @@ basic = rule (outline basic_first basic_more []) basic_body
 
 -- ---- the header of a loop
 
--- what the header says: the loop's name three times, its numbers, and the mark between
+-- what the header says behind the loop's name: its numbers, and the mark between
 pub record Header : Type 0 where
-  pub first : Token
   pub from : ℕ
-  pub second : Token
   pub mark : Symbol
   pub to : ℕ
-  pub third : Token
 
 abbrev pub bound_of : Symbol → ℕ → Bound
 bound_of the.Less n = Below n
 bound_of _ n = UpTo n
 
--- step = v "++" | "++" v | v "+=" "1"; its value is v
-unfoldable pub loop_step_body : Of Token
-loop_step_body =
-    act (λ v. v.0) (token names ⨾ (act (λ v. v) (one the.Increment) ∣ act (λ v. v.1) (one the.PlusAssign ⨾ one the.One)))
-    ∣ act (λ v. v.1) (one the.Increment ⨾ token names)
+module _ (text : List ℕ) where
+  -- v: a NAME that is the loop's
+  abbrev pub the_name : Of Token
+  the_name = again (text_of text) names
 
-abbrev pub loop_step : Of Token
-loop_step = rule (outline (the.Increment ∷ names) [] []) loop_step_body
+  -- step = v "++" | "++" v | v "+=" "1"
+  unfoldable pub loop_step_body : Of Token
+  loop_step_body =
+      act (λ v. v.0) (the_name ⨾ (act (λ v. v) (one the.Increment) ∣ act (λ v. v.1) (one the.PlusAssign ⨾ one the.One)))
+      ∣ act (λ v. v.1) (one the.Increment ⨾ the_name)
 
--- ( "int" | "long" ) v "=" WHOLE ";" v ( "<" | "<=" ) WHOLE ";" step ")", where the second number is
--- 1,000,000 at most. That v is one name is said beside the grammar. Each other token is refused for
--- a bad loop.
-unfoldable pub header_body : Of Header
-header_body =
-    hint BadLoop
-    (act (λ v. record { first = v.1.0; from = v.1.1.1.0.number; second = v.1.1.1.1.1.0; mark = v.1.1.1.1.1.1.0.class; to = v.1.1.1.1.1.1.1.0.number; third = v.1.1.1.1.1.1.1.1.1.0 })
-    (token (the.Int ∷ the.Long ∷ []) ⨾ token names ⨾ one the.Assign ⨾ token wholes ⨾ one the.Semicolon
-    ⨾ token names ⨾ token (the.Less ∷ the.AtMost ∷ []) ⨾ token (the.Zero ∷ the.LongZero ∷ the.One ∷ the.Small ∷ []) ⨾ one the.Semicolon
-    ⨾ loop_step ⨾ one the.CloseParen))
+  abbrev pub loop_step : Of Token
+  loop_step = rule (outline (the.Increment ∷ names) [] []) loop_step_body
 
-abbrev pub header : Of Header
-header = rule (outline (the.Int ∷ the.Long ∷ []) [] []) header_body
+  -- "=" WHOLE ";" v ( "<" | "<=" ) WHOLE ";" step ")", where the second number is 1,000,000 at most.
+  -- Each other token is refused for a bad header.
+  unfoldable pub header_body : Of Header
+  header_body =
+      hint BadHeader
+      (act (λ v. record { from = v.1.0.number; mark = v.1.1.1.1.0.class; to = v.1.1.1.1.1.0.number })
+      (one the.Assign ⨾ token wholes ⨾ one the.Semicolon
+      ⨾ the_name ⨾ token (the.Less ∷ the.AtMost ∷ []) ⨾ token (the.Zero ∷ the.LongZero ∷ the.One ∷ the.Small ∷ []) ⨾ one the.Semicolon
+      ⨾ loop_step ⨾ one the.CloseParen))
+
+  abbrev pub header : Of Header
+  header = rule (outline (the.Assign ∷ []) [] []) header_body
 
 -- ---- statements
 
@@ -178,6 +180,35 @@ module _ (text : List ℕ) (limit : ℕ) where
       ⨾ (act (λ v. change_of v.0.class v.1) (token assignments ⨾ expression text limit n) ∣ act (λ t. counting_of t.class) (token counting))
       ⨾ one the.Semicolon)
 
+  -- step { step } ( op expression | "++" | "--" ) ";" behind the name of a loop: an operator right
+  -- behind the name is refused
+  unfoldable pub bound_change_body : ℕ → Of AfterName
+  bound_change_body n =
+      act (λ v. changes (v.0 ∷ v.1.0) v.1.1.0)
+      (step text limit (brackets text limit n) ⨾ repetition (limit - 1) (step text limit (brackets text limit n))
+      ⨾ (act (λ v. change_of v.0.class v.1) (token assignments ⨾ expression text limit n) ∣ act (λ t. counting_of t.class) (token counting))
+      ⨾ one the.Semicolon)
+      ∣ refuse BadLoop (assignments ++ counting)
+
+  -- what may stand behind the NAME that a statement begins with, given the change
+  unfoldable pub named_body : ℕ → Of AfterName → Of AfterName
+  named_body n changed =
+      act (λ v. declares v.0 v.1.0) (token names ⨾ value n ⨾ one the.Semicolon)
+      ∣ rule (record (outline (the.OpenParen ∷ []) [] []) { inhabited = false }) (call_body n)
+      ∣ rule (outline (place_more ++ (assignments ++ counting)) [] []) changed
+
+  abbrev pub named : ℕ → Of AfterName → Of AfterName
+  named n changed = rule (outline (names ++ (the.OpenParen ∷ (place_more ++ (assignments ++ counting)))) [] []) (named_body n changed)
+
+  -- { step } ";", and behind the name of a loop step { step } ";"
+  unfoldable pub free_steps_body : ℕ → Of (List Step)
+  free_steps_body n = act (λ v. v.0) (repetition limit (step text limit (brackets text limit n)) ⨾ one the.Semicolon)
+
+  unfoldable pub bound_steps_body : ℕ → Of (List Step)
+  bound_steps_body n =
+      act (λ v. v.0 ∷ v.1.0) (step text limit (brackets text limit n) ⨾ repetition (limit - 1) (step text limit (brackets text limit n)) ⨾ one the.Semicolon)
+      ∣ refuse BadLoop (the.Semicolon ∷ [])
+
   -- simple = basic NAME [ "=" expression ] ";" | ( "++" | "--" ) place ";" | ";"
   --        | NAME ( NAME [ "=" expression ] ";" | call | change ),
   -- where the last line has the three kinds of statement that begin with a NAME: a declaration, a
@@ -185,12 +216,9 @@ module _ (text : List ℕ) (limit : ℕ) where
   unfoldable pub simple_body : ℕ → Of Statement
   simple_body n =
       act (λ v. named_of v.0 v.1)
-      (token names
-      ⨾ (act (λ v. declares v.0 v.1.0) (token names ⨾ value n ⨾ one the.Semicolon)
-      ∣ rule (record (outline (the.OpenParen ∷ []) [] []) { inhabited = false }) (call_body n)
-      ∣ rule (outline (place_more ++ (assignments ++ counting)) [] []) (change_body n)))
+      (after Expected names (is_in_scope text) (alone (named n (bound_change_body n))) (alone (named n (change_body n))))
       ∣ act (λ v. tree.Declare v.0.0 (tree.Basic v.0.1) (name_of text v.1.0) v.1.1.0) (basic ⨾ token names ⨾ value n ⨾ one the.Semicolon)
-      ∣ act (λ v. tree.Assign v.0.line v.1.0 (counting_of v.0.class)) (token counting ⨾ place_with text limit (brackets text limit n) ⨾ one the.Semicolon)
+      ∣ act (λ v. tree.Assign v.0.line (tree.path v.1.0.line (name_of text v.1.0) (parts_of v.1.1)) (counting_of v.0.class)) (token counting ⨾ after Expected names (is_in_scope text) (alone (bound_steps_body n)) (alone (free_steps_body n)))
       ∣ act (λ t. tree.Empty) (one the.Semicolon)
 
   abbrev pub simple : ℕ → Of Statement
@@ -229,9 +257,11 @@ module _ (text : List ℕ) (limit : ℕ) where
   abbrev pub choice_with : Of (ℕ × Expression × Statement) → Of Statement → Of Statement
   choice_with test otherwise = rule (outline (the.If ∷ []) [] (the.Else ∷ [])) (choice_body test otherwise)
 
-  -- loop = "for" "(" header statement
+  -- loop = "for" "(" ( "int" | "long" ) v header statement, with v in scope
   unfoldable pub loop_body : Of Statement → Of Statement
-  loop_body branch = act (λ v. tree.For (name_of text v.1.1.0.first) v.1.1.0.from (bound_of v.1.1.0.mark v.1.1.0.to) v.1.1.1) (one the.For ⨾ hint BadLoop (one the.OpenParen) ⨾ header ⨾ branch)
+  loop_body branch =
+      act (λ v. tree.For (name_of text v.1.1.1.0) v.1.1.1.1.0.from (bound_of v.1.1.1.1.0.mark v.1.1.1.1.0.to) v.1.1.1.1.1)
+      (one the.For ⨾ hint BadHeader (one the.OpenParen) ⨾ hint BadHeader (token (the.Int ∷ the.Long ∷ [])) ⨾ scope BadHeader names (header text ⨾ branch))
 
   abbrev pub loop_with : Of Statement → Of Statement
   loop_with branch = rule (outline (the.For ∷ []) [] (the.Else ∷ [])) (loop_body branch)

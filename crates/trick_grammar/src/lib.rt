@@ -8,7 +8,10 @@ mod lexeme;
 mod refusal;
 mod stop;
 
-pub use cursor::{line_of, next_is, next_is_one_of, take, take_one_of, text_of};
+pub use cursor::{
+    hinted, is_in_scope, line_of, next_is, next_is_one_of, reason_at, take, take_again,
+    take_hinted, take_one_of, text_of,
+};
 pub use lexeme::{Class, Lexeme};
 pub use refusal::Refusal;
 pub use stop::Stop;

@@ -50,5 +50,5 @@ module _ (limit : ℕ) where
   link_test n = rw (statement_test n, sum_test n, list_test, simple_test n) refl
 
   -- a link takes tokens
-  pub link_shrinks : (n : ℕ) (us : List Token) (x : Link Statement Statement) (rest : List Token) → read number_of class_of (link limit n) us ≡ Ok (x, rest) → length rest < length us
-  link_shrinks n = read_shrinks number_of class_of spelled (λ word. refl) (link limit n) (link_test n) refl
+  pub link_shrinks : (n : ℕ) (us : List Token) (x : Link Statement Statement) (rest : List Token) → read number_of class_of [] (link limit n) us ≡ Ok (x, rest) → length rest < length us
+  link_shrinks n = read_shrinks number_of class_of spelled (λ word. refl) [] (link limit n) (link_test n) refl

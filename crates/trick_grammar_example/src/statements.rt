@@ -23,7 +23,7 @@ fn read_simple(
     rest: &[Token],
 ) -> Result<(Stmt, &[Token]), Stop<Word>>
     ensures { Gives (λ x. (statement_of x.0, x.1.now)) result
-        (read number_of class_of (simple limit depth) rest.now) }
+        (read number_of class_of [] (simple limit depth) rest.now) }
 {
     let (name, rest) = take(rest, Word::Name)?;
     if next_is(rest, Word::Assign) {
@@ -43,7 +43,7 @@ fn read_list(alloc: Global, limit: usize, rest: &[Token]) -> Result<(Stmt, &[Tok
     requires low { 1 ≤ limit }
     requires high { limit < 2 ^ 32 }
     ensures { Gives (λ x. (statement_of x.0, x.1.now)) result
-        (read number_of class_of (list_statement limit) rest.now) }
+        (read number_of class_of [] (list_statement limit) rest.now) }
 {
     let (_, rest) = take(rest, Word::Enum)?;
     let (name, rest) = take(rest, Word::Name)?;
@@ -64,7 +64,7 @@ fn read_items(
     requires low { 1 ≤ limit }
     requires high { limit < 2 ^ 32 }
     ensures { Gives (λ x. (x.0.items, x.1.now)) result
-        (read number_of class_of (items limit) rest.now) }
+        (read number_of class_of [] (items limit) rest.now) }
 {
     let (first, rest) = take(rest, Word::Name)?;
     read_more_items(alloc, limit, *first, rest)
@@ -80,7 +80,7 @@ fn read_more_items(
     requires low { 1 ≤ limit }
     requires high { limit < 2 ^ 32 }
     ensures { Gives (λ x. (x.0.items, x.1.now)) result
-        (prefixed (first ∷ []) (read number_of class_of (items_behind (limit - 1)) rest.now)) }
+        (prefixed (first ∷ []) (read number_of class_of [] (items_behind (limit - 1)) rest.now)) }
 {
     let mut found = Vec::new(alloc);
     found.push(first)?;
@@ -112,7 +112,7 @@ fn read_block(
     requires low { 1 ≤ limit }
     requires high { limit < 2 ^ 32 }
     ensures { Gives (λ x. (statements_of (map statement_of x.0.items), x.1.now)) result
-        (read number_of class_of (block_with limit (statement limit depth)) rest.now) }
+        (read number_of class_of [] (block_with limit (statement limit depth)) rest.now) }
 {
     let (_, rest) = take(rest, Word::OpenBrace)?;
     let (statements, rest) = read_statements(alloc, limit, depth, rest)?;
@@ -131,7 +131,7 @@ pub fn read_statements(
     requires low { 1 ≤ limit }
     requires high { limit < 2 ^ 32 }
     ensures { Gives (λ x. (map statement_of x.0.items, x.1.now)) result
-        (read number_of class_of (repetition limit (statement limit depth)) rest.now) }
+        (read number_of class_of [] (repetition limit (statement limit depth)) rest.now) }
 {
     let mut found = Vec::new(alloc);
     let mut rest = rest;
@@ -158,7 +158,7 @@ fn read_when(
     requires low { 1 ≤ limit }
     requires high { limit < 2 ^ 32 }
     ensures { Gives (λ x. (statement_of x.0, x.1.now)) result
-        (read number_of class_of (when_with limit depth (statement limit depth)) rest.now) }
+        (read number_of class_of [] (when_with limit depth (statement limit depth)) rest.now) }
 {
     let (_, rest) = take(rest, Word::If)?;
     let (_, rest) = take(rest, Word::OpenParen)?;
@@ -180,7 +180,7 @@ fn read_choice(
     requires low { 1 ≤ limit }
     requires high { limit < 2 ^ 32 }
     ensures { Gives (λ x. (statement_of x.0, x.1.now)) result
-        (read number_of class_of
+        (read number_of class_of []
         (choice_with limit depth (statement limit depth)
         (other_with limit depth (statement limit depth))) rest.now) }
 {
@@ -207,7 +207,7 @@ fn read_links(
     requires low { 1 ≤ limit }
     requires high { limit < 2 ^ 32 }
     ensures { Gives (λ x. ((map statement_of x.0.0.items, option_map statement_of x.0.1), x.1.now))
-        result (read number_of class_of (nearest (link limit depth)) rest.now) }
+        result (read number_of class_of [] (nearest (link limit depth)) rest.now) }
 {
     let mut found = Vec::new(alloc);
     let mut rest = rest;
@@ -234,7 +234,7 @@ fn read_link(
     requires low { 1 ≤ limit }
     requires high { limit < 2 ^ 32 }
     ensures { Gives (λ x. (link_of x.0, x.1.now)) result
-        (read number_of class_of (link limit depth) rest.now) }
+        (read number_of class_of [] (link limit depth) rest.now) }
 {
     let (_, rest) = take(rest, Word::Else)?;
     if next_is(rest, Word::If) {
@@ -257,7 +257,7 @@ fn read_other(
     requires low { 1 ≤ limit }
     requires high { limit < 2 ^ 32 }
     ensures { Gives (λ x. (statement_of x.0, x.1.now)) result
-        (read number_of class_of (other_with limit depth (statement limit depth)) rest.now) }
+        (read number_of class_of [] (other_with limit depth (statement limit depth)) rest.now) }
 {
     if next_is(rest, Word::OpenBrace) {
         let (statements, rest) = read_block(alloc, limit, depth, rest)?;
@@ -280,7 +280,7 @@ pub fn read_statement(
     requires low { 1 ≤ limit }
     requires high { limit < 2 ^ 32 }
     ensures { Gives (λ x. (statement_of x.0, x.1.now)) result
-        (read number_of class_of (statement limit depth) rest.now) }
+        (read number_of class_of [] (statement limit depth) rest.now) }
 {
     if depth == 0 {
         return read_flat(alloc, limit, rest);
@@ -299,7 +299,7 @@ fn read_nested(
     requires low { 1 ≤ limit }
     requires high { limit < 2 ^ 32 }
     ensures { Gives (λ x. (statement_of x.0, x.1.now)) result
-        (read number_of class_of (statement limit (suc depth)) rest.now) }
+        (read number_of class_of [] (statement limit (suc depth)) rest.now) }
 {
     if next_is(rest, Word::If) {
         return read_choice(alloc, limit, depth, rest);
@@ -312,7 +312,7 @@ fn read_flat(alloc: Global, limit: usize, rest: &[Token]) -> Result<(Stmt, &[Tok
     requires low { 1 ≤ limit }
     requires high { limit < 2 ^ 32 }
     ensures { Gives (λ x. (statement_of x.0, x.1.now)) result
-        (read number_of class_of (statement limit 0) rest.now) }
+        (read number_of class_of [] (statement limit 0) rest.now) }
 {
     if next_is_one_of(rest, &[Word::OpenBrace, Word::If]) {
         return Err(Stop::At(Refusal::TooDeep, rest));

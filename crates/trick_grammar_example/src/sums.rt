@@ -1,6 +1,6 @@
 //! Sums: one function for each production, with its line of the grammar.
 
-ghost use Rattle.std.specs.Prelude.{ℕ, suc};
+ghost use Rattle.std.specs.Prelude.{[], ℕ, suc};
 ghost use Rattle.trick_grammar.specs.Gives.{Gives, class_of};
 ghost use Rattle.trick_grammar.specs.Reading.{read};
 ghost use Rattle.trick_grammar_example.specs.Statements.{primary, product, sum, inner};
@@ -22,7 +22,7 @@ pub fn read_sum(
     rest: &[Token],
 ) -> Result<(Expr, &[Token]), Stop<Word>>
     ensures { Gives (λ x. (expression_of x.0, x.1.now)) result
-        (read number_of class_of (sum limit depth) rest.now) }
+        (read number_of class_of [] (sum limit depth) rest.now) }
 {
     let (mut left, mut rest) = read_product(alloc, limit, depth, rest)?;
     let mut count: usize = 0;
@@ -53,7 +53,7 @@ fn read_product(
     rest: &[Token],
 ) -> Result<(Expr, &[Token]), Stop<Word>>
     ensures { Gives (λ x. (expression_of x.0, x.1.now)) result
-        (read number_of class_of (product limit depth) rest.now) }
+        (read number_of class_of [] (product limit depth) rest.now) }
 {
     let (mut left, mut rest) = read_primary(alloc, limit, depth, rest)?;
     let mut count: usize = 0;
@@ -84,7 +84,7 @@ fn read_primary(
     rest: &[Token],
 ) -> Result<(Expr, &[Token]), Stop<Word>>
     ensures { Gives (λ x. (expression_of x.0, x.1.now)) result
-        (read number_of class_of (primary limit depth) rest.now) }
+        (read number_of class_of [] (primary limit depth) rest.now) }
 {
     if next_is(rest, Word::Name) {
         let (name, rest) = take(rest, Word::Name)?;
@@ -110,7 +110,7 @@ fn read_inner(
     rest: &[Token],
 ) -> Result<(Expr, &[Token]), Stop<Word>>
     ensures { Gives (λ x. (expression_of x.0, x.1.now)) result
-        (read number_of class_of (inner limit (suc depth)) rest.now) }
+        (read number_of class_of [] (inner limit (suc depth)) rest.now) }
 {
     let (_, rest) = take(rest, Word::OpenParen)?;
     let (value, rest) = read_sum(alloc, limit, depth, rest)?;
@@ -121,7 +121,7 @@ fn read_inner(
 #[tactic(auto, unfolding(crate::specs::Statements::inner_body))]
 fn read_no_inner(rest: &[Token]) -> Result<(Expr, &[Token]), Stop<Word>>
     ensures { (limit : ℕ) → Gives (λ x. (expression_of x.0, x.1.now)) result
-        (read number_of class_of (inner limit 0) rest.now) }
+        (read number_of class_of [] (inner limit 0) rest.now) }
 {
     if next_is(rest, Word::OpenParen) {
         Err(Stop::At(Refusal::TooDeep, rest))

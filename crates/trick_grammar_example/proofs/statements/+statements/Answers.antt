@@ -12,7 +12,7 @@ use Rattle.trick_grammar_example.proofs.statements.+statements.Goals as goal
 pub read_statements-loop-alloc-preserved : goal.read_statements-loop-alloc-preserved
 read_statements-loop-alloc-preserved t c =
     let l = c.loop-alloc in
-    let r = read number_of class_of (statement c.args.limit c.args.depth) in
+    let r = read number_of class_of [] (statement c.args.limit c.args.depth) in
     let len : vec_len c.push.new.self ≡ vec_len l.found + 1 = c.in_ok-push.ensures.len in
     record {
       few = omega arith;
@@ -23,7 +23,7 @@ read_statements-loop-alloc-preserved t c =
 pub read_links-loop-alloc-preserved : goal.read_links-loop-alloc-preserved
 read_links-loop-alloc-preserved t c =
     let l = c.loop-alloc in
-    let r = read number_of class_of (link c.args.limit c.args.depth) in
+    let r = read number_of class_of [] (link c.args.limit c.args.depth) in
     links_next number_of statement_of (Else ∷ []) r (link_shrinks c.args.limit c.args.depth) l.found.items c.push.new.self.items c.in-Onward.branch l.rest.now c.in_ok-link.after.now _ (sym c.loop-alloc-test.ensures) (rw c.in-Onward.is at c.in_ok-link.ensures) c.in_ok-push-in-Onward.ensures.items l.invariant
 
 pub read_links-loop-alloc-smaller : goal.read_links-loop-alloc-smaller

@@ -40,14 +40,14 @@ decreases-read_statements l = 8 * l.depth + 1
 abbrev pub invariant-read_statements-loop-alloc : goal.invariant-read_statements-loop-alloc
 invariant-read_statements-loop-alloc l = record {
   few : vec_len l.found ≤ l.limit;
-  going : items_left number_of statement_of (If ∷ OpenBrace ∷ Enum ∷ Name ∷ []) (read number_of class_of (statement l.limit l.depth)) (l.limit - vec_len l.found) l.found.items l.rest ≡ read number_of class_of (repetition l.limit (statement l.limit l.depth)) l.fn.rest;
+  going : items_left number_of statement_of (If ∷ OpenBrace ∷ Enum ∷ Name ∷ []) (read number_of class_of [] (statement l.limit l.depth)) (l.limit - vec_len l.found) l.found.items l.rest ≡ read number_of class_of [] (repetition l.limit (statement l.limit l.depth)) l.fn.rest;
 }
 
 abbrev pub decreases-read_statements-loop-alloc : goal.decreases-read_statements-loop-alloc
 decreases-read_statements-loop-alloc l = l.limit - vec_len l.found
 
 abbrev pub invariant-read_links-loop-alloc : goal.invariant-read_links-loop-alloc
-invariant-read_links-loop-alloc l = links_left number_of statement_of (Else ∷ []) (read number_of class_of (link l.limit l.depth)) (link_shrinks l.limit l.depth) l.found.items l.rest ≡ read number_of class_of (nearest (link l.limit l.depth)) l.fn.rest
+invariant-read_links-loop-alloc l = links_left number_of statement_of (Else ∷ []) (read number_of class_of [] (link l.limit l.depth)) (link_shrinks l.limit l.depth) l.found.items l.rest ≡ read number_of class_of [] (nearest (link l.limit l.depth)) l.fn.rest
 
 abbrev pub decreases-read_links-loop-alloc : goal.decreases-read_links-loop-alloc
 decreases-read_links-loop-alloc l = length l.rest

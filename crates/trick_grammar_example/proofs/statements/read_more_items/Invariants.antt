@@ -8,7 +8,7 @@ use Rattle.trick_grammar_example.specs.declared.word.Word.TheVariants.{Name, Com
 use Rattle.trick_grammar_example.proofs.statements.read_more_items.Given as goal
 
 abbrev pub invariant-loop-rest : goal.invariant-loop-rest
-invariant-loop-rest l = Separating number_of Comma (Name ∷ []) [] item (λ x. x) (l.limit - 1) (prefixed (l.fn.first ∷ []) (read number_of class_of (items_behind (l.limit - 1)) l.fn.rest)) l.found.items (vec_len l.found) l.rest
+invariant-loop-rest l = Separating number_of [] Comma (Name ∷ []) [] item (λ x. x) (l.limit - 1) (prefixed (l.fn.first ∷ []) (read number_of class_of [] (items_behind (l.limit - 1)) l.fn.rest)) l.found.items (vec_len l.found) l.rest
 
 abbrev pub decreases-loop-rest : goal.decreases-loop-rest
 decreases-loop-rest l = l.limit - vec_len l.found

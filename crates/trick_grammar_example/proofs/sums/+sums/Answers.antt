@@ -21,8 +21,8 @@ read_product-loop-alloc-preserved t c =
     let made = seen ∙ ap₂ (λ a b. binary operator.class (expression_of a) (expression_of b)) c.in_ok-new.ensures.ok c.in_ok-new-2.ensures.ok in
     record {
       few = omega arith;
-      going = fold_next number_of joined (Times ∷ []) (read number_of class_of (one Times ⨾ right)) c.args.limit l.count (expression_of l.left) _ _ l.rest.now c.in_ok-right.after.now _ (omega arith) (sym c.loop-alloc-test.ensures)
-          (sequence_reads number_of (one Times) right l.rest.now operator c.in_ok-operator.after.now (expression_of c.in_ok-right.right) c.in_ok-right.after.now c.in_ok-operator.ensures c.in_ok-right.ensures) made l.invariant.going;
+      going = fold_next number_of joined (Times ∷ []) (read number_of class_of [] (one Times ⨾ right)) c.args.limit l.count (expression_of l.left) _ _ l.rest.now c.in_ok-right.after.now _ (omega arith) (sym c.loop-alloc-test.ensures)
+          (sequence_reads number_of [] (one Times) right l.rest.now operator c.in_ok-operator.after.now (expression_of c.in_ok-right.right) c.in_ok-right.after.now c.in_ok-operator.ensures c.in_ok-right.ensures) made l.invariant.going;
     }
 
 pub read_product-returns-in_err-right : goal.read_product-returns-in_err-right
@@ -30,8 +30,8 @@ read_product-returns-in_err-right t c =
     let l = c.loop-alloc in
     let right = primary c.args.limit c.args.depth in
     let p = err_from_is_err_and c.from_residual-in_err-right.result c.from_residual-in_err-right.ensures.1 in
-    rw (p.1, p.2) (fold_stops number_of joined (Times ∷ []) (read number_of class_of (one Times ⨾ right)) c.args.limit l.count (expression_of l.left) c.in_err-right.field-0.0 l.rest.now _ (omega arith) (sym c.loop-alloc-test.ensures)
-    (sequence_stops number_of (one Times) right l.rest.now c.in_ok-operator.operator.now c.in_ok-operator.after.now c.in_err-right.field-0.0 c.in_ok-operator.ensures c.in_err-right.ensures) l.invariant.going)
+    rw (p.1, p.2) (fold_stops number_of joined (Times ∷ []) (read number_of class_of [] (one Times ⨾ right)) c.args.limit l.count (expression_of l.left) c.in_err-right.field-0.0 l.rest.now _ (omega arith) (sym c.loop-alloc-test.ensures)
+    (sequence_stops number_of [] (one Times) right l.rest.now c.in_ok-operator.operator.now c.in_ok-operator.after.now c.in_err-right.field-0.0 c.in_ok-operator.ensures c.in_err-right.ensures) l.invariant.going)
 
 pub read_sum-loop-alloc-preserved : goal.read_sum-loop-alloc-preserved
 read_sum-loop-alloc-preserved t c =
@@ -42,8 +42,8 @@ read_sum-loop-alloc-preserved t c =
     let made = seen ∙ ap₂ (λ a b. binary operator.class (expression_of a) (expression_of b)) c.in_ok-new.ensures.ok c.in_ok-new-2.ensures.ok in
     record {
       few = omega arith;
-      going = fold_next number_of joined (Plus ∷ Minus ∷ []) (read number_of class_of (token (Plus ∷ Minus ∷ []) ⨾ right)) c.args.limit l.count (expression_of l.left) _ _ l.rest.now c.in_ok-right.after.now _ (omega arith) (sym c.loop-alloc-test.ensures)
-          (sequence_reads number_of (token (Plus ∷ Minus ∷ [])) right l.rest.now operator c.in_ok-operator.after.now (expression_of c.in_ok-right.right) c.in_ok-right.after.now c.in_ok-operator.ensures c.in_ok-right.ensures) made l.invariant.going;
+      going = fold_next number_of joined (Plus ∷ Minus ∷ []) (read number_of class_of [] (token (Plus ∷ Minus ∷ []) ⨾ right)) c.args.limit l.count (expression_of l.left) _ _ l.rest.now c.in_ok-right.after.now _ (omega arith) (sym c.loop-alloc-test.ensures)
+          (sequence_reads number_of [] (token (Plus ∷ Minus ∷ [])) right l.rest.now operator c.in_ok-operator.after.now (expression_of c.in_ok-right.right) c.in_ok-right.after.now c.in_ok-operator.ensures c.in_ok-right.ensures) made l.invariant.going;
     }
 
 pub read_sum-returns-in_err-right : goal.read_sum-returns-in_err-right
@@ -51,5 +51,5 @@ read_sum-returns-in_err-right t c =
     let l = c.loop-alloc in
     let right = product c.args.limit c.args.depth in
     let p = err_from_is_err_and c.from_residual-in_err-right.result c.from_residual-in_err-right.ensures.1 in
-    rw (p.1, p.2) (fold_stops number_of joined (Plus ∷ Minus ∷ []) (read number_of class_of (token (Plus ∷ Minus ∷ []) ⨾ right)) c.args.limit l.count (expression_of l.left) c.in_err-right.field-0.0 l.rest.now _ (omega arith) (sym c.loop-alloc-test.ensures)
-    (sequence_stops number_of (token (Plus ∷ Minus ∷ [])) right l.rest.now c.in_ok-operator.operator.now c.in_ok-operator.after.now c.in_err-right.field-0.0 c.in_ok-operator.ensures c.in_err-right.ensures) l.invariant.going)
+    rw (p.1, p.2) (fold_stops number_of joined (Plus ∷ Minus ∷ []) (read number_of class_of [] (token (Plus ∷ Minus ∷ []) ⨾ right)) c.args.limit l.count (expression_of l.left) c.in_err-right.field-0.0 l.rest.now _ (omega arith) (sym c.loop-alloc-test.ensures)
+    (sequence_stops number_of [] (token (Plus ∷ Minus ∷ [])) right l.rest.now c.in_ok-operator.operator.now c.in_ok-operator.after.now c.in_err-right.field-0.0 c.in_ok-operator.ensures c.in_err-right.ensures) l.invariant.going)

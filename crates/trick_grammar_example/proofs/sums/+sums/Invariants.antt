@@ -24,7 +24,7 @@ decreases-read_inner l = 4 * l.depth + 4
 abbrev pub invariant-read_sum-loop-alloc : goal.invariant-read_sum-loop-alloc
 invariant-read_sum-loop-alloc l = record {
   few : l.count ≤ l.limit;
-  going : fold_left number_of joined (Plus ∷ Minus ∷ []) (read number_of class_of (token (Plus ∷ Minus ∷ []) ⨾ product l.limit l.depth)) (l.limit - l.count) (expression_of l.left) l.rest ≡ read number_of class_of (sum l.limit l.depth) l.fn.rest;
+  going : fold_left number_of joined (Plus ∷ Minus ∷ []) (read number_of class_of [] (token (Plus ∷ Minus ∷ []) ⨾ product l.limit l.depth)) (l.limit - l.count) (expression_of l.left) l.rest ≡ read number_of class_of [] (sum l.limit l.depth) l.fn.rest;
 }
 
 abbrev pub decreases-read_sum-loop-alloc : goal.decreases-read_sum-loop-alloc
@@ -33,7 +33,7 @@ decreases-read_sum-loop-alloc l = l.limit - l.count
 abbrev pub invariant-read_product-loop-alloc : goal.invariant-read_product-loop-alloc
 invariant-read_product-loop-alloc l = record {
   few : l.count ≤ l.limit;
-  going : fold_left number_of joined (Times ∷ []) (read number_of class_of (one Times ⨾ primary l.limit l.depth)) (l.limit - l.count) (expression_of l.left) l.rest ≡ read number_of class_of (product l.limit l.depth) l.fn.rest;
+  going : fold_left number_of joined (Times ∷ []) (read number_of class_of [] (one Times ⨾ primary l.limit l.depth)) (l.limit - l.count) (expression_of l.left) l.rest ≡ read number_of class_of [] (product l.limit l.depth) l.fn.rest;
 }
 
 abbrev pub decreases-read_product-loop-alloc : goal.decreases-read_product-loop-alloc
