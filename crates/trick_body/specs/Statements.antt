@@ -1,13 +1,13 @@
 -- The grammar of types and statements. The text gives the bytes of names, the limit bounds each
 -- list, and n says how many levels may still nest: braces, brackets, and each statement of an `if`,
 -- an `else` or a `for` that is no block and, behind `else`, no `if`.
-use Rattle.std.specs.Prelude.{ℕ, zero, suc, ◌-◌, false, List, [], ◌∷◌, ◌++◌, Option, Some, None}
-use Rattle.trick_body.specs.Expressions.{Of, names, wholes, name_of, Step, parts_of, place_more, step, place_with, brackets, expression}
-use Rattle.trick_body.specs.Symbols.{Token}
+use Rattle.std.specs.Prelude.{ℕ, zero, suc, min, false, List, [], ◌∷◌, ◌++◌, Option, Some, None}
+use Rattle.trick_body.specs.Expressions.{Of, names, wholes, name_of, Step, parts_of, place_more, expression_more, step, some_steps, expression}
+use Rattle.trick_body.specs.Symbols.{Token, bound_limit}
 use Rattle.trick_body.specs.declared.symbol.Symbol.{Symbol}
 use Rattle.trick_body.specs.declared.symbol.Symbol.TheVariants as the
 use Rattle.trick_grammar.specs.Gives.{is_in_scope, text_of}
-use Rattle.trick_grammar.specs.Grammar.{Link, onward, last, outline, token, refuse, repetition, nearest, rule, hint, scope, after, again, alone, act, one, optional, ◌⨾◌, ◌∣◌}
+use Rattle.trick_grammar.specs.Grammar.{Link, onward, last, Outline, outline, token, refuse, repetition, nearest, rule, hint, scope, after, again, alone, act, one, optional, ◌⨾◌, ◌∣◌}
 use Rattle.trick_grammar.specs.declared.refusal.Refusal.TheVariants.{Expected, TooDeep, BadHeader, BadLoop}
 use Rattle.trick_lang.specs.SyntaxTree as tree
 use Rattle.trick_lang.specs.SyntaxTree.{Expression, Path, TypeName, Change, Statement, Branches, Statements}
@@ -85,15 +85,18 @@ basic = rule (outline basic_first basic_more []) basic_body
 
 -- ---- the header of a loop
 
--- what the header says behind the loop's name: its numbers, and the mark between
-pub record Header : Type 0 where
-  pub from : ℕ
-  pub mark : Symbol
-  pub to : ℕ
+-- what the header says behind the loop's name: its first number, and its bound
+abbrev pub Header : Type 0
+Header = ℕ × Bound
 
+-- the bound of a mark and a number, which is 1,000,000 at most, as its symbol says
 abbrev pub bound_of : Symbol → ℕ → Bound
-bound_of the.Less n = Below n
-bound_of _ n = UpTo n
+bound_of the.Less n = Below (min n bound_limit)
+bound_of _ n = UpTo (min n bound_limit)
+
+-- the whole numbers up to 1,000,000
+abbrev pub bounds : List Symbol
+bounds = the.Zero ∷ the.LongZero ∷ the.One ∷ the.Small ∷ []
 
 module _ (text : List ℕ) where
   -- v: a NAME that is the loop's
@@ -103,24 +106,31 @@ module _ (text : List ℕ) where
   -- step = v "++" | "++" v | v "+=" "1"
   unfoldable pub loop_step_body : Of Token
   loop_step_body =
-      act (λ v. v.0) (the_name ⨾ (act (λ v. v) (one the.Increment) ∣ act (λ v. v.1) (one the.PlusAssign ⨾ one the.One)))
+      act (λ v. v.0) (the_name ⨾ (one the.Increment ∣ act (λ v. v.1) (one the.PlusAssign ⨾ one the.One)))
       ∣ act (λ v. v.1) (one the.Increment ⨾ the_name)
 
   abbrev pub loop_step : Of Token
   loop_step = rule (outline (the.Increment ∷ names) [] []) loop_step_body
 
-  -- "=" WHOLE ";" v ( "<" | "<=" ) WHOLE ";" step ")", where the second number is 1,000,000 at most.
-  -- Each other token is refused for a bad header.
+  -- v ( "<" | "<=" ) WHOLE, where the number is 1,000,000 at most
+  unfoldable pub loop_test_body : Of Bound
+  loop_test_body = act (λ v. bound_of v.1.0.class v.1.1.number) (the_name ⨾ token (the.Less ∷ the.AtMost ∷ []) ⨾ token bounds)
+
+  abbrev pub loop_test : Of Bound
+  loop_test = rule (outline names [] []) loop_test_body
+
+  -- "=" WHOLE ";" test ";" step ")"
   unfoldable pub header_body : Of Header
   header_body =
-      hint BadHeader
-      (act (λ v. record { from = v.1.0.number; mark = v.1.1.1.1.0.class; to = v.1.1.1.1.1.0.number })
-      (one the.Assign ⨾ token wholes ⨾ one the.Semicolon
-      ⨾ the_name ⨾ token (the.Less ∷ the.AtMost ∷ []) ⨾ token (the.Zero ∷ the.LongZero ∷ the.One ∷ the.Small ∷ []) ⨾ one the.Semicolon
-      ⨾ loop_step ⨾ one the.CloseParen))
+      act (λ v. (v.1.0.number, v.1.1.1.0))
+      (one the.Assign ⨾ token wholes ⨾ one the.Semicolon ⨾ loop_test ⨾ one the.Semicolon ⨾ loop_step ⨾ one the.CloseParen)
 
+  abbrev pub plain_header : Of Header
+  plain_header = rule (outline (the.Assign ∷ []) [] []) header_body
+
+  -- the same, where a token that is not expected is refused for a bad header
   abbrev pub header : Of Header
-  header = rule (outline (the.Assign ∷ []) [] []) header_body
+  header = hint BadHeader plain_header
 
 -- ---- statements
 
@@ -136,90 +146,143 @@ pub data AfterName : Type 0 where
 abbrev pub simple_first : List Symbol
 simple_first = names ++ (basic_first ++ (the.Increment ∷ the.Decrement ∷ the.Semicolon ∷ []))
 
+abbrev pub unbranched_first : List Symbol
+unbranched_first = the.For ∷ simple_first
+
+abbrev pub unblocked_first : List Symbol
+unblocked_first = the.If ∷ unbranched_first
+
 abbrev pub statement_first : List Symbol
-statement_first = the.OpenBrace ∷ the.If ∷ the.For ∷ simple_first
+statement_first = the.OpenBrace ∷ unblocked_first
 
--- the rules that nest: any statement; one that is no block; and one that is neither a block nor an
--- `if`
-pub data Nested : Type 0 where
-  any : Nested
-  unblocked : Nested
-  unbranched : Nested
+-- a branch of an `if`: its line, its test and its statement
+abbrev pub Branch : Type 0
+Branch = ℕ × Expression × Statement
 
-abbrev pub nested_first : Nested → List Symbol
-nested_first any = statement_first
-nested_first unblocked = the.If ∷ the.For ∷ simple_first
-nested_first unbranched = the.For ∷ simple_first
-
-abbrev pub branches_of : List (ℕ × Expression × Statement) → Option Statement → Branches
+abbrev pub branches_of : List Branch → Option Statement → Branches
 branches_of [] None = tree.NoElse
 branches_of [] (Some s) = tree.Else s
 branches_of (v ∷ vs) end = tree.Test v.0 v.1 v.2 (branches_of vs end)
 
-module _ (text : List ℕ) (limit : ℕ) where
+abbrev pub operation_first : List Symbol
+operation_first = assignments ++ counting
+
+abbrev pub change_first : List Symbol
+change_first = place_more ++ operation_first
+
+abbrev pub steps_first : List Symbol
+steps_first = place_more ++ (the.Semicolon ∷ [])
+
+-- ---- levels
+
+-- what counts as a level, beside the statement of an `if`, an `else` or a `for` that is no block
+pub data Nested : Type 0 where
+  a_block : Nested
+  an_if : Nested
+  a_for : Nested
+
+abbrev pub nested_first : Nested → List Symbol
+nested_first a_block = the.OpenBrace ∷ []
+nested_first an_if = the.If ∷ []
+nested_first a_for = the.For ∷ []
+
+abbrev pub nested_outline : Nested → Outline Symbol
+nested_outline k = record { nullable = false; inhabited = false; first = nested_first k; more = []; barred = the.Else ∷ [] }
+
+module _ (text : List ℕ) where
   abbrev pub named_of : Token → AfterName → Statement
   named_of t (declares name value) = tree.Declare t.line (tree.Custom t.line (name_of text t)) (name_of text name) value
   named_of t calls = tree.Call t.line (name_of text t)
   named_of t (changes steps change) = tree.Assign t.line (tree.path t.line (name_of text t) (parts_of steps)) change
 
-  -- [ "=" expression ]
+module _ (text : List ℕ) (limit : ℕ) where
+  -- [ "=" expression ] ";": what stands behind the name of a local
+  unfoldable pub value_body : ℕ → Of (Option Expression)
+  value_body n = act (λ v. v.0) (optional (act (λ v. v.1) (one the.Assign ⨾ expression text limit n)) ⨾ one the.Semicolon)
+
   abbrev pub value : ℕ → Of (Option Expression)
-  value n = optional (act (λ v. v.1) (one the.Assign ⨾ expression text limit n))
+  value n = rule (outline (the.Assign ∷ the.Semicolon ∷ []) [] []) (value_body n)
 
   -- "(" ")" ";", which is a call
   unfoldable pub call_body : ℕ → Of AfterName
   call_body zero = refuse TooDeep (the.OpenParen ∷ [])
   call_body (suc n) = act (λ v. calls) (one the.OpenParen ⨾ one the.CloseParen ⨾ one the.Semicolon)
 
-  -- { "." NAME | "[" expression "]" } ( op expression | "++" | "--" ) ";": what stands behind the
-  -- first name of a place that is changed
-  unfoldable pub change_body : ℕ → Of AfterName
-  change_body n =
-      act (λ v. changes v.0 v.1.0)
-      (repetition limit (step text limit (brackets text limit n))
-      ⨾ (act (λ v. change_of v.0.class v.1) (token assignments ⨾ expression text limit n) ∣ act (λ t. counting_of t.class) (token counting))
-      ⨾ one the.Semicolon)
+  abbrev pub call : ℕ → Of AfterName
+  call n = rule (record (outline (the.OpenParen ∷ []) [] []) { inhabited = false }) (call_body n)
 
-  -- step { step } ( op expression | "++" | "--" ) ";" behind the name of a loop: an operator right
-  -- behind the name is refused
+  -- operation = op expression | "++" | "--"
+  unfoldable pub operation_body : ℕ → Of Change
+  operation_body n = act (λ v. change_of v.0.class v.1) (token assignments ⨾ expression text limit n) ∣ act (λ t. counting_of t.class) (token counting)
+
+  abbrev pub operation : ℕ → Of Change
+  operation n = rule (outline operation_first expression_more []) (operation_body n)
+
+  -- { step } operation ";": what stands behind the first name of a place that is changed
+  unfoldable pub free_change_body : ℕ → Of AfterName
+  free_change_body n = act (λ v. changes v.0 v.1.0) (repetition limit (step text limit n) ⨾ operation n ⨾ one the.Semicolon)
+
+  abbrev pub free_change : ℕ → Of AfterName
+  free_change n = rule (outline change_first [] []) (free_change_body n)
+
+  -- step { step } operation ";" behind the name of a loop round it: right behind that name an operator
+  -- is refused
   unfoldable pub bound_change_body : ℕ → Of AfterName
   bound_change_body n =
-      act (λ v. changes (v.0 ∷ v.1.0) v.1.1.0)
-      (step text limit (brackets text limit n) ⨾ repetition (limit - 1) (step text limit (brackets text limit n))
-      ⨾ (act (λ v. change_of v.0.class v.1) (token assignments ⨾ expression text limit n) ∣ act (λ t. counting_of t.class) (token counting))
-      ⨾ one the.Semicolon)
-      ∣ refuse BadLoop (assignments ++ counting)
+      act (λ v. changes v.0 v.1.0) (some_steps text limit n ⨾ operation n ⨾ one the.Semicolon)
+      ∣ refuse BadLoop operation_first
 
-  -- what may stand behind the NAME that a statement begins with, given the change
+  abbrev pub bound_change : ℕ → Of AfterName
+  bound_change n = rule (outline change_first [] []) (bound_change_body n)
+
+  -- what may stand behind the NAME that a statement begins with, given the change: a declaration, a
+  -- call or a change
   unfoldable pub named_body : ℕ → Of AfterName → Of AfterName
-  named_body n changed =
-      act (λ v. declares v.0 v.1.0) (token names ⨾ value n ⨾ one the.Semicolon)
-      ∣ rule (record (outline (the.OpenParen ∷ []) [] []) { inhabited = false }) (call_body n)
-      ∣ rule (outline (place_more ++ (assignments ++ counting)) [] []) changed
+  named_body n changed = act (λ v. declares v.0 v.1) (token names ⨾ value n) ∣ call n ∣ changed
 
   abbrev pub named : ℕ → Of AfterName → Of AfterName
-  named n changed = rule (outline (names ++ (the.OpenParen ∷ (place_more ++ (assignments ++ counting)))) [] []) (named_body n changed)
+  named n changed = rule (outline (names ++ (the.OpenParen ∷ change_first)) [] []) (named_body n changed)
 
-  -- { step } ";", and behind the name of a loop step { step } ";"
+  -- NAME and what stands behind it, by whether it is the name of a loop round it
+  unfoldable pub by_name_body : ℕ → Of Statement
+  by_name_body n = act (λ v. named_of text v.0 v.1) (after Expected names (is_in_scope text) (alone (named n (bound_change n))) (alone (named n (free_change n))))
+
+  abbrev pub by_name : ℕ → Of Statement
+  by_name n = rule (outline names [] []) (by_name_body n)
+
+  -- { step } ";"
   unfoldable pub free_steps_body : ℕ → Of (List Step)
-  free_steps_body n = act (λ v. v.0) (repetition limit (step text limit (brackets text limit n)) ⨾ one the.Semicolon)
+  free_steps_body n = act (λ v. v.0) (repetition limit (step text limit n) ⨾ one the.Semicolon)
 
+  abbrev pub free_steps : ℕ → Of (List Step)
+  free_steps n = rule (outline steps_first [] []) (free_steps_body n)
+
+  -- step { step } ";" behind the name of a loop round it: right behind that name ";" is refused
   unfoldable pub bound_steps_body : ℕ → Of (List Step)
-  bound_steps_body n =
-      act (λ v. v.0 ∷ v.1.0) (step text limit (brackets text limit n) ⨾ repetition (limit - 1) (step text limit (brackets text limit n)) ⨾ one the.Semicolon)
-      ∣ refuse BadLoop (the.Semicolon ∷ [])
+  bound_steps_body n = act (λ v. v.0) (some_steps text limit n ⨾ one the.Semicolon) ∣ refuse BadLoop (the.Semicolon ∷ [])
 
-  -- simple = basic NAME [ "=" expression ] ";" | ( "++" | "--" ) place ";" | ";"
-  --        | NAME ( NAME [ "=" expression ] ";" | call | change ),
-  -- where the last line has the three kinds of statement that begin with a NAME: a declaration, a
-  -- call and the change of a place
+  abbrev pub bound_steps : ℕ → Of (List Step)
+  bound_steps n = rule (outline steps_first [] []) (bound_steps_body n)
+
+  -- ( "++" | "--" ) place ";"
+  unfoldable pub counted_body : ℕ → Of Statement
+  counted_body n =
+      act (λ v. tree.Assign v.0.line (tree.path v.1.0.line (name_of text v.1.0) (parts_of v.1.1)) (counting_of v.0.class))
+      (token counting ⨾ after Expected names (is_in_scope text) (alone (bound_steps n)) (alone (free_steps n)))
+
+  abbrev pub counted : ℕ → Of Statement
+  counted n = rule (outline counting [] []) (counted_body n)
+
+  -- basic NAME [ "=" expression ] ";"
+  unfoldable pub declaration_body : ℕ → Of Statement
+  declaration_body n = act (λ v. tree.Declare v.0.0 (tree.Basic v.0.1) (name_of text v.1.0) v.1.1) (basic ⨾ token names ⨾ alone (value n))
+
+  abbrev pub declaration : ℕ → Of Statement
+  declaration n = rule (outline basic_first [] []) (declaration_body n)
+
+  -- simple = NAME .. | basic NAME .. | "++" .. | "--" .. | ";"
   unfoldable pub simple_body : ℕ → Of Statement
-  simple_body n =
-      act (λ v. named_of v.0 v.1)
-      (after Expected names (is_in_scope text) (alone (named n (bound_change_body n))) (alone (named n (change_body n))))
-      ∣ act (λ v. tree.Declare v.0.0 (tree.Basic v.0.1) (name_of text v.1.0) v.1.1.0) (basic ⨾ token names ⨾ value n ⨾ one the.Semicolon)
-      ∣ act (λ v. tree.Assign v.0.line (tree.path v.1.0.line (name_of text v.1.0) (parts_of v.1.1)) (counting_of v.0.class)) (token counting ⨾ after Expected names (is_in_scope text) (alone (bound_steps_body n)) (alone (free_steps_body n)))
-      ∣ act (λ t. tree.Empty) (one the.Semicolon)
+  simple_body n = by_name n ∣ declaration n ∣ counted n ∣ act (λ t. tree.Empty) (one the.Semicolon)
 
   abbrev pub simple : ℕ → Of Statement
   simple n = rule (outline simple_first [] []) (simple_body n)
@@ -235,56 +298,116 @@ module _ (text : List ℕ) (limit : ℕ) where
   block_with inner = rule (outline (the.OpenBrace ∷ []) [] (the.Else ∷ [])) (block_body inner)
 
   -- test = "if" "(" expression ")" statement; its line, the expression and the statement
-  unfoldable pub test_body : Of Expression → Of Statement → Of (ℕ × Expression × Statement)
-  test_body inner branch = act (λ v. (v.0.line, v.1.1.0, v.1.1.1.1)) (one the.If ⨾ one the.OpenParen ⨾ inner ⨾ one the.CloseParen ⨾ branch)
+  unfoldable pub test_body : Of Expression → Of Statement → Of Branch
+  test_body inner branch = act (λ v. (v.0.line, v.1.1.0, v.1.1.1.1)) (one the.If ⨾ one the.OpenParen ⨾ alone inner ⨾ one the.CloseParen ⨾ branch)
 
-  abbrev pub test_with : Of Expression → Of Statement → Of (ℕ × Expression × Statement)
+  abbrev pub test_with : Of Expression → Of Statement → Of Branch
   test_with inner branch = rule (outline (the.If ∷ []) [] (the.Else ∷ [])) (test_body inner branch)
 
   -- "else" ( test | statement ), where the statement is no `if`
-  unfoldable pub else_body : Of (ℕ × Expression × Statement) → Of Statement → Of (Link (ℕ × Expression × Statement) Statement)
+  unfoldable pub else_body : Of Branch → Of Statement → Of (Link Branch Statement)
   else_body test otherwise = act (λ v. v.1) (one the.Else ⨾ (act onward test ∣ act last otherwise))
 
-  abbrev pub else_with : Of (ℕ × Expression × Statement) → Of Statement → Of (Link (ℕ × Expression × Statement) Statement)
+  abbrev pub else_with : Of Branch → Of Statement → Of (Link Branch Statement)
   else_with test otherwise = rule (outline (the.Else ∷ []) [] (the.Else ∷ [])) (else_body test otherwise)
 
   -- choice = "if" "(" expression ")" statement [ "else" statement ], which is
   -- test { "else" test } [ "else" statement ], so that an `else if` chain is a list. Each `else` is
   -- of the nearest `if`.
-  unfoldable pub choice_body : Of (ℕ × Expression × Statement) → Of Statement → Of Statement
+  unfoldable pub choice_body : Of Branch → Of Statement → Of Statement
   choice_body test otherwise = act (λ v. tree.If (branches_of (v.0 ∷ v.1.0) v.1.1)) (test ⨾ nearest (else_with test otherwise))
 
-  abbrev pub choice_with : Of (ℕ × Expression × Statement) → Of Statement → Of Statement
+  abbrev pub choice_with : Of Branch → Of Statement → Of Statement
   choice_with test otherwise = rule (outline (the.If ∷ []) [] (the.Else ∷ [])) (choice_body test otherwise)
 
-  -- loop = "for" "(" ( "int" | "long" ) v header statement, with v in scope
+  -- header statement, behind the name of a loop
+  abbrev pub turns_with : Of Statement → Of (Header × Statement)
+  turns_with branch = header text ⨾ branch
+
+  -- v header statement, with v in scope
+  abbrev pub scoped_with : Of Statement → Of (Token × (Header × Statement))
+  scoped_with branch = scope BadHeader names (turns_with branch)
+
+  -- loop = "for" "(" ( "int" | "long" ) scoped
   unfoldable pub loop_body : Of Statement → Of Statement
   loop_body branch =
-      act (λ v. tree.For (name_of text v.1.1.1.0) v.1.1.1.1.0.from (bound_of v.1.1.1.1.0.mark v.1.1.1.1.0.to) v.1.1.1.1.1)
-      (one the.For ⨾ hint BadHeader (one the.OpenParen) ⨾ hint BadHeader (token (the.Int ∷ the.Long ∷ [])) ⨾ scope BadHeader names (header text ⨾ branch))
+      act (λ v. tree.For (name_of text v.1.1.1.0) v.1.1.1.1.0.0 v.1.1.1.1.0.1 v.1.1.1.1.1)
+      (one the.For ⨾ hint BadHeader (one the.OpenParen) ⨾ hint BadHeader (token (the.Int ∷ the.Long ∷ [])) ⨾ scoped_with branch)
 
   abbrev pub loop_with : Of Statement → Of Statement
   loop_with branch = rule (outline (the.For ∷ []) [] (the.Else ∷ [])) (loop_body branch)
 
+  -- ---- statements, over the block, the `if` and the `for` of a level
+
+  -- a statement that is no block, and one that is no `if` either
+  unfoldable pub unbranched_body : ℕ → Of Statement → Of Statement
+  unbranched_body n loop = loop ∣ simple n
+
+  abbrev pub unbranched_with : ℕ → Of Statement → Of Statement
+  unbranched_with n loop = rule (outline unbranched_first [] (the.Else ∷ [])) (unbranched_body n loop)
+
+  unfoldable pub unblocked_body : ℕ → Of Statement → Of Statement → Of Statement
+  unblocked_body n chosen loop = chosen ∣ loop ∣ simple n
+
+  abbrev pub unblocked_with : ℕ → Of Statement → Of Statement → Of Statement
+  unblocked_with n chosen loop = rule (outline unblocked_first [] (the.Else ∷ [])) (unblocked_body n chosen loop)
+
+  unfoldable pub statement_body : ℕ → Of Statement → Of Statement → Of Statement → Of Statement
+  statement_body n block chosen loop = block ∣ chosen ∣ loop ∣ simple n
+
+  abbrev pub statement_with : ℕ → Of Statement → Of Statement → Of Statement → Of Statement
+  statement_with n block chosen loop = rule (outline statement_first [] (the.Else ∷ [])) (statement_body n block chosen loop)
+
+  -- the statement of an `if` or a `for`: a block, or a statement that counts as a level itself
+  unfoldable pub branch_body : Of Statement → Of Statement → Of Statement
+  branch_body block other = block ∣ other
+
+  abbrev pub branch_with : Of Statement → Of Statement → Of Statement
+  branch_with block other = rule (outline statement_first [] (the.Else ∷ [])) (branch_body block other)
+
+  abbrev pub otherwise_with : Of Statement → Of Statement → Of Statement
+  otherwise_with block other = rule (outline (the.OpenBrace ∷ unbranched_first) [] (the.Else ∷ [])) (branch_body block other)
+
   -- ---- statements with n levels left. An `if` or a `for` with no level left is refused, since its
   -- bracket would be one more.
 
-  abbrev pub nested_with : Nested → ℕ → Of Statement → Of Statement → Of Statement → Of Statement
-  nested_with any n block chosen loop = block ∣ chosen ∣ loop ∣ simple n
-  nested_with unblocked n block chosen loop = chosen ∣ loop ∣ simple n
-  nested_with unbranched n block chosen loop = loop ∣ simple n
+  -- it over its block, the statement of its branches, and that of an `else`
+  abbrev pub nesting : ℕ → Nested → Of Statement → Of Statement → Of Statement → Of Statement
+  nesting n a_block block branch otherwise = block
+  nesting n an_if block branch otherwise = choice_with (test_with (expression text limit n) branch) otherwise
+  nesting n a_for block branch otherwise = loop_with branch
 
   unfoldable pub nested_body : Nested → ℕ → Of Statement
-  nested_body k zero = nested_with k zero (refuse TooDeep (the.OpenBrace ∷ [])) (refuse TooDeep (the.If ∷ [])) (refuse TooDeep (the.For ∷ []))
+  nested_body k zero = refuse TooDeep (nested_first k)
   nested_body k (suc n) =
-      let block = block_with (rule (outline statement_first [] (the.Else ∷ [])) (nested_body any n)) in
-      let branch = block ∣ rule (outline (nested_first unblocked) [] (the.Else ∷ [])) (nested_body unblocked n) in
-      let otherwise = block ∣ rule (outline (nested_first unbranched) [] (the.Else ∷ [])) (nested_body unbranched n) in
-      nested_with k (suc n) block (choice_with (test_with (expression text limit n) branch) otherwise) (loop_with branch)
+      let inner : Nested → Of Statement = λ j. rule (nested_outline j) (nested_body j n) in
+      let block = block_with (statement_with n (inner a_block) (inner an_if) (inner a_for)) in
+      nesting n k block (branch_with block (unblocked_with n (inner an_if) (inner a_for))) (otherwise_with block (unbranched_with n (inner a_for)))
 
   abbrev pub nested : Nested → ℕ → Of Statement
-  nested k n = rule (outline (nested_first k) [] (the.Else ∷ [])) (nested_body k n)
+  nested k n = rule (nested_outline k) (nested_body k n)
 
-  -- stmt = block | basic NAME .. | NAME .. | place .. | "if" .. | "for" .. | ";"
   abbrev pub statement : ℕ → Of Statement
-  statement n = nested any n
+  statement n = statement_with n (nested a_block n) (nested an_if n) (nested a_for n)
+
+  abbrev pub block : ℕ → Of Statement
+  block n = block_with (statement n)
+
+  abbrev pub unblocked : ℕ → Of Statement
+  unblocked n = unblocked_with n (nested an_if n) (nested a_for n)
+
+  abbrev pub unbranched : ℕ → Of Statement
+  unbranched n = unbranched_with n (nested a_for n)
+
+  -- inside an `if` or a `for`
+  abbrev pub branch : ℕ → Of Statement
+  branch n = branch_with (block n) (unblocked n)
+
+  abbrev pub otherwise : ℕ → Of Statement
+  otherwise n = otherwise_with (block n) (unbranched n)
+
+  abbrev pub test : ℕ → Of Branch
+  test n = test_with (expression text limit n) (branch n)
+
+  abbrev pub else_link : ℕ → Of (Link Branch Statement)
+  else_link n = else_with (test n) (otherwise n)
