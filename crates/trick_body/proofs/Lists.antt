@@ -1,10 +1,11 @@
 -- Trees of lists: what the readers collect is what the grammar makes.
-use Rattle.std.proofs.Common.{◌≡◌, ℕ, zero, suc, ◌-◌, nat_eq, ◌<◌, true, false, List, [], ◌∷◌, ◌++◌, length, map, Ok, Err, Box, Global, refl, sym, ap, ◌∙◌, arith}
+use Rattle.std.proofs.Common.{◌≡◌, ℕ, zero, suc, ◌-◌, nat_eq, ◌<◌, true, false, List, [], ◌∷◌, ◌++◌, length, map, Some, None, Ok, Err, Box, Global, refl, sym, ap, ◌∙◌, arith}
 use Rattle.std.proofs.lemmas.List.{append-nil}
 use Rattle.std.specs.declared.vec.Vec.{Vec}
 use Rattle.trick_body.specs.Expressions as grammar
+use Rattle.trick_body.specs.Statements as statements
 use Rattle.trick_body.specs.Symbols.{number_of, Token}
-use Rattle.trick_body.specs.Trees.{step_of, link_of}
+use Rattle.trick_body.specs.Trees.{step_of, link_of, branch_of}
 use Rattle.trick_grammar.proofs.Loops.{items_left, items_stops, many_end, many_next}
 use Rattle.trick_grammar.proofs.Short.{token_leaves}
 use Rattle.trick_grammar.specs.Gives.{class_of, Stops}
@@ -13,16 +14,18 @@ use Rattle.trick_grammar.specs.Reading.{Reading, ◌>>=◌, read}
 use Rattle.trick_grammar.specs.StartsWith.{next_in}
 use Rattle.trick_body.specs.declared.symbol.Symbol.{Symbol}
 use Rattle.trick_grammar.specs.declared.stop.Stop.{Stop}
-use Rattle.trick_lang.specs.Syntax.{expression_of, path_of, parts_of_list, links_of_list, choices_of_list}
+use Rattle.trick_lang.specs.Syntax.{expression_of, path_of, parts_of_list, links_of_list, choices_of_list, statement_of, statements_of_list, branches_of_list}
 use Rattle.trick_lang.specs.SyntaxTree
-use Rattle.trick_lang.specs.SyntaxTree.{Expression, Choices}
+use Rattle.trick_lang.specs.SyntaxTree.{Expression, Choices, Statement}
 use Rattle.trick_lang.specs.declared.operator.Operator.{Operator}
-use Rattle.trick_lang.proofs.SyntaxLists.{chain_is, choose_is}
+use Rattle.trick_lang.proofs.SyntaxLists.{chain_is, choose_is, block_is, if_is}
 use Rattle.trick_lang.specs.declared.syntax.expression.Choice.{Choice}
 use Rattle.trick_lang.specs.declared.syntax.expression.Expr.{Expr, Chain, Choose}
 use Rattle.trick_lang.specs.declared.syntax.expression.Link.{Link}
 use Rattle.trick_lang.specs.declared.syntax.expression.Path.{Path}
 use Rattle.trick_lang.specs.declared.syntax.expression.Part.{Part, Member, Index}
+use Rattle.trick_lang.specs.declared.syntax.statement.Branch.{Branch}
+use Rattle.trick_lang.specs.declared.syntax.statement.Stmt.{Stmt, Block, If}
 
 pub parts_are : (ps : List Part) → parts_of_list ps ≡ grammar.parts_of (map step_of ps)
 parts_are [] = refl
@@ -116,3 +119,26 @@ module _ {Y B : Type 0} (a : grammar.Of Y) (shrinks : (us : List Token) (x : Y) 
   folded_end k rest total off so_far =
       let none = many_end number_of (λ (x : Y). x) [] a shrinks [] rest _ off refl in
       sym so_far ∙ ap (λ (q : Reading Token (List Y)). q >>= λ v. Ok (k v.0, v.1)) (sym (unchanged (read number_of class_of [] (any_number a) rest)) ∙ none)
+
+-- ---- blocks and `else if` chains
+
+pub statements_are : (ss : List Stmt) → statements_of_list ss ≡ statements.statements_of (map statement_of ss)
+statements_are [] = refl
+statements_are (s ∷ ss) = ap (SyntaxTree.Then (statement_of s)) (statements_are ss)
+
+pub block_made : (v : Vec Stmt Global) → statement_of (Block v) ≡ SyntaxTree.Block (statements.statements_of (map statement_of v.items))
+block_made v = block_is v ∙ ap SyntaxTree.Block (statements_are v.items)
+
+branches_none : (bs : List Branch) → branches_of_list bs SyntaxTree.NoElse ≡ statements.branches_of (map branch_of bs) None
+branches_none [] = refl
+branches_none (b ∷ bs) = ap (SyntaxTree.Test b.line (expression_of b.test) (statement_of b.body)) (branches_none bs)
+
+branches_some : (bs : List Branch) (s : Statement) → branches_of_list bs (SyntaxTree.Else s) ≡ statements.branches_of (map branch_of bs) (Some s)
+branches_some [] s = refl
+branches_some (b ∷ bs) s = ap (SyntaxTree.Test b.line (expression_of b.test) (statement_of b.body)) (branches_some bs s)
+
+pub if_none : (v : Vec Branch Global) → statement_of (If v None) ≡ SyntaxTree.If (statements.branches_of (map branch_of v.items) None)
+if_none v = if_is v None ∙ ap SyntaxTree.If (branches_none v.items)
+
+pub if_some : (v : Vec Branch Global) (b : Box Stmt Global) (s : Stmt) → b.value ≡ s → statement_of (If v (Some b)) ≡ SyntaxTree.If (statements.branches_of (map branch_of v.items) (Some (statement_of s)))
+if_some v b s is = if_is v (Some b) ∙ ap SyntaxTree.If (branches_some v.items (statement_of b.value)) ∙ ap (λ t. SyntaxTree.If (statements.branches_of (map branch_of v.items) (Some (statement_of t)))) is

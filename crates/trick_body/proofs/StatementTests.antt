@@ -1,7 +1,9 @@
 -- The next token decides each step of the grammar of statements.
 use Rattle.std.proofs.Common.{◌≡◌, ℕ, zero, suc, ◌<◌, true, refl, List, [], length, Ok}
 use Rattle.trick_body.specs.Expressions.{step_body}
-use Rattle.trick_body.specs.Statements.{basic, basic_body, plain_header, header_body, loop_step_body, loop_test_body, value_body, call_body, call, operation_body, free_change_body, bound_change_body, named_body, by_name, by_name_body, free_steps_body, bound_steps_body, counted, counted_body, declaration, declaration_body, simple, simple_body, block_body, test_body, else_body, choice_body, loop_body, unbranched_body, unblocked_body, statement_body, branch_body, Branch, Nested, a_block, an_if, a_for, nested_body, nested, statement, block, unblocked, unbranched, branch, otherwise, test, else_link}
+use Rattle.trick_body.specs.Statements.{basic, basic_body, plain_header, header_body, loop_step_body, loop_test_body, value_body, call_body, call, operation_body, free_change_body, bound_change_body, named_body, by_name, by_name_body, free_steps_body, bound_steps_body, counted, counted_body, declaration, declaration_body, simple, simple_body, block_body, test_body, else_body, choice_body, loop_body, unbranched_body, unblocked_body, statement_body, branch_body, Branch, nested_body, nested, statement, block, unblocked, unbranched, branch, otherwise, test, else_link}
+use Rattle.trick_body.specs.declared.statements.Level.{Level}
+use Rattle.trick_body.specs.declared.statements.Level.TheVariants.{Block, If, For}
 use Rattle.trick_body.specs.declared.nested.Nested.TheVariants.{Indexed}
 use Rattle.trick_body.specs.Symbols.{number_of, spelled, Token}
 use Rattle.trick_body.proofs.ExpressionTests.{nested_test as expressions_nested, expression_test}
@@ -41,18 +43,18 @@ module _ (text : List ℕ) (limit : ℕ) where
   unfolding simple_body
   simple_test n = rw (by_name_test n, counted_test n, declaration_test n) refl
 
-  module _ (n : ℕ) (each : (k : Nested) → is_predictive number_of (nested text limit k n) ≡ true) where
+  module _ (n : ℕ) (each : (k : Level) → is_predictive number_of (nested text limit k n) ≡ true) where
     unbranched_from : is_predictive number_of (unbranched text limit n) ≡ true
     unfolding unbranched_body
-    unbranched_from = rw (each a_for, simple_test n) refl
+    unbranched_from = rw (each For, simple_test n) refl
 
     unblocked_from : is_predictive number_of (unblocked text limit n) ≡ true
     unfolding unblocked_body
-    unblocked_from = rw (each an_if, each a_for, simple_test n) refl
+    unblocked_from = rw (each If, each For, simple_test n) refl
 
     statement_from : is_predictive number_of (statement text limit n) ≡ true
     unfolding statement_body
-    statement_from = rw (each a_block, each an_if, each a_for, simple_test n) refl
+    statement_from = rw (each Block, each If, each For, simple_test n) refl
 
     block_from : is_predictive number_of (block text limit n) ≡ true
     unfolding block_body
@@ -74,14 +76,14 @@ module _ (text : List ℕ) (limit : ℕ) where
     unfolding else_body
     link_from = rw (test_from, otherwise_from) refl
 
-  pub nested_test : (k : Nested) (n : ℕ) → is_predictive number_of (nested text limit k n) ≡ true
+  pub nested_test : (k : Level) (n : ℕ) → is_predictive number_of (nested text limit k n) ≡ true
   unfolding nested_body choice_body loop_body
-  nested_test a_block zero = refl
-  nested_test an_if zero = refl
-  nested_test a_for zero = refl
-  nested_test a_block (suc n) = rw (block_from n (λ k. nested_test k n)) refl
-  nested_test an_if (suc n) = rw (test_from n (λ k. nested_test k n), link_from n (λ k. nested_test k n)) refl
-  nested_test a_for (suc n) = rw (header_test, branch_from n (λ k. nested_test k n)) refl
+  nested_test Block zero = refl
+  nested_test If zero = refl
+  nested_test For zero = refl
+  nested_test Block (suc n) = rw (block_from n (λ k. nested_test k n)) refl
+  nested_test If (suc n) = rw (test_from n (λ k. nested_test k n), link_from n (λ k. nested_test k n)) refl
+  nested_test For (suc n) = rw (header_test, branch_from n (λ k. nested_test k n)) refl
 
   pub statement_test : (n : ℕ) → is_predictive number_of (statement text limit n) ≡ true
   statement_test n = statement_from n (λ k. nested_test k n)

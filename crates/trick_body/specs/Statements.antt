@@ -4,6 +4,8 @@
 use Rattle.std.specs.Prelude.{ℕ, zero, suc, min, false, List, [], ◌∷◌, ◌++◌, Option, Some, None}
 use Rattle.trick_body.specs.Expressions.{Of, names, wholes, name_of, Step, parts_of, place_more, expression_more, step, some_steps, expression}
 use Rattle.trick_body.specs.Symbols.{Token, bound_limit}
+use Rattle.trick_body.specs.declared.statements.Level.{Level}
+use Rattle.trick_body.specs.declared.statements.Level.TheVariants.{Block, If, For}
 use Rattle.trick_body.specs.declared.symbol.Symbol.{Symbol}
 use Rattle.trick_body.specs.declared.symbol.Symbol.TheVariants as the
 use Rattle.trick_grammar.specs.Gives.{is_in_scope, text_of}
@@ -67,6 +69,9 @@ assignments =
 
 -- ---- types
 
+abbrev pub scalars : List Symbol
+scalars = the.Bool ∷ the.Char ∷ the.Short ∷ the.Int ∷ the.Long ∷ []
+
 abbrev pub basic_first : List Symbol
 basic_first = the.Bool ∷ the.Char ∷ the.Short ∷ the.Int ∷ the.Long ∷ the.Unsigned ∷ []
 
@@ -77,7 +82,7 @@ basic_more = the.Char ∷ the.Short ∷ the.Int ∷ []
 -- which is a type that is no name; its line, and the type
 unfoldable pub basic_body : Of (ℕ × Scalar)
 basic_body =
-    act (λ t. (t.line, scalar_of t.class)) (token (the.Bool ∷ the.Char ∷ the.Short ∷ the.Int ∷ the.Long ∷ []))
+    act (λ t. (t.line, scalar_of t.class)) (token scalars)
     ∣ act (λ v. (v.0.line, unsigned_of v.1)) (one the.Unsigned ⨾ optional (token basic_more))
 
 abbrev pub basic : Of (ℕ × Scalar)
@@ -175,19 +180,13 @@ steps_first = place_more ++ (the.Semicolon ∷ [])
 
 -- ---- levels
 
--- what counts as a level, beside the statement of an `if`, an `else` or a `for` that is no block
-pub data Nested : Type 0 where
-  a_block : Nested
-  an_if : Nested
-  a_for : Nested
+abbrev pub level_first : Level → List Symbol
+level_first Block = the.OpenBrace ∷ []
+level_first If = the.If ∷ []
+level_first For = the.For ∷ []
 
-abbrev pub nested_first : Nested → List Symbol
-nested_first a_block = the.OpenBrace ∷ []
-nested_first an_if = the.If ∷ []
-nested_first a_for = the.For ∷ []
-
-abbrev pub nested_outline : Nested → Outline Symbol
-nested_outline k = record { nullable = false; inhabited = false; first = nested_first k; more = []; barred = the.Else ∷ [] }
+abbrev pub level_outline : Level → Outline Symbol
+level_outline k = record { nullable = false; inhabited = false; first = level_first k; more = []; barred = the.Else ∷ [] }
 
 module _ (text : List ℕ) where
   abbrev pub named_of : Token → AfterName → Statement
@@ -237,8 +236,11 @@ module _ (text : List ℕ) (limit : ℕ) where
 
   -- what may stand behind the NAME that a statement begins with, given the change: a declaration, a
   -- call or a change
+  abbrev pub local : ℕ → Of AfterName
+  local n = act (λ v. declares v.0 v.1) (token names ⨾ value n)
+
   unfoldable pub named_body : ℕ → Of AfterName → Of AfterName
-  named_body n changed = act (λ v. declares v.0 v.1) (token names ⨾ value n) ∣ call n ∣ changed
+  named_body n changed = local n ∣ call n ∣ changed
 
   abbrev pub named : ℕ → Of AfterName → Of AfterName
   named n changed = rule (outline (names ++ (the.OpenParen ∷ change_first)) [] []) (named_body n changed)
@@ -275,14 +277,14 @@ module _ (text : List ℕ) (limit : ℕ) where
 
   -- basic NAME [ "=" expression ] ";"
   unfoldable pub declaration_body : ℕ → Of Statement
-  declaration_body n = act (λ v. tree.Declare v.0.0 (tree.Basic v.0.1) (name_of text v.1.0) v.1.1) (basic ⨾ token names ⨾ alone (value n))
+  declaration_body n = act (λ v. tree.Declare v.0.0 (tree.Basic v.0.1) (name_of text v.1.0) v.1.1) (basic ⨾ token names ⨾ value n)
 
   abbrev pub declaration : ℕ → Of Statement
   declaration n = rule (outline basic_first [] []) (declaration_body n)
 
   -- simple = NAME .. | basic NAME .. | "++" .. | "--" .. | ";"
   unfoldable pub simple_body : ℕ → Of Statement
-  simple_body n = by_name n ∣ declaration n ∣ counted n ∣ act (λ t. tree.Empty) (one the.Semicolon)
+  simple_body n = by_name n ∣ alone (declaration n) ∣ counted n ∣ act (λ t. tree.Empty) (one the.Semicolon)
 
   abbrev pub simple : ℕ → Of Statement
   simple n = rule (outline simple_first [] []) (simple_body n)
@@ -371,33 +373,33 @@ module _ (text : List ℕ) (limit : ℕ) where
   -- ---- statements with n levels left. An `if` or a `for` with no level left is refused, since its
   -- bracket would be one more.
 
-  -- it over its block, the statement of its branches, and that of an `else`
-  abbrev pub nesting : ℕ → Nested → Of Statement → Of Statement → Of Statement → Of Statement
-  nesting n a_block block branch otherwise = block
-  nesting n an_if block branch otherwise = choice_with (test_with (expression text limit n) branch) otherwise
-  nesting n a_for block branch otherwise = loop_with branch
+  -- what counts as a level, over its block, the statement of its branches, and that of an `else`
+  abbrev pub nesting : ℕ → Level → Of Statement → Of Statement → Of Statement → Of Statement
+  nesting n Block block branch otherwise = block
+  nesting n If block branch otherwise = choice_with (test_with (expression text limit n) branch) otherwise
+  nesting n For block branch otherwise = loop_with branch
 
-  unfoldable pub nested_body : Nested → ℕ → Of Statement
-  nested_body k zero = refuse TooDeep (nested_first k)
+  unfoldable pub nested_body : Level → ℕ → Of Statement
+  nested_body k zero = refuse TooDeep (level_first k)
   nested_body k (suc n) =
-      let inner : Nested → Of Statement = λ j. rule (nested_outline j) (nested_body j n) in
-      let block = block_with (statement_with n (inner a_block) (inner an_if) (inner a_for)) in
-      nesting n k block (branch_with block (unblocked_with n (inner an_if) (inner a_for))) (otherwise_with block (unbranched_with n (inner a_for)))
+      let inner : Level → Of Statement = λ j. rule (level_outline j) (nested_body j n) in
+      let block = block_with (statement_with n (inner Block) (inner If) (inner For)) in
+      nesting n k block (branch_with block (unblocked_with n (inner If) (inner For))) (otherwise_with block (unbranched_with n (inner For)))
 
-  abbrev pub nested : Nested → ℕ → Of Statement
-  nested k n = rule (nested_outline k) (nested_body k n)
+  abbrev pub nested : Level → ℕ → Of Statement
+  nested k n = rule (level_outline k) (nested_body k n)
 
   abbrev pub statement : ℕ → Of Statement
-  statement n = statement_with n (nested a_block n) (nested an_if n) (nested a_for n)
+  statement n = statement_with n (nested Block n) (nested If n) (nested For n)
 
   abbrev pub block : ℕ → Of Statement
   block n = block_with (statement n)
 
   abbrev pub unblocked : ℕ → Of Statement
-  unblocked n = unblocked_with n (nested an_if n) (nested a_for n)
+  unblocked n = unblocked_with n (nested If n) (nested For n)
 
   abbrev pub unbranched : ℕ → Of Statement
-  unbranched n = unbranched_with n (nested a_for n)
+  unbranched n = unbranched_with n (nested For n)
 
   -- inside an `if` or a `for`
   abbrev pub branch : ℕ → Of Statement
@@ -411,3 +413,10 @@ module _ (text : List ℕ) (limit : ℕ) where
 
   abbrev pub else_link : ℕ → Of (Link Branch Statement)
   else_link n = else_with (test n) (otherwise n)
+
+  abbrev pub chosen : ℕ → Of Statement
+  chosen n = choice_with (test n) (otherwise n)
+
+  -- the tests that were read, and what stands behind them
+  abbrev pub choice_rest : ℕ → List Branch → Of (List Branch × Option Statement)
+  choice_rest n found = act (λ v. (found ++ v.0, v.1)) (nearest (else_link n))

@@ -1,17 +1,35 @@
-ghost use Rattle.std.specs.Prelude.{◌≡◌, ◌∷◌, IfOk};
-ghost use Rattle.trick_grammar.specs.Gives.{text_of};
+ghost use Rattle.std.specs.Prelude.{◌≡◌, ◌∷◌, [], IfOk};
+ghost use Rattle.trick_body.specs.Symbols.{number_of};
+ghost use Rattle.trick_grammar.specs.Gives.{Gives, class_of, text_of};
+ghost use Rattle.trick_grammar.specs.Reading.{read_token, with_hint};
 
-use crate::symbol::Token;
+use crate::symbol::{Symbol, Token};
 use std::alloc::{AllocError, Global};
 use trick_base::{Items, Word};
-use trick_grammar::text_of;
+use trick_grammar::{Refusal, Stop, hinted, take_one_of, text_of};
 
-/// What a reader reads from, beside the tokens: the text that they were cut from, and how many items
-/// a list may have.
+/// What a reader knows beside the tokens: the text that they were cut from, how many items a list may
+/// have, and the names of the loops round the statement, the innermost first.
 #[derive(Clone, Copy)]
 pub struct Source<'t> {
     pub text: &'t [u8],
     pub limit: usize,
+    pub scope: &'t [Token],
+}
+
+impl<'t> Source<'t> {
+    /// The same, with no loop round it.
+    pub fn outside(self) -> Source<'t>
+        ensures text { result.text.now ≡ self.entry.text.now }
+        ensures limit { result.limit ≡ self.entry.limit }
+        ensures scope { result.scope.now ≡ [] }
+    {
+        Source {
+            text: self.text,
+            limit: self.limit,
+            scope: &[],
+        }
+    }
 }
 
 /// The bytes of a token of the text.
@@ -29,4 +47,20 @@ pub fn within(alloc: Global, name: &Token, scope: &[Token]) -> Result<Vec<Token>
     inner.push(*name)?;
     inner.extend_from_slice(scope)?;
     Ok(inner)
+}
+
+/// A token of these symbols; another one is refused for this reason.
+pub fn take_hinted<'a>(
+    rest: &'a [Token],
+    symbols: &[Symbol],
+    reason: Refusal,
+) -> Result<(&'a Token, &'a [Token]), Stop<'a, Symbol>>
+    ensures { Gives (λ x. (x.0.now, x.1.now)) result
+        (with_hint reason (read_token number_of class_of symbols.now rest.now)) }
+{
+    match take_one_of(rest, symbols) {
+        Ok(taken) => Ok(taken),
+        Err(Stop::Memory) => Err(Stop::Memory),
+        Err(Stop::At(kind, at)) => Err(Stop::At(hinted(reason, kind), at)),
+    }
 }

@@ -1,0 +1,128 @@
+//! Methods: one function for each production, with its line of the grammar. `depth` is how many levels
+//! may nest in the braces of the method.
+
+ghost use Rattle.std.specs.Prelude.{◌≡◌, [], map};
+ghost use Rattle.trick_body.specs.Methods.{int_inside, int_rest, method, return_line, void_inside, void_rest};
+ghost use Rattle.trick_body.specs.Symbols.{number_of};
+ghost use Rattle.trick_grammar.specs.Gives.{Gives, class_of};
+ghost use Rattle.trick_grammar.specs.Reading.{read};
+ghost use Rattle.trick_lang.specs.Syntax.{method_of, statements_of_list};
+
+use crate::source::{Source, name_of};
+use crate::statements::read_statements;
+use crate::symbol::{NAMES, Symbol, Token};
+use std::alloc::Global;
+use trick_base::Items;
+use trick_grammar::{Stop, next_is, take, take_one_of};
+use trick_lang::syntax::{Method, Stmt};
+
+/// return = "return" ( "0" | "(" "0" ")" ) ";"
+#[tactic(auto, unfolding(crate::specs::Methods::return_body))]
+fn read_return<'a>(rest: &'a [Token]) -> Result<(&'a Token, &'a [Token]), Stop<'a, Symbol>>
+    ensures { Gives (λ x. (x.0.now, x.1.now)) result
+        (read number_of class_of [] return_line rest.now) }
+{
+    let (word, rest) = take(rest, Symbol::Return)?;
+    if next_is(rest, Symbol::Zero) {
+        let (_, rest) = take(rest, Symbol::Zero)?;
+        let (_, rest) = take(rest, Symbol::Semicolon)?;
+        return Ok((word, rest));
+    }
+    let (_, rest) = take(rest, Symbol::OpenParen)?;
+    let (_, rest) = take(rest, Symbol::Zero)?;
+    let (_, rest) = take(rest, Symbol::CloseParen)?;
+    let (_, rest) = take(rest, Symbol::Semicolon)?;
+    Ok((word, rest))
+}
+
+/// ")" block, which is behind "void" NAME "("
+#[tactic(auto, using(crate::proofs::Lists::statements_are), unfolding(crate::specs::Methods::void_inside_body))]
+pub fn read_void_inside<'a>(
+    alloc: Global,
+    source: Source,
+    depth: usize,
+    rest: &'a [Token],
+) -> Result<(Items<Stmt>, &'a [Token]), Stop<'a, Symbol>>
+    ensures { Gives (λ x. (statements_of_list x.0, x.1.now)) result
+        (read number_of class_of [] (void_inside source.entry.text.now source.entry.limit depth) rest.now) }
+{
+    let (_, rest) = take(rest, Symbol::CloseParen)?;
+    let (_, rest) = take(rest, Symbol::OpenBrace)?;
+    let (statements, rest) = read_statements(alloc, source.outside(), depth, rest)?;
+    let (_, rest) = take(rest, Symbol::CloseBrace)?;
+    Ok((Items::from_vec(statements), rest))
+}
+
+/// ")" "{" { stmt } return "}", which is behind "int" NAME "("
+#[tactic(auto, using(crate::proofs::Lists::statements_are), unfolding(crate::specs::Methods::int_inside_body))]
+pub fn read_int_inside<'a>(
+    alloc: Global,
+    source: Source,
+    depth: usize,
+    rest: &'a [Token],
+) -> Result<(Items<Stmt>, &'a [Token]), Stop<'a, Symbol>>
+    ensures { Gives (λ x. (statements_of_list x.0, x.1.now)) result
+        (read number_of class_of [] (int_inside source.entry.text.now source.entry.limit depth) rest.now) }
+{
+    let (_, rest) = take(rest, Symbol::CloseParen)?;
+    let (_, rest) = take(rest, Symbol::OpenBrace)?;
+    let (statements, rest) = read_statements(alloc, source.outside(), depth, rest)?;
+    let (_, rest) = read_return(rest)?;
+    let (_, rest) = take(rest, Symbol::CloseBrace)?;
+    Ok((Items::from_vec(statements), rest))
+}
+
+/// "(" ")" block, which is behind "void" NAME
+#[tactic(auto, unfolding(crate::specs::Methods::void_body))]
+pub fn read_void_rest<'a>(
+    alloc: Global,
+    source: Source,
+    depth: usize,
+    rest: &'a [Token],
+) -> Result<(Items<Stmt>, &'a [Token]), Stop<'a, Symbol>>
+    ensures { Gives (λ x. (statements_of_list x.0, x.1.now)) result
+        (read number_of class_of [] (void_rest source.entry.text.now source.entry.limit depth) rest.now) }
+{
+    let (_, rest) = take(rest, Symbol::OpenParen)?;
+    read_void_inside(alloc, source, depth, rest)
+}
+
+/// "(" ")" "{" { stmt } return "}", which is behind "int" NAME
+#[tactic(auto, unfolding(crate::specs::Methods::int_body))]
+pub fn read_int_rest<'a>(
+    alloc: Global,
+    source: Source,
+    depth: usize,
+    rest: &'a [Token],
+) -> Result<(Items<Stmt>, &'a [Token]), Stop<'a, Symbol>>
+    ensures { Gives (λ x. (statements_of_list x.0, x.1.now)) result
+        (read number_of class_of [] (int_rest source.entry.text.now source.entry.limit depth) rest.now) }
+{
+    let (_, rest) = take(rest, Symbol::OpenParen)?;
+    read_int_inside(alloc, source, depth, rest)
+}
+
+/// method = "void" NAME "(" ")" block | "int" NAME "(" ")" "{" { stmt } return "}"
+#[tactic(auto, unfolding(crate::specs::Methods::method_body))]
+pub fn read_method<'a>(
+    alloc: Global,
+    source: Source,
+    depth: usize,
+    rest: &'a [Token],
+) -> Result<(Method, &'a [Token]), Stop<'a, Symbol>>
+    ensures { Gives (λ x. (method_of x.0, x.1.now)) result
+        (read number_of class_of [] (method source.entry.text.now source.entry.limit depth) rest.now) }
+{
+    if next_is(rest, Symbol::Void) {
+        let (_, rest) = take(rest, Symbol::Void)?;
+        let (name, rest) = take_one_of(rest, &NAMES)?;
+        let (body, rest) = read_void_rest(alloc, source, depth, rest)?;
+        let name = name_of(alloc, source.text, name)?;
+        return Ok((Method { name, body }, rest));
+    }
+    let (_, rest) = take(rest, Symbol::Int)?;
+    let (name, rest) = take_one_of(rest, &NAMES)?;
+    let (body, rest) = read_int_rest(alloc, source, depth, rest)?;
+    let name = name_of(alloc, source.text, name)?;
+    Ok((Method { name, body }, rest))
+}
