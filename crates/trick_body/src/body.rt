@@ -1,0 +1,166 @@
+//! Bodies and conditions, read whole.
+
+ghost use Rattle.std.specs.Prelude.{◌≡◌, ◌≤◌, ◌<◌, ◌+◌, ◌-◌, ◌^◌, All, Err, drop, length, take};
+ghost use Rattle.trick_body.specs.Answers.{IsBody, IsCondition, IsRead, condition, fault_of, fault_of_text};
+ghost use Rattle.trick_body.specs.Lexemes.{lexemes_of};
+ghost use Rattle.trick_body.specs.Symbols.{number_of};
+ghost use Rattle.trick_body.specs.Told.{told, told_line};
+ghost use Rattle.trick_grammar.specs.Gives.{Gives, class_of};
+ghost use Rattle.trick_grammar.specs.Text.{read_all};
+ghost use Rattle.trick_lang.specs.Syntax.{expression_of};
+ghost use Rattle.trick_text.specs.Tokens.{ReadsAsToken, last_line};
+
+use crate::expressions::read_expression;
+use crate::fault::BodyFault;
+use crate::lexer::lexemes;
+use crate::methods::read_method;
+use crate::source::Source;
+use crate::symbol::{Symbol, Token};
+use crate::told::{told, told_line};
+use std::alloc::Global;
+use trick_grammar::{Refusal, Stop};
+use trick_lang::syntax::{Expr, Method};
+use trick_text::{CutText, FirstFault, Style, TextFault, cut, last_line};
+
+/// How many items a list may have.
+pub const LIST_LIMIT: usize = 4096;
+
+/// How many levels may nest in a condition, and in a file.
+pub const NESTING_LIMIT: usize = 64;
+
+/// How many levels may nest in the braces of a method, inside those of its class.
+pub const METHOD_LEVELS: usize = 62;
+
+/// The fault of a refusal, with its limit.
+fn fault_of(reason: Refusal, line: u32) -> BodyFault
+    ensures { result ≡ fault_of reason line }
+{
+    match reason {
+        Refusal::Expected | Refusal::BadTime => BodyFault::Expected { line },
+        Refusal::NotInProfile | Refusal::BadName => BodyFault::NotInProfile { line },
+        Refusal::TooLong => BodyFault::LongList {
+            line,
+            limit: LIST_LIMIT as u32,
+        },
+        Refusal::TooDeep => BodyFault::LongList {
+            line,
+            limit: NESTING_LIMIT as u32,
+        },
+        Refusal::BadHeader | Refusal::BadLoop => BodyFault::LoopBound { line },
+    }
+}
+
+/// The fault that a refusal of the rest of these tokens is told by.
+fn told_by(text: &[u8], tokens: &[Token], reason: Refusal, rest: &[Token]) -> BodyFault
+    ensures { result ≡ fault_of (told reason rest.now) (told_line (last_line text.now) reason
+        (take (length tokens.now - length rest.now) tokens.now) rest.now) }
+{
+    let front = &tokens[..tokens.len().saturating_sub(rest.len())];
+    let line = told_line(last_line(text), reason, front, rest);
+    fault_of(told(reason, rest), line)
+}
+
+/// Reads one method from the token at `from` on: its name and its statements, and the place of the
+/// token behind it. At most 62 levels nest in its braces, and a list has at most 4,096 items. It takes
+/// time and memory as its tokens do.
+pub fn read_body(
+    alloc: Global,
+    text: &[u8],
+    tokens: &[trick_text::Token],
+    from: usize,
+) -> Result<(Method, usize), BodyFault>
+    requires tokens { All (ReadsAsToken text.now) tokens.now }
+    requires from { from ≤ length tokens.now }
+    ensures { IsBody text.now (lexemes_of text.now (drop from tokens.now)) from result }
+{
+    let tokens = match lexemes(alloc, text, &tokens[from..]) {
+        Ok(found) => found,
+        Err(_) => return Err(BodyFault::OutOfMemory),
+    };
+    read_lexemes(alloc, text, &tokens, from)
+}
+
+fn read_lexemes(
+    alloc: Global,
+    text: &[u8],
+    tokens: &[Token],
+    from: usize,
+) -> Result<(Method, usize), BodyFault>
+    requires { from + length tokens.now < 2 ^ 63 }
+    ensures { IsBody text.now tokens.now from result }
+{
+    let source = Source {
+        text,
+        limit: LIST_LIMIT,
+        scope: &[],
+    };
+    match read_method(alloc, source, METHOD_LEVELS, tokens) {
+        Ok((method, rest)) => {
+            let read = tokens.len().saturating_sub(rest.len());
+            Ok((method, from + read))
+        }
+        Err(Stop::Memory) => Err(BodyFault::OutOfMemory),
+        Err(Stop::At(reason, rest)) => Err(told_by(text, tokens, reason, rest)),
+    }
+}
+
+/// Reads a condition, which is all of the text, cut in the style of commands. At most 64 levels nest in
+/// it. It takes time and memory as its tokens do.
+pub fn condition(alloc: Global, text: &[u8]) -> Result<Expr, BodyFault>
+    ensures { IsCondition text.now result }
+{
+    match cut(alloc, text, Style::Command) {
+        Ok(CutText { tokens, fault }) => match lexemes(alloc, text, &tokens) {
+            Ok(found) => read_cut(alloc, text, &found, fault),
+            Err(_) => Err(BodyFault::OutOfMemory),
+        },
+        Err(fault) => Err(fault_of_text(fault)),
+    }
+}
+
+fn fault_of_text(fault: TextFault) -> BodyFault
+    ensures { result ≡ fault_of_text fault }
+{
+    match fault {
+        TextFault::OutOfMemory => BodyFault::OutOfMemory,
+        other => BodyFault::Text(other),
+    }
+}
+
+/// Reads the tokens before the first fault of a text.
+fn read_cut(
+    alloc: Global,
+    text: &[u8],
+    tokens: &[Token],
+    fault: Option<FirstFault>,
+) -> Result<Expr, BodyFault>
+    ensures { IsRead text.now tokens.now fault result }
+{
+    match (read_to_end(alloc, text, tokens), fault) {
+        (Ok(expression), None) => Ok(expression),
+        (Ok(_), Some(first)) => Err(BodyFault::Text(first.fault)),
+        (Err(Stop::Memory), _) => Err(BodyFault::OutOfMemory),
+        (Err(Stop::At(_, [])), Some(first)) => Err(BodyFault::Text(first.fault)),
+        (Err(Stop::At(reason, rest)), _) => Err(told_by(text, tokens, reason, rest)),
+    }
+}
+
+fn read_to_end<'a>(
+    alloc: Global,
+    text: &[u8],
+    tokens: &'a [Token],
+) -> Result<Expr, Stop<'a, Symbol>>
+    ensures { Gives expression_of result
+        (read_all number_of class_of (condition text.now) tokens.now) }
+{
+    let source = Source {
+        text,
+        limit: LIST_LIMIT,
+        scope: &[],
+    };
+    let (expression, rest) = read_expression(alloc, source, NESTING_LIMIT, tokens)?;
+    match rest {
+        [] => Ok(expression),
+        [_, ..] => Err(Stop::At(Refusal::Expected, rest)),
+    }
+}
