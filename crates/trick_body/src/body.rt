@@ -16,7 +16,7 @@ use crate::lexer::lexemes;
 use crate::methods::read_method;
 use crate::source::Source;
 use crate::symbol::{Symbol, Token};
-use crate::told::{told, told_line};
+use crate::telling::{told, told_line};
 use std::alloc::Global;
 use trick_grammar::{Refusal, Stop};
 use trick_lang::syntax::{Expr, Method};
