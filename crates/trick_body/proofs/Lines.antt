@@ -1,11 +1,5 @@
 -- The lines of refusals.
-use Rattle.std.proofs.Common.{◌≡◌, ℕ, zero, suc, ◌+◌, ◌-◌, List, [], ◌∷◌, ◌++◌, length, take, refl, sym, ap, ◌∙◌, cond, arith, length-append}
-use Rattle.trick_body.specs.Symbols.{Token}
-use Rattle.trick_body.specs.Told.{loop_line}
-
-pub loop_line_push : (line : ℕ) (ts : List Token) (t : Token) → loop_line line (ts ++ t ∷ []) ≡ loop_line (loop_line line ts) (t ∷ [])
-loop_line_push line [] t = refl
-loop_line_push line (u ∷ ts) t = loop_line_push (loop_line line (u ∷ [])) ts t
+use Rattle.std.proofs.Common.{◌≡◌, ℕ, ◌-◌, List, [], ◌∷◌, ◌++◌, length, take, refl, ap, ◌∙◌, arith, length-append}
 
 take_front : {A : Type 0} (front rest : List A) → take (length front) (front ++ rest) ≡ front
 take_front [] rest = refl

@@ -15,6 +15,7 @@ use Rattle.trick_grammar.specs.Text.{IsExact, IsExactFront, read_all}
 use Rattle.trick_grammar.specs.declared.refusal.Refusal.{Refusal}
 use Rattle.trick_grammar.specs.declared.refusal.Refusal.TheVariants.{Expected, NotInProfile, TooLong, TooDeep, BadHeader, BadLoop, BadName, BadTime}
 use Rattle.trick_lang.specs.Syntax.{expression_of, method_of}
+use Rattle.trick_lang.specs.SyntaxTree as tree
 use Rattle.trick_lang.specs.SyntaxTree.{Expression}
 use Rattle.trick_lang.specs.declared.syntax.definition.Method.{Method}
 use Rattle.trick_lang.specs.declared.syntax.expression.Expr.{Expr}
@@ -45,7 +46,7 @@ IsToldBy text ts z fault = (front : List Token) × (ts ≡ front ++ z.rest) × (
 -- ---- bodies
 
 -- a method of a text, inside the braces of its class
-abbrev pub method : List ℕ → Of _
+abbrev pub method : List ℕ → Of tree.Method
 method text = grammar.method text list_limit method_levels
 
 -- The tokens from a place on start with one method, up to the other place; or reading refuses the first

@@ -8,7 +8,8 @@ ghost use Rattle.trick_body.specs.Told.{told, told_line};
 ghost use Rattle.trick_grammar.specs.Gives.{Gives, class_of};
 ghost use Rattle.trick_grammar.specs.Text.{read_all};
 ghost use Rattle.trick_lang.specs.Syntax.{expression_of};
-ghost use Rattle.trick_text.specs.Tokens.{ReadsAsToken, last_line};
+ghost use Rattle.trick_text.specs.Tokens.{IsCut, ReadsAsToken, last_line};
+ghost use Rattle.trick_text.specs.declared.token.Style.TheVariants.{Command};
 
 use crate::expressions::read_expression;
 use crate::fault::BodyFault;
@@ -20,7 +21,7 @@ use crate::telling::{told, told_line};
 use std::alloc::Global;
 use trick_grammar::{Refusal, Stop};
 use trick_lang::syntax::{Expr, Method};
-use trick_text::{CutText, FirstFault, Style, TextFault, cut, last_line};
+use trick_text::{FirstFault, Style, TextFault, cut, last_line};
 
 /// How many items a list may have.
 pub const LIST_LIMIT: usize = 4096;
@@ -52,6 +53,7 @@ fn fault_of(reason: Refusal, line: u32) -> BodyFault
 
 /// The fault that a refusal of the rest of these tokens is told by.
 fn told_by(text: &[u8], tokens: &[Token], reason: Refusal, rest: &[Token]) -> BodyFault
+    requires { length text.now ≤ 16777216 }
     ensures { result ≡ fault_of (told reason rest.now) (told_line (last_line text.now) reason
         (take (length tokens.now - length rest.now) tokens.now) rest.now) }
 {
@@ -70,6 +72,7 @@ pub fn read_body(
     from: usize,
 ) -> Result<(Method, usize), BodyFault>
     requires tokens { All (ReadsAsToken text.now) tokens.now }
+    requires short { length text.now ≤ 16777216 }
     requires from { from ≤ length tokens.now }
     ensures { IsBody text.now (lexemes_of text.now (drop from tokens.now)) from result }
 {
@@ -80,13 +83,22 @@ pub fn read_body(
     read_lexemes(alloc, text, &tokens, from)
 }
 
+// The place behind what was read.
+fn place_behind(from: usize, tokens: &[Token], rest: &[Token]) -> usize
+    requires { from + length tokens.now < 2 ^ 63 }
+    ensures { result ≡ from + (length tokens.now - length rest.now) }
+{
+    from + tokens.len().saturating_sub(rest.len())
+}
+
 fn read_lexemes(
     alloc: Global,
     text: &[u8],
     tokens: &[Token],
     from: usize,
 ) -> Result<(Method, usize), BodyFault>
-    requires { from + length tokens.now < 2 ^ 63 }
+    requires short { length text.now ≤ 16777216 }
+    requires from { from + length tokens.now < 2 ^ 63 }
     ensures { IsBody text.now tokens.now from result }
 {
     let source = Source {
@@ -95,9 +107,9 @@ fn read_lexemes(
         scope: &[],
     };
     match read_method(alloc, source, METHOD_LEVELS, tokens) {
-        Ok((method, rest)) => {
-            let read = tokens.len().saturating_sub(rest.len());
-            Ok((method, from + read))
+        Ok(found) => {
+            let to = place_behind(from, tokens, found.1);
+            Ok((found.0, to))
         }
         Err(Stop::Memory) => Err(BodyFault::OutOfMemory),
         Err(Stop::At(reason, rest)) => Err(told_by(text, tokens, reason, rest)),
@@ -110,11 +122,24 @@ pub fn condition(alloc: Global, text: &[u8]) -> Result<Expr, BodyFault>
     ensures { IsCondition text.now result }
 {
     match cut(alloc, text, Style::Command) {
-        Ok(CutText { tokens, fault }) => match lexemes(alloc, text, &tokens) {
-            Ok(found) => read_cut(alloc, text, &found, fault),
-            Err(_) => Err(BodyFault::OutOfMemory),
-        },
+        Ok(whole) => read_whole(alloc, text, &whole.tokens, whole.fault),
         Err(fault) => Err(fault_of_text(fault)),
+    }
+}
+
+// Reads the tokens of a text before its first fault.
+fn read_whole(
+    alloc: Global,
+    text: &[u8],
+    tokens: &[trick_text::Token],
+    fault: Option<FirstFault>,
+) -> Result<Expr, BodyFault>
+    requires { IsCut Command text.now tokens.now fault }
+    ensures { IsCondition text.now result }
+{
+    match lexemes(alloc, text, tokens) {
+        Ok(found) => read_cut(alloc, text, &found, fault),
+        Err(_) => Err(BodyFault::OutOfMemory),
     }
 }
 
@@ -127,21 +152,44 @@ fn fault_of_text(fault: TextFault) -> BodyFault
     }
 }
 
-/// Reads the tokens before the first fault of a text.
 fn read_cut(
     alloc: Global,
     text: &[u8],
     tokens: &[Token],
     fault: Option<FirstFault>,
 ) -> Result<Expr, BodyFault>
+    requires { length text.now ≤ 16777216 }
     ensures { IsRead text.now tokens.now fault result }
 {
-    match (read_to_end(alloc, text, tokens), fault) {
-        (Ok(expression), None) => Ok(expression),
-        (Ok(_), Some(first)) => Err(BodyFault::Text(first.fault)),
-        (Err(Stop::Memory), _) => Err(BodyFault::OutOfMemory),
-        (Err(Stop::At(_, [])), Some(first)) => Err(BodyFault::Text(first.fault)),
-        (Err(Stop::At(reason, rest)), _) => Err(told_by(text, tokens, reason, rest)),
+    match read_to_end(alloc, text, tokens) {
+        Ok(expression) => match fault {
+            None => Ok(expression),
+            Some(first) => Err(BodyFault::Text(first.fault)),
+        },
+        Err(Stop::Memory) => Err(BodyFault::OutOfMemory),
+        Err(Stop::At(reason, rest)) => Err(refused(text, tokens, reason, rest, fault)),
+    }
+}
+
+// The refusal of a token, or of the end where no fault of the text stands there.
+fn refused(
+    text: &[u8],
+    tokens: &[Token],
+    reason: Refusal,
+    rest: &[Token],
+    fault: Option<FirstFault>,
+) -> BodyFault
+    requires { length text.now ≤ 16777216 }
+    ensures { read_all number_of class_of (condition text.now) tokens.now
+        ≡ Err (record { kind = reason; rest = rest.now })
+        → IsRead text.now tokens.now fault (Err result) }
+{
+    match fault {
+        None => told_by(text, tokens, reason, rest),
+        Some(first) => match rest {
+            [] => BodyFault::Text(first.fault),
+            [_, ..] => told_by(text, tokens, reason, rest),
+        },
     }
 }
 

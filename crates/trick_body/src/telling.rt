@@ -49,8 +49,10 @@ fn loop_line(line: u32, tokens: &[Token]) -> u32
     ensures { result ≡ loop_line line tokens.now }
 {
     let mut found = line;
-    for token in tokens {
+    let mut rest = tokens;
+    while let [token, after @ ..] = rest {
         found = loop_line_at(found, token);
+        rest = after;
     }
     found
 }
