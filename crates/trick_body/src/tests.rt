@@ -3,7 +3,7 @@
 use super::*;
 use std::alloc::{AllocError, Global};
 use std::test::Fail;
-use trick_lang::syntax::{Expr, Stmt};
+use trick_lang::syntax::Expr;
 use trick_text::{Style, TextFault, tokens};
 
 // Whether a text is a condition, or its fault.
@@ -188,7 +188,7 @@ fn lists_and_levels_have_limits(rt: HostRuntime) -> Result<(), Fail> {
 
 // What is read flat may be of any length.
 #[test]
-fn a_million_links_are_read(rt: HostRuntime) -> Result<(), Fail> {
+fn a_million_operators_are_read(rt: HostRuntime) -> Result<(), Fail> {
     let alloc = rt.alloc();
     let sum = repeated(alloc, b"a", b"+b", 1_000_000, b"")?;
     let links = match condition(alloc, &sum) {
@@ -196,13 +196,25 @@ fn a_million_links_are_read(rt: HostRuntime) -> Result<(), Fail> {
         _ => 0,
     };
     assert_eq!(rt; links, 1_000_000);
+    Ok(())
+}
+
+#[test]
+fn a_million_choices_are_read(rt: HostRuntime) -> Result<(), Fail> {
+    let alloc = rt.alloc();
     let parts = repeated(alloc, b"", b"a?b:", 1_000_000, b"c")?;
     let choices = match condition(alloc, &parts) {
         Ok(Expr::Choose(choices, _)) => choices.len(),
         _ => 0,
     };
     assert_eq!(rt; choices, 1_000_000);
-    let tests = repeated(alloc, b"void f(){if(a);", b"else if(b);", 1_000_000, b"}")?;
-    assert_eq!(rt; body_of(alloc, &tests), Ok((1, 6_000_011)));
+    Ok(())
+}
+
+#[test]
+fn many_else_ifs_are_read(rt: HostRuntime) -> Result<(), Fail> {
+    let alloc = rt.alloc();
+    let tests = repeated(alloc, b"void f(){if(a);", b"else if(b);", 300_000, b"}")?;
+    assert_eq!(rt; body_of(alloc, &tests), Ok((1, 1_800_011)));
     Ok(())
 }
