@@ -1,0 +1,60 @@
+-- What methods call, and in which order they stand.
+use Rattle.std.specs.Prelude.{◌≡◌, ◌<◌, ℕ, zero, suc, Bool, true, false, ◌==◌, ◌&&◌, ◌||◌, not, List, [], ◌∷◌, ◌++◌, length}
+
+-- what a method calls, where this is what each calls, by number
+abbrev pub callees : List (List ℕ) → ℕ → List ℕ
+callees [] k = []
+callees (c ∷ cs) zero = c
+callees (c ∷ cs) (suc k) = callees cs k
+
+-- the number is in the list
+abbrev pub has : List ℕ → ℕ → Bool
+has [] k = false
+has (x ∷ xs) k = (x == k) || has xs k
+
+-- all of the first list are in the second
+abbrev pub all_in : List ℕ → List ℕ → Bool
+all_in [] ys = true
+all_in (x ∷ xs) ys = has ys x && all_in xs ys
+
+-- a calls b, with so many methods between them
+abbrev pub Reaches : List (List ℕ) → ℕ → ℕ → ℕ → Type 0
+Reaches g zero a b = has (callees g a) b ≡ true
+Reaches g (suc n) a b = (c : ℕ) × (has (callees g a) c ≡ true) × Reaches g n c b
+
+-- a method reaches itself by calls
+abbrev pub ReachesItself : List (List ℕ) → ℕ → Type 0
+ReachesItself g a = (n : ℕ) × Reaches g n a a
+
+-- the first method in the file that reaches itself
+abbrev pub IsFirst : List (List ℕ) → ℕ → Type 0
+IsFirst g a = (a < length g) × ReachesItself g a × ((b : ℕ) → b < a → ReachesItself g b → ⊥)
+
+-- what is called is there
+abbrev pub AreCallees : List (List ℕ) → Type 0
+AreCallees g = (a b : ℕ) → has (callees g a) b ≡ true → b < length g
+
+-- each method of a list is behind all that it calls, and stands once
+abbrev pub stand_after : List (List ℕ) → List ℕ → List ℕ → Bool
+stand_after g seen [] = true
+stand_after g seen (m ∷ ms) = (not (has seen m) && all_in (callees g m) seen) && stand_after g (seen ++ m ∷ []) ms
+
+-- all methods, each behind all that it calls
+abbrev pub IsOrderOf : List (List ℕ) → List ℕ → Type 0
+IsOrderOf g order =
+    (stand_after g [] order ≡ true) × ((k : ℕ) → k < length g → has order k ≡ true)
+    × ((k : ℕ) → has order k ≡ true → k < length g)
+
+-- each of a list calls the next one
+abbrev pub is_linked : List (List ℕ) → List ℕ → Bool
+is_linked g [] = true
+is_linked g (a ∷ []) = true
+is_linked g (a ∷ b ∷ ms) = has (callees g a) b && is_linked g (b ∷ ms)
+
+abbrev pub are_distinct : List ℕ → Bool
+are_distinct [] = true
+are_distinct (x ∷ xs) = not (has xs x) && are_distinct xs
+
+-- the list ends with this one
+abbrev pub EndsWith : List ℕ → ℕ → Type 0
+EndsWith xs m = (front : List ℕ) × (xs ≡ front ++ m ∷ [])

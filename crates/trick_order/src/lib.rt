@@ -1,0 +1,11 @@
+//! Which methods call which: an order in which each stands behind those that it calls, and else the
+//! first one that reaches itself.
+#![tactic(auto)]
+
+pub mod laws;
+mod reach;
+mod search;
+#[cfg(test)]
+mod tests;
+
+pub use search::{OrderFault, order};
