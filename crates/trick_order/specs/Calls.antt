@@ -1,5 +1,5 @@
 -- What methods call, and in which order they stand.
-use Rattle.std.specs.Prelude.{◌≡◌, ◌<◌, ℕ, zero, suc, Bool, true, false, ◌==◌, ◌&&◌, ◌||◌, not, List, [], ◌∷◌, ◌++◌, length}
+use Rattle.std.specs.Prelude.{◌≡◌, ◌<◌, ℕ, zero, suc, Bool, true, false, ◌==◌, ◌&&◌, ◌||◌, not, nat_lt, List, [], ◌∷◌, ◌++◌, length}
 
 -- what a method calls, where this is what each calls, by number
 abbrev pub callees : List (List ℕ) → ℕ → List ℕ
@@ -33,6 +33,16 @@ IsFirst g a = (a < length g) × ReachesItself g a × ((b : ℕ) → b < a → Re
 -- what is called is there
 abbrev pub AreCallees : List (List ℕ) → Type 0
 AreCallees g = (a b : ℕ) → has (callees g a) b ≡ true → b < length g
+
+-- each number of the list is below n
+abbrev pub all_below : ℕ → List ℕ → Bool
+all_below n [] = true
+all_below n (x ∷ xs) = nat_lt x n && all_below n xs
+
+-- and each of all lists
+abbrev pub each_below : ℕ → List (List ℕ) → Bool
+each_below n [] = true
+each_below n (c ∷ cs) = all_below n c && each_below n cs
 
 -- each method of a list is behind all that it calls, and stands once
 abbrev pub stand_after : List (List ℕ) → List ℕ → List ℕ → Bool

@@ -2,10 +2,12 @@
 //! first one that reaches itself.
 #![tactic(auto)]
 
+mod callees;
 pub mod laws;
 mod reach;
 mod search;
 #[cfg(test)]
 mod tests;
 
+pub use callees::are_callees;
 pub use search::{OrderFault, order};

@@ -17,7 +17,9 @@ fn callees_come_first(rt: HostRuntime) -> Result<(), Fail> {
     let mut both = one(alloc, 2)?;
     both.push(1)?;
     let calls = vec![in alloc; both, one(alloc, 2)?, Items::new(alloc)]?;
-    let order = order(alloc, &calls)?;
+    let calls = calls.as_slice();
+    assert!(rt; are_callees(calls));
+    let order = order(alloc, calls)?;
     assert!(rt; order.as_slice() == [2, 1, 0].as_slice());
     laws::order_law();
     Ok(())
@@ -27,9 +29,9 @@ fn callees_come_first(rt: HostRuntime) -> Result<(), Fail> {
 fn the_first_that_reaches_itself_is_named(rt: HostRuntime) -> Result<(), Fail> {
     let alloc = rt.alloc();
     let calls = vec![in alloc; one(alloc, 2)?, one(alloc, 2)?, one(alloc, 1)?]?;
-    assert!(rt; order(alloc, &calls).err() == Some(OrderFault::Recursive(1)));
-    let itself = vec![in alloc; one(alloc, 0)?]?;
-    assert!(rt; order(alloc, &itself).err() == Some(OrderFault::Recursive(0)));
+    let calls = calls.as_slice();
+    assert!(rt; are_callees(calls));
+    assert!(rt; order(alloc, calls).err() == Some(OrderFault::Recursive(1)));
     Ok(())
 }
 
@@ -41,6 +43,8 @@ fn a_long_chain_is_put_in_order(rt: HostRuntime) -> Result<(), Fail> {
         calls.push(one(alloc, method + 1)?)?;
     }
     calls.push(Items::new(alloc))?;
-    assert_eq!(rt; order(alloc, &calls)?.len(), 4096);
+    let calls = calls.as_slice();
+    assert!(rt; are_callees(calls));
+    assert_eq!(rt; order(alloc, calls)?.len(), 4096);
     Ok(())
 }
