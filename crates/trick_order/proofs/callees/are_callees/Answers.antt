@@ -1,4 +1,4 @@
-use Rattle.std.proofs.Common.{◌≡◌, ◌∙◌, sym, ap, length}
+use Rattle.std.proofs.Common.{◌≡◌, ◌∙◌, sym, length}
 use Rattle.trick_order.proofs.There.{below_callees, callees_below}
 use Rattle.trick_order.proofs.callees.are_callees.Goals as goal
 use Rattle.trick_order.specs.Calls.{each_below}
@@ -6,5 +6,5 @@ use Rattle.trick_order.specs.Calls.{each_below}
 pub returns : goal.returns
 returns c =
     let g = c.args.calls.now in
-    let is : c.each_is_below.result ≡ each_below (length g) g = c.each_is_below.ensures ∙ ap (λ n. each_below n g) c.len.ensures in
+    let is : c.each_is_below.result ≡ each_below (length g) g = c.each_is_below.ensures in
     (λ yes. callees_below (length g) g (sym is ∙ yes), λ there. is ∙ below_callees (length g) g there)
