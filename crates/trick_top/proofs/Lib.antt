@@ -8,4 +8,5 @@ pub mod PrintLemmas
 pub mod SimulatedLemmas
 pub mod GoneLemmas
 pub mod TopLemmas
+pub mod QuietLemmas
 mod Examples

@@ -1,6 +1,10 @@
 //! The top call over the forms in memory, with ample memory.
 
+ghost use Rattle.std.specs.Prelude.{◌≡◌, ◌⊎◌, IfSome};
+
 use super::tricks_alone;
+use crate::input::read_input;
+use crate::s_define::read_s_define;
 use std::alloc::Global;
 use std::process::Abort;
 use std::test::Fail;
@@ -298,5 +302,42 @@ fn the_sink_fails_or_takes_a_part(rt: HostRuntime) -> Result<(), Fail> {
         assert_eq!(rt; tricks_alone(alloc, &[], &mut shelf, &mut out), 8);
         assert_eq!(rt; out.bytes().len(), 0);
     }
+    Ok(())
+}
+
+/// The status of a run over forms in memory that never fail, of two texts of the language: its
+/// contract is what `complete` says, whose premises hold here.
+fn status_of(alloc: Global, s_define: &[u8], input: &[u8]) -> Option<u8>
+    ensures { IfSome result (λ status. (status ≡ 0) ⊎ (status ≡ 6)) }
+{
+    let Ok(_) = read_s_define(alloc, s_define) else {
+        return None;
+    };
+    let Ok(_) = read_input(alloc, input) else {
+        return None;
+    };
+    let Ok(serial) = Word::from_bytes(alloc, b"serial") else {
+        return None;
+    };
+    let Ok(s) = Word::from_bytes(alloc, b"s") else {
+        return None;
+    };
+    let Ok(i) = Word::from_bytes(alloc, b"i") else {
+        return None;
+    };
+    let Ok(shelf) = MemoryShelf::new(alloc).with_file(b"s", s_define) else {
+        return None;
+    };
+    let Ok(mut shelf) = shelf.with_file(b"i", input) else {
+        return None;
+    };
+    let mut out = MemorySink::new(alloc);
+    Some(tricks_alone(alloc, &[serial, s, i], &mut shelf, &mut out))
+}
+
+#[test]
+fn a_run_that_nothing_hinders(rt: HostRuntime) -> Result<(), Fail> {
+    let status = status_of(rt.alloc(), S_DEFINE.as_bytes(), INPUT.as_bytes());
+    assert_eq!(rt; status, Some(0));
     Ok(())
 }
