@@ -11,7 +11,8 @@ use Rattle.trick_top.specs.Verdict.{Verdict, line_of}
 
 -- All calls of both objects, and what they say. The shelf is not called after a call that failed; the
 -- sink is given one line, once, and nothing after a piece that it did not take.
-pub record HasCalled {S O : Type 0} (shelf : Ghosts S) (sink : sink.Ghosts O) (old new : S) (before now : O) (status : ℕ) : Type 0 where
+pub record HasCalled {S O : Type 0} (shelf : Ghosts S) (sink : sink.Ghosts O) (old new : S) (before now : O)
+    (status : ℕ) : Type 0 where
   pub calls : List Call
   pub went : Went shelf old new calls
   pub ends : EndAtFault calls

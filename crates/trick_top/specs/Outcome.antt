@@ -31,7 +31,8 @@ pub record Describes (s_define input : List ℕ) (simulation : Counting) (final 
 
 -- How a run of two texts goes: the S_define decides first, then the input, and then the shelf.
 pub data Simulated (s_define input : List ℕ) : List Call → Verdict → Type 0 where
-  s_define_refused : ((simulation : Counting) → IsCounting s_define simulation → ⊥) → Simulated s_define input [] (TextRefused SDefine)
+  s_define_refused : ((simulation : Counting) → IsCounting s_define simulation → ⊥)
+      → Simulated s_define input [] (TextRefused SDefine)
   input_refused : {simulation : Counting} → IsCounting s_define simulation → ((stop : ℕ) → IsStop input stop → ⊥)
       → Simulated s_define input [] (TextRefused Input)
   -- want of memory at a text
@@ -39,11 +40,11 @@ pub data Simulated (s_define input : List ℕ) : List Call → Verdict → Type 
   ended : {simulation : Counting} {final : State} → Describes s_define input simulation final
       → Simulated s_define input (final_steps simulation final) (Ended final.turn final.tic)
   -- the last call failed
-  not_written : {simulation : Counting} {final : State} {part : List Call} → Describes s_define input simulation final
-      → IsPartOf part (final_steps simulation final) → fails part ≡ true → Simulated s_define input part ShelfFault
+  not_written : {simulation : Counting} {final : State} {part : List Call}
+      → Describes s_define input simulation final → IsPartOf part (final_steps simulation final) → fails part ≡ true → Simulated s_define input part ShelfFault
   -- no call failed
-  no_memory_to_write : {simulation : Counting} {final : State} {part : List Call} → Describes s_define input simulation final
-      → IsPartOf part (final_steps simulation final) → fails part ≡ false → Simulated s_define input part OutOfMemory
+  no_memory_to_write : {simulation : Counting} {final : State} {part : List Call}
+      → Describes s_define input simulation final → IsPartOf part (final_steps simulation final) → fails part ≡ false → Simulated s_define input part OutOfMemory
 
 -- How a command goes once its files are found, by their texts.
 abbrev pub GoesOn : Command → List (List ℕ) → List Call → Verdict → Type 0
@@ -56,14 +57,16 @@ pub data Unread (wanted : List (List ℕ)) : List Call → Verdict → Type 0 wh
       → Unread wanted (reads files ++ Read name None ∷ []) (NoFile name)
   not_read : (files : List Found) (name : List ℕ) (others : List (List ℕ)) → wanted ≡ names files ++ name ∷ others
       → Unread wanted (reads files ++ Stopped (Get name) Shelf ∷ []) ShelfFault
-  no_memory_to_read : (files : List Found) (name : List ℕ) (others : List (List ℕ)) → wanted ≡ names files ++ name ∷ others
-      → Unread wanted (reads files ++ Stopped (Get name) Memory ∷ []) OutOfMemory
+  no_memory_to_read : (files : List Found) (name : List ℕ) (others : List (List ℕ))
+      → wanted ≡ names files ++ name ∷ others → Unread wanted (reads files ++ Stopped (Get name) Memory ∷ []) OutOfMemory
   -- no room for the text of the file that was found last
-  no_memory_to_keep : (files : List Found) (others : List (List ℕ)) → wanted ≡ names files ++ others → Unread wanted (reads files) OutOfMemory
+  no_memory_to_keep : (files : List Found) (others : List (List ℕ)) → wanted ≡ names files ++ others
+      → Unread wanted (reads files) OutOfMemory
 
 -- How a command goes: its files decide first, and then their texts.
 pub data Goes (command : Command) : List Call → Verdict → Type 0 where
-  unread : {calls : List Call} {verdict : Verdict} → Unread (names_of command) calls verdict → Goes command calls verdict
+  unread : {calls : List Call} {verdict : Verdict} → Unread (names_of command) calls verdict
+      → Goes command calls verdict
   gone_on : (files : List Found) (calls : List Call) {verdict : Verdict} → names_of command ≡ names files
       → GoesOn command (texts files) calls verdict → Goes command (reads files ++ calls) verdict
 
@@ -73,19 +76,22 @@ Outcome None calls verdict = (calls ≡ []) × (verdict ≡ Usage)
 Outcome (Some command) calls verdict = Goes command calls verdict
 
 -- How a command went on a shelf, from old to new.
-pub record HasGone {S : Type 0} (shelf : Ghosts S) (old new : S) (command : Option Command) (verdict : Verdict) : Type 0 where
+pub record HasGone {S : Type 0} (shelf : Ghosts S) (old new : S) (command : Option Command)
+    (verdict : Verdict) : Type 0 where
   pub calls : List Call
   pub went : Went shelf old new calls
   pub outcome : Outcome command calls verdict
 
 -- How the run of two texts went on a shelf, from old to new.
-pub record HasSimulated {S : Type 0} (shelf : Ghosts S) (old new : S) (s_define input : List ℕ) (verdict : Verdict) : Type 0 where
+pub record HasSimulated {S : Type 0} (shelf : Ghosts S) (old new : S) (s_define input : List ℕ)
+    (verdict : Verdict) : Type 0 where
   pub calls : List Call
   pub went : Went shelf old new calls
   pub simulated : Simulated s_define input calls verdict
 
 -- How a command went on, once its files were found.
-pub record HasGoneOn {S : Type 0} (shelf : Ghosts S) (old new : S) (command : Command) (given : List (List ℕ)) (verdict : Verdict) : Type 0 where
+pub record HasGoneOn {S : Type 0} (shelf : Ghosts S) (old new : S) (command : Command) (given : List (List ℕ))
+    (verdict : Verdict) : Type 0 where
   pub calls : List Call
   pub went : Went shelf old new calls
   pub goes : GoesOn command given calls verdict
@@ -98,7 +104,8 @@ pub record HasFound {S : Type 0} (shelf : Ghosts S) (old new : S) (wanted given 
   pub went : Went shelf old new (reads files)
 
 -- From old to new files of these names were read, and it ended with a verdict.
-pub record HasNotFound {S : Type 0} (shelf : Ghosts S) (old new : S) (wanted : List (List ℕ)) (verdict : Verdict) : Type 0 where
+pub record HasNotFound {S : Type 0} (shelf : Ghosts S) (old new : S) (wanted : List (List ℕ))
+    (verdict : Verdict) : Type 0 where
   pub calls : List Call
   pub went : Went shelf old new calls
   pub unread : Unread wanted calls verdict

@@ -37,7 +37,8 @@ HoldsSame old new = (files : Files) → old ≡ Some files → new ≡ Some file
 
 -- Status 9: of the files that the words name this one is missing, by the shelf's own answer, and the
 -- ones before it were found. No other call was made.
-pub record MissesFile {S : Type 0} (shelf : Ghosts S) (old new : S) (words : List (List ℕ)) (missing : List ℕ) : Type 0 where
+pub record MissesFile {S : Type 0} (shelf : Ghosts S) (old new : S) (words : List (List ℕ))
+    (missing : List ℕ) : Type 0 where
   pub command : Command
   pub asks : Asks words command
   pub files : List Found
@@ -47,7 +48,8 @@ pub record MissesFile {S : Type 0} (shelf : Ghosts S) (old new : S) (words : Lis
 
 -- The words name two files; they were found, with these texts; and then these calls were made, and
 -- no others.
-pub record Reads {S : Type 0} (shelf : Ghosts S) (old new : S) (words : List (List ℕ)) (s_define_text input_text : List ℕ) (calls : List Call) : Type 0 where
+pub record Reads {S : Type 0} (shelf : Ghosts S) (old new : S) (words : List (List ℕ))
+    (s_define_text input_text : List ℕ) (calls : List Call) : Type 0 where
   pub s_define : List ℕ
   pub input : List ℕ
   pub asks : Asks words (Serial s_define input)
@@ -56,10 +58,12 @@ pub record Reads {S : Type 0} (shelf : Ghosts S) (old new : S) (words : List (Li
 -- The text that refuses: the S_define, and the input only where the S_define does not.
 abbrev pub Refuses : Source → List ℕ → List ℕ → Type 0
 Refuses SDefine s_define input = (simulation : Counting) → IsCounting s_define simulation → ⊥
-Refuses Input s_define input = ((simulation : Counting) × IsCounting s_define simulation) × ((stop : ℕ) → IsStop input stop → ⊥)
+Refuses Input s_define input =
+    ((simulation : Counting) × IsCounting s_define simulation) × ((stop : ℕ) → IsStop input stop → ⊥)
 
 -- Status 2: this text is not of the language. After the two files were read no call was made.
-pub record RefusesText {S : Type 0} (shelf : Ghosts S) (old new : S) (words : List (List ℕ)) (source : Source) : Type 0 where
+pub record RefusesText {S : Type 0} (shelf : Ghosts S) (old new : S) (words : List (List ℕ))
+    (source : Source) : Type 0 where
   pub s_define_text : List ℕ
   pub input_text : List ℕ
   pub reads : Reads shelf old new words s_define_text input_text []
@@ -67,25 +71,29 @@ pub record RefusesText {S : Type 0} (shelf : Ghosts S) (old new : S) (words : Li
 
 -- Status 0: the run is done, and this is its last state. The shelf holds its checkpoint, and every
 -- other file as before.
-pub record RunsToEnd {S : Type 0} (shelf : Ghosts S) (old new : S) (words : List (List ℕ)) (final : State) : Type 0 where
+pub record RunsToEnd {S : Type 0} (shelf : Ghosts S) (old new : S) (words : List (List ℕ))
+    (final : State) : Type 0 where
   pub s_define_text : List ℕ
   pub input_text : List ℕ
   pub simulation : Counting
   pub describes : Describes s_define_text input_text simulation final
   pub reads : Reads shelf old new words s_define_text input_text (final_steps simulation final)
-  pub files : (files : Files) → shelf.holds old ≡ Some files → shelf.holds new ≡ Some (insert files final_name (checkpoint_text simulation final))
+  pub files : (files : Files) → shelf.holds old ≡ Some files
+      → shelf.holds new ≡ Some (insert files final_name (checkpoint_text simulation final))
 
 -- What a verdict says of the words and of the shelf.
 abbrev pub Says : {S : Type 0} (shelf : Ghosts S) (old new : S) (words : List (List ℕ)) → Verdict → Type 0
 Says shelf old new words Usage = AreRefused words × Went shelf old new []
 Says shelf old new words (NoFile name) = MissesFile shelf old new words name
 Says shelf old new words (TextRefused source) = RefusesText shelf old new words source
-Says shelf old new words (Ended turn tic) = (final : State) × RunsToEnd shelf old new words final × (final.turn ≡ turn) × (final.tic ≡ tic)
+Says shelf old new words (Ended turn tic) =
+    (final : State) × RunsToEnd shelf old new words final × (final.turn ≡ turn) × (final.tic ≡ tic)
 Says shelf old new words ShelfFault = Rose (shelf.failures old) (shelf.failures new)
 Says shelf old new words OutOfMemory = Unit {0}
 
 -- What the shelf holds, where it tells, under the names that the words name.
-pub record Finds {S : Type 0} (shelf : Ghosts S) (old : S) (words : List (List ℕ)) (given : List (Option (List ℕ))) : Type 0 where
+pub record Finds {S : Type 0} (shelf : Ghosts S) (old : S) (words : List (List ℕ))
+    (given : List (Option (List ℕ))) : Type 0 where
   pub command : Command
   pub asks : Asks words command
   pub files : Files
@@ -96,8 +104,9 @@ pub record Finds {S : Type 0} (shelf : Ghosts S) (old : S) (words : List (List �
 -- describe.
 pub data MayWrite {S : Type 0} (shelf : Ghosts S) (old : S) (words : List (List ℕ)) : List Write → Type 0 where
   nothing : MayWrite shelf old words []
-  a_front : {s_define input : List ℕ} {simulation : Counting} {final : State} {writes : List Write} → Finds shelf old words (Some s_define ∷ Some input ∷ [])
-      → Describes s_define input simulation final → IsFrontOf writes (writes_of (final_steps simulation final)) → MayWrite shelf old words writes
+  a_front : {s_define input : List ℕ} {simulation : Counting} {final : State} {writes : List Write}
+      → Finds shelf old words (Some s_define ∷ Some input ∷ []) → Describes s_define input simulation final
+      → IsFrontOf writes (writes_of (final_steps simulation final)) → MayWrite shelf old words writes
 
 -- Whatever the status is: what the shelf holds is what was held, and what such writes make of it.
 abbrev pub Stands : {S : Type 0} (shelf : Ghosts S) (old new : S) (words : List (List ℕ)) → Type 0

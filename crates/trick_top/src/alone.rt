@@ -6,8 +6,10 @@ ghost use Rattle.trick_top.specs.Counting.{IsCounting, IsStop};
 ghost use Rattle.trick_top.specs.Outcome.{HasGone, HasGoneOn, HasSimulated};
 ghost use Rattle.trick_top.specs.Printed.{Prints};
 ghost use Rattle.trick_top.specs.Said.{said};
-ghost use Rattle.trick_top.specs.Status.{EndsWith, Finds, HoldsSame, IsRefusal, MissesFile, Refuses, RefusesText, RunsToEnd, Stands, TookLine};
-ghost use Rattle.trick_top.specs.Verdict.{Ended, NoFile, OutOfMemory, TextRefused, Usage, line_of, refused_text, verdict_of};
+ghost use Rattle.trick_top.specs.Status.{EndsWith, Finds, HoldsSame, IsRefusal, MissesFile, Refuses, RefusesText};
+ghost use Rattle.trick_top.specs.Status.{RunsToEnd, Stands, TookLine};
+ghost use Rattle.trick_top.specs.Verdict.{Ended, NoFile, OutOfMemory, TextRefused, Usage, line_of, refused_text};
+ghost use Rattle.trick_top.specs.Verdict.{verdict_of};
 ghost use Rattle.trick_top.specs.Words.{AreRefused, IsWanted, names_of};
 ghost use Rattle.trick_top.specs.declared.counting.Counting.{Counting};
 ghost use Rattle.trick_top.specs.declared.state.State.{State};
@@ -80,7 +82,8 @@ fn go_on<F: Shelf>(
 
 /// What the words ask for, done; its verdict is not printed yet.
 fn decide<'a, F: Shelf>(alloc: Global, words: &'a [Word], shelf: &mut F) -> Verdict<'a>
-    ensures { (command : _) × IsWanted words.now command × HasGone F.Shelf shelf.old shelf.new command (verdict_of result) }
+    ensures { (command : _) × IsWanted words.now command
+        × HasGone F.Shelf shelf.old shelf.new command (verdict_of result) }
 {
     let Some(command) = read_words(words) else {
         return Verdict::Usage;
@@ -163,9 +166,11 @@ pub fn tricks_alone<F: Shelf, O: Sink>(
     ensures usage_all { AreRefused words.now → EndsWith result 1 }
     ensures no_file_all { (given : _) → Finds F.Shelf shelf.old words.now given → Contains given None
         → ¬ Rose (F.failures shelf.old) (F.failures shelf.new) → EndsWith result 9 }
-    ensures text_refused_all { (source : Source) (s_define input : _) → Finds F.Shelf shelf.old words.now (Some s_define ∷ Some input ∷ [])
+    ensures text_refused_all { (source : Source) (s_define input : _)
+        → Finds F.Shelf shelf.old words.now (Some s_define ∷ Some input ∷ [])
         → Refuses source s_define input → ¬ Rose (F.failures shelf.old) (F.failures shelf.new) → EndsWith result 2 }
-    ensures complete { (s_define input : _) (simulation : Counting) (stop : ℕ) → Finds F.Shelf shelf.old words.now (Some s_define ∷ Some input ∷ [])
+    ensures complete { (s_define input : _) (simulation : Counting) (stop : ℕ)
+        → Finds F.Shelf shelf.old words.now (Some s_define ∷ Some input ∷ [])
         → IsCounting s_define simulation → IsStop input stop
         → ¬ Rose (F.failures shelf.old) (F.failures shelf.new) → ¬ Rose (O.failures out.old) (O.failures out.new)
         → (result ≡ 0) ⊎ (result ≡ 6) }

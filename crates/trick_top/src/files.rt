@@ -14,8 +14,10 @@ pub(crate) fn read_files<'a, F: Shelf>(
     names: &[&'a Word],
     shelf: &mut F,
 ) -> Result<Vec<Items<u8>>, Verdict<'a>>
-    ensures found { IfOk result (λ texts. HasFound F.Shelf shelf.old shelf.new (map (λ name. name.now) names.now) texts.items) }
-    ensures not_found { IfErr result (λ verdict. HasNotFound F.Shelf shelf.old shelf.new (map (λ name. name.now) names.now) (verdict_of verdict)) }
+    ensures found { IfOk result
+        (λ texts. HasFound F.Shelf shelf.old shelf.new (map (λ name. name.now) names.now) texts.items) }
+    ensures not_found { IfErr result (λ verdict.
+        HasNotFound F.Shelf shelf.old shelf.new (map (λ name. name.now) names.now) (verdict_of verdict)) }
 {
     let mut texts = Vec::new(alloc);
     for name in names {

@@ -2,7 +2,7 @@ ghost use Rattle.std.specs.Prelude.{◌≡◌, ◌↔◌, ℕ, All, IfNone, IfOk
 ghost use Rattle.trick_top.specs.Counting.{AreOnOneLine, IsStop, IsStopLine};
 ghost use Rattle.trick_top.specs.Form.{input_pieces};
 ghost use Rattle.trick_top.specs.Seen.{piece_seen};
-ghost use Rattle.trick_text.specs.Tokens.{IsTokenOf};
+ghost use Rattle.trick_text.specs.Tokens.{ReadsAsToken};
 ghost use Rattle.trick_text.specs.declared.token.Token as declared;
 
 use crate::piece::{Piece, is_form, token_at};
@@ -45,7 +45,7 @@ fn form<'a>(time: &Piece<'a>) -> [Piece<'a>; LENGTH]
 
 /// The tic after which these tokens stop the run, where they are one stop line.
 fn read_line(tokens: &[Token], text: &[u8]) -> Option<u64>
-    requires { All (IsTokenOf text.now) tokens.now }
+    requires { All (ReadsAsToken text.now) tokens.now }
     ensures found { IfSome result (IsStopLine text.now tokens.now) }
     ensures refused { IfNone result ((stop : ℕ) → IsStopLine text.now tokens.now stop → ⊥) }
 {

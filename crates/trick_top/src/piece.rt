@@ -1,5 +1,5 @@
 ghost use Rattle.std.specs.Prelude.{◌≡◌, ◌↔◌, ◌<◌, All, IsTrue, length, map};
-ghost use Rattle.trick_text.specs.Tokens.{IsTokenOf};
+ghost use Rattle.trick_text.specs.Tokens.{ReadsAsToken};
 ghost use Rattle.trick_top.specs.Piece.{mark, piece_of, quoted, word};
 ghost use Rattle.trick_top.specs.Seen.{piece_at, piece_seen};
 
@@ -15,7 +15,7 @@ pub(crate) struct Piece<'a> {
 impl<'a> Piece<'a> {
     /// The piece that a token of a text is.
     pub(crate) fn of(token: &Token, text: &'a [u8]) -> Self
-        requires { IsTokenOf text.now token.now }
+        requires { ReadsAsToken text.now token.now }
         ensures { piece_seen result ≡ piece_of text.now token.now }
     {
         Piece {
@@ -62,7 +62,7 @@ impl<'a> Piece<'a> {
 
 /// The piece at a place.
 pub(crate) fn piece_at<'a>(tokens: &[Token], text: &'a [u8], place: usize) -> Piece<'a>
-    requires tokens { All (IsTokenOf text.now) tokens.now }
+    requires tokens { All (ReadsAsToken text.now) tokens.now }
     requires place { place < length tokens.now }
     ensures { piece_seen result ≡ piece_at (map (piece_of text.now) tokens.now) place }
 {
@@ -71,9 +71,9 @@ pub(crate) fn piece_at<'a>(tokens: &[Token], text: &'a [u8], place: usize) -> Pi
 
 /// The token at a place.
 pub(crate) fn token_at(tokens: &[Token], text: &[u8], place: usize) -> Token
-    requires tokens { All (IsTokenOf text.now) tokens.now }
+    requires tokens { All (ReadsAsToken text.now) tokens.now }
     requires place { place < length tokens.now }
-    ensures token { IsTokenOf text.now result }
+    ensures token { ReadsAsToken text.now result }
     ensures piece { piece_of text.now result ≡ piece_at (map (piece_of text.now) tokens.now) place }
 {
     tokens[place]
@@ -81,7 +81,7 @@ pub(crate) fn token_at(tokens: &[Token], text: &[u8], place: usize) -> Token
 
 /// Whether the tokens of a text are these pieces, all of them in order.
 pub(crate) fn is_form(tokens: &[Token], text: &[u8], form: &[Piece]) -> bool
-    requires { All (IsTokenOf text.now) tokens.now }
+    requires { All (ReadsAsToken text.now) tokens.now }
     ensures { IsTrue result ↔ (map (piece_of text.now) tokens.now ≡ map piece_seen form.now) }
 {
     let mut rest = form;

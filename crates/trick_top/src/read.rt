@@ -1,5 +1,5 @@
 ghost use Rattle.std.specs.Prelude.{◌≡◌, ℕ, All, IfNone, IfOk, IfSome, IsErrOf, List};
-ghost use Rattle.trick_text.specs.Tokens.{AreAllTokens, IsTokenOf};
+ghost use Rattle.trick_text.specs.Tokens.{AreAllTokens, ReadsAsToken};
 ghost use Rattle.trick_text.specs.declared.token.Token.{Token};
 ghost use Rattle.trick_top.specs.Counting.{IsTime};
 ghost use Rattle.trick_top.specs.Piece.{piece_of};
@@ -11,7 +11,7 @@ use trick_text::{Style, TextFault, Token, TokenKind, laws, seconds, tokens};
 /// The tokens of a text.
 pub(crate) fn cut(alloc: Global, text: &[u8], style: Style) -> Result<Vec<Token>, Refusal>
     ensures found { IfOk result (λ cut. AreAllTokens style text.now cut.items) }
-    ensures each { IfOk result (λ cut. All (IsTokenOf text.now) cut.items) }
+    ensures each { IfOk result (λ cut. All (ReadsAsToken text.now) cut.items) }
     ensures only { IfOk result (λ cut. (all : List Token) → AreAllTokens style text.now all → all ≡ cut.items) }
     ensures refused { IsErrOf result Refusal.NotInProfile → (all : List Token) → AreAllTokens style text.now all → ⊥ }
 {
@@ -28,7 +28,7 @@ pub(crate) fn cut(alloc: Global, text: &[u8], style: Style) -> Result<Vec<Token>
 /// The time that a token stands for, in tics: none where it is no number, no whole number of tics,
 /// no tic or more than 10^15.
 pub(crate) fn time(token: &Token, text: &[u8]) -> Option<u64>
-    requires { IsTokenOf text.now token.now }
+    requires { ReadsAsToken text.now token.now }
     ensures found { IfSome result (IsTime (piece_of text.now token.now)) }
     ensures refused { IfNone result ((tics : ℕ) → IsTime (piece_of text.now token.now) tics → ⊥) }
 {

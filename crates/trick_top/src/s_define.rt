@@ -1,5 +1,5 @@
 ghost use Rattle.std.specs.Prelude.{◌≡◌, ◌↔◌, ◌++◌, All, IfNone, IfOk, IfSome, IsErrOf, IsTrue, codes, length, map};
-ghost use Rattle.trick_text.specs.Tokens.{IsTokenOf};
+ghost use Rattle.trick_text.specs.Tokens.{ReadsAsToken};
 ghost use Rattle.trick_top.specs.Counting.{AreDistinct, AreFit, AreNamed, IsCounting, IsOwnName};
 ghost use Rattle.trick_top.specs.Form.{s_define_pieces};
 ghost use Rattle.trick_top.specs.Piece.{piece_of};
@@ -31,11 +31,11 @@ pub(crate) struct Names<'a> {
 
 /// The pieces at the places where the form has what its writer chooses.
 fn names_in<'a>(tokens: &[Token], text: &'a [u8]) -> Names<'a>
-    requires tokens { All (IsTokenOf text.now) tokens.now }
+    requires tokens { All (ReadsAsToken text.now) tokens.now }
     requires length { length tokens.now ≡ LENGTH }
     ensures names { names_seen text.now result ≡ names_in (map (piece_of text.now) tokens.now) }
-    ensures amount { IsTokenOf text.now result.amount }
-    ensures cycle { IsTokenOf text.now result.cycle }
+    ensures amount { ReadsAsToken text.now result.amount }
+    ensures cycle { ReadsAsToken text.now result.cycle }
 {
     Names {
         class: piece_at(tokens, text, 1),
@@ -50,8 +50,8 @@ fn names_in<'a>(tokens: &[Token], text: &'a [u8]) -> Names<'a>
 /// The form, with these names.
 #[rattlefmt::skip]
 fn form<'a>(names: &Names<'a>, text: &'a [u8]) -> [Piece<'a>; LENGTH]
-    requires amount { IsTokenOf text.now names.now.amount }
-    requires cycle { IsTokenOf text.now names.now.cycle }
+    requires amount { ReadsAsToken text.now names.now.amount }
+    requires cycle { ReadsAsToken text.now names.now.cycle }
     ensures { map piece_seen result ≡ s_define_pieces (names_seen text.now names.now) }
 {
     let (amount, cycle) = (Piece::of(&names.amount, text), Piece::of(&names.cycle, text));
@@ -106,10 +106,10 @@ fn are_fit(names: &Names, text: &[u8]) -> bool
 
 /// The names, where the tokens of a text are the pieces of the form.
 fn read_names<'a>(tokens: &[Token], text: &'a [u8]) -> Option<Names<'a>>
-    requires { All (IsTokenOf text.now) tokens.now }
+    requires { All (ReadsAsToken text.now) tokens.now }
     ensures found { IfSome result (λ names. AreNamed text.now tokens.now (names_seen text.now names)) }
-    ensures amount { IfSome result (λ names. IsTokenOf text.now names.amount) }
-    ensures cycle { IfSome result (λ names. IsTokenOf text.now names.cycle) }
+    ensures amount { IfSome result (λ names. ReadsAsToken text.now names.amount) }
+    ensures cycle { IfSome result (λ names. ReadsAsToken text.now names.cycle) }
     ensures refused { IfNone result ((names : _) → AreNamed text.now tokens.now names → ⊥) }
     ensures only { IfSome result (λ chosen. (names : _) → AreNamed text.now tokens.now names → names ≡ names_seen text.now chosen) }
 {
