@@ -1,0 +1,114 @@
+-- The answers of the reader, from what reading gives.
+use Rattle.std.proofs.Common.{◌≡◌, ◌≢◌, ◌⊎◌, ℕ, ◌-◌, List, [], ◌∷◌, ◌++◌, ◌<◌, ◌≤◌, All, length, take, map, slice_get, Option, Some, None, Result, Ok, Err, refl, sym, ap, ◌∙◌, subst, arith, inl, inr, length-append}
+use Rattle.trick_body.specs.Lexemes.{lexemes_of}
+use Rattle.trick_body.specs.Limits.{list_limit, method_levels}
+use Rattle.trick_body.specs.Symbols.{number_of, spelled, Token}
+use Rattle.trick_body.specs.Told.{told, told_line}
+use Rattle.trick_grammar.proofs.Cut.{first}
+use Rattle.trick_grammar.proofs.Exact.{exact}
+use Rattle.trick_grammar.specs.Cut.{at_token, IsFirst}
+use Rattle.trick_grammar.specs.Gives.{class_of}
+use Rattle.trick_grammar.specs.Reading.{Refused}
+use Rattle.trick_grammar.specs.Text.{IsExact, read_all}
+use Rattle.trick_grammar.specs.declared.refusal.Refusal.{Refusal}
+use Rattle.trick_grammar.specs.declared.refusal.Refusal.TheVariants.{Expected, NotInProfile, TooLong, TooDeep, BadHeader, BadLoop, BadName, BadTime}
+use Rattle.trick_lang.specs.Syntax.{definition_of, sdefine_of}
+use Rattle.trick_lang.specs.declared.syntax.definition.Definition.{Definition}
+use Rattle.trick_lang.specs.declared.syntax.definition.SDefine.{SDefine}
+use Rattle.trick_sdef.proofs.Files.{file_test}
+use Rattle.trick_sdef.proofs.Lists.{definitions_are}
+use Rattle.trick_sdef.specs.Answers.{IsAnswer, IsRead, IsToldBy, bad_time, fault_of, file, number_told, time_told, told_behind}
+use Rattle.trick_sdef.specs.declared.fault.SdefFault.{SdefFault}
+use Rattle.trick_sdef.specs.declared.fault.SdefFault.TheVariants as faults
+use Rattle.trick_text.proofs.Unique.{all_are}
+use Rattle.trick_text.specs.Tokens.{IsCut, ReadsAsToken, last_line, spelling}
+use Rattle.trick_text.specs.declared.token.Style.{Style}
+use Rattle.trick_text.specs.declared.fault.FirstFault.{FirstFault}
+use Rattle.trick_text.specs.declared.fault.TimeFault.{TimeFault}
+use Rattle.trick_text.specs.declared.token.Token as cut
+use Rattle.trick_text.specs.declared.token.TokenKind.{TokenKind}
+use Rattle.trick_text.specs.declared.token.TokenKind.TheVariants.{Name, Whole, Decimal, Text, Mark}
+
+take_front : {A : Type 0} (front rest : List A) → take (length front) (front ++ rest) ≡ front
+take_front [] rest = refl
+take_front (x ∷ front) rest = ap (λ (xs : List _). x ∷ xs) (take_front front rest)
+
+-- what stands before the rest
+front_is : {A : Type 0} (ts front rest : List A) → ts ≡ front ++ rest → take (length ts - length rest) ts ≡ front
+front_is ts front rest is =
+    let n : length ts - length rest ≡ length front = omega (arith, ap length is, length-append front rest) in
+    ap (λ k. take k ts) n ∙ ap (λ (us : List _). take (length front) us) is ∙ take_front front rest
+
+module _ (text : List ℕ) (ts : List cut.Token) where
+  abbrev lexed : List Token
+  lexed = lexemes_of text ts
+
+  pub exact_file : IsAnswer text ts (read_all number_of class_of (file text) lexed)
+  exact_file = exact number_of class_of spelled (λ symbol. refl) (file text) (file_test text list_limit method_levels) refl lexed
+
+  first_in : IsFirst number_of class_of spelled (file text) lexed (at_token (read_all number_of class_of (file text) lexed))
+  first_in = first number_of class_of spelled (file text) (λ symbol. refl) (file_test text list_limit method_levels) refl lexed
+
+  pub file_read : (ds : List Definition) (s : SDefine) → s.definitions ≡ ds → read_all number_of class_of (file text) lexed ≡ Ok (map definition_of ds) → IsRead text ts None (Ok s)
+  file_read ds s same is =
+      let tree : map definition_of ds ≡ sdefine_of s = ap (map definition_of) (sym same) ∙ sym (definitions_are s.definitions) in
+      (refl, subst (IsAnswer text ts) (is ∙ ap (λ t. Ok t) tree) exact_file)
+
+  pub fault_behind : (ds : List Definition) (fault : FirstFault) → read_all number_of class_of (file text) lexed ≡ Ok (map definition_of ds) → IsRead text ts (Some fault) (Err (faults.Text fault.fault))
+  fault_behind ds fault is = (fault, refl, refl, subst (λ q. IsFirst number_of class_of spelled (file text) lexed (at_token q)) is first_in)
+
+  pub fault_at_end : (k : Refusal) (rest : List Token) (fault : FirstFault) → rest ≡ [] → read_all number_of class_of (file text) lexed ≡ Err (record { kind = k; rest = rest }) → IsRead text ts (Some fault) (Err (faults.Text fault.fault))
+  fault_at_end k rest fault none is0 =
+      let is = is0 ∙ ap (λ (us : List Token). Err (record { kind = k; rest = us })) none in
+      (fault, refl, refl, subst (λ q. IsFirst number_of class_of spelled (file text) lexed (at_token q)) is first_in)
+
+  module _ (f : Option FirstFault) where
+    abbrev NotRead : SdefFault → Type 0
+    NotRead fault = (z : Refused Token) × IsAnswer text ts (Err z) × (read_all number_of class_of (file text) lexed ≡ Err z) × ((f ≡ None) ⊎ (z.rest ≢ [])) × IsToldBy text ts z fault
+
+    time_reason : (line : ℕ) (q : Result ℕ TimeFault) → NotRead (time_told line q) → IsRead text ts f (Err (time_told line q))
+    time_reason line (Ok n) r = r
+    time_reason line (Err fault) r = r
+
+    number_reason : (kind : TokenKind) (line : ℕ) (q : List ℕ) → NotRead (number_told kind line q) → IsRead text ts f (Err (number_told kind line q))
+    number_reason Name line q r = r
+    number_reason Whole line q r = time_reason line _ r
+    number_reason Decimal line q r = time_reason line _ r
+    number_reason Text line q r = r
+    number_reason Mark line q r = r
+
+    bad_reason : (t : Option cut.Token) → NotRead (bad_time text t) → IsRead text ts f (Err (bad_time text t))
+    bad_reason None r = r
+    bad_reason (Some t) r = number_reason t.kind t.line (spelling text t) r
+
+    for_reason : (k : Refusal) (line : ℕ) (t : Option cut.Token) → NotRead (fault_of k line (bad_time text t)) → IsRead text ts f (Err (fault_of k line (bad_time text t)))
+    for_reason Expected line t r = r
+    for_reason NotInProfile line t r = r
+    for_reason TooLong line t r = r
+    for_reason TooDeep line t r = r
+    for_reason BadHeader line t r = r
+    for_reason BadLoop line t r = r
+    for_reason BadName line t r = r
+    for_reason BadTime line t r = bad_reason t r
+
+    pub file_refused : (z : Refused Token) (fault : SdefFault) → read_all number_of class_of (file text) lexed ≡ Err z → ((f ≡ None) ⊎ (z.rest ≢ [])) → fault ≡ told_behind text ts (take (length lexed - length z.rest) lexed) z → IsRead text ts f (Err fault)
+    file_refused z fault e at is =
+        let exactly = subst (IsAnswer text ts) e exact_file in
+        let front = exactly.front in
+        let same : take (length lexed - length z.rest) lexed ≡ front = front_is lexed front z.rest exactly.parts in
+        let told_so : IsToldBy text ts z (told_behind text ts (take (length lexed - length z.rest) lexed) z) = (front, exactly.parts, ap (λ us. told_behind text ts us z) same) in
+        subst (λ (x : SdefFault). IsRead text ts f (Err x)) (sym is) (for_reason (told z.kind z.rest) (told_line (last_line text) z.kind (take (length lexed - length z.rest) lexed) z.rest) (slice_get ts (length (take (length lexed - length z.rest) lexed))) (z, exactly, e, at, told_so))
+
+-- ---- tokens before a fault
+
+pub all_read : (style : Style) (text : List ℕ) (ts : List cut.Token) (f : Option FirstFault) → IsCut style text ts f → All (ReadsAsToken text) ts
+all_read style text ts None is = all_are style text 0 (length text) ts is.1
+all_read style text ts (Some fault) is = all_are style text 0 fault.start ts is.1
+
+pub nil_of : {A : Type 0} (xs : List A) → length xs < 1 → xs ≡ []
+nil_of [] lt = refl
+nil_of (x ∷ xs) lt = absurd (omega (arith, lt))
+
+pub not_nil : {A : Type 0} (xs : List A) → 1 ≤ length xs → xs ≢ []
+not_nil [] le e = absurd (omega (arith, le))
+not_nil (x ∷ xs) le e = cc

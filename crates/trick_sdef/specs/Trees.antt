@@ -1,0 +1,19 @@
+-- The trees that values of the readers hold.
+use Rattle.trick_lang.specs.SyntaxTree as tree
+use Rattle.trick_lang.specs.declared.syntax.definition.Declarator.{Declarator}
+use Rattle.trick_lang.specs.declared.syntax.definition.EnumItem.{EnumItem}
+use Rattle.trick_lang.specs.declared.syntax.definition.JobLine.{JobLine}
+use Rattle.trick_sdef.specs.Jobs as grammar
+use Rattle.trick_sdef.specs.declared.jobs.Times.{Times}
+
+abbrev pub times_of : Times → grammar.Times
+times_of t = record { class = t.class; start = t.start; cycle = t.cycle; stop = t.stop }
+
+abbrev pub job_line_of : JobLine → tree.JobLine
+job_line_of j = record { class = j.class; thread = j.thread; phase = j.phase; start = j.start; cycle = j.cycle; stop = j.stop; line = j.line; method = j.method }
+
+abbrev pub item_of : EnumItem → tree.EnumItem
+item_of i = record { line = i.line; name = i.name; value = i.value }
+
+abbrev pub declarator_of : Declarator → tree.Declarator
+declarator_of d = record { name = d.name; lengths = d.lengths }
