@@ -6,5 +6,7 @@ pub mod Sparse
 pub mod Frames
 -- What a stack of frames still has to do.
 pub mod Machine
+-- A program that tests run.
+pub mod Samples
 -- What a bench holds.
 pub mod Bench
