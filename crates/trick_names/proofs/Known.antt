@@ -1,5 +1,5 @@
 -- What a look-up and an insert in a map mean for the names.
-use Rattle.std.proofs.Common.{◌≡◌, ◌++◌, ◌∷◌, [], ℕ, zero, suc, take, List, Bool, true, false, Option, Some, None, map, refl, ap, Vec, Global, nat_eq, is_some, if◌then◌else◌}
+use Rattle.std.proofs.Common.{◌≡◌, ◌++◌, ◌∷◌, [], ℕ, zero, suc, take, List, slice_get, slice_index_or, length, ◌<◌, arith, Bool, true, false, Option, Some, None, map, refl, ap, Vec, Global, nat_eq, is_some, if◌then◌else◌}
 use Rattle.std.specs.Str.{bytes_eq}
 use Rattle.std.specs.Map.{lookup}
 use Rattle.std.specs.Cmp.Lexicographic.{pointwise}
@@ -42,3 +42,14 @@ pub shown_first : {T : Type 0} (mark : ℕ) (es : List (Vec ℕ Global × T)) �
 shown_first zero es = refl
 shown_first (suc n) [] = refl
 shown_first {T} (suc n) (e ∷ es) = ap (λ (t : Names T). (e.0.items, e.1) ∷ t) (shown_first n es)
+
+-- the entry at a place shows the name there
+pub entry_is : {T : Type 0} (es : List (Vec ℕ Global × T)) (i : ℕ) (key : Vec ℕ Global) (meaning : T) → i < length es → key ≡ slice_index_or (map (λ e. e.0) es) i key → meaning ≡ slice_index_or (map (λ e. e.1) es) i meaning → slice_get (shown es) i ≡ Some (key.items, meaning)
+entry_is [] i key meaning low k m = absurd (omega arith)
+entry_is {T} (e ∷ es) zero key meaning low k m = let p : (e.0.items, e.1) ≡ (key.items, meaning) = cc in ap (λ (q : List ℕ × T). Some q) p
+entry_is (e ∷ es) (suc i) key meaning low k m = entry_is es i key meaning (omega arith) k m
+
+-- as many entries as names
+pub shown_length : {T : Type 0} (es : List (Vec ℕ Global × T)) → length (shown es) ≡ length es
+shown_length [] = refl
+shown_length (e ∷ es) = ap suc (shown_length es)

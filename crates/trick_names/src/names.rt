@@ -1,4 +1,4 @@
-ghost use Rattle.std.specs.Prelude.{◌≡◌, ◌++◌, ◌∷◌, [], OnOk, OnErr, IfOk, is_some, length, take};
+ghost use Rattle.std.specs.Prelude.{◌≡◌, ◌++◌, ◌∷◌, ◌<◌, [], OnOk, OnErr, IfOk, Some, is_some, length, slice_get, take};
 ghost use Rattle.trick_names.specs.Names.{meaning_of, with_name};
 
 use indexmap::IndexMap;
@@ -42,6 +42,17 @@ impl<T: Copy + Drop> Names<T> {
         ensures { result ≡ length self.now }
     {
         self.table.len()
+    }
+
+    /// The name at a place, from 0 in the order in which names became known, with what it stands
+    /// for. Takes no memory.
+    pub fn entry(&self, place: usize) -> (&[u8], T)
+        requires here { place < length self.now }
+        ensures { slice_get self.now place ≡ Some (result.0.now, result.1) }
+    {
+        let name = self.table.keys().as_slice()[place].as_slice();
+        let meaning = self.table.values().as_slice()[place];
+        (name, meaning)
     }
 
     /// Makes a name known that was not, and tells whether it was known before, which changes

@@ -1,0 +1,115 @@
+//! The methods of a class.
+
+ghost use Rattle.std.specs.Prelude.{◌≡◌, ◌+◌, IfOk, OnOk, Some, length, slice_get};
+ghost use Rattle.trick_blocks.specs.Bodies.{with_bodies};
+ghost use Rattle.trick_blocks.specs.Codes.{all_count};
+ghost use Rattle.trick_blocks.specs.Held.{bodies_of};
+ghost use Rattle.trick_blocks.specs.Methods.{body_blocks, progress, with_method, with_part, with_parts};
+ghost use Rattle.trick_blocks.specs.Room.{IsLaid};
+ghost use Rattle.trick_lang.specs.Syntax.{class_part_of, class_parts_of, method_of, statements_of_list};
+
+use crate::block::{add_block, count_of};
+use crate::slots::slots_of_blocks;
+use crate::statement::resolve_all;
+use crate::world::World;
+use std::alloc::{AllocError, Global};
+use trick_lang::Block;
+use trick_lang::syntax::{ClassPart, Method, Stmt};
+use trick_names::Names;
+
+// The body of a method, with the blocks in it, and its number.
+fn add_body(
+    alloc: Global,
+    body: &[Stmt],
+    world: &World,
+    blocks: &mut Vec<Block>,
+) -> Result<u32, AllocError>
+    requires laid { IsLaid world.now }
+    ensures number { IfOk result (λ number. number
+        ≡ length blocks.old.items + all_count (statements_of_list body.now)) }
+    ensures blocks { OnOk result (bodies_of blocks.new.items ≡ with_bodies world.now.class
+        (body_blocks (statements_of_list body.now) world.now (length blocks.old.items)) (bodies_of blocks.old.items)) }
+    ensures length { OnOk result (length blocks.new.items
+        ≡ length blocks.old.items + (all_count (statements_of_list body.now) + 1)) }
+{
+    let mut locals = Names::new(alloc);
+    let statements = resolve_all(alloc, body, world, &mut locals, blocks)?;
+    let number = add_block(world.class, statements, blocks)?;
+    Ok(number)
+}
+
+fn resolve_method(
+    alloc: Global,
+    method: &Method,
+    world: &mut World,
+    blocks: &mut Vec<Block>,
+) -> Result<(), AllocError>
+    requires laid { IsLaid world.old }
+    ensures { OnOk result (progress world.new (bodies_of blocks.new.items)
+        ≡ with_method (method_of method.now) (progress world.old (bodies_of blocks.old.items))) }
+{
+    let first = count_of(blocks);
+    let number = add_body(alloc, method.body.as_slice(), world, blocks)?;
+    let slots = slots_of_blocks(&blocks[first..], world.slots)?;
+    world.methods.add(&method.name, number)?;
+    world.slots = slots;
+    Ok(())
+}
+
+fn resolve_part(
+    alloc: Global,
+    part: &ClassPart,
+    world: &mut World,
+    blocks: &mut Vec<Block>,
+) -> Result<(), AllocError>
+    requires laid { IsLaid world.old }
+    ensures { OnOk result (progress world.new (bodies_of blocks.new.items)
+        ≡ with_part (Some (class_part_of part.now)) (progress world.old (bodies_of blocks.old.items))) }
+{
+    match part {
+        ClassPart::Method(method) => resolve_method(alloc, method, world, blocks),
+        ClassPart::Public => Ok(()),
+        ClassPart::Members(_) => Ok(()),
+        ClassPart::Constructor {
+            line: _,
+            name: _,
+            jobs: _,
+        } => Ok(()),
+    }
+}
+
+fn resolve_part_at(
+    alloc: Global,
+    parts: &[ClassPart],
+    number: usize,
+    world: &mut World,
+    blocks: &mut Vec<Block>,
+) -> Result<(), AllocError>
+    requires laid { IsLaid world.old }
+    ensures { OnOk result (progress world.new (bodies_of blocks.new.items)
+        ≡ with_part (slice_get (class_parts_of parts.now) number) (progress world.old (bodies_of blocks.old.items))) }
+{
+    if number >= parts.len() {
+        return Ok(());
+    }
+    resolve_part(alloc, &parts[number], world, blocks)
+}
+
+/// Makes the methods of a class, whose parts are taken in this order, by their numbers: behind it
+/// `world` tells the block of each method, and how many slots there are so far.
+pub fn resolve_class(
+    alloc: Global,
+    parts: &[ClassPart],
+    order: &[usize],
+    world: &mut World,
+    blocks: &mut Vec<Block>,
+) -> Result<(), AllocError>
+    requires laid { IsLaid world.old }
+    ensures { OnOk result (progress world.new (bodies_of blocks.new.items)
+        ≡ with_parts order.now (class_parts_of parts.now) (progress world.old (bodies_of blocks.old.items))) }
+{
+    for number in order {
+        resolve_part_at(alloc, parts, *number, world, blocks)?;
+    }
+    Ok(())
+}

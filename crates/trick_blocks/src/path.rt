@@ -1,0 +1,159 @@
+ghost use Rattle.std.specs.Prelude.{◌≡◌, ◌∷◌, [], Some, if◌then◌else◌};
+ghost use Rattle.trick_blocks.specs.Places.{element_at, followed, literal_count, literal_of, to_index, to_member};
+ghost use Rattle.trick_blocks.specs.Room.{Fits, IsLaid};
+ghost use Rattle.trick_blocks.specs.Terms.{computed, offset_of, span_of, spot_with};
+ghost use Rattle.trick_lang.specs.Syntax.{expression_of, parts_of_list};
+ghost use Rattle.trick_lang.specs.TreeOf.{spot_of, steps_of_list};
+
+use crate::spot::{Element, Loose, Spot, array_of, element_on, loosen, move_on};
+use crate::world::World;
+use trick_base::Word;
+use trick_lang::syntax::{Expr, Part};
+use trick_lang::{Index, Place};
+use trick_layout::Dims;
+use trick_names::Base;
+
+// Where `.name` leads.
+fn member(name: &Word, world: &World, spot: Spot) -> Option<Spot>
+    requires laid { IsLaid world.now }
+    requires fits { Fits world.now (Some spot) }
+    ensures { result ≡ to_member name.now world.now (Some spot) }
+{
+    match (spot.extent.dims, spot.extent.base) {
+        (Dims::Plain, Base::Group(group)) => match world.layout.field(group, name) {
+            Some(found) => Some(move_on(spot, found.offset, found.extent)),
+            None => None,
+        },
+        _ => None,
+    }
+}
+
+// Where `[index]` leads, whose index may be a literal.
+fn index(literal: Option<u64>, world: &World, spot: Spot) -> Option<Spot>
+    requires laid { IsLaid world.now }
+    requires fits { Fits world.now (Some spot) }
+    ensures { result ≡ to_index literal (Some spot) }
+{
+    match array_of(Some(spot)) {
+        None => None,
+        Some(found) => match literal {
+            None => Some(Spot {
+                own: spot.own,
+                first: spot.first,
+                loose: loosen(found.dim.cells, spot.loose),
+                extent: found.inner,
+            }),
+            Some(k) => {
+                if k < found.dim.length as u64 {
+                    Some(element_on(k as u32, found, spot))
+                } else {
+                    None
+                }
+            }
+        },
+    }
+}
+
+/// The number of a literal index.
+pub fn literal(e: &Expr) -> Option<u64>
+    ensures { result ≡ literal_of (expression_of e.now) }
+{
+    match e {
+        Expr::Whole { line: _, number } => Some(*number),
+        Expr::Truth { line: _, value } => Some(if *value { 1 } else { 0 }),
+        _ => None,
+    }
+}
+
+/// Where one part of a path leads.
+pub fn step(part: &Part, world: &World, at: Option<Spot>) -> Option<Spot>
+    requires laid { IsLaid world.now }
+    requires fits { Fits world.now at }
+    ensures { result ≡ followed (parts_of_list (part.now ∷ [])) world.now at }
+{
+    match at {
+        None => None,
+        Some(spot) => match part {
+            Part::Member { line: _, name } => member(name, world, spot),
+            Part::Index(e) => index(literal(e), world, spot),
+        },
+    }
+}
+
+/// Where the parts of a path lead.
+pub fn follow(parts: &[Part], world: &World, from: Spot) -> Option<Spot>
+    requires laid { IsLaid world.now }
+    requires fits { Fits world.now (Some from) }
+    ensures { result ≡ followed (parts_of_list parts.now) world.now (Some from) }
+{
+    let mut at = Some(from);
+    for part in parts {
+        at = step(part, world, at);
+    }
+    at
+}
+
+// Whether a part is a literal index.
+fn is_literal(part: &Part) -> bool
+    ensures { literal_count (parts_of_list (part.now ∷ [])) ≡ (if result then 1 else 0) }
+{
+    match part {
+        Part::Member { line: _, name: _ } => false,
+        Part::Index(e) => literal(e).is_some(),
+    }
+}
+
+/// How many indexes of a path are literals.
+pub fn literals(parts: &[Part]) -> u64
+    ensures { result ≡ literal_count (parts_of_list parts.now) }
+{
+    let mut count: u64 = 0;
+    for part in parts {
+        if is_literal(part) {
+            count += 1;
+        }
+    }
+    count
+}
+
+/// The array of an index that is no literal.
+pub fn computed_array(literal: Option<u64>, at: Option<Spot>) -> Option<Element>
+    ensures { result ≡ computed literal (element_at at) }
+{
+    match literal {
+        Some(_) => None,
+        None => array_of(at),
+    }
+}
+
+fn span(loose: Option<Loose>) -> u32
+    ensures { result ≡ span_of loose }
+{
+    match loose {
+        None => 1,
+        Some(known) => known.span,
+    }
+}
+
+fn offset(loose: Option<Loose>) -> u32
+    ensures { result ≡ offset_of loose }
+{
+    match loose {
+        None => 0,
+        Some(known) => known.offset,
+    }
+}
+
+/// A place with so many literal indexes and with these computed ones.
+pub fn place_at(at: Spot, literals: u64, indexes: Vec<Index>) -> Place
+    ensures { spot_of result ≡ spot_with at literals (steps_of_list indexes.items) }
+{
+    Place {
+        own: at.own,
+        first: at.first,
+        span: span(at.loose),
+        offset: offset(at.loose),
+        literals,
+        indexes,
+    }
+}

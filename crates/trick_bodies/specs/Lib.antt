@@ -1,0 +1,2 @@
+-- What is made of classes, one after another.
+pub mod Classes

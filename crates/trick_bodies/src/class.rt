@@ -1,0 +1,75 @@
+ghost use Rattle.std.specs.Prelude.{◌≡◌, ◌≤◌, ◌<◌, ℕ, [], IfOk, IsTrue, OnOk, length};
+ghost use Rattle.trick_blocks.specs.Room.{IsLaid};
+ghost use Rattle.trick_blocks.specs.Kept.{is_one_of};
+ghost use Rattle.trick_bodies.specs.Classes.{AreWhole, made, with_class};
+ghost use Rattle.trick_lang.specs.Syntax.{class_parts_of};
+ghost use Rattle.trick_layout.specs.Kept.{AreLaid};
+ghost use Rattle.trick_layout.specs.Laid.{size_at};
+
+use std::alloc::{AllocError, Global as Memory};
+use trick_base::Items;
+use trick_blocks::{World, resolve_class};
+use trick_jobs::{add_methods, numbers};
+use trick_lang::syntax::ClassPart;
+use trick_lang::{Block, Method};
+use trick_names::Names;
+
+// So many methods fit their numbers.
+const METHOD_LIMIT: usize = 1_000_000_000;
+
+/// What is made of the classes so far.
+#[derive(Drop)]
+pub struct Bodies {
+    /// What the bodies of the class see; its `slots` are those of all methods so far.
+    pub world: World,
+    pub blocks: Vec<Block>,
+    pub methods: Items<Method>,
+    /// For each class so far the numbers of its methods in `methods`.
+    pub numbers: Items<Names<u32>>,
+}
+
+// The next class, none of whose methods is made.
+fn enter(alloc: Memory, class: u32, world: &mut World)
+    requires tables { AreLaid world.old.layout }
+    requires home { size_at world.old.layout.sizes class ≤ 65536 }
+    ensures world { world.new ≡ record world.old { class = class; methods = [] } }
+    ensures laid { IsLaid world.new }
+{
+    world.class = class;
+    world.methods = Names::new(alloc);
+}
+
+fn count_of(methods: &Items<Method>) -> Result<u32, AllocError>
+    ensures { IfOk result (λ count. count ≡ length methods.now) }
+{
+    let count = methods.len();
+    if count > METHOD_LIMIT {
+        return Err(AllocError);
+    }
+    Ok(count as u32)
+}
+
+/// Makes the methods of a class, whose parts stand in an order in which each comes behind those that
+/// it calls.
+pub fn add_class(
+    alloc: Memory,
+    class: u32,
+    parts: &[ClassPart],
+    order: &[usize],
+    bodies: &mut Bodies,
+) -> Result<(), AllocError>
+    requires tables { AreLaid bodies.old.world.layout }
+    requires home { size_at bodies.old.world.layout.sizes class ≤ 65536 }
+    requires order { (k : ℕ) → k < length parts.now → IsTrue (is_one_of order.now k) }
+    requires whole { AreWhole (made bodies.old) }
+    ensures made { OnOk result (made bodies.new ≡ with_class class order.now (class_parts_of parts.now) (made bodies.old)) }
+    ensures whole { OnOk result (AreWhole (made bodies.new)) }
+{
+    enter(alloc, class, &mut bodies.world);
+    resolve_class(alloc, parts, order, &mut bodies.world, &mut bodies.blocks)?;
+    let first = count_of(&bodies.methods)?;
+    add_methods(class, parts, &bodies.world.methods, &mut bodies.methods)?;
+    let own = numbers(alloc, first, parts)?;
+    bodies.numbers.push(own)?;
+    Ok(())
+}

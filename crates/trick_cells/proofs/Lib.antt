@@ -1,0 +1,6 @@
+pub mod Lists
+pub mod Counted
+mod Waits
+mod Unfold
+mod Laid
+mod Declared

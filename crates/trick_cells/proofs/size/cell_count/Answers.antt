@@ -1,0 +1,18 @@
+use Rattle.std.proofs.Common.{◌≡◌, drop, ap, arith}
+use Rattle.std.proofs.Math.ListN.{drop_of_length-le}
+use Rattle.trick_cells.proofs.Lists.{from_entry}
+use Rattle.trick_cells.specs.Counts.{names_count}
+use Rattle.trick_cells.proofs.size.cell_count.Goals as goal
+
+pub loop-place-preserved : goal.loop-place-preserved
+loop-place-preserved c =
+    let next = ap (names_count c.args.sizes.now) (from_entry c.args.names.now c.loop-place.place _ c.entry-global.ensures) in
+    record {
+      told = omega (arith, next, c.global_size.ensures, c.saturating_add-total.ensures, c.loop-place.invariant.told, c.loop-place.invariant.small);
+      small = omega (arith, c.saturating_add-total.ensures);
+    }
+
+pub returns : goal.returns
+returns c =
+    let rest : names_count c.args.sizes.now (drop c.loop-place.place c.args.names.now) ≡ 0 = ap (names_count c.args.sizes.now) (drop_of_length-le c.args.names.now (omega arith)) in
+    omega (arith, rest, c.loop-place.invariant.small, c.loop-place.invariant.told)

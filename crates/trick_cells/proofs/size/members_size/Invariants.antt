@@ -1,0 +1,10 @@
+use Rattle.std.proofs.Common.{◌≡◌, ◌+◌, ◌<◌, ◌^◌, drop}
+use Rattle.trick_cells.proofs.size.members_size.Given as goal
+use Rattle.trick_cells.specs.Counts.{capped, members_count}
+
+-- what is counted and what is left are all
+abbrev pub invariant-loop-place : goal.invariant-loop-place
+invariant-loop-place l = record {
+  told : capped (l.total + members_count l.sizes (drop l.place l.members)) ≡ capped (members_count l.sizes l.members);
+  small : l.total < 2 ^ 64;
+}

@@ -1,0 +1,12 @@
+use Rattle.std.proofs.Common.{◌≡◌, ◌*◌, ap, sym, ◌∙◌}
+use Rattle.trick_cells.proofs.Counted.{cap_mul}
+use Rattle.trick_cells.specs.Counts.{capped, place_count}
+use Rattle.trick_cells.proofs.size.place_size.Goals as goal
+
+pub returns-in-Two : goal.returns-in-Two
+returns-in-Two c =
+    let m = c.in-Two.m in
+    let n = c.in-Two.n in
+    let one = c.base_size-one.result in
+    let total : c.saturating_mul-in-Two-2.result ≡ capped (m * (n * one)) = c.saturating_mul-in-Two-2.ensures ∙ (ap (λ k. capped (m * k)) c.saturating_mul-in-Two.ensures ∙ cap_mul m (n * one)) in
+    total ∙ (ap (λ k. capped (m * (n * k))) c.base_size-one.ensures ∙ ap (λ ls. capped (place_count c.args.sizes.now ls c.args.base)) (sym c.in-Two.is))

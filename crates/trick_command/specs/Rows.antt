@@ -1,0 +1,18 @@
+-- The rows of the table of actions, by their names in the code.
+use Rattle.std.specs.List.{slice_index_or}
+use Rattle.std.specs.Prelude.{ℕ, List, [], Option, Some, None}
+use Rattle.trick_command.specs.contracts.row.Row.{the_type}
+use Rattle.trick_command.specs.declared.row.Row.{Row}
+use Rattle.trick_model.specs.Commands.{action_forms}
+use Rattle.trick_model.specs.Forms.{Form}
+use Rattle.trick_model.specs.declared.action.Action.{Action}
+use Rattle.trick_model.specs.declared.action.Action.TheVariants as action
+use denote.Enum.Declared.{tag_of}
+
+-- a form that is none, for a number past the last one
+abbrev pub no_form : Form Action
+no_form = record { pieces = []; made = λ v. action.Freeze }
+
+-- the form of a row: the table's, at the row's place
+abbrev pub form_of : Row → Form Action
+form_of row = slice_index_or action_forms (tag_of the_type row) no_form

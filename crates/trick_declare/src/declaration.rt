@@ -1,0 +1,113 @@
+ghost use Rattle.std.specs.Prelude.{◌≡◌, All, IfOk, None, Some, [], List, ℕ};
+ghost use Rattle.trick_body.specs.Lexemes.{lexemes_of};
+ghost use Rattle.trick_body.specs.Symbols.{number_of};
+ghost use Rattle.trick_declare.specs.Grammar.{declaration, declaration_of, length, lengths, read_or_none};
+ghost use Rattle.trick_grammar.specs.Gives.{Gives, class_of};
+ghost use Rattle.trick_grammar.specs.Reading.{read};
+ghost use Rattle.trick_grammar.specs.Text.{read_all};
+ghost use Rattle.trick_text.specs.Tokens.{ReadsAsToken};
+
+use std::alloc::{AllocError, Global};
+use trick_base::{Items, Word};
+use trick_body::{NAMES, Symbol, Token, lexemes, name_of, read_basic};
+use trick_grammar::{Stop, next_is, take, take_one_of};
+use trick_lang::Scalar;
+use trick_text::{Style, TextFault, tokens};
+
+/// A declaration: the type of a variable, its name, and the lengths of its array, of which there are
+/// none, one or two.
+#[derive(Debug, Drop)]
+pub struct Declaration {
+    pub scalar: Scalar,
+    pub name: Word,
+    pub lengths: Items<u64>,
+}
+
+// The whole numbers that a length can be.
+const COUNTS: [Symbol; 4] = [Symbol::One, Symbol::Small, Symbol::Large, Symbol::Huge];
+
+// "[" WHOLE "]"
+fn read_length(rest: &[Token]) -> Result<(u64, &[Token]), Stop<Symbol>>
+    ensures { Gives (λ x. (x.0, x.1.now)) result (read number_of class_of [] length rest.now) }
+{
+    let (_, rest) = take(rest, Symbol::OpenBracket)?;
+    let (number, rest) = take_one_of(rest, &COUNTS)?;
+    let (_, rest) = take(rest, Symbol::CloseBracket)?;
+    Ok((number.number, rest))
+}
+
+// [ "[" WHOLE "]" [ "[" WHOLE "]" ] ]
+fn read_lengths<'a>(
+    alloc: Global,
+    rest: &'a [Token],
+) -> Result<(Items<u64>, &'a [Token]), Stop<'a, Symbol>>
+    ensures { Gives (λ x. (x.0, x.1.now)) result (read number_of class_of [] lengths rest.now) }
+{
+    let mut found = Items::new(alloc);
+    if !next_is(rest, Symbol::OpenBracket) {
+        return Ok((found, rest));
+    }
+    let (first, rest) = read_length(rest)?;
+    found.push(first)?;
+    if !next_is(rest, Symbol::OpenBracket) {
+        return Ok((found, rest));
+    }
+    let (second, rest) = read_length(rest)?;
+    found.push(second)?;
+    Ok((found, rest))
+}
+
+// declaration = basic NAME [ "[" WHOLE "]" [ "[" WHOLE "]" ] ]
+fn read_front<'a>(
+    alloc: Global,
+    text: &[u8],
+    rest: &'a [Token],
+) -> Result<(Declaration, &'a [Token]), Stop<'a, Symbol>>
+    ensures { Gives (λ x. (x.0, x.1.now)) result (read number_of class_of [] (declaration text.now) rest.now) }
+{
+    let ((_, scalar), rest) = read_basic(rest)?;
+    let (name, rest) = take_one_of(rest, &NAMES)?;
+    let (lengths, rest) = read_lengths(alloc, rest)?;
+    let declaration = Declaration {
+        scalar,
+        name: name_of(alloc, text, name)?,
+        lengths,
+    };
+    Ok((declaration, rest))
+}
+
+// The declaration that these are all the tokens of.
+fn read_all(alloc: Global, text: &[u8], tokens: &[Token]) -> Result<Option<Declaration>, AllocError>
+    ensures { IfOk result (λ read. read
+        ≡ read_or_none (read_all number_of class_of (declaration text.now) tokens.now)) }
+{
+    match read_front(alloc, text, tokens) {
+        Ok((declaration, rest)) => {
+            if rest.is_empty() {
+                Ok(Some(declaration))
+            } else {
+                Ok(None)
+            }
+        }
+        Err(Stop::Memory) => Err(AllocError),
+        Err(Stop::At(_, _)) => Ok(None),
+    }
+}
+
+impl Declaration {
+    ghost use Rattle.trick_declare.specs.Grammar.{Declares};
+
+    /// What a text declares: a type, a name, and up to two lengths in brackets, as `int spare[2]`.
+    /// `None` where it is no declaration. FORMATS.md has its form.
+    pub fn read(alloc: Global, text: &[u8]) -> Result<Option<Declaration>, AllocError>
+        ensures { IfOk result (λ declared. Declares text.now declared) }
+    {
+        trick_text::laws::refused_has_none();
+        trick_text::laws::all_are_tokens();
+        match tokens(alloc, text, Style::Command) {
+            Ok(found) => read_all(alloc, text, &lexemes(alloc, text, &found)?),
+            Err(TextFault::OutOfMemory) => Err(AllocError),
+            Err(_) => Ok(None),
+        }
+    }
+}

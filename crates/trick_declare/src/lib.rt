@@ -1,0 +1,17 @@
+//! Variables that an input declares: reads their declarations, and adds their cells to a program or
+//! a plan.
+#![tactic(auto)]
+
+mod cells;
+mod declaration;
+mod declaring;
+mod fault;
+pub mod laws;
+mod taken;
+#[cfg(test)]
+mod tests;
+
+pub use declaration::Declaration;
+pub use declaring::{CELL_LIMIT, add, declare};
+pub use fault::DeclareFault;
+pub use taken::{first_name, is_taken};

@@ -1,0 +1,1 @@
+-- No lemma stands here: the loops' invariants and the worked values are all.

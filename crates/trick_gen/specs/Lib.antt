@@ -1,0 +1,2 @@
+-- The two texts of a generated simulation.
+pub mod Texts

@@ -1,0 +1,20 @@
+//! Reader of input files: `read_input` accepts exactly the texts whose lines have the forms of the table,
+//! and gives what each line says, or the refusal at the first place.
+#![tactic(auto)]
+
+mod call;
+mod class;
+mod fault;
+mod form;
+pub mod laws;
+mod lexeme;
+mod line;
+mod plain;
+mod reader;
+mod says;
+#[cfg(test)]
+mod tests;
+
+pub use call::{Call, Form, Time};
+pub use fault::InputFault;
+pub use reader::read_input;

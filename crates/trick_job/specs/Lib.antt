@@ -1,0 +1,2 @@
+-- What belongs to a program: memories and jobs.
+pub mod Belongs

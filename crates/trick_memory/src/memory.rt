@@ -1,0 +1,106 @@
+ghost use Rattle.std.specs.Prelude.{◌≡◌, IfOk, IfSome};
+ghost use Rattle.trick_memory.specs.Stored.{cell_of, name_of, zeros};
+ghost use Rattle.trick_model.specs.Valid.{cell_names};
+
+use crate::names::Names;
+use std::alloc::{AllocError, Global};
+use std::marker::Model;
+use trick_lang::{Cell, Cells, Scalar};
+use trick_model::Plan;
+
+/// The memory of a simulation: for each cell a number of its type. Cells are found by their full
+/// names.
+#[derive(Drop)]
+pub struct Memory {
+    names: Names,
+    scalars: Vec<Scalar>,
+    numbers: Vec<i64>,
+}
+
+impl Model for Memory {
+    ghost use Rattle.trick_memory.specs.Stored.{IsStored, Stored};
+
+    ghost Value = { Stored };
+
+    ghost view = { λ memory. record {
+      names = memory.names;
+      scalars = memory.scalars.items;
+      numbers = memory.numbers.items;
+    } };
+
+    ghost invariant = { λ memory. IsStored memory.names memory.scalars.items memory.numbers.items };
+}
+
+impl Memory {
+    /// The memory of the cells of a plan. Each number is 0.
+    pub fn new(alloc: Global, plan: &Plan) -> Result<Self, AllocError>
+        ensures { IfOk result (λ memory. memory ≡ zeros plan.now.program.cells) }
+    {
+        let mut names = Names::new(alloc);
+        let mut scalars = Vec::new(alloc);
+        let mut numbers = Vec::new(alloc);
+        for variable in plan.program.cells.as_slice() {
+            names.push(&variable.name)?;
+            scalars.push(variable.scalar)?;
+            numbers.push(0)?;
+        }
+        Ok(Memory {
+            names,
+            scalars,
+            numbers,
+        })
+    }
+
+    /// The cell of a full name, byte for byte, in a plan of whose cells this is the memory. With any
+    /// other plan too the cell that is found has that name. Takes no memory.
+    pub fn find(&self, plan: &Plan, name: &[u8]) -> Option<Cell>
+        ensures cell { self.now.names ≡ cell_names plan.now.program.cells
+            → result ≡ cell_of name.now (cell_names plan.now.program.cells) }
+        ensures named { IfSome result (λ cell. name_of cell plan.now.program.cells ≡ name.now) }
+    {
+        let cell = Cell(self.names.find(name)? as u32);
+        if self.name(plan, cell) == name {
+            Some(cell)
+        } else {
+            None
+        }
+    }
+
+    /// The full name of a cell of a plan; no byte for a cell that is not there. Takes no memory.
+    pub fn name<'a>(&self, plan: &'a Plan, cell: Cell) -> &'a [u8]
+        ensures { result.now ≡ name_of cell plan.now.program.cells }
+    {
+        match plan.program.cells.as_slice().get(cell.0 as usize) {
+            Some(variable) => variable.name.as_slice(),
+            None => &[],
+        }
+    }
+}
+
+impl Cells for Memory {
+    ghost use Rattle.std.specs.Prelude.{◌≡◌, ◌<◌, length, slice_set};
+    ghost use Rattle.trick_lang.specs.Wrap.{IsInRange};
+
+    ghost numbers = { λ memory. memory.numbers };
+
+    ghost scalars = { λ memory. memory.scalars };
+
+    fn len(&self) -> u32 {
+        self.numbers.len() as u32
+    }
+
+    fn get(&self, cell: Cell) -> i64 {
+        self.numbers[cell.0 as usize]
+    }
+
+    // It keeps the names, too.
+    fn set(&mut self, cell: Cell, number: i64)
+        requires cell { cell.0 < length self.old.numbers }
+        requires range { IsInRange self.old.scalars cell.0 number }
+        ensures numbers { self.new.numbers ≡ slice_set self.old.numbers cell.0 number }
+        ensures scalars { self.new.scalars ≡ self.old.scalars }
+        ensures names { self.new.names ≡ self.old.names }
+    {
+        self.numbers[cell.0 as usize] = number;
+    }
+}

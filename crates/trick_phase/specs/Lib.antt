@@ -1,0 +1,2 @@
+-- What a tic's jobs are handed.
+pub mod Given

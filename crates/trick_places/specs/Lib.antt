@@ -1,0 +1,2 @@
+-- Cells by their full names, and the texts of paths.
+pub mod Named

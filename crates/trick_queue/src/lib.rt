@@ -1,0 +1,9 @@
+//! The due jobs of a tic in key order, and the next tic at which a job is due, found without a look
+//! at the jobs that are not.
+#![tactic(auto)]
+
+mod jobs;
+mod queues;
+mod tree;
+
+pub use queues::Queues;

@@ -1,0 +1,18 @@
+-- A group of a plan, and the calls that add its row to its log.
+use Rattle.std.specs.List.{slice_index_or}
+use Rattle.std.specs.Prelude.{ℕ, false, List, [], ◌∷◌, Option, Some, None}
+use Rattle.trick_base.specs.Files.{Write, Append}
+use Rattle.trick_model.specs.declared.group.Group.{Group}
+
+-- a group that is none, for a number past the last one
+abbrev pub no_group : Group
+no_group = record { name = []; cycle = 1; changes = false; cells = [] }
+
+-- the group of a number
+abbrev pub group_at : List Group → ℕ → Group
+group_at groups k = slice_index_or groups k no_group
+
+-- the call that adds a row to a log, where there is a row
+abbrev pub added : List ℕ → Option (List ℕ) → List Write
+added log None = []
+added log (Some text) = Append log text ∷ []

@@ -1,0 +1,15 @@
+//! Data recording: the header of a group's log, and the row that a group writes at a tic. Logs are
+//! CSV files, and `docs/FORMATS.md` has their form.
+#![tactic(auto)]
+
+mod fields;
+mod group_of;
+mod log_header;
+mod log_row;
+mod values;
+
+pub use log_header::header;
+pub use log_row::row;
+
+#[cfg(test)]
+mod tests;

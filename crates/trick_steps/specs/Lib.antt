@@ -1,0 +1,2 @@
+-- Counts of static steps that stand still.
+pub mod Steps
