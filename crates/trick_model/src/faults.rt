@@ -1,5 +1,5 @@
-ghost use Rattle.std.specs.Prelude.{◌≡◌, [], IfOk};
-ghost use Rattle.trick_model.specs.FaultList.{FaultList, with_fault};
+ghost use Rattle.std.specs.Prelude.{◌+◌, ◌-◌, ◌^◌, ◌≡◌, ◌≤◌, [], IfOk, min};
+ghost use Rattle.trick_model.specs.FaultList.{FaultList, kept, with_fault};
 
 use std::alloc::{AllocError, Global};
 use std::marker::Model;
@@ -60,5 +60,14 @@ impl Faults {
             self.first.push_reserved(fault);
         }
         self.count = self.count.saturating_add(1);
+    }
+
+    /// Counts `more` faults that are not kept, as where a list is made again from its text: there are
+    /// 1,000 already. Takes no memory.
+    pub fn count_more(&mut self, more: u64)
+        requires { kept ≤ self.old.count }
+        ensures { self.new ≡ record { count = min (self.old.count + more) (2 ^ 64 - 1); first = self.old.first } }
+    {
+        self.count = self.count.saturating_add(more);
     }
 }

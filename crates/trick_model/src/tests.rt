@@ -23,5 +23,7 @@ fn the_first_faults_are_kept(rt: HostRuntime) -> Result<(), Fail> {
     assert_eq!(rt; faults.count(), 1_003);
     assert_eq!(rt; faults.first().len(), KEPT_FAULTS);
     assert_eq!(rt; faults.first().last().copied(), Some(fault(999)));
+    faults.count_more(7);
+    assert_eq!(rt; faults.count(), 1_010);
     Ok(())
 }

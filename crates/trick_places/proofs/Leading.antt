@@ -276,9 +276,9 @@ steps_in (OfPlace (spot own first span offset literals st)) = st
 steps_in _ = NoStep
 
 at_named : (w : World) (done : List (List Variable)) (memory : List Variable) → AreNamed w.layout done memory → (name : Name) (parts : Parts) (locals : Names Local) (from : Spot) → Begins w done memory name from → (there : Option Spot) → followed parts w (Some from) ≡ there → (at : Option Spot) → scalar_there there ≡ at → (own : Bool) (first span offset literals : ℕ) (st : Steps) → place_goal at (literal_count parts) (steps parts w locals (Some from)) ≡ OfPlace (spot own first span offset literals st) → (ns : List ℕ) (more : ℕ) → led_by st ns ≡ Some more → IsNamed (cells_from own done w.class memory) (first + offset + more) (first_text own name ++ path_text parts ns)
-at_named w done memory named name parts locals from begins None known at is own first span offset literals st goal ns more led = absurd (cc (ap (λ q. place_goal q (literal_count parts) (steps parts w locals (Some from))) is ∙ goal))
-at_named w done memory named name parts locals from begins (Some s) known None is own first span offset literals st goal ns more led = absurd (cc goal)
-at_named w done memory named name parts locals from begins (Some s) known (Some at) is own first span offset literals st goal ns more led =
+at_named w done memory named name parts locals from begins None known at is own first span offset literals st goal ns = λ more led. absurd (cc (ap (λ q. place_goal q (literal_count parts) (steps parts w locals (Some from))) is ∙ goal))
+at_named w done memory named name parts locals from begins (Some s) known None is own first span offset literals st goal ns = λ more led. absurd (cc goal)
+at_named w done memory named name parts locals from begins (Some s) known (Some at) is own first span offset literals st goal ns = λ more led.
     let same : s ≡ at = same_scalar s.extent.dims s.extent.base s at is in
     let owns : from.own ≡ own = sym (own_same parts w from s known) ∙ (ap (λ (q : Spot). q.own) same ∙ ap (λ g. own_in g at.own) goal) in
     let cell : start s ≡ first + offset = ap start same ∙ ap cell_in goal in
