@@ -28,13 +28,13 @@ none_right : (x : Bool) → x && false ≡ false
 none_right true = refl
 none_right false = refl
 
-reads_idle : (p : Plan) (tic : ℕ) (reads : List ReadAt) (a : Asking)
+pub reads_idle : (p : Plan) (tic : ℕ) (reads : List ReadAt) (a : Asking)
     → list_any (λ (read : ReadAt). read.tic == tic) reads ≡ false → reads_done p tic reads a ≡ a
 reads_idle p tic [] a e = refl
 reads_idle p tic (read ∷ reads) a e =
     let both = or_false (read.tic == tic) _ e in rw both.0 (reads_idle p tic reads a both.1)
 
-events_idle : (p : Plan) (tic k : ℕ) (events : List Event) (a : Asking)
+pub events_idle : (p : Plan) (tic k : ℕ) (events : List Event) (a : Asking)
     → event_is_due tic k events a.state ≡ false → events_done p tic k events a ≡ a
 events_idle p tic k [] a e = refl
 events_idle p tic k (event ∷ events) a e =
@@ -43,14 +43,14 @@ events_idle p tic k (event ∷ events) a e =
     and_more (is_on a.state.events k) ((tic % event.cycle) == 0) (holds event.condition a.state.memory) both.0 in
     rw off (events_idle p tic (suc k) events a both.1)
 
-threads_idle : (step : ℕ → Thread → State → State) (tic place : ℕ) (threads : List Thread) (s : State)
+pub threads_idle : (step : ℕ → Thread → State → State) (tic place : ℕ) (threads : List Thread) (s : State)
     → list_any (ends_at tic) threads ≡ false → each_thread (where_ends step tic) place threads s ≡ s
 threads_idle step tic place [] s e = refl
 threads_idle step tic place (thread ∷ threads) s e =
     let both = or_false (ends_at tic thread) _ e in
     rw (both.0, where_ends) (threads_idle step tic (place + 1) threads s both.1)
 
-rows_idle : (tic k : ℕ) (groups : List Group) (s : State)
+pub rows_idle : (tic k : ℕ) (groups : List Group) (s : State)
     → group_is_due tic k groups s ≡ false → rows tic k groups s ≡ record { state = s; writes = [] }
 rows_idle tic k [] s e = refl
 rows_idle tic k (group ∷ groups) s e =
@@ -62,24 +62,24 @@ rows_idle tic k (group ∷ groups) s e =
     ap (λ (t : State). rows tic (suc k) groups t) kept ∙ rows_idle tic (suc k) groups s both.1 in
     λ i. record { state = (rest i).state; writes = none i ++ (rest i).writes }
 
-must_idle : (p : Plan) (tic : ℕ) (s : State) → list_any (ends_at tic) (threads_beside p) ≡ false → must_finish p tic s ≡ s
+pub must_idle : (p : Plan) (tic : ℕ) (s : State) → list_any (ends_at tic) (threads_beside p) ≡ false → must_finish p tic s ≡ s
 must_idle p tic s h =
     ap (λ (r : State). each_thread (where_ends (take p) tic) 0 (threads_beside p) r)
     (threads_idle (λ place thread. publish p place thread tic) tic 0 (threads_beside p) s h)
     ∙ threads_idle (take p) tic 0 (threads_beside p) s h
 
-jobs_idle : (p : Plan) (tic : ℕ) (s : State) → jobs_at p s.jobs tic ≡ [] → jobs_done p tic s ≡ s
+pub jobs_idle : (p : Plan) (tic : ℕ) (s : State) → jobs_at p s.jobs tic ≡ [] → jobs_done p tic s ≡ s
 jobs_idle p tic s none = ap (λ (ks : List ℕ). settled (after_jobs p (is_on s.jobs) tic ks s.memory) s) none
 
 -- a tic behind its events, and behind its jobs
-abbrev behind_jobs : Plan → ℕ → Asking → State → Ticked
+abbrev pub behind_jobs : Plan → ℕ → Asking → State → Ticked
 behind_jobs p now b s =
     let recorded = rows now 0 p.groups s in
     let t = recorded.state in
     record { asking = record b { state = record t { tic = now + 1 } }; writes = recorded.writes }
 
 -- an idle tic passes and does nothing else
-tic_passes : (p : Plan) (a : Asking) → IsIdle p a.state → tic p a ≡ record { asking = later 1 a; writes = [] }
+pub tic_passes : (p : Plan) (a : Asking) → IsIdle p a.state → tic p a ≡ record { asking = later 1 a; writes = [] }
 tic_passes p a i =
     let now = a.state.tic in
     let early : fire p now a ≡ a =
@@ -92,14 +92,14 @@ tic_passes p a i =
     ∙ ap (λ (s : State). behind_jobs p now a s) still
     ∙ (λ j. let r = rest j in record { asking = record a { state = record (r.state) { tic = now + 1 } }; writes = r.writes })
 
-abbrev joined : Plan → ℕ → Ticked → Ticked
+abbrev pub joined : Plan → ℕ → Ticked → Ticked
 joined p count first =
     let others = tics p count first.asking in record { asking = others.asking; writes = first.writes ++ others.writes }
 
-below : (n m : ℕ) → n < m → nat_lt n m ≡ true
+pub below : (n m : ℕ) → n < m → nat_lt n m ≡ true
 below n m h = grind arith
 
-not_below : (n m : ℕ) → m ≤ n → nat_lt n m ≡ false
+pub not_below : (n m : ℕ) → m ≤ n → nat_lt n m ≡ false
 not_below n m h = grind arith
 
 pub idle_tics_pass : IdleTicsPass

@@ -87,7 +87,7 @@ published_right p sound thread on tic taken memory fits cells range =
 nothing_right : (p : Plan) (thread : Thread) → IsRecord p thread nothing_taken
 nothing_right p thread = record { cells = λ h. grind (arith, h); flags = λ h. grind (arith, h); none = λ h. refl }
 
-publish_right : (p : Plan) → IsSound p → (place : ℕ) (thread : Thread) (tic : ℕ) (s : State) → tic ≤ last_time + 1
+pub publish_right : (p : Plan) → IsSound p → (place : ℕ) (thread : Thread) (tic : ℕ) (s : State) → tic ≤ last_time + 1
     → IsRecord p thread (taken_at s place) → IsStateOf p s → IsStateOf p (publish p place thread tic s)
 publish_right p sound place thread tic s fits right good =
     let taken = taken_at s place in
@@ -106,20 +106,20 @@ taken_right p thread s good = record {
 }
 
 -- the thread of a place
-abbrev IsAt : Plan → ℕ → Thread → Type 0
+abbrev pub IsAt : Plan → ℕ → Thread → Type 0
 IsAt p place thread = (place < length (threads_beside p)) × ((d : Thread) → slice_index_or (threads_beside p) place d ≡ thread)
 
-record_at : (p : Plan) (place : ℕ) (thread : Thread) (s : State) → IsAt p place thread → IsStateOf p s → IsRecord p thread (taken_at s place)
+pub record_at : (p : Plan) (place : ℕ) (thread : Thread) (s : State) → IsAt p place thread → IsStateOf p s → IsRecord p thread (taken_at s place)
 record_at p place thread s at good =
     subst (λ (t : Thread). IsRecord p t (taken_at s place)) (at.1 thread) (good.taken place thread at.0)
 
-take_right : (p : Plan) (place : ℕ) (thread : Thread) (s : State) → IsAt p place thread → IsStateOf p s → IsStateOf p (take p place thread s)
+pub take_right : (p : Plan) (place : ℕ) (thread : Thread) (s : State) → IsAt p place thread → IsStateOf p s → IsStateOf p (take p place thread s)
 take_right p place thread s at good =
     with_taken p s place (taken_from p thread s)
     (λ d there. subst (λ (t : Thread). IsRecord p t (taken_from p thread s)) (sym (at.1 d)) (taken_right p thread s good)) good
 
 -- threads that stand at these places
-abbrev AreAt : Plan → ℕ → List Thread → Type 0
+abbrev pub AreAt : Plan → ℕ → List Thread → Type 0
 AreAt p place [] = Unit {0}
 AreAt p place (thread ∷ threads) = IsAt p place thread × AreAt p (place + 1) threads
 
@@ -141,11 +141,11 @@ at_places p place (thread ∷ threads) each =
           (λ k d there. subst (λ (n : ℕ). IsAt p n (slice_index_or threads k d)) (shift k) (each (suc k) d (omega arith))),
     )
 
-all_at : (p : Plan) → AreAt p 0 (threads_beside p)
+pub all_at : (p : Plan) → AreAt p 0 (threads_beside p)
 all_at p = at_places p 0 (threads_beside p) (λ k d there. let same : k ≡ 0 + k = omega arith in
     subst (λ (n : ℕ). IsAt p n (slice_index_or (threads_beside p) k d)) same (there, λ e. get_or_default (threads_beside p) k e d there))
 
-must_right : (p : Plan) → IsSound p → (tic : ℕ) (s : State) → tic ≤ last_time + 1 → IsStateOf p s → IsStateOf p (must_finish p tic s)
+pub must_right : (p : Plan) → IsSound p → (tic : ℕ) (s : State) → tic ≤ last_time + 1 → IsStateOf p s → IsStateOf p (must_finish p tic s)
 must_right p sound tic s fits good =
     threads_right p (where_ends (take p) tic)
     (λ place thread s at good. by_test p (ends_at tic thread) _ s (λ ends. take_right p place thread s at good) (λ goes. good))
@@ -158,10 +158,10 @@ must_right p sound tic s fits good =
 -- ---- a tic
 
 -- the group of a place
-abbrev IsGroupAt : Plan → ℕ → Group → Type 0
+abbrev pub IsGroupAt : Plan → ℕ → Group → Type 0
 IsGroupAt p k group = (d : Group) → k < length p.groups → slice_index_or p.groups k d ≡ group
 
-abbrev AreGroupsAt : Plan → ℕ → List Group → Type 0
+abbrev pub AreGroupsAt : Plan → ℕ → List Group → Type 0
 AreGroupsAt p k [] = Unit {0}
 AreGroupsAt p k (group ∷ groups) = IsGroupAt p k group × AreGroupsAt p (suc k) groups
 
@@ -183,11 +183,11 @@ row_right p tic k group s at good =
     (last_keeps s k (row_of group s)) good)
     (λ none. good)
 
-rows_right : (p : Plan) (tic k : ℕ) (groups : List Group) (s : State) → AreGroupsAt p k groups → IsStateOf p s → IsStateOf p (rows tic k groups s).state
+pub rows_right : (p : Plan) (tic k : ℕ) (groups : List Group) (s : State) → AreGroupsAt p k groups → IsStateOf p s → IsStateOf p (rows tic k groups s).state
 rows_right p tic k [] s at good = good
 rows_right p tic k (group ∷ groups) s at good = rows_right p tic (suc k) groups _ at.1 (row_right p tic k group s at.0 good)
 
-groups_at : (p : Plan) (k : ℕ) (groups : List Group)
+pub groups_at : (p : Plan) (k : ℕ) (groups : List Group)
     → ((i : ℕ) (d e : Group) → i < length groups → slice_index_or p.groups (k + i) d ≡ slice_index_or groups i e) → AreGroupsAt p k groups
 groups_at p k [] each = tt
 groups_at p k (group ∷ groups) each =
@@ -198,11 +198,11 @@ groups_at p k (group ∷ groups) each =
           (λ i d e there. ap (λ (n : ℕ). slice_index_or p.groups n d) (sym (shift i)) ∙ each (suc i) d e (omega arith)),
     )
 
-all_groups_at : (p : Plan) → AreGroupsAt p 0 p.groups
+pub all_groups_at : (p : Plan) → AreGroupsAt p 0 p.groups
 all_groups_at p = groups_at p 0 p.groups (λ i d e there. let same : 0 + i ≡ i = omega arith in
     ap (λ (n : ℕ). slice_index_or p.groups n d) same ∙ get_or_default p.groups i d e there)
 
-tic_right : (p : Plan) → IsSound p → (a : Asking) → a.state.tic < a.state.limit → IsStateOf p a.state → IsStateOf p (tic p a).asking.state
+pub tic_right : (p : Plan) → IsSound p → (a : Asking) → a.state.tic < a.state.limit → IsStateOf p a.state → IsStateOf p (tic p a).asking.state
 tic_right p sound a below good =
     let now = a.state.tic in
     let fits : now ≤ last_time = omega (arith, below, good.limit) in
@@ -217,7 +217,7 @@ below_right : (p : Plan) → IsSound p → (a : Asking) (b : Bool) → nat_lt a.
 below_right p sound a true e good = tic_right p sound a (grind (arith, e)) good
 below_right p sound a false e good = good
 
-tics_right : (p : Plan) → IsSound p → (count : ℕ) (a : Asking) → IsStateOf p a.state → IsStateOf p (tics p count a).asking.state
+pub tics_right : (p : Plan) → IsSound p → (count : ℕ) (a : Asking) → IsStateOf p a.state → IsStateOf p (tics p count a).asking.state
 tics_right p sound zero a good = good
 tics_right p sound (suc count) a good = tics_right p sound count (tic_below_limit p a).asking (below_right p sound a _ refl good)
 
@@ -260,7 +260,7 @@ answer_found p (command.Copy mode) s = tt
 answer_found p command.Exit s = tt
 answer_found p command.Bad s = tt
 
-hear_right : (p : Plan) → IsSound p → (entry : Entry) (h : Hearing) → IsStateOf p h.asking.state → IsStateOf p (hear p entry h).asking.state
+pub hear_right : (p : Plan) → IsSound p → (entry : Entry) (h : Hearing) → IsStateOf p h.asking.state → IsStateOf p (hear p entry h).asking.state
 hear_right p sound (Join number) h good = good
 hear_right p sound (Said number line) h good =
     let session = session_of number h.sessions in
@@ -269,12 +269,12 @@ hear_right p sound (Said number line) h good =
 hear_right p sound (Leave number cause) h good = good
 hear_right p sound (Publish thread) h good = good
 
-heard_right : (p : Plan) → IsSound p → (entries : List Entry) (h : Hearing) → IsStateOf p h.asking.state → IsStateOf p (heard p entries h).asking.state
+pub heard_right : (p : Plan) → IsSound p → (entries : List Entry) (h : Hearing) → IsStateOf p h.asking.state → IsStateOf p (heard p entries h).asking.state
 heard_right p sound [] h good = good
 heard_right p sound (entry ∷ entries) h good = heard_right p sound entries (hear p entry h) (hear_right p sound entry h good)
 
 -- what was found stands at its place
-abbrev FoundAt : Plan → ℕ → Option (ℕ × Thread) → Type 0
+abbrev pub FoundAt : Plan → ℕ → Option (ℕ × Thread) → Type 0
 FoundAt p place None = Unit {0}
 FoundAt p place (Some found) = IsAt p (place + found.0) found.1
 
@@ -306,7 +306,7 @@ round_right p sound (Some found) s at good =
     (record_at p found.0 found.1 s (subst (λ (n : ℕ). IsAt p n found.1) same at) good) good)
     (λ none. good)
 
-publish_all_right : (p : Plan) → IsSound p → (entries : List Entry) (s : State) → IsStateOf p s → IsStateOf p (publish_all p entries s)
+pub publish_all_right : (p : Plan) → IsSound p → (entries : List Entry) (s : State) → IsStateOf p s → IsStateOf p (publish_all p entries s)
 publish_all_right p sound [] s good = good
 publish_all_right p sound (Join number ∷ entries) s good = publish_all_right p sound entries s good
 publish_all_right p sound (Said number line ∷ entries) s good = publish_all_right p sound entries s good
@@ -315,11 +315,11 @@ publish_all_right p sound (Publish thread ∷ entries) s good =
     publish_all_right p sound entries (publish_round p thread s)
     (round_right p sound (find_thread thread (threads_beside p)) s (find_at p 0 thread (threads_beside p) (all_at p)) good)
 
-frozen_right : (p : Plan) → IsSound p → (freeze : Bool) (s : State) → IsStateOf p s → IsStateOf p (frozen p freeze s)
+pub frozen_right : (p : Plan) → IsSound p → (freeze : Bool) (s : State) → IsStateOf p s → IsStateOf p (frozen p freeze s)
 frozen_right p sound false s good = good
 frozen_right p sound true s good = enter_right p sound s good
 
-framed_right : (p : Plan) → IsSound p → (ran : Bool) (entries : List Entry) (a : Asking) → IsStateOf p a.state → IsStateOf p (framed p ran entries a).asking.state
+pub framed_right : (p : Plan) → IsSound p → (ran : Bool) (entries : List Entry) (a : Asking) → IsStateOf p a.state → IsStateOf p (framed p ran entries a).asking.state
 framed_right p sound false entries a good = good
 framed_right p sound true entries a good =
     let top = run_class p class.TopOfFrame (publish_all p entries a.state) in
@@ -341,15 +341,15 @@ start_right p place thread s at good = by_process thread.process
     by_process process.MustFinish = good
     by_process process.Async = by_test p (taken_at s place).held s _ (λ held. good) (λ none. take_right p place thread s at good)
 
-rounds_right : (p : Plan) (ran : Bool) (s : State) → IsStateOf p s → IsStateOf p (rounds p ran s)
+pub rounds_right : (p : Plan) (ran : Bool) (s : State) → IsStateOf p s → IsStateOf p (rounds p ran s)
 rounds_right p false s good = good
 rounds_right p true s good = threads_right p (start_round p) (start_right p) 0 (threads_beside p) s (all_at p) good
 
-checkpoint_right : (p : Plan) → IsSound p → (asked : Bool) (s : State) → IsStateOf p s → IsStateOf p (checkpoint_jobs p asked s)
+pub checkpoint_right : (p : Plan) → IsSound p → (asked : Bool) (s : State) → IsStateOf p s → IsStateOf p (checkpoint_jobs p asked s)
 checkpoint_right p sound false s good = good
 checkpoint_right p sound true s good = class_right p sound class.Checkpoint s good
 
-counted_right : (p : Plan) (s : State) → IsStateOf p s → IsStateOf p (counted s)
+pub counted_right : (p : Plan) (s : State) → IsStateOf p s → IsStateOf p (counted s)
 counted_right p s good = with_turn p s (min (s.turn + 1) last_turn) (grind arith) good
 
 pub turns_keep_validity : KeepsValidity
@@ -369,7 +369,7 @@ empty_sizes p sound =
     λ i. length-replicate (length p.names) (pos 0) i ∷ sound.jobs_flagged i ∷ sound.events_flagged i ∷ sound.groups_flagged i
     ∷ length-map p.groups (λ (group : Group). no_row) i ∷ length-map (threads_beside p) (λ (thread : Thread). nothing_taken) i ∷ []
 
-empty_right : (p : Plan) → IsSound p → IsStateOf p (empty p)
+pub empty_right : (p : Plan) → IsSound p → IsStateOf p (empty p)
 empty_right p sound = record {
   turn = omega arith;
   tic = omega arith;
@@ -393,16 +393,16 @@ assigned_length : (assigns : List (Cell × ℤ)) (memory : List ℤ) → length 
 assigned_length [] memory = refl
 assigned_length (a ∷ more) memory = assigned_length more (slice_set memory (a.0).0 a.1) ∙ length-set memory (a.0).0 a.1
 
-assigns_right : (p : Plan) → IsSound p → (s : State) → IsStateOf p s → IsStateOf p (with_assigns p s)
+pub assigns_right : (p : Plan) → IsSound p → (s : State) → IsStateOf p s → IsStateOf p (with_assigns p s)
 assigns_right p sound s good =
     with_memory p s (assigned p.assigns s.memory) (assigned_each p p.assigns s.memory sound.assigns good.memory)
     (λ i. assigned_length p.assigns s.memory i ∷ length s.jobs.on ∷ length s.events.on ∷ length s.groups.on ∷ length s.last ∷ length s.taken ∷ []) good
 
-frozen_start_right : (p : Plan) → IsSound p → (freeze : Bool) (s : State) → IsStateOf p s → IsStateOf p (frozen_at_start p freeze s)
+pub frozen_start_right : (p : Plan) → IsSound p → (freeze : Bool) (s : State) → IsStateOf p s → IsStateOf p (frozen_at_start p freeze s)
 frozen_start_right p sound false s good = good
 frozen_start_right p sound true s good = enter_right p sound s good
 
-shut_right : (p : Plan) → IsSound p → (s : State) → IsStateOf p s → IsStateOf p (shut p s)
+pub shut_right : (p : Plan) → IsSound p → (s : State) → IsStateOf p s → IsStateOf p (shut p s)
 shut_right p sound s good =
     by_test p (is_shut s.mode) s _ (λ done. good) (λ goes. class_right p sound class.Shutdown _ (with_mode p s mode.Shutdown good))
 
