@@ -298,7 +298,7 @@ meaning_named w done memory named_by name parts locals (means.Stands from) is ow
     at_named w done memory named_by name parts locals from (local_begins w done memory named_by name (meaning_of name locals) from is) (followed parts w (Some from)) refl (scalar_there (followed parts w (Some from))) refl own first span offset literals st goal ns more led
 
 pub lead_to_their_names : LeadToTheirNames
-lead_to_their_names w done memory named_by line name parts locals (spot own first span offset literals st) goal ns more led =
+lead_to_their_names w done memory named_by line name parts locals (spot own first span offset literals st) goal = λ ns more led.
     meaning_named w done memory named_by name parts locals (named name w locals) refl own first span offset literals st goal ns more led
 
 pub objects_hold_names : ObjectsHoldNames
