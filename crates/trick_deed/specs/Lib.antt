@@ -1,0 +1,2 @@
+-- What a deed of the code is.
+pub mod Deeds

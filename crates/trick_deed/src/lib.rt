@@ -1,0 +1,15 @@
+//! What an action asks for in a plan: the names that it has become the numbers of cells, jobs, groups
+//! and events. An action that names what is not there, or has a number or a time out of range, asks for
+//! nothing. Takes no memory.
+#![tactic(auto)]
+
+mod ask;
+mod deed;
+mod find;
+mod named;
+#[cfg(test)]
+mod tests;
+
+pub use ask::{deed_in_plan, deed_of};
+pub use deed::Deed;
+pub use find::find_cell;
