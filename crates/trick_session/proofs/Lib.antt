@@ -1,0 +1,2 @@
+-- what lines keep of a session
+pub mod Kept
