@@ -9,28 +9,53 @@ use Rattle.trick_top.proofs.FoundLemmas.{in_the_midst, lacks_none, leave_reads, 
 use Rattle.trick_top.proofs.OutcomeLemmas.{faults}
 use Rattle.trick_top.specs.Counting.{IsCounting, IsStop}
 use Rattle.trick_top.specs.Found.{names, reads, texts}
-use Rattle.trick_top.specs.Outcome.{Goes, GoesOn, Simulated, ended, gone_on, input_refused, missing, no_memory_to_keep, no_memory_to_read, no_memory_to_write, not_read, not_understood, not_written, s_define_refused, unread}
+use Rattle.trick_top.specs.Outcome.{Goes, GoesOn, Outcome, Simulated, ended, gone_on, input_refused, missing, no_memory_to_keep, no_memory_to_read, no_memory_to_write, not_read, not_understood, not_written, s_define_refused, unread}
 use Rattle.trick_top.specs.Status.{Refuses}
 use Rattle.trick_top.specs.Verdict.{Verdict, status_of}
-use Rattle.trick_top.specs.Words.{Asks, Command, IsWanted, Serial, names_of}
+use Rattle.trick_top.specs.Words.{AreRefused, Asked, Asks, IsWanted, Nothing, Unknown, Wanted, command_of, names_of}
 use Rattle.trick_top.specs.declared.counting.Counting.{Counting}
 use Rattle.trick_top.specs.declared.verdict.Source.TheVariants.{Input, SDefine}
 use Rattle.trick_top.specs.declared.verdict.Source.{Source}
+use Rattle.trick_top.specs.declared.words.Command.{Command}
+use Rattle.trick_words.specs.Command as lines
+use Rattle.trick_words.specs.declared.command.Command as declared
 
--- words that ask for something ask for nothing else
-pub same_command : (words : List (List ℕ)) (command : Command) (wanted : Option Command) → Asks words command → IsWanted words wanted → wanted ≡ Some command
-same_command words command None asks is = absurd (is command asks)
-same_command words (Serial s_define input) (Some (Serial name other)) asks is =
-    let one = asks.0 in
-    let two = is.0 in
-    cc
+-- words are one line at most
+abbrev pub AreOneLine : Type 0
+AreOneLine = (words : List (List ℕ)) (first second : declared.Command)
+    → lines.Asks words first → lines.Asks words second → first ≡ second
+
+module _ (once : AreOneLine) (words : List (List ℕ)) where
+  -- words that ask for something ask for nothing else
+  same_asked : (command other : Command) → Asks words command → Asks words other → command ≡ other
+  same_asked command other asks is =
+      let same : asks.line ≡ is.line = once words asks.line is.line asks.asked is.asked in
+      let both : Some command ≡ Some other = sym asks.known ∙ ap command_of same ∙ is.known in
+      cc
+
+  -- words that ask for a command go as this command, where there was memory to read them
+  pub asked_goes : (wanted : Wanted) (calls : List Call) (verdict : Verdict) → IsWanted words wanted
+      → Outcome wanted calls verdict → (command : Command) → Asks words command
+      → Goes command calls verdict ⊎ (status_of verdict ≡ 6)
+  asked_goes Unknown calls verdict is (none, same) command asks = inr (ap status_of same)
+  asked_goes Nothing calls verdict is outcome command asks = absurd (is command asks)
+  asked_goes (Asked other) calls verdict is outcome command asks =
+      inl (subst (λ c. Goes c calls verdict) (same_asked other command is asks) outcome)
+
+-- words that ask for nothing are refused, where there was memory to read them
+pub refused_usage : (words : List (List ℕ)) (wanted : Wanted) (calls : List Call) (verdict : Verdict)
+    → IsWanted words wanted → AreRefused words → Outcome wanted calls verdict
+    → (status_of verdict ≡ 1) ⊎ (status_of verdict ≡ 6)
+refused_usage words Unknown calls verdict is refused (none, same) = inr (ap status_of same)
+refused_usage words Nothing calls verdict is refused (none, same) = inl (ap status_of same)
+refused_usage words (Asked command) calls verdict is refused outcome = absurd (refused command is)
 
 module _ (command : Command) (held now : Files) where
   -- a file is missing
   pub missing_ends : {calls : List Call} {verdict : Verdict} → Goes command calls verdict → (fails calls ≡ true → ⊥) → AllLeave calls held now
       → Contains (map (get held) (names_of command)) None → (status_of verdict ≡ 9) ⊎ (status_of verdict ≡ 6)
   missing_ends (unread (missing files name others named)) never left lacks = inl refl
-  missing_ends (unread (not_read files name others named)) never left lacks = absurd (never ((faults (Some command) _ _ (unread (not_read files name others named))).back refl))
+  missing_ends (unread (not_read files name others named)) never left lacks = absurd (never ((faults (Asked command) _ _ (unread (not_read files name others named))).back refl))
   missing_ends (unread (no_memory_to_read files name others named)) never left lacks = inr refl
   missing_ends (unread (no_memory_to_keep files others named)) never left lacks = inr refl
   missing_ends (gone_on files calls named goes) never left lacks =
@@ -44,7 +69,7 @@ module _ (command : Command) (held now : Files) where
       let none = (leave_reads files _ held now left).1.1.0 in
       let lacks : Contains (map (get held) (names files ++ name ∷ others)) None = in_the_midst (get held) (names files) name others none in
       absurd (lacks_none given (subst (λ list. Contains list None) (ap (map (get held)) (sym named) ∙ all) lacks))
-  found_goes given (unread (not_read files name others named)) never left all = absurd (never ((faults (Some command) _ _ (unread (not_read files name others named))).back refl))
+  found_goes given (unread (not_read files name others named)) never left all = absurd (never ((faults (Asked command) _ _ (unread (not_read files name others named))).back refl))
   found_goes given (unread (no_memory_to_read files name others named)) never left all = inr refl
   found_goes given (unread (no_memory_to_keep files others named)) never left all = inr refl
   found_goes {verdict = verdict} given (gone_on files calls named goes) never left all =

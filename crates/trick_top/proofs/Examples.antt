@@ -1,6 +1,5 @@
 -- Wrong bodies that no row holds, whatever their proofs are.
 use Rattle.std.proofs.Common.{◌≡◌, List, ℕ, ◌∷◌, true, refl}
-use Rattle.std.specs.Prelude.{Option}
 use Rattle.trick_outside.specs.Calls.{Call, Get, Stopped, fails}
 use Rattle.trick_outside.specs.Pieces as pieces
 use Rattle.trick_outside.specs.declared.sink.Sink.{Ghosts}
@@ -9,18 +8,20 @@ use Rattle.trick_top.proofs.OutcomeLemmas.{faults}
 use Rattle.trick_top.proofs.PrintLemmas.{Given}
 use Rattle.trick_top.specs.Outcome.{Outcome}
 use Rattle.trick_top.specs.Verdict.{OutOfMemory, Verdict}
-use Rattle.trick_top.specs.Words.{Command}
+use Rattle.trick_top.specs.Words.{Wanted}
 
 -- a call after one that failed
-no_call_after : (command : Option Command) (verdict : Verdict) (name : List ℕ) (call : Call) (calls : List Call) → Outcome command (Stopped (Get name) Shelf ∷ call ∷ calls) verdict → ⊥
-no_call_after command verdict name call calls outcome =
-    let none = (faults command (Stopped (Get name) Shelf ∷ call ∷ calls) verdict outcome).ends.0 refl in
+no_call_after : (wanted : Wanted) (verdict : Verdict) (name : List ℕ) (call : Call) (calls : List Call)
+    → Outcome wanted (Stopped (Get name) Shelf ∷ call ∷ calls) verdict → ⊥
+no_call_after wanted verdict name call calls outcome =
+    let none = (faults wanted (Stopped (Get name) Shelf ∷ call ∷ calls) verdict outcome).ends.0 refl in
     cc
 
 -- a call that failed, told as want of memory
-not_as_memory : (command : Option Command) (calls : List Call) → Outcome command calls OutOfMemory → fails calls ≡ true → ⊥
-not_as_memory command calls outcome fault = let is = (faults command calls OutOfMemory outcome).there fault in cc
+not_as_memory : (wanted : Wanted) (calls : List Call) → Outcome wanted calls OutOfMemory → fails calls ≡ true → ⊥
+not_as_memory wanted calls outcome fault = let is = (faults wanted calls OutOfMemory outcome).there fault in cc
 
 -- a sink that failed, told as want of memory
-not_as_six : {O : Type 0} {sink : Ghosts O} {old new : O} {verdict : Verdict} → (so : Given sink old new verdict 6) → pieces.fails so.pieces ≡ true → ⊥
+not_as_six : {O : Type 0} {sink : Ghosts O} {old new : O} {verdict : Verdict} → (so : Given sink old new verdict 6)
+    → pieces.fails so.pieces ≡ true → ⊥
 not_as_six so fault = let is = so.fault fault in cc

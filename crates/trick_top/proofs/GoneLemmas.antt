@@ -1,5 +1,5 @@
 -- How a command goes on a shelf.
-use Rattle.std.proofs.Common.{◌≡◌, ℕ, List, [], ◌∷◌, ◌++◌, None, Some, refl, sym, ◌∙◌, ap, subst, append_assoc, length, suc}
+use Rattle.std.proofs.Common.{◌≡◌, ℕ, List, [], ◌∷◌, ◌++◌, Some, refl, sym, ◌∙◌, ap, subst, append_assoc, length, suc}
 use Rattle.trick_outside.proofs.DoesLemmas.{Joins, went_none, went_then}
 use Rattle.trick_outside.specs.Calls.{Call, Read}
 use Rattle.trick_outside.specs.Does.{Went}
@@ -8,20 +8,26 @@ use Rattle.trick_top.proofs.FoundLemmas.{names-append, reads-append, texts-appen
 use Rattle.trick_top.specs.Found.{Found, names, reads, texts}
 use Rattle.trick_top.specs.Outcome.{GoesOn, HasFound, HasGone, HasGoneOn, HasNotFound, Unread, gone_on, no_memory_to_keep, unread}
 use Rattle.trick_top.specs.Verdict.{OutOfMemory, Usage, Verdict}
-use Rattle.trick_top.specs.Words.{Command, names_of}
+use Rattle.trick_top.specs.Words.{Asked, Nothing, Unknown, names_of}
+use Rattle.trick_top.specs.declared.words.Command.{Command}
 
 -- the words ask for nothing
-pub gone_nowhere : {S : Type 0} {shelf : Ghosts S} (s : S) → shelf.called s [] s → HasGone shelf s s None Usage
+pub gone_nowhere : {S : Type 0} {shelf : Ghosts S} (s : S) → shelf.called s [] s → HasGone shelf s s Nothing Usage
 gone_nowhere s none = record { calls = []; went = went_none s none; outcome = (refl, refl) }
+
+-- there was no memory to read the words
+pub gone_unknown : {S : Type 0} {shelf : Ghosts S} (s : S) → shelf.called s [] s
+    → HasGone shelf s s Unknown OutOfMemory
+gone_unknown s none = record { calls = []; went = went_none s none; outcome = (refl, refl) }
 
 -- a file was not read
 pub gone_unread : {S : Type 0} {shelf : Ghosts S} {old new : S} {wanted : List (List ℕ)} (command : Command) (verdict : Verdict) → wanted ≡ names_of command
-    → HasNotFound shelf old new wanted verdict → HasGone shelf old new (Some command) verdict
+    → HasNotFound shelf old new wanted verdict → HasGone shelf old new (Asked command) verdict
 gone_unread command verdict same is = record { calls = is.calls; went = is.went; outcome = unread (subst (λ names. Unread names is.calls verdict) same is.unread) }
 
 -- all files were found, and it went on with their texts
 pub gone_further : {S : Type 0} {shelf : Ghosts S} {old mid new : S} {wanted given : List (List ℕ)} (command : Command) (kept : List (List ℕ)) (verdict : Verdict) → Joins shelf
-    → wanted ≡ names_of command → kept ≡ given → HasFound shelf old mid wanted given → HasGoneOn shelf mid new command kept verdict → HasGone shelf old new (Some command) verdict
+    → wanted ≡ names_of command → kept ≡ given → HasFound shelf old mid wanted given → HasGoneOn shelf mid new command kept verdict → HasGone shelf old new (Asked command) verdict
 gone_further command kept verdict join same held found on = record {
   calls = reads found.files ++ on.calls;
   went = went_then join found.went on.went;

@@ -9,4 +9,5 @@ pub mod SimulatedLemmas
 pub mod GoneLemmas
 pub mod TopLemmas
 pub mod QuietLemmas
+pub mod WordLemmas
 mod Examples

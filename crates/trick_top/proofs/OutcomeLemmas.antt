@@ -1,13 +1,14 @@
 -- What the rows say of the calls: where one failed, and what they leave.
-use Rattle.std.proofs.Common.{◌≡◌, ◌≢◌, ℕ, List, [], ◌∷◌, ◌++◌, Some, None, refl, sym, ◌∙◌, ap, Bool, true, false, ◌||◌}
-use Rattle.std.specs.Prelude.{Option}
+use Rattle.std.proofs.Common.{◌≡◌, ◌≢◌, ℕ, List, [], ◌∷◌, ◌++◌, refl, sym, ◌∙◌, ap, Bool, true, false, ◌||◌}
 use Rattle.trick_outside.proofs.CallLemmas.{ends-append, fails-late, not_both, part_ends}
 use Rattle.trick_outside.specs.Calls.{Call, EndAtFault, fails, is_fault}
 use Rattle.trick_top.proofs.FoundLemmas.{reads_quiet}
 use Rattle.trick_top.specs.Found.{Found, reads, texts}
 use Rattle.trick_top.specs.Outcome.{GoesOn, Outcome, Simulated, Unread, ended, gone_on, input_refused, missing, no_memory_to_keep, no_memory_to_read, no_memory_to_write, not_read, not_understood, not_written, s_define_refused, unread}
-use Rattle.trick_top.specs.Verdict.{ShelfFault, Usage, Verdict}
-use Rattle.trick_top.specs.Words.{Command, Serial}
+use Rattle.trick_top.specs.Verdict.{OutOfMemory, ShelfFault, Usage, Verdict}
+use Rattle.trick_top.specs.Words.{Asked, Nothing, Unknown, Wanted}
+use Rattle.trick_top.specs.declared.words.Command.{Command}
+use Rattle.trick_top.specs.declared.words.Command.TheVariants.{Serial}
 
 -- the verdict is `ShelfFault` exactly where a call failed, and that call was the last
 pub record Faults (calls : List Call) (verdict : Verdict) : Type 0 where
@@ -59,7 +60,10 @@ on_faults (Serial name other) (s_define ∷ []) goes = absurd goes
 on_faults (Serial name other) (s_define ∷ input ∷ []) goes = simulated_faults goes
 on_faults (Serial name other) (s_define ∷ input ∷ more ∷ given) goes = absurd goes
 
-pub faults : (command : Option Command) (calls : List Call) (verdict : Verdict) → Outcome command calls verdict → Faults calls verdict
-faults None calls verdict (none, is) = rw (none, is) (quiet [] Usage refl tt (λ e. cc))
-faults (Some command) calls verdict (unread is) = unread_faults is
-faults (Some command) all verdict (gone_on files calls named goes) = later (reads files) _ _ (reads_quiet files) (on_faults command (texts files) goes)
+pub faults : (wanted : Wanted) (calls : List Call) (verdict : Verdict) → Outcome wanted calls verdict
+    → Faults calls verdict
+faults Unknown calls verdict (none, is) = rw (none, is) (quiet [] OutOfMemory refl tt (λ e. cc))
+faults Nothing calls verdict (none, is) = rw (none, is) (quiet [] Usage refl tt (λ e. cc))
+faults (Asked command) calls verdict (unread is) = unread_faults is
+faults (Asked command) all verdict (gone_on files calls named goes) =
+    later (reads files) _ _ (reads_quiet files) (on_faults command (texts files) goes)

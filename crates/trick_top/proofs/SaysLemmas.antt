@@ -1,5 +1,5 @@
 -- What the verdict of a row says.
-use Rattle.std.proofs.Common.{◌≡◌, ℕ, List, [], ◌∷◌, ◌++◌, Some, None, refl, sym, ◌∙◌, ap, subst, append-nil}
+use Rattle.std.proofs.Common.{◌≡◌, ℕ, List, [], ◌∷◌, ◌++◌, Some, refl, sym, ◌∙◌, ap, subst, append-nil}
 use Rattle.std.specs.FinMap.{insert}
 use Rattle.std.specs.Prelude.{Option, unwrap_or}
 use Rattle.trick_base.proofs.FileLemmas.{get-insert_same, insert-insert}
@@ -16,8 +16,10 @@ use Rattle.trick_top.specs.Found.{Found, names, reads, texts}
 use Rattle.trick_top.specs.Outcome.{GoesOn, Outcome, Simulated, Unread, ended, final_name, final_steps, gone_on, input_refused, missing, no_memory_to_keep, no_memory_to_read, no_memory_to_write, not_read, not_understood, not_written, s_define_refused, unread}
 use Rattle.trick_top.specs.Status.{Finds, HoldsSame, MayWrite, Says, Stands, a_front, nothing}
 use Rattle.trick_top.specs.Verdict.{NoFile, ShelfFault, TextRefused, Usage, Verdict}
-use Rattle.trick_top.specs.Words.{Asks, Command, IsWanted, Serial, names_of}
+use Rattle.trick_top.specs.Words.{Asked, Asks, IsWanted, Nothing, Unknown, Wanted, names_of}
 use Rattle.trick_top.specs.declared.verdict.Source.{Source}
+use Rattle.trick_top.specs.declared.words.Command.{Command}
+use Rattle.trick_top.specs.declared.words.Command.TheVariants.{Serial}
 
 -- two files that were found, and the run of their texts
 pub record Two (name other : List ℕ) (files : List Found) (calls : List Call) (verdict : Verdict) : Type 0 where
@@ -87,13 +89,17 @@ module _ {S : Type 0} (shelf : Ghosts S) (old new : S) (words : List (List ℕ))
   unread_says command (no_memory_to_keep files others named) asks went fault = tt
 
   -- each verdict's own words
-  pub says : (verdict : Verdict) (command : Option Command) {calls : List Call} → Outcome command calls verdict → IsWanted words command → Went shelf old new calls → Says shelf old new words verdict
-  says verdict None (none, is) wanted went = rw is (wanted, subst (λ c. Went shelf old new c) none went)
-  says verdict (Some command) (unread is) wanted went = unread_says command is wanted went (λ fault. went.went.cause.failed ((faults (Some command) _ _ (unread is)).back fault))
-  says verdict (Some (Serial name other)) (gone_on files calls named goes) wanted went =
+  pub says : (verdict : Verdict) (wanted : Wanted) {calls : List Call} → Outcome wanted calls verdict
+      → IsWanted words wanted → Went shelf old new calls → Says shelf old new words verdict
+  says verdict Unknown (none, is) wanted went = rw is tt
+  says verdict Nothing (none, is) wanted went = rw is (wanted, subst (λ c. Went shelf old new c) none went)
+  says verdict (Asked command) (unread is) wanted went =
+      unread_says command is wanted went
+      (λ fault. went.went.cause.failed ((faults (Asked command) _ _ (unread is)).back fault))
+  says verdict (Asked (Serial name other)) (gone_on files calls named goes) wanted went =
       let two = two_files name other files named goes in
       simulated_says two.simulated wanted (subst (λ c. Went shelf old new (c ++ calls)) two.are went)
-      (λ fault. went.went.cause.failed ((faults (Some (Serial name other)) _ _ (gone_on files calls named goes)).back fault))
+      (λ fault. went.went.cause.failed ((faults (Asked (Serial name other)) _ _ (gone_on files calls named goes)).back fault))
 
   -- a file that was not read leaves all as it was
   unread_same : {wanted : List (List ℕ)} {calls : List Call} {verdict : Verdict} (held now : Files) → Unread wanted calls verdict → AllLeave calls held now → now ≡ held
@@ -119,14 +125,18 @@ module _ {S : Type 0} (shelf : Ghosts S) (old new : S) (words : List (List ℕ))
       let front = front_of part (final_steps simulation final) held now tt is left in
       (front.writes, a_front finds describes front.front, front.is)
 
-  pub stands : (verdict : Verdict) (command : Option Command) {calls : List Call} → Outcome command calls verdict → IsWanted words command → Went shelf old new calls → Stands shelf old new words
-  stands verdict None (none, is) wanted went files told =
+  pub stands : (verdict : Verdict) (wanted : Wanted) {calls : List Call} → Outcome wanted calls verdict
+      → IsWanted words wanted → Went shelf old new calls → Stands shelf old new words
+  stands verdict Unknown (none, is) wanted went files told =
       let left = went.went.left files told in
       ([], nothing, left.1 ∙ ap Some (subst (λ c. AllLeave c files left.0) none left.2))
-  stands verdict (Some command) (unread is) wanted went files told =
+  stands verdict Nothing (none, is) wanted went files told =
+      let left = went.went.left files told in
+      ([], nothing, left.1 ∙ ap Some (subst (λ c. AllLeave c files left.0) none left.2))
+  stands verdict (Asked command) (unread is) wanted went files told =
       let left = went.went.left files told in
       ([], nothing, left.1 ∙ ap Some (unread_same files left.0 is left.2))
-  stands verdict (Some (Serial name other)) (gone_on found calls named goes) wanted went files told =
+  stands verdict (Asked (Serial name other)) (gone_on found calls named goes) wanted went files told =
       let two = two_files name other found named goes in
       let left = went.went.left files told in
       let after = leave_reads (both name other two.s_define two.input) calls files left.0 (subst (λ c. AllLeave (c ++ calls) files left.0) two.are left.2) in

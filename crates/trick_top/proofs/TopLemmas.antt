@@ -6,20 +6,23 @@ use Rattle.trick_outside.specs.Causes.{Rose}
 use Rattle.trick_outside.specs.Does.{Went}
 use Rattle.trick_outside.specs.declared.shelf.Shelf.{Ghosts}
 use Rattle.trick_outside.specs.declared.sink.Sink as sink
-use Rattle.trick_top.proofs.CompleteLemmas.{described_ends, found_goes, missing_ends, refused_ends, same_command}
+use Rattle.trick_top.proofs.CompleteLemmas.{AreOneLine, asked_goes, described_ends, found_goes, missing_ends}
+use Rattle.trick_top.proofs.CompleteLemmas.{refused_ends, refused_usage}
 use Rattle.trick_top.proofs.OutcomeLemmas.{faults}
 use Rattle.trick_top.proofs.PrintLemmas.{Given, decided, ends_with, given}
-use Rattle.trick_top.proofs.SaysLemmas as row
+use Rattle.trick_top.proofs.SaysLemmas as says_row
+use Rattle.trick_top.specs.Answered.{HasAnswered}
 use Rattle.trick_top.specs.Called.{HasCalled}
 use Rattle.trick_top.specs.Counting.{IsCounting, IsStop}
-use Rattle.trick_top.specs.Outcome.{Goes, GoesOn, HasGone, Outcome, Simulated}
-use Rattle.trick_top.specs.Printed.{Prints}
+use Rattle.trick_top.specs.Outcome.{Goes, GoesOn, Simulated}
 use Rattle.trick_top.specs.Status.{EndsWith, Finds, HoldsSame, IsRefusal, MissesFile, Refuses, RefusesText, RunsToEnd, Says, Stands, TookLine}
 use Rattle.trick_top.specs.Verdict.{Ended, NoFile, OutOfMemory, ShelfFault, TextRefused, Usage, Verdict, line_of, status_of}
-use Rattle.trick_top.specs.Words.{AreRefused, Asks, Command, IsWanted, Serial}
+use Rattle.trick_top.specs.Words.{AreRefused, Asks}
 use Rattle.trick_top.specs.declared.counting.Counting.{Counting}
 use Rattle.trick_top.specs.declared.state.State.{State}
 use Rattle.trick_top.specs.declared.verdict.Source.{Source}
+use Rattle.trick_top.specs.declared.words.Command.{Command}
+use Rattle.trick_top.specs.declared.words.Command.TheVariants.{Serial}
 
 -- which verdict a status is of
 is_usage : (verdict : Verdict) → status_of verdict ≡ 1 → verdict ≡ Usage
@@ -62,21 +65,21 @@ is_shelf_fault (Ended turn tic) e = absurd (omega (arith, e))
 is_shelf_fault ShelfFault e = refl
 is_shelf_fault OutOfMemory e = absurd (omega (arith, e))
 
-usage_due : (words : List (List ℕ)) (command : Option Command) (calls : List Call) (verdict : Verdict) → IsWanted words command → AreRefused words → Outcome command calls verdict → status_of verdict ≡ 1
-usage_due words None calls verdict wanted refused (none, is) = ap status_of is
-usage_due words (Some command) calls verdict wanted refused outcome = absurd (refused command wanted)
-
 -- what a command does with two texts
 simulated_of : (command : Command) (s_define input : List ℕ) {calls : List Call} {verdict : Verdict} → GoesOn command (s_define ∷ input ∷ []) calls verdict → Simulated s_define input calls verdict
 simulated_of (Serial name other) s_define input goes = goes
 
-module _ {S O : Type 0} (shelf : Ghosts S) (sink : sink.Ghosts O) (old new : S) (before now : O) (words : List (List ℕ)) (command : Option Command) (verdict : Verdict) (status : ℕ)
-    (wanted : IsWanted words command) (gone : HasGone shelf old new command verdict) (prints : Prints sink before now verdict status) where
+module _ {S O : Type 0} {shelf : Ghosts S} {sink : sink.Ghosts O} {old new : S} {before now : O}
+    {words : List (List ℕ)} {status : ℕ} (once : AreOneLine)
+    (row : HasAnswered shelf sink old new before now words status) where
+  abbrev verdict : Verdict
+  verdict = row.verdict
+
   so : Given sink before now verdict status
-  so = given prints
+  so = given row.prints
 
   says : Says shelf old new words verdict
-  says = row.says shelf old new words verdict command gone.outcome wanted gone.went
+  says = says_row.says shelf old new words verdict row.wanted row.gone.outcome row.asked row.gone.went
 
   abbrev pub Took : Verdict → Type 0
   Took v = TookLine (sink.holds before) (sink.holds now) (line_of v)
@@ -122,10 +125,10 @@ module _ {S O : Type 0} (shelf : Ghosts S) (sink : sink.Ghosts O) (old new : S) 
 
   pub called : HasCalled shelf sink old new before now status
   called =
-      let all = faults command gone.calls verdict gone.outcome in
+      let all = faults row.wanted row.gone.calls verdict row.gone.outcome in
       record {
-        calls = gone.calls;
-        went = gone.went;
+        calls = row.gone.calls;
+        went = row.gone.went;
         ends = all.ends;
         verdict = so.shown;
         pieces = so.pieces;
@@ -139,37 +142,47 @@ module _ {S O : Type 0} (shelf : Ghosts S) (sink : sink.Ghosts O) (old new : S) 
       }
 
   pub refused_same : IsRefusal status → HoldsSame (shelf.holds old) (shelf.holds new)
-  refused_same (inl is) = row.usage_same shelf old new words (usage_is is).0
-  refused_same (inr (inl is)) = let refused = text_refused is in row.text_same shelf old new words refused.0 refused.1
-  refused_same (inr (inr is)) = let misses = no_file is in row.missing_same shelf old new words misses.0 misses.1
+  refused_same (inl is) = says_row.usage_same shelf old new words (usage_is is).0
+  refused_same (inr (inl is)) = let refused = text_refused is in says_row.text_same shelf old new words refused.0 refused.1
+  refused_same (inr (inr is)) = let misses = no_file is in says_row.missing_same shelf old new words misses.0 misses.1
 
   pub stopped : Stands shelf old new words
-  stopped = row.stands shelf old new words verdict command gone.outcome wanted gone.went
+  stopped = says_row.stands shelf old new words verdict row.wanted row.gone.outcome row.asked row.gone.went
 
   pub usage_all : AreRefused words → EndsWith status 1
-  usage_all refused = ends_with so 1 (inl (usage_due words command gone.calls verdict wanted refused gone.outcome))
+  usage_all refused = ends_with so 1 (refused_usage words row.wanted _ _ row.asked refused row.gone.outcome)
 
   -- no call failed
-  quiet : (Rose (shelf.failures old) (shelf.failures new) → ⊥) → fails gone.calls ≡ true → ⊥
-  quiet never e = never (gone.went.went.cause.failed e)
+  quiet : (Rose (shelf.failures old) (shelf.failures new) → ⊥) → fails row.gone.calls ≡ true → ⊥
+  quiet never e = never (row.gone.went.went.cause.failed e)
 
   -- the row of a command
-  goes : (asked : Command) → Asks words asked → Goes asked gone.calls verdict
-  goes asked asks = subst (λ c. Outcome c gone.calls verdict) (same_command words asked command asks wanted) gone.outcome
+  goes : (asked : Command) → Asks words asked → Goes asked row.gone.calls verdict ⊎ (status_of verdict ≡ 6)
+  goes asked asks = asked_goes once words row.wanted _ _ row.asked row.gone.outcome asked asks
 
   pub no_file_all : (given : List (Option (List ℕ))) → Finds shelf old words given → Contains given None → (Rose (shelf.failures old) (shelf.failures new) → ⊥) → EndsWith status 9
   no_file_all given finds lacks never =
-      let left = gone.went.went.left finds.files finds.told in
-      ends_with so 9 (missing_ends finds.command finds.files left.0 (goes finds.command finds.asks) (quiet never) left.2 (subst (λ list. Contains list None) (sym finds.held) lacks))
+      let left = row.gone.went.went.left finds.files finds.told in
+      let none = subst (λ list. Contains list None) (sym finds.held) lacks in
+      ends_with so 9
+      (elim (goes finds.command finds.asks) [
+        | inl on ↦ missing_ends finds.command finds.files left.0 on (quiet never) left.2 none
+        | inr short ↦ inr short
+      ])
 
   -- both files are there, so their texts are run
   both_run : (s_define input : List ℕ) → Finds shelf old words (Some s_define ∷ Some input ∷ []) → (Rose (shelf.failures old) (shelf.failures new) → ⊥)
       → ((late : List Call) × Simulated s_define input late verdict × (fails late ≡ true → ⊥)) ⊎ (status_of verdict ≡ 6)
   both_run s_define input finds never =
-      let left = gone.went.went.left finds.files finds.told in
-      elim (found_goes finds.command finds.files left.0 (s_define ∷ input ∷ []) (goes finds.command finds.asks) (quiet never) left.2 finds.held) [
-        | inl on ↦ inl (on.0, simulated_of finds.command s_define input on.1, on.2)
-        | inr none ↦ inr none
+      let left = row.gone.went.went.left finds.files finds.told in
+      elim (goes finds.command finds.asks) [
+        | inl goes ↦
+            elim
+            (found_goes finds.command finds.files left.0 (s_define ∷ input ∷ []) goes (quiet never) left.2 finds.held) [
+              | inl on ↦ inl (on.0, simulated_of finds.command s_define input on.1, on.2)
+              | inr none ↦ inr none
+            ]
+        | inr short ↦ inr short
       ]
 
   pub text_refused_all : (source : Source) (s_define input : List ℕ) → Finds shelf old words (Some s_define ∷ Some input ∷ []) → Refuses source s_define input

@@ -10,7 +10,7 @@ pub mod Run
 pub mod Checkpoint
 -- How a command ends: statuses and printed lines.
 pub mod Verdict
--- The words of the command line.
+-- Which words ask for which command.
 pub mod Words
 -- Tokens by kind and bytes.
 pub mod Piece
@@ -30,9 +30,10 @@ pub mod Printed
 pub mod Status
 -- What the calls say of the status.
 pub mod Called
--- Of the code alone, for the contracts inside the crate: the command that a value stands for,
-pub mod Said
--- the pieces that values stand for, and those at the places that the code takes,
+-- One row of the table of statuses.
+pub mod Answered
+-- Of the code alone, for the contracts inside the crate: the pieces that values stand for, and those
+-- at the places that the code takes,
 pub mod Seen
 -- and what the executive keeps between two turns.
 pub mod Going

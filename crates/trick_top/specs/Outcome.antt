@@ -1,6 +1,6 @@
 -- How a command may go on a shelf: a case for each row of the table of statuses, with each call and
 -- its answer, and the verdict.
-use Rattle.std.specs.Prelude.{◌≡◌, ℕ, List, [], ◌∷◌, ◌++◌, Option, Some, None, false, true, codes}
+use Rattle.std.specs.Prelude.{◌≡◌, ℕ, List, [], ◌∷◌, ◌++◌, None, false, true, codes}
 use Rattle.trick_outside.specs.Calls.{Call, Get, Read, Stopped, fails}
 use Rattle.trick_outside.specs.Does.{IsPartOf, Went, added, created}
 use Rattle.trick_outside.specs.declared.shelf.Shelf.{Ghosts}
@@ -10,10 +10,12 @@ use Rattle.trick_top.specs.Counting.{IsCounting, IsStop}
 use Rattle.trick_top.specs.Found.{Found, names, reads, texts}
 use Rattle.trick_top.specs.Run.{IsFinal}
 use Rattle.trick_top.specs.Verdict.{Verdict, Usage, NoFile, TextRefused, Ended, ShelfFault, OutOfMemory}
-use Rattle.trick_top.specs.Words.{Command, Serial, names_of}
+use Rattle.trick_top.specs.Words.{Wanted, Asked, Nothing, Unknown, names_of}
 use Rattle.trick_top.specs.declared.counting.Counting.{Counting}
 use Rattle.trick_top.specs.declared.state.State.{State}
 use Rattle.trick_top.specs.declared.verdict.Source.TheVariants.{SDefine, Input}
+use Rattle.trick_top.specs.declared.words.Command.{Command}
+use Rattle.trick_top.specs.declared.words.Command.TheVariants.{Serial}
 
 abbrev pub final_name : List ℕ
 final_name = codes "final.chk"
@@ -41,10 +43,12 @@ pub data Simulated (s_define input : List ℕ) : List Call → Verdict → Type 
       → Simulated s_define input (final_steps simulation final) (Ended final.turn final.tic)
   -- the last call failed
   not_written : {simulation : Counting} {final : State} {part : List Call}
-      → Describes s_define input simulation final → IsPartOf part (final_steps simulation final) → fails part ≡ true → Simulated s_define input part ShelfFault
+      → Describes s_define input simulation final → IsPartOf part (final_steps simulation final) → fails part ≡ true
+      → Simulated s_define input part ShelfFault
   -- no call failed
   no_memory_to_write : {simulation : Counting} {final : State} {part : List Call}
-      → Describes s_define input simulation final → IsPartOf part (final_steps simulation final) → fails part ≡ false → Simulated s_define input part OutOfMemory
+      → Describes s_define input simulation final → IsPartOf part (final_steps simulation final) → fails part ≡ false
+      → Simulated s_define input part OutOfMemory
 
 -- How a command goes once its files are found, by their texts.
 abbrev pub GoesOn : Command → List (List ℕ) → List Call → Verdict → Type 0
@@ -58,7 +62,8 @@ pub data Unread (wanted : List (List ℕ)) : List Call → Verdict → Type 0 wh
   not_read : (files : List Found) (name : List ℕ) (others : List (List ℕ)) → wanted ≡ names files ++ name ∷ others
       → Unread wanted (reads files ++ Stopped (Get name) Shelf ∷ []) ShelfFault
   no_memory_to_read : (files : List Found) (name : List ℕ) (others : List (List ℕ))
-      → wanted ≡ names files ++ name ∷ others → Unread wanted (reads files ++ Stopped (Get name) Memory ∷ []) OutOfMemory
+      → wanted ≡ names files ++ name ∷ others
+      → Unread wanted (reads files ++ Stopped (Get name) Memory ∷ []) OutOfMemory
   -- no room for the text of the file that was found last
   no_memory_to_keep : (files : List Found) (others : List (List ℕ)) → wanted ≡ names files ++ others
       → Unread wanted (reads files) OutOfMemory
@@ -70,17 +75,18 @@ pub data Goes (command : Command) : List Call → Verdict → Type 0 where
   gone_on : (files : List Found) (calls : List Call) {verdict : Verdict} → names_of command ≡ names files
       → GoesOn command (texts files) calls verdict → Goes command (reads files ++ calls) verdict
 
--- How it goes where the words ask for this command, or for none.
-abbrev pub Outcome : Option Command → List Call → Verdict → Type 0
-Outcome None calls verdict = (calls ≡ []) × (verdict ≡ Usage)
-Outcome (Some command) calls verdict = Goes command calls verdict
+-- How it goes, by what is known of the words.
+abbrev pub Outcome : Wanted → List Call → Verdict → Type 0
+Outcome Unknown calls verdict = (calls ≡ []) × (verdict ≡ OutOfMemory)
+Outcome Nothing calls verdict = (calls ≡ []) × (verdict ≡ Usage)
+Outcome (Asked command) calls verdict = Goes command calls verdict
 
--- How a command went on a shelf, from old to new.
-pub record HasGone {S : Type 0} (shelf : Ghosts S) (old new : S) (command : Option Command)
+-- How it went on a shelf, from old to new.
+pub record HasGone {S : Type 0} (shelf : Ghosts S) (old new : S) (wanted : Wanted)
     (verdict : Verdict) : Type 0 where
   pub calls : List Call
   pub went : Went shelf old new calls
-  pub outcome : Outcome command calls verdict
+  pub outcome : Outcome wanted calls verdict
 
 -- How the run of two texts went on a shelf, from old to new.
 pub record HasSimulated {S : Type 0} (shelf : Ghosts S) (old new : S) (s_define input : List ℕ)

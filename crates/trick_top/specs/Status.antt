@@ -13,11 +13,13 @@ use Rattle.trick_top.specs.Counting.{IsCounting, IsStop}
 use Rattle.trick_top.specs.Found.{Found, names, reads}
 use Rattle.trick_top.specs.Outcome.{Describes, final_name, final_steps}
 use Rattle.trick_top.specs.Verdict.{Verdict, Ended, NoFile, OutOfMemory, ShelfFault, TextRefused, Usage}
-use Rattle.trick_top.specs.Words.{AreRefused, Asks, Command, Serial, names_of}
+use Rattle.trick_top.specs.Words.{AreRefused, Asks, names_of}
 use Rattle.trick_top.specs.declared.counting.Counting.{Counting}
 use Rattle.trick_top.specs.declared.state.State.{State}
 use Rattle.trick_top.specs.declared.verdict.Source.TheVariants.{SDefine, Input}
 use Rattle.trick_top.specs.declared.verdict.Source.{Source}
+use Rattle.trick_top.specs.declared.words.Command.{Command}
+use Rattle.trick_top.specs.declared.words.Command.TheVariants.{Serial}
 
 -- The status is the one that is due, or there was no memory, or the sink failed.
 abbrev pub EndsWith : ℕ → ℕ → Type 0

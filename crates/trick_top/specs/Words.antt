@@ -1,31 +1,44 @@
--- Which words ask for which command.
-use Rattle.std.specs.Prelude.{◌≡◌, ℕ, Bool, false, ◌==◌, List, [], ◌∷◌, Option, Some, None, codes}
+-- Which words ask for which of the commands that the program has today.
+use Rattle.std.specs.Prelude.{◌≡◌, ℕ, List, [], ◌∷◌, Option, Some, None}
+use Rattle.trick_top.specs.declared.words.Command.{Command}
+use Rattle.trick_top.specs.declared.words.Command.TheVariants.{Serial}
+use Rattle.trick_words.specs.Command as lines
+use Rattle.trick_words.specs.declared.command.Command as declared
+use Rattle.trick_words.specs.declared.command.Command.TheVariants as declared_line
 
-pub data Command : Type 0 where
-  -- one run on one thread, of these two texts
-  Serial : (s_define input : List ℕ) → Command
-
--- a word that begins with `-` is an option, and no name of a file
-abbrev pub is_option : List ℕ → Bool
-is_option [] = false
-is_option (byte ∷ bytes) = byte == 45
+-- The command that a line of words is. The program does not have the other ones yet.
+abbrev pub command_of : declared.Command → Option Command
+command_of (declared_line.Serial s_define input None) = Some (Serial s_define input)
+command_of (declared_line.Serial s_define input (Some from)) = None
+command_of (declared_line.Run s_define input from port) = None
+command_of (declared_line.Replay s_define input journal from) = None
+command_of (declared_line.Check s_define input) = None
+command_of (declared_line.List s_define input) = None
+command_of (declared_line.Gen objects) = None
 
 -- the words ask for this command
-abbrev pub Asks : List (List ℕ) → Command → Type 0
-Asks words (Serial s_define input) =
-    (words ≡ codes "serial" ∷ s_define ∷ input ∷ [])
-    × (is_option s_define ≡ false)
-    × (is_option input ≡ false)
+pub record Asks (words : List (List ℕ)) (command : Command) : Type 0 where
+  pub line : declared.Command
+  pub asked : lines.Asks words line
+  pub known : command_of line ≡ Some command
+
+-- the words ask for no command that the program has
+abbrev pub AreRefused : List (List ℕ) → Type 0
+AreRefused words = (command : Command) → Asks words command → ⊥
 
 -- the files that a command reads, by their names, in this order
 abbrev pub names_of : Command → List (List ℕ)
 names_of (Serial s_define input) = s_define ∷ input ∷ []
 
--- the words ask for no command
-abbrev pub AreRefused : List (List ℕ) → Type 0
-AreRefused words = (command : Command) → Asks words command → ⊥
+-- What is known of the words once they are read.
+pub data Wanted : Type 0 where
+  -- there was no memory to read them
+  Unknown : Wanted
+  -- they ask for no command
+  Nothing : Wanted
+  Asked : (command : Command) → Wanted
 
--- The words ask for this command, or for none.
-abbrev pub IsWanted : List (List ℕ) → Option Command → Type 0
-IsWanted words None = AreRefused words
-IsWanted words (Some command) = Asks words command
+abbrev pub IsWanted : List (List ℕ) → Wanted → Type 0
+IsWanted words Unknown = Unit {0}
+IsWanted words Nothing = AreRefused words
+IsWanted words (Asked command) = Asks words command

@@ -1,16 +1,16 @@
 ghost use Rattle.std.specs.Prelude.{◌≡◌, ◌⊎◌, ℕ, List, [], ◌∷◌, None, Some, Contains, length};
 ghost use Rattle.trick_outside.specs.Causes.{Rose};
 ghost use Rattle.trick_outside.specs.Does.{Went};
+ghost use Rattle.trick_top.specs.Answered.{HasAnswered};
 ghost use Rattle.trick_top.specs.Called.{HasCalled};
 ghost use Rattle.trick_top.specs.Counting.{IsCounting, IsStop};
 ghost use Rattle.trick_top.specs.Outcome.{HasGone, HasGoneOn, HasSimulated};
 ghost use Rattle.trick_top.specs.Printed.{Prints};
-ghost use Rattle.trick_top.specs.Said.{said};
 ghost use Rattle.trick_top.specs.Status.{EndsWith, Finds, HoldsSame, IsRefusal, MissesFile, Refuses, RefusesText};
 ghost use Rattle.trick_top.specs.Status.{RunsToEnd, Stands, TookLine};
 ghost use Rattle.trick_top.specs.Verdict.{Ended, NoFile, OutOfMemory, TextRefused, Usage, line_of, refused_text};
 ghost use Rattle.trick_top.specs.Verdict.{verdict_of};
-ghost use Rattle.trick_top.specs.Words.{AreRefused, IsWanted, names_of};
+ghost use Rattle.trick_top.specs.Words.{AreRefused, Asked, names_of};
 ghost use Rattle.trick_top.specs.declared.counting.Counting.{Counting};
 ghost use Rattle.trick_top.specs.declared.state.State.{State};
 ghost use Rattle.trick_top.specs.declared.verdict.Source.{Source};
@@ -26,6 +26,7 @@ use crate::words::{Command, read_words};
 use std::alloc::Global;
 use trick_base::{Items, Word};
 use trick_outside::{Printed, Shelf, Sink, Stop, put};
+use trick_words::laws;
 
 /// The verdict on a text that was not read.
 fn refused(refusal: Refusal, source: Source) -> Verdict<'static>
@@ -68,26 +69,22 @@ fn simulate<F: Shelf>(
 /// What a command does once its files are found, by their texts.
 fn go_on<F: Shelf>(
     alloc: Global,
-    command: Command,
+    command: &Command,
     texts: &[Items<u8>],
     shelf: &mut F,
 ) -> Verdict<'static>
-    requires { length texts.now ≡ length (names_of (said command)) }
-    ensures { HasGoneOn F.Shelf shelf.old shelf.new (said command.entry) texts.now (verdict_of result) }
+    requires { length texts.now ≡ length (names_of command.now) }
+    ensures { HasGoneOn F.Shelf shelf.old shelf.new command.now texts.now (verdict_of result) }
 {
     match command {
         Command::Serial { .. } => simulate(alloc, texts[0].as_slice(), texts[1].as_slice(), shelf),
     }
 }
 
-/// What the words ask for, done; its verdict is not printed yet.
-fn decide<'a, F: Shelf>(alloc: Global, words: &'a [Word], shelf: &mut F) -> Verdict<'a>
-    ensures { (command : _) × IsWanted words.now command
-        × HasGone F.Shelf shelf.old shelf.new command (verdict_of result) }
+/// What a command does; its verdict is not printed yet.
+fn perform<'a, F: Shelf>(alloc: Global, command: &'a Command, shelf: &mut F) -> Verdict<'a>
+    ensures { HasGone F.Shelf shelf.old shelf.new (Asked command.now) (verdict_of result) }
 {
-    let Some(command) = read_words(words) else {
-        return Verdict::Usage;
-    };
     match read_files(alloc, &command.names(), shelf) {
         Ok(texts) => go_on(alloc, command, &texts, shelf),
         Err(verdict) => verdict,
@@ -127,6 +124,20 @@ pub fn print_out_of_memory<O: Sink>(out: &mut O) -> u8
     print_line(Verdict::OutOfMemory, b"refused OutOfMemory\n", out)
 }
 
+/// Does what the words ask for, and prints its verdict's line. The status of the program.
+fn answer<F: Shelf, O: Sink>(alloc: Global, words: &[Word], shelf: &mut F, out: &mut O) -> u8
+    ensures { HasAnswered F.Shelf O.Sink shelf.old shelf.new out.old out.new words.now result }
+{
+    match read_words(alloc, words) {
+        Ok(Some(command)) => {
+            let verdict = perform(alloc, &command, shelf);
+            print(alloc, verdict, out)
+        }
+        Ok(None) => print(alloc, Verdict::Usage, out),
+        Err(_) => print_out_of_memory(out),
+    }
+}
+
 /// Does what the words of a command line ask for, but for the command that runs threads: it waits
 /// for nobody. The words come without the program's name. Answers the status of the program (see
 /// docs/RULES.md); the sink is given one line, last of all.
@@ -141,9 +152,7 @@ pub fn tricks_alone<F: Shelf, O: Sink>(
 ) -> u8
     // One row of the table of statuses, with all calls of the shelf and all pieces that the sink was
     // given.
-    ensures row { (command : _) × (verdict : _) × IsWanted words.now command
-        × HasGone F.Shelf shelf.old shelf.new command verdict
-        × Prints O.Sink out.old out.new verdict result }
+    ensures row { HasAnswered F.Shelf O.Sink shelf.old shelf.new out.old out.new words.now result }
     ensures called { HasCalled F.Shelf O.Sink shelf.old shelf.new out.old out.new result }
 
     // What each status says.
@@ -175,6 +184,6 @@ pub fn tricks_alone<F: Shelf, O: Sink>(
         → ¬ Rose (F.failures shelf.old) (F.failures shelf.new) → ¬ Rose (O.failures out.old) (O.failures out.new)
         → (result ≡ 0) ⊎ (result ≡ 6) }
 {
-    let verdict = decide(alloc, words, shelf);
-    print(alloc, verdict, out)
+    laws::one_command();
+    answer(alloc, words, shelf, out)
 }

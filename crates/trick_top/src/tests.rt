@@ -88,15 +88,19 @@ fn a_counter_counts_to_four(rt: HostRuntime) -> Result<(), Fail> {
 #[test]
 fn words_that_ask_for_nothing(rt: HostRuntime) -> Result<(), Fail> {
     let alloc = rt.alloc();
-    let cases: [&[&str]; 8] = [
+    // no command, and commands and options that the program does not have yet
+    let cases: [&[&str]; 11] = [
         &[],
-        &["serial"],
-        &["serial", "s"],
-        &["serial", "s", "i", "i"],
-        &["seriAl", "s", "i"],
-        &["run", "s", "i"],
-        &["serial", "-s", "i"],
         &["serial", "s", "--from"],
+        &["seriAl", "s", "i"],
+        &["serial", "s", "i", "--", "i"],
+        &["serial", "s", "--from=s", "i"],
+        &["run", "s", "i"],
+        &["replay", "s", "i", "s"],
+        &["check", "s", "i"],
+        &["list", "s", "i"],
+        &["gen", "40"],
+        &["--help"],
     ];
     for case in cases {
         let mut shelf = with_texts(MemoryShelf::new(alloc), S_DEFINE, INPUT)?;

@@ -1,23 +1,24 @@
-ghost use Rattle.std.specs.Prelude.{◌≡◌, MatchOption};
-ghost use Rattle.trick_top.specs.Said.{said};
-ghost use Rattle.trick_top.specs.Words.{AreRefused, Asks, is_option};
+ghost use Rattle.std.specs.Prelude.{◌≡◌, IfOk, MatchOption};
+ghost use Rattle.trick_top.specs.Words.{AreRefused, Asks, command_of};
 
+use std::alloc::{AllocError, Global};
 use trick_base::Word;
+use trick_words::{laws, read_command};
 
-/// What the words of a command line ask for.
-#[derive(Clone, Copy)]
-pub(crate) enum Command<'a> {
+/// What the words of a command line ask for: a command that the program has today.
+#[derive(Debug, Drop)]
+pub(crate) enum Command {
     /// One run on one thread, of the texts in these two files.
-    Serial { s_define: &'a Word, input: &'a Word },
+    Serial { s_define: Word, input: Word },
 }
 
-impl<'a> Command<'a> {
-    ghost use Rattle.std.specs.Prelude.{map};
+impl Command {
+    ghost use Rattle.std.specs.Prelude.{◌≡◌, map};
     ghost use Rattle.trick_top.specs.Words.{names_of};
 
     /// The names of the files that it reads, in this order.
-    pub(crate) fn names(self) -> [&'a Word; 2]
-        ensures { map (λ name. name.now) result ≡ names_of (said self.entry) }
+    pub(crate) fn names(&self) -> [&Word; 2]
+        ensures { map (λ name. name.now) result ≡ names_of self.now }
     {
         match self {
             Command::Serial { s_define, input } => [s_define, input],
@@ -25,24 +26,27 @@ impl<'a> Command<'a> {
     }
 }
 
-fn is_option(word: &Word) -> bool
-    ensures { result ≡ is_option word.now }
+/// The command that a line of words is, where the program has it.
+fn command_of(line: trick_words::Command) -> Option<Command>
+    ensures { result ≡ command_of line }
 {
-    match word.as_slice() {
-        [] => false,
-        [first, ..] => *first == b'-',
+    match line {
+        trick_words::Command::Serial {
+            s_define,
+            input,
+            from: None,
+        } => Some(Command::Serial { s_define, input }),
+        _ => None,
     }
 }
 
 /// The command that the words ask for, the program's name left out.
-pub(crate) fn read_words(words: &[Word]) -> Option<Command<'_>>
-    ensures { MatchOption result (AreRefused words.now) (λ command. Asks words.now (said command)) }
+pub(crate) fn read_words(alloc: Global, words: &[Word]) -> Result<Option<Command>, AllocError>
+    ensures { IfOk result (λ command. MatchOption command (AreRefused words.now) (Asks words.now)) }
 {
-    let [name, s_define, input] = words else {
-        return None;
-    };
-    if !name.is(b"serial") || is_option(s_define) || is_option(input) {
-        return None;
+    laws::one_command();
+    match read_command(alloc, words)? {
+        Some(line) => Ok(command_of(line)),
+        None => Ok(None),
     }
-    Some(Command::Serial { s_define, input })
 }

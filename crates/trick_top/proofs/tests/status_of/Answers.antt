@@ -2,8 +2,9 @@ use Rattle.std.proofs.Common.{refl}
 use Rattle.std.specs.Prelude.{codes}
 use Rattle.trick_outside.specs.Kept.{ShelfNeverFails, contents}
 use Rattle.trick_top.proofs.QuietLemmas.{not_risen, two_held}
+use Rattle.trick_top.proofs.WordLemmas.{serial_asked}
 use Rattle.trick_top.proofs.tests.status_of.Goals as goal
-use Rattle.trick_top.specs.Words.{Serial}
+use Rattle.trick_top.specs.declared.words.Command.TheVariants.{Serial}
 
 pub returns : goal.returns
 returns c =
@@ -11,7 +12,7 @@ returns c =
     c.tricks_alone.ensures.complete c.args.s_define.now c.args.input.now c.in-Ok.field-0 c.in-Ok-read_input.field-0
     (record {
       command = Serial (codes "s") (codes "i");
-      asks = (rw (c.in-Ok-from_bytes.ensures, c.in-Ok-from_bytes-2.ensures, c.in-Ok-from_bytes-3.ensures) refl, refl, refl);
+      asks = rw (c.in-Ok-from_bytes.ensures, c.in-Ok-from_bytes-2.ensures, c.in-Ok-from_bytes-3.ensures) serial_asked;
       files = contents c.in-Ok-with_file-2.shelf;
       told = refl;
       held = two_held _ _ _ _ _ c.in-Ok-with_file.ensures.held c.in-Ok-with_file-2.ensures.held;
