@@ -9,26 +9,43 @@ use trick_base::Items;
 use trick_lang::{Cell, Cells, JobId, Program};
 use trick_model::{Faults, Flags, Mode, Plan, Process, State, Taken, Thread};
 
-// A memory of no cell.
+// A memory of one cell or of none.
 #[derive(Debug, Drop)]
-struct Empty;
+struct Few {
+    number: Option<i64>,
+}
 
-impl Cells for Empty {
-    ghost use Rattle.std.specs.Prelude.{[]};
+impl Cells for Few {
+    ghost use Rattle.std.specs.Option.{option_to_list};
+    ghost use Rattle.std.specs.Prelude.{option_map};
+    ghost use Rattle.trick_lang.specs.declared.scalar.Scalar.TheVariants.{Long};
 
-    ghost numbers = { λ memory. [] };
+    ghost numbers = { λ memory. option_to_list memory.number };
 
-    ghost scalars = { λ memory. [] };
+    ghost scalars = { λ memory. option_to_list (option_map (λ _. Long) memory.number) };
 
     fn len(&self) -> u32 {
-        0
+        match self.number {
+            Some(_) => 1,
+            None => 0,
+        }
     }
 
     fn get(&self, _cell: Cell) -> i64 {
-        0
+        match self.number {
+            Some(number) => number,
+            None => 0,
+        }
     }
 
-    fn set(&mut self, _cell: Cell, _number: i64) {}
+    fn set(&mut self, _cell: Cell, number: i64) {
+        match self.number {
+            Some(_) => {
+                self.number = Some(number);
+            }
+            None => {}
+        }
+    }
 }
 
 const BESIDE: Thread = Thread {
@@ -107,7 +124,7 @@ fn plan(alloc: Global) -> Result<Plan, AllocError> {
     })
 }
 
-fn state(alloc: Global) -> Result<State<Empty>, AllocError> {
+fn state(alloc: Global) -> Result<State<Few>, AllocError> {
     let mut taken = Items::new(alloc);
     taken.push(Taken {
         held: true,
@@ -119,7 +136,7 @@ fn state(alloc: Global) -> Result<State<Empty>, AllocError> {
         tic: 4,
         limit: 5,
         mode: Mode::Freeze,
-        memory: Empty,
+        memory: Few { number: None },
         jobs: no_flags(alloc),
         events: no_flags(alloc),
         groups: no_flags(alloc),
