@@ -7,7 +7,8 @@ use Rattle.std.specs.Prelude.{codes, nat_lt}
 use Rattle.trick_text.specs.Numbers.{whole_limit, whole_value}
 use Rattle.trick_command.specs.Answers.{Answers, actions_in, actions_of_words, fault_of as fault_of_text}
 use Rattle.trick_command.specs.Lexemes.{bytes_of, lexemes_of}
-use Rattle.trick_model.specs.Commands.{actions_of}
+use Rattle.trick_model.specs.Commands.{actions_of, command_in, command_of}
+use Rattle.trick_model.specs.declared.command.Command.TheVariants as command
 use Rattle.trick_model.specs.Words.{Lexeme, with_word, words, words_behind, words_within}
 use Rattle.trick_text.specs.Pieces.{begins, begins_mark, begins_name, begins_number, decimal_front, front, hexadecimal_digits, is_in_name, is_in_text, is_quote, is_white, mark_len, name_front, number_front, text_front, whole_front}
 use Rattle.trick_text.specs.Tokens.{AreAllTokens, AreBlanks, AreTokens, IsCutOff, IsRefused, IsToken, blank, fault_of, nothing, text_limit}
@@ -219,3 +220,18 @@ module _ (text : List ℕ) where
   refused_says (faults.OpenComment at) is = cut_says (faults.OpenComment at) is
   refused_says (faults.LongNumber at) is = cut_says (faults.LongNumber at) is
   refused_says faults.OutOfMemory is = tt
+
+  -- ---- lines of clients
+
+  pub tokens_command : (ts : List Token) → AreAllTokens Command text ts → command_of text ≡ command_in (lexemes_of text ts)
+  tokens_command ts is = rw (all_words ts is, command_of) refl
+
+  cut_command : (fault : TextFault) → IsCutOff Command text fault → command_of text ≡ command.Bad
+  cut_command fault is = rw (no_words fault is, command_of) refl
+
+  pub refused_command : (fault : TextFault) → IsRefused Command text fault → (fault ≡ faults.OutOfMemory → ⊥) → length text ≤ text_limit → command_of text ≡ command.Bad
+  refused_command (faults.LongText limit) is some le = absurd (omega (arith, is.0, le))
+  refused_command (faults.BadByte at) is some le = cut_command (faults.BadByte at) is
+  refused_command (faults.OpenComment at) is some le = cut_command (faults.OpenComment at) is
+  refused_command (faults.LongNumber at) is some le = cut_command (faults.LongNumber at) is
+  refused_command faults.OutOfMemory is some le = absurd (some refl)

@@ -4,7 +4,7 @@ pub mod Lexemes
 pub mod Seen
 -- Members and indexes of a full name.
 pub mod Paths
--- The rows of the table of actions, by their names in the code.
+-- The rows of the tables of actions and of clients' lines, by their names in the code.
 pub mod Rows
 -- What `actions` answers.
 pub mod Answers

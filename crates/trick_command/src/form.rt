@@ -41,8 +41,8 @@ fn keep(values: &mut Vec<Value>, value: Option<Value>) -> Result<(), AllocError>
     Ok(())
 }
 
-// The values of pieces that stand for all of these words.
-fn read_pieces(
+/// The values of pieces that stand for all of these words.
+pub fn read_pieces(
     alloc: Global,
     pieces: &[Piece],
     words: &[Lexeme],
@@ -66,8 +66,8 @@ fn read_pieces(
     }
 }
 
-// The bytes of the value at this place.
-fn text_at(alloc: Global, values: &[Value], at: usize) -> Result<Word, AllocError>
+/// The bytes of the value at this place.
+pub fn text_at(alloc: Global, values: &[Value], at: usize) -> Result<Word, AllocError>
     ensures { IfOk result (λ text. text ≡ text_at (values_in values.now) at) }
 {
     match values.get(at) {
@@ -89,8 +89,8 @@ fn integer_at(values: &[Value], at: usize) -> i128
     }
 }
 
-// The number of the value at this place, which is none below 0.
-fn whole_at(values: &[Value], at: usize) -> u64
+/// The number of the value at this place, which is none below 0.
+pub fn whole_at(values: &[Value], at: usize) -> u64
     ensures { result ≡ whole_at (values_in values.now) at }
 {
     match values.get(at) {

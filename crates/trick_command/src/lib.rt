@@ -1,10 +1,12 @@
-//! Reader of actions: what the reads and the events of an input ask a run for. The forms of actions are
-//! those of `trick_model`, which clients' lines share.
+//! Reader of actions, which the reads and the events of an input ask a run for, and of the lines of
+//! clients, which can ask for the same and have forms of their own. The forms are those of `trick_model`.
 #![tactic(auto)]
 
 mod fault;
 mod form;
 mod lexeme;
+mod line;
+mod line_row;
 mod path;
 mod piece;
 mod read;
@@ -15,4 +17,5 @@ mod tests;
 mod value;
 
 pub use fault::ActionFault;
-pub use reader::actions;
+pub use reader::{actions, command};
+pub use trick_feed::{Feed, FeedFault};

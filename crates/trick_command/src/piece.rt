@@ -1,3 +1,5 @@
+//! What forms are made of.
+
 /// A piece of a form: one word or more.
 #[derive(Clone, Copy, Debug)]
 pub enum Piece {
@@ -14,3 +16,19 @@ pub enum Piece {
     /// A full name: a name, and members and indexes.
     Path,
 }
+
+// The call of a word of `trick`, with pieces between its parentheses.
+macro_rules! call {
+    ($name:literal $(, $piece:expr)*) => {
+        &[
+            Piece::Is(b"trick"),
+            Piece::Is(b"."),
+            Piece::Is($name),
+            Piece::Is(b"("),
+            $($piece,)*
+            Piece::Is(b")"),
+        ]
+    };
+}
+
+pub(crate) use call;

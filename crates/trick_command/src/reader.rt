@@ -1,19 +1,21 @@
 //! Texts of actions, read whole.
 
-ghost use Rattle.std.specs.Prelude.{◌≡◌, ◌∷◌, ◌≤◌, [], All, IfOk, drop, length, take};
+ghost use Rattle.std.specs.Prelude.{◌≡◌, ◌≢◌, ◌∷◌, ◌<◌, ◌≤◌, [], All, IfOk, drop, length, take};
 ghost use Rattle.trick_command.specs.Answers.{Answers, actions_in, actions_of_words, fault_of};
 ghost use Rattle.trick_command.specs.Lexemes.{lexemes_of};
 ghost use Rattle.trick_command.specs.Parts.{parts_from};
 ghost use Rattle.trick_command.specs.Seen.{lexemes_in};
-ghost use Rattle.trick_model.specs.Commands.{parts_of};
-ghost use Rattle.trick_text.specs.Tokens.{ReadsAsToken};
+ghost use Rattle.trick_model.specs.Commands.{command_in, command_of, parts_of};
+ghost use Rattle.trick_text.specs.Tokens.{ReadsAsToken, text_limit};
 
 use crate::fault::ActionFault;
 use crate::form::action_of;
 use crate::lexeme::{Lexeme, lexeme_of};
+use crate::line::command_in;
 use crate::read::is_word;
 use std::alloc::{AllocError, Global};
-use trick_model::Action;
+use trick_base::Line;
+use trick_model::{Action, Command};
 use trick_text::{Style, TextFault, Token, tokens};
 
 // The tokens of this text with their bytes, in order.
@@ -97,5 +99,38 @@ pub fn actions(alloc: Global, text: &[u8]) -> Result<Vec<Action>, ActionFault>
     match tokens(alloc, text, Style::Command) {
         Ok(found) => read_tokens(alloc, text, &found),
         Err(fault) => Err(fault_of(fault)),
+    }
+}
+
+// What the tokens of a line say.
+fn read_line(alloc: Global, text: &[u8], tokens: &[Token]) -> Result<Command, AllocError>
+    requires { All (ReadsAsToken text.now) tokens.now }
+    ensures { IfOk result (λ command. command ≡ command_in (lexemes_of text.now tokens.now)) }
+{
+    let words = lexemes(alloc, text, tokens)?;
+    command_in(alloc, &words)
+}
+
+// A line that is cut off says nothing right.
+fn bad_line(fault: TextFault) -> Result<Command, AllocError>
+    ensures { IfOk result (λ command. (command ≡ Command.Bad) × (fault ≢ TextFault.OutOfMemory)) }
+{
+    match fault {
+        TextFault::OutOfMemory => Err(AllocError),
+        _ => Ok(Command::Bad),
+    }
+}
+
+/// What a client's line says: an action, another command, or nothing right, which is `Bad`. The page
+/// FORMATS of the documents has the forms. Names, and numbers for cells, are not looked at. A line of
+/// more bytes than a text may have, 16,777,216, is `Bad`. It takes time and memory as the line is long.
+pub fn command(alloc: Global, line: &Line) -> Result<Command, AllocError>
+    ensures said { length line.now ≤ text_limit → IfOk result (λ command. command ≡ command_of line.now) }
+    ensures long { text_limit < length line.now → IfOk result (λ command. command ≡ Command.Bad) }
+{
+    let text = line.as_slice();
+    match tokens(alloc, text, Style::Command) {
+        Ok(found) => read_line(alloc, text, &found),
+        Err(fault) => bad_line(fault),
     }
 }

@@ -5,7 +5,7 @@ ghost use Rattle.trick_command.specs.Rows.{form_of};
 ghost use Rattle.trick_command.specs.Seen.{pieces_in};
 ghost use Rattle.trick_model.specs.Commands.{action_forms};
 
-use crate::piece::Piece;
+use crate::piece::{Piece, call};
 
 /// A form of an action.
 #[derive(Clone, Copy, Debug, PartialEq, Eq)]
@@ -54,20 +54,6 @@ pub fn rows() -> &'static [Row]
         Row::ActivateEvent,
         Row::DeactivateEvent,
     ]
-}
-
-// The call of a word of `trick`, with pieces between its parentheses.
-macro_rules! call {
-    ($name:literal $(, $piece:expr)*) => {
-        &[
-            Piece::Is(b"trick"),
-            Piece::Is(b"."),
-            Piece::Is($name),
-            Piece::Is(b"("),
-            $($piece,)*
-            Piece::Is(b")"),
-        ]
-    };
 }
 
 /// The pieces of a form.
