@@ -15,7 +15,7 @@ fn shift(number: i64) -> u32
     number.rem_euclid(64) as u32
 }
 
-// What an arithmetic operator gives.
+/// What an arithmetic operator gives: `/` and `%` by 0 are faults.
 pub fn apply(operator: Arithmetic, x: i64, y: i64) -> Result<i64, FaultKind>
     ensures { result ≡ applied operator x y }
 {
@@ -45,8 +45,8 @@ pub fn apply(operator: Arithmetic, x: i64, y: i64) -> Result<i64, FaultKind>
     }
 }
 
-// Whether a comparison holds.
-fn compare(comparison: Comparison, x: i64, y: i64) -> bool
+/// Whether a comparison holds.
+pub fn compare(comparison: Comparison, x: i64, y: i64) -> bool
     ensures { result ≡ compared comparison x y }
 {
     match comparison {
@@ -59,8 +59,8 @@ fn compare(comparison: Comparison, x: i64, y: i64) -> bool
     }
 }
 
-// What a prefix operator gives.
-fn prefix(operator: Prefix, x: i64) -> i64
+/// What a prefix operator gives.
+pub fn prefix(operator: Prefix, x: i64) -> i64
     ensures { result ≡ prefixed operator x }
 {
     match operator {

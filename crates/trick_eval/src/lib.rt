@@ -13,3 +13,4 @@ mod tests;
 mod working;
 
 pub use bench::{Bench, eval};
+pub use expression::{apply, compare, prefix};

@@ -2,16 +2,17 @@
 //! may do something, so that a run can leave out the tics before it.
 #![tactic(auto)]
 
-mod act;
+mod action;
 mod agenda;
 mod asked;
 mod condition;
-mod find;
-mod fire;
+mod due;
 mod moment;
+#[cfg(test)]
+mod tests;
 
-pub use act::act;
+pub use action::act;
 pub use agenda::Agenda;
 pub use asked::Asked;
-pub use fire::fire;
+pub use due::fire;
 pub use moment::Moment;

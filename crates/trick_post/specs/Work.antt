@@ -1,5 +1,5 @@
 -- What a thread beside the tics is handed, and what it comes to.
-use Rattle.std.specs.Prelude.{◌≡◌, ℕ, ◌+◌, ◌-◌, ◌≤◌, ℤ, List, [], flat_map, filter, true, Option, Some, None}
+use Rattle.std.specs.Prelude.{◌≡◌, ℕ, ◌+◌, ◌-◌, ◌≤◌, ℤ, List, [], flat_map, filter, true, false, Option, Some, None}
 use Rattle.trick_model.specs.Beside.{find_thread, flag_in, replaced, spread, tics_from, zeros}
 use Rattle.trick_model.specs.Access.{may_write, scope}
 use Rattle.trick_model.specs.Order.{in_key_order, is_due}

@@ -3,6 +3,9 @@
 //! does it on the caller's thread.
 #![tactic(auto)]
 
+pub mod laws;
+mod one_post;
 mod posts;
 
+pub use one_post::OnePost;
 pub use posts::{Job1, Posted, Posts};

@@ -1,5 +1,5 @@
 //! The due jobs of a tic in key order, and the next tic at which a job is due, found without a look
-//! at the jobs that are not.
+//! at the jobs that are not; and the tree of tics by which they are found.
 #![tactic(auto)]
 
 mod jobs;
@@ -7,3 +7,4 @@ mod queues;
 mod tree;
 
 pub use queues::Queues;
+pub use tree::{NEVER, Tics};

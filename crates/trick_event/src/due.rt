@@ -1,0 +1,156 @@
+//! The reads and the events of a tic.
+
+ghost use Rattle.std.specs.List.{slice_index_or};
+ghost use Rattle.std.specs.Prelude.{◌≡◌, ◌<◌, ◌≤◌, IsTrue, length};
+ghost use Rattle.trick_event.specs.Asking.{asking};
+ghost use Rattle.trick_event.specs.Event.{event_done, read_done};
+ghost use Rattle.trick_job.specs.Belongs.{IsMemoryOf};
+ghost use Rattle.trick_model.specs.Condition.{is_condition_of};
+ghost use Rattle.trick_model.specs.Events.{act_all, event_acts, events_done, fire as fired_of, fires, reads_done};
+ghost use Rattle.trick_model.specs.Plan.{Event as EventOf, is_on as is_on_of};
+ghost use Rattle.trick_model.specs.PlanOf.{event_of, plan_of};
+ghost use Rattle.trick_model.specs.State.{seen};
+ghost use Rattle.trick_model.specs.Time.{last_time};
+ghost use Rattle.trick_model.specs.declared.read_at.ReadAt.{ReadAt};
+
+use crate::action::{act, set_flag};
+use crate::condition::holds;
+use crate::{Asked, Moment};
+use trick_base::Items;
+use trick_lang::Cells;
+use trick_model::{Action, Event, Flags, Plan, State};
+
+// Does actions one after another, in a tic.
+fn act_all<M: Cells>(
+    plan: &Plan,
+    state: &mut State<M>,
+    asked: &mut Asked,
+    actions: &[Action],
+    tic: u64,
+)
+    requires memory { IsMemoryOf plan.now.program (M.numbers state.old.memory) (M.scalars state.old.memory) }
+    requires tic { tic ≤ last_time }
+    ensures acted { asking M.numbers state.new asked.new ≡ act_all (plan_of plan.now) tic actions.now (asking M.numbers state.old asked.old) }
+    ensures memory { IsMemoryOf plan.now.program (M.numbers state.new.memory) (M.scalars state.new.memory) }
+{
+    for action in actions {
+        act(plan, state, asked, action, Moment::Tic(tic));
+    }
+}
+
+// Does the actions of an event, by rising number.
+fn event_acts<M: Cells>(
+    plan: &Plan,
+    state: &mut State<M>,
+    asked: &mut Asked,
+    numbered: &[(u8, Items<Action>)],
+    tic: u64,
+)
+    requires memory { IsMemoryOf plan.now.program (M.numbers state.old.memory) (M.scalars state.old.memory) }
+    requires tic { tic ≤ last_time }
+    ensures acted { asking M.numbers state.new asked.new ≡ event_acts (plan_of plan.now) tic numbered.now (asking M.numbers state.old asked.old) }
+    ensures memory { IsMemoryOf plan.now.program (M.numbers state.new.memory) (M.scalars state.new.memory) }
+{
+    for (_, actions) in numbered {
+        act_all(plan, state, asked, actions.as_slice(), tic);
+    }
+}
+
+/// Whether an entry is on.
+pub(crate) fn is_on(flags: &Flags, place: usize) -> bool
+    ensures { result ≡ is_on_of flags.now place }
+{
+    match flags.on.as_slice().get(place) {
+        Some(on) => *on,
+        None => false,
+    }
+}
+
+// Whether an event fires: it is active, its cycle divides the tic, and its condition is not 0.
+fn fires<M: Cells>(event: &Event, place: usize, state: &State<M>, tic: u64) -> bool
+    requires cycle { 0 < event.now.cycle }
+    requires condition { IsTrue (is_condition_of (length (M.numbers state.now.memory)) event.now.condition) }
+    ensures { result ≡ fires tic place (event_of event.now) (seen M.numbers state.now) }
+{
+    is_on(&state.events, place) && tic % event.cycle == 0 && holds(&event.condition, &state.memory)
+}
+
+// The event of a place, which fires or does nothing. It is inactive after its actions.
+fn event_done<M: Cells>(
+    plan: &Plan,
+    state: &mut State<M>,
+    asked: &mut Asked,
+    place: usize,
+    tic: u64,
+)
+    requires memory { IsMemoryOf plan.now.program (M.numbers state.old.memory) (M.scalars state.old.memory) }
+    requires place { place < length plan.now.events }
+    requires tic { tic ≤ last_time }
+    ensures done { (none : EventOf) → asking M.numbers state.new asked.new
+        ≡ event_done (plan_of plan.now) tic place (slice_index_or (plan_of plan.now).events place none) (asking M.numbers state.old asked.old) }
+    ensures memory { IsMemoryOf plan.now.program (M.numbers state.new.memory) (M.scalars state.new.memory) }
+{
+    let event = &plan.events.as_slice()[place];
+    if fires(event, place, state, tic) {
+        event_acts(plan, state, asked, event.actions.as_slice(), tic);
+        set_flag(&mut state.events, place, false);
+    }
+}
+
+/// The events of a tic, in the order in which the input added them.
+pub(crate) fn events_done<M: Cells>(plan: &Plan, state: &mut State<M>, asked: &mut Asked, tic: u64)
+    requires memory { IsMemoryOf plan.now.program (M.numbers state.old.memory) (M.scalars state.old.memory) }
+    requires tic { tic ≤ last_time }
+    ensures done { asking M.numbers state.new asked.new ≡ events_done (plan_of plan.now) tic 0 (plan_of plan.now).events (asking M.numbers state.old asked.old) }
+    ensures memory { IsMemoryOf plan.now.program (M.numbers state.new.memory) (M.scalars state.new.memory) }
+{
+    for place in 0..plan.events.len() {
+        event_done(plan, state, asked, place, tic);
+    }
+}
+
+/// The read of a place, where it is of the tic.
+pub(crate) fn read_done<M: Cells>(
+    plan: &Plan,
+    state: &mut State<M>,
+    asked: &mut Asked,
+    place: usize,
+    tic: u64,
+)
+    requires memory { IsMemoryOf plan.now.program (M.numbers state.old.memory) (M.scalars state.old.memory) }
+    requires place { place < length plan.now.reads }
+    requires tic { tic ≤ last_time }
+    ensures done { (none : ReadAt) → asking M.numbers state.new asked.new
+        ≡ read_done (plan_of plan.now) tic (slice_index_or plan.now.reads place none) (asking M.numbers state.old asked.old) }
+    ensures memory { IsMemoryOf plan.now.program (M.numbers state.new.memory) (M.scalars state.new.memory) }
+{
+    let read = &plan.reads.as_slice()[place];
+    if read.tic == tic {
+        act_all(plan, state, asked, read.actions.as_slice(), tic);
+    }
+}
+
+// The reads of a tic, in the order of their lines.
+fn reads_done<M: Cells>(plan: &Plan, state: &mut State<M>, asked: &mut Asked, tic: u64)
+    requires memory { IsMemoryOf plan.now.program (M.numbers state.old.memory) (M.scalars state.old.memory) }
+    requires tic { tic ≤ last_time }
+    ensures done { asking M.numbers state.new asked.new ≡ reads_done (plan_of plan.now) tic plan.now.reads (asking M.numbers state.old asked.old) }
+    ensures memory { IsMemoryOf plan.now.program (M.numbers state.new.memory) (M.scalars state.new.memory) }
+{
+    for place in 0..plan.reads.len() {
+        read_done(plan, state, asked, place, tic);
+    }
+}
+
+/// Does the reads of a tic, in the order of their lines, and then its events, in the order in which
+/// the input added them. It looks at each read and each event of the plan; [`Agenda`](crate::Agenda)
+/// does the same at the cost of the reads that are due. Takes no memory.
+pub fn fire<M: Cells>(plan: &Plan, state: &mut State<M>, asked: &mut Asked, tic: u64)
+    requires memory { IsMemoryOf plan.now.program (M.numbers state.old.memory) (M.scalars state.old.memory) }
+    requires tic { tic ≤ last_time }
+    ensures fired { asking M.numbers state.new asked.new ≡ fired_of (plan_of plan.now) tic (asking M.numbers state.old asked.old) }
+    ensures memory { IsMemoryOf plan.now.program (M.numbers state.new.memory) (M.scalars state.new.memory) }
+{
+    reads_done(plan, state, asked, tic);
+    events_done(plan, state, asked, tic);
+}
