@@ -33,14 +33,14 @@ same_tics cycle zero first last is =
     let from : zero - (zero - cycle) ≡ 0 = omega arith in
     ap (tics_from first) none ∙ sym (ap (tics_from (zero - cycle)) from)
 same_tics cycle (suc tic) first last is =
-    let low : first ≡ suc tic - cycle = is.first (omega arith) in
-    let high : last + 1 ≡ suc tic = is.last (omega arith) in
+    let low : first ≡ suc tic - cycle = is.begins (omega arith) in
+    let high : last + 1 ≡ suc tic = is.ends (omega arith) in
     let count : last + 1 - first ≡ suc tic - (suc tic - cycle) = omega arith in
     ap (tics_from first) count ∙ ap (λ (n : ℕ). tics_from n (suc tic - (suc tic - cycle))) low
 
 -- the jobs of a thread, by its process type
 abbrev by_process : Plan → Thread → Flags → ℕ → Process → List ℕ
-by_process p thread on tic process = elim process [
+by_process p thread on tic process_type = elim process_type [
   | process.Scheduled ↦ []
   | process.Async ↦ in_key_order p.jobs (jobs_of p.jobs thread)
   | process.MustFinish ↦ due_in p thread on (tics_from (tic - thread.cycle) (tic - (tic - thread.cycle)))
@@ -50,7 +50,7 @@ pub is_published : IsPublished
 is_published = record {
   frames = λ p thread on taken tic first last memory is frame.
       ap (λ (tics : List ℕ). by_jobs p thread taken tic memory (due_in p thread on tics)) (same_tics thread.cycle tic first last frame)
-      ∙ sym (ap (λ (process : Process). by_jobs p thread taken tic memory (by_process p thread on tic process)) is);
+      ∙ sym (ap (λ (process_type : Process). by_jobs p thread taken tic memory (by_process p thread on tic process_type)) is);
   rounds = λ p thread on taken tic memory is.
-      sym (ap (λ (process : Process). by_jobs p thread taken tic memory (by_process p thread on tic process)) is);
+      sym (ap (λ (process_type : Process). by_jobs p thread taken tic memory (by_process p thread on tic process_type)) is);
 }

@@ -12,8 +12,8 @@ use Rattle.trick_post.specs.declared.posts.Job1.TheVariants as work
 -- The tics that a thread of this cycle works where it publishes at a tic: those of the cycle that ends
 -- there; at tic 0 none.
 pub record IsFrameOf (cycle tic first last : ℕ) : Type 0 where
-  pub first : 0 < tic → first ≡ tic - cycle
-  pub last : 0 < tic → last + 1 ≡ tic
+  pub begins : 0 < tic → first ≡ tic - cycle
+  pub ends : 0 < tic → last + 1 ≡ tic
   pub none : tic ≡ 0 → last < first
 
 -- What is published of a frame or a round that was started is what the rules publish.
