@@ -80,5 +80,7 @@ pub record IsEventDue (events : List Event) (on : Flags) (place tic : ℕ) : Typ
 -- Of the events before this place none is due from `from` on before the tic, which is `never` or one
 -- at which an event is due.
 pub record IsNextEvent (events : List Event) (on : Flags) (from end next : ℕ) : Type 0 where
-  pub none_before : (place t : ℕ) → place < end → from ≤ t → t < next → t ≤ last_time → IsEventDue events on place t → ⊥
-  pub due : (next ≡ never) ⊎ ((place : ℕ) × (place < length events) × (from ≤ next) × (next ≤ last_time) × IsEventDue events on place next)
+  pub none_before : (place t : ℕ) → place < end → from ≤ t → t < next → t ≤ last_time
+      → IsEventDue events on place t → ⊥
+  pub due : (next ≡ never)
+      ⊎ ((place : ℕ) × (place < length events) × (from ≤ next) × (next ≤ last_time) × IsEventDue events on place next)

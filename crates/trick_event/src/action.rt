@@ -41,7 +41,8 @@ fn limit<M: Cells>(state: &State<M>, moment: Moment, at: Option<u64>) -> u64
 fn perform<M: Cells>(deed: Deed, state: &mut State<M>, asked: &mut Asked, moment: Moment)
     requires moment { IsTimely moment }
     requires can { CanDo (length (M.numbers state.old.memory)) (M.scalars state.old.memory) deed }
-    ensures done { asking M.numbers state.new asked.new ≡ do_deed (moment_of moment) (deed_as deed) (asking M.numbers state.old asked.old) }
+    ensures done { asking M.numbers state.new asked.new
+        ≡ do_deed (moment_of moment) (deed_as deed) (asking M.numbers state.old asked.old) }
     ensures length { length (M.numbers state.new.memory) ≡ length (M.numbers state.old.memory) }
     ensures scalars { M.scalars state.new.memory ≡ M.scalars state.old.memory }
 {
@@ -68,7 +69,8 @@ pub fn act<M: Cells>(
 )
     requires memory { IsMemoryOf plan.now.program (M.numbers state.old.memory) (M.scalars state.old.memory) }
     requires moment { IsTimely moment }
-    ensures acted { asking M.numbers state.new asked.new ≡ acted (plan_of plan.now) (moment_of moment) action.now (asking M.numbers state.old asked.old) }
+    ensures acted { asking M.numbers state.new asked.new
+        ≡ acted (plan_of plan.now) (moment_of moment) action.now (asking M.numbers state.old asked.old) }
     ensures memory { IsMemoryOf plan.now.program (M.numbers state.new.memory) (M.scalars state.new.memory) }
 {
     if let Some(deed) = deed_in_plan(plan, action) {

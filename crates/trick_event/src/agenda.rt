@@ -93,7 +93,8 @@ fn reads_done<M: Cells>(
     requires memory { IsMemoryOf plan.now.program (M.numbers state.old.memory) (M.scalars state.old.memory) }
     requires left { AreLeftBy tic plan.now.reads tics.old }
     requires range { tic ≤ last_time }
-    ensures done { asking M.numbers state.new asked.new ≡ reads_done (plan_of plan.now) tic plan.now.reads (asking M.numbers state.old asked.old) }
+    ensures done { asking M.numbers state.new asked.new
+        ≡ reads_done (plan_of plan.now) tic plan.now.reads (asking M.numbers state.old asked.old) }
     ensures memory { IsMemoryOf plan.now.program (M.numbers state.new.memory) (M.scalars state.new.memory) }
     ensures left { AreLeft (tic + 1) plan.now.reads tics.new }
 {
@@ -198,7 +199,8 @@ impl Agenda {
         requires from { self.old.from ≤ tic }
         requires memory { IsMemoryOf plan.now.program (M.numbers state.old.memory) (M.scalars state.old.memory) }
         requires tic { tic ≤ last_time }
-        ensures fired { asking M.numbers state.new asked.new ≡ fired_of (plan_of plan.now) tic (asking M.numbers state.old asked.old) }
+        ensures fired { asking M.numbers state.new asked.new
+            ≡ fired_of (plan_of plan.now) tic (asking M.numbers state.old asked.old) }
         ensures memory { IsMemoryOf plan.now.program (M.numbers state.new.memory) (M.scalars state.new.memory) }
         ensures own { IsFor plan.now self.new }
         ensures from { self.new.from ≡ tic + 1 }

@@ -30,7 +30,8 @@ fn act_all<M: Cells>(
 )
     requires memory { IsMemoryOf plan.now.program (M.numbers state.old.memory) (M.scalars state.old.memory) }
     requires tic { tic ≤ last_time }
-    ensures acted { asking M.numbers state.new asked.new ≡ act_all (plan_of plan.now) tic actions.now (asking M.numbers state.old asked.old) }
+    ensures acted { asking M.numbers state.new asked.new
+        ≡ act_all (plan_of plan.now) tic actions.now (asking M.numbers state.old asked.old) }
     ensures memory { IsMemoryOf plan.now.program (M.numbers state.new.memory) (M.scalars state.new.memory) }
 {
     for action in actions {
@@ -48,7 +49,8 @@ fn event_acts<M: Cells>(
 )
     requires memory { IsMemoryOf plan.now.program (M.numbers state.old.memory) (M.scalars state.old.memory) }
     requires tic { tic ≤ last_time }
-    ensures acted { asking M.numbers state.new asked.new ≡ event_acts (plan_of plan.now) tic numbered.now (asking M.numbers state.old asked.old) }
+    ensures acted { asking M.numbers state.new asked.new
+        ≡ event_acts (plan_of plan.now) tic numbered.now (asking M.numbers state.old asked.old) }
     ensures memory { IsMemoryOf plan.now.program (M.numbers state.new.memory) (M.scalars state.new.memory) }
 {
     for (_, actions) in numbered {
@@ -87,7 +89,8 @@ fn event_done<M: Cells>(
     requires place { place < length plan.now.events }
     requires tic { tic ≤ last_time }
     ensures done { (none : EventOf) → asking M.numbers state.new asked.new
-        ≡ event_done (plan_of plan.now) tic place (slice_index_or (plan_of plan.now).events place none) (asking M.numbers state.old asked.old) }
+        ≡ event_done (plan_of plan.now) tic place (slice_index_or (plan_of plan.now).events place none)
+        (asking M.numbers state.old asked.old) }
     ensures memory { IsMemoryOf plan.now.program (M.numbers state.new.memory) (M.scalars state.new.memory) }
 {
     let event = &plan.events.as_slice()[place];
@@ -101,7 +104,8 @@ fn event_done<M: Cells>(
 pub(crate) fn events_done<M: Cells>(plan: &Plan, state: &mut State<M>, asked: &mut Asked, tic: u64)
     requires memory { IsMemoryOf plan.now.program (M.numbers state.old.memory) (M.scalars state.old.memory) }
     requires tic { tic ≤ last_time }
-    ensures done { asking M.numbers state.new asked.new ≡ events_done (plan_of plan.now) tic 0 (plan_of plan.now).events (asking M.numbers state.old asked.old) }
+    ensures done { asking M.numbers state.new asked.new
+        ≡ events_done (plan_of plan.now) tic 0 (plan_of plan.now).events (asking M.numbers state.old asked.old) }
     ensures memory { IsMemoryOf plan.now.program (M.numbers state.new.memory) (M.scalars state.new.memory) }
 {
     for place in 0..plan.events.len() {
@@ -134,7 +138,8 @@ pub(crate) fn read_done<M: Cells>(
 fn reads_done<M: Cells>(plan: &Plan, state: &mut State<M>, asked: &mut Asked, tic: u64)
     requires memory { IsMemoryOf plan.now.program (M.numbers state.old.memory) (M.scalars state.old.memory) }
     requires tic { tic ≤ last_time }
-    ensures done { asking M.numbers state.new asked.new ≡ reads_done (plan_of plan.now) tic plan.now.reads (asking M.numbers state.old asked.old) }
+    ensures done { asking M.numbers state.new asked.new
+        ≡ reads_done (plan_of plan.now) tic plan.now.reads (asking M.numbers state.old asked.old) }
     ensures memory { IsMemoryOf plan.now.program (M.numbers state.new.memory) (M.scalars state.new.memory) }
 {
     for place in 0..plan.reads.len() {
@@ -148,7 +153,8 @@ fn reads_done<M: Cells>(plan: &Plan, state: &mut State<M>, asked: &mut Asked, ti
 pub fn fire<M: Cells>(plan: &Plan, state: &mut State<M>, asked: &mut Asked, tic: u64)
     requires memory { IsMemoryOf plan.now.program (M.numbers state.old.memory) (M.scalars state.old.memory) }
     requires tic { tic ≤ last_time }
-    ensures fired { asking M.numbers state.new asked.new ≡ fired_of (plan_of plan.now) tic (asking M.numbers state.old asked.old) }
+    ensures fired { asking M.numbers state.new asked.new
+        ≡ fired_of (plan_of plan.now) tic (asking M.numbers state.old asked.old) }
     ensures memory { IsMemoryOf plan.now.program (M.numbers state.new.memory) (M.scalars state.new.memory) }
 {
     reads_done(plan, state, asked, tic);

@@ -20,7 +20,9 @@ pub record IsFrameOf (cycle tic first last : ℕ) : Type 0 where
 pub record IsPublished : Type 0 where
   pub frames : (p : Plan) (thread : Thread) (on : Flags) (taken : Taken) (tic first last : ℕ) (memory : List ℤ)
       → thread.process ≡ process.MustFinish → IsFrameOf thread.cycle tic first last
-      → publication p thread (record { taken = taken; work = work.Frame first last }) tic memory ≡ published p thread on tic taken memory
+      → publication p thread (record { taken = taken; work = work.Frame first last }) tic memory
+      ≡ published p thread on tic taken memory
   pub rounds : (p : Plan) (thread : Thread) (on : Flags) (taken : Taken) (tic : ℕ) (memory : List ℤ)
       → thread.process ≡ process.Async
-      → publication p thread (record { taken = taken; work = work.Round }) tic memory ≡ published p thread on tic taken memory
+      → publication p thread (record { taken = taken; work = work.Round }) tic memory
+      ≡ published p thread on tic taken memory

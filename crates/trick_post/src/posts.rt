@@ -73,9 +73,12 @@ pub trait Posts {
         requires started { IsSome (in_flight self.old thread) }
         requires memory { IsMemoryOf (plan self.old).program (M.numbers memory.old) (M.scalars memory.old) }
         requires tic { tic ≤ last_time + 1 }
-        ensures memory { M.numbers memory.new ≡ (finished (plan_of (plan self.old)) thread (in_flight self.old thread) tic (M.numbers memory.old)).memory }
+        ensures memory { M.numbers memory.new
+            ≡ (finished (plan_of (plan self.old)) thread (in_flight self.old thread) tic (M.numbers memory.old)).memory }
         ensures scalars { M.scalars memory.new ≡ M.scalars memory.old }
-        ensures faults { faults.new ≡ with_faults (finished (plan_of (plan self.old)) thread (in_flight self.old thread) tic (M.numbers memory.old)).faults faults.old }
+        ensures faults { faults.new
+            ≡ with_faults (finished (plan_of (plan self.old)) thread (in_flight self.old thread) tic
+            (M.numbers memory.old)).faults faults.old }
         ensures finished { in_flight self.new thread ≡ None }
         ensures others { (n : ℕ) → n ≢ thread → in_flight self.new n ≡ in_flight self.old n }
         ensures plan { plan self.new ≡ plan self.old }
