@@ -56,31 +56,37 @@ fn set(alloc: Global, name: &[u8], number: i128) -> Result<Action, AllocError> {
     })
 }
 
+// Whether an action asks for this among the cells of a program and these groups.
+fn asks(program: &Program, groups: &[Group], action: &Action, want: Option<Deed>) -> bool {
+    deed_of(program, groups, &[], action) == want
+}
+
 #[test]
 fn actions_ask_for_what_is_there(rt: HostRuntime) -> Result<(), Fail> {
     let alloc = rt.alloc();
     let program = program(alloc)?;
     let groups = [group(alloc)?];
-    assert!(rt; find_cell(&program, b"o.c") == Some(Cell(1)));
-    let number = 127;
-    let stored = Some(Deed::SetCell {
-        cell: Cell(1),
-        number,
-    });
-    assert!(rt; deed_of(&program, &groups, &[], &set(alloc, b"o.c", 127)?) == stored);
-    assert!(rt; deed_of(&program, &groups, &[], &set(alloc, b"o.c", 128)?) == None);
-    assert!(rt; deed_of(&program, &groups, &[], &set(alloc, b"o.d", 0)?) == None);
-    let last = Some(1_000_000_000_000_000);
-    let stop = Action::Stop { at: last };
-    assert!(rt; deed_of(&program, &groups, &[], &stop) == Some(Deed::Stop { at: last }));
-    let late = Action::Stop {
-        at: Some(1_000_000_000_000_001),
-    };
-    assert!(rt; deed_of(&program, &groups, &[], &late) == None);
+    let cell = Cell(1);
+    assert!(rt; find_cell(&program, b"o.c") == Some(cell));
+    let stored = Some(Deed::SetCell { cell, number: 127 });
+    assert!(rt; asks(&program, &groups, &set(alloc, b"o.c", 127)?, stored));
+    assert!(rt; asks(&program, &groups, &set(alloc, b"o.c", 128)?, None));
+    assert!(rt; asks(&program, &groups, &set(alloc, b"o.d", 0)?, None));
+    let at = Some(1_000_000_000_000_000);
+    assert!(rt;
+        asks(
+            &program,
+            &groups,
+            &Action::Stop { at },
+            Some(Deed::Stop { at })
+        )
+    );
+    let late = Some(1_000_000_000_000_001);
+    assert!(rt; asks(&program, &groups, &Action::Stop { at: late }, None));
     let name = Word::from_bytes(alloc, b"g")?;
     let enable = Action::SetGroup { name, on: true };
     let enabled = Some(Deed::SetGroup { group: 0, on: true });
-    assert!(rt; deed_of(&program, &groups, &[], &enable) == enabled);
-    assert!(rt; deed_of(&program, &[], &[], &enable) == None);
+    assert!(rt; asks(&program, &groups, &enable, enabled));
+    assert!(rt; asks(&program, &[], &enable, None));
     Ok(())
 }
