@@ -1,11 +1,12 @@
 //! Readers within a line. Each takes what stands before it in place, and answers with the rest behind.
 
-ghost use Rattle.std.specs.Prelude.{◌≡◌, ◌≤◌, ◌<◌, ◌+◌, ◌-◌, ◌^◌, [], ◌∷◌, length, take, drop, IfOk};
+ghost use Rattle.std.specs.Prelude.{◌≡◌, ◌≤◌, ◌<◌, ◌+◌, ◌-◌, ◌^◌, ℕ, [], ◌∷◌, length, take, drop, IfOk};
 ghost use Rattle.trick_codes.specs.Code.{
   digits_at,
   free as free_code,
   free_at,
   integer as integer_code,
+  IsWithin,
   literal as literal_code,
   literal_at,
   minus,
@@ -124,7 +125,8 @@ fn negated(number: u64) -> i64
 // What stands behind a minus.
 fn negative(below: u64, end: u8, rest: &[u8]) -> Result<(i64, &[u8]), Miss>
     requires { below ≤ 2 ^ 63 }
-    ensures { Reads beside result (negative_of (number_at 1 below end rest.now)) }
+    ensures told { Reads beside result (negative_of (number_at 1 below end rest.now)) }
+    ensures range { (above : ℕ) → IfOk result (λ x. IsWithin below above x.0) }
 {
     let (size, rest) = number(1, below, end, rest)?;
     Ok((negated(size), rest))
@@ -133,7 +135,8 @@ fn negative(below: u64, end: u8, rest: &[u8]) -> Result<(i64, &[u8]), Miss>
 // A number without a minus.
 fn positive(above: u64, end: u8, rest: &[u8]) -> Result<(i64, &[u8]), Miss>
     requires { above ≤ 2 ^ 63 - 1 }
-    ensures { Reads beside result (positive_of (number_at 0 above end rest.now)) }
+    ensures told { Reads beside result (positive_of (number_at 0 above end rest.now)) }
+    ensures range { (below : ℕ) → IfOk result (λ x. IsWithin below above x.0) }
 {
     let (size, rest) = number(0, above, end, rest)?;
     Ok((size as i64, rest))
@@ -142,7 +145,8 @@ fn positive(above: u64, end: u8, rest: &[u8]) -> Result<(i64, &[u8]), Miss>
 /// A number of this range in decimal, with this byte behind it. It has no `+`, no leading zeros,
 /// and 0 has no minus.
 pub fn integer(range: Range, end: u8, rest: &[u8]) -> Result<(i64, &[u8]), Miss>
-    ensures { Reads beside result (read (integer_code range.below range.above end) rest.now) }
+    ensures told { Reads beside result (read (integer_code range.below range.above end) rest.now) }
+    ensures range { IfOk result (λ x. IsWithin range.below range.above x.0) }
 {
     match rest {
         [] => Err(Miss::Ends),

@@ -1,7 +1,7 @@
 //! Readers of the usual lines.
 
-ghost use Rattle.std.specs.Prelude.{◌≡◌, ◌<◌, ◌+◌, length, drop, pos, [], ◌∷◌, codes};
-ghost use Rattle.trick_codes.specs.Code.{integer as integer_code, literal as literal_code, number as number_code, one_of as one_of_code, read};
+ghost use Rattle.std.specs.Prelude.{◌≡◌, ◌<◌, ◌+◌, length, drop, pos, [], ◌∷◌, codes, IfOk};
+ghost use Rattle.trick_codes.specs.Code.{integer as integer_code, IsWithin, literal as literal_code, number as number_code, one_of as one_of_code, read};
 ghost use Rattle.trick_codes.specs.Gives.{alone, beside, bytes_of, Gives, Reads};
 ghost use Rattle.trick_codes.specs.Lines.{fed, read_lines};
 ghost use Rattle.trick_codes.specs.Named.{
@@ -73,7 +73,8 @@ pub fn number_line<'a>(
 }
 
 fn integer_bytes<'a>(name: &[u8], range: Range, rest: &'a [u8]) -> Result<(i64, &'a [u8]), Miss>
-    ensures { Reads beside result (read (fed (named name.now (integer_code range.below range.above 59))) rest.now) }
+    ensures told { Reads beside result (read (fed (named name.now (integer_code range.below range.above 59))) rest.now) }
+    ensures range { IfOk result (λ x. IsWithin range.below range.above x.0) }
 {
     let rest = title(name, rest)?;
     let (number, rest) = integer(range, b';', rest)?;
@@ -87,7 +88,8 @@ pub fn integer_line<'a>(
     range: Range,
     rest: &'a [u8],
 ) -> Result<(i64, &'a [u8]), Stop<'a>>
-    ensures { Gives beside result (read_lines (integer_line_of name.now range) rest.now) }
+    ensures told { Gives beside result (read_lines (integer_line_of name.now range) rest.now) }
+    ensures range { IfOk result (λ x. IsWithin range.below range.above x.0) }
 {
     match integer_bytes(name, range, rest) {
         Ok((number, after)) => Ok((number, after)),

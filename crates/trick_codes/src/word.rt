@@ -1,6 +1,6 @@
 //! Words: which of some texts stands at the front.
 
-ghost use Rattle.std.specs.Prelude.{◌≡◌};
+ghost use Rattle.std.specs.Prelude.{◌≡◌, ◌<◌, IfOk, length};
 ghost use Rattle.trick_codes.specs.Code.{begins_word, behind as behind_of, is_there, one_of as one_of_code, read};
 ghost use Rattle.trick_codes.specs.Gives.{beside, bytes_of, IsBehind, Reads};
 
@@ -49,7 +49,8 @@ fn begins_one(words: &[&[u8]], rest: &[u8]) -> bool
 
 /// One of these words, by its place in the list. The cost grows with the words.
 pub fn one_of<'a>(words: &[&[u8]], rest: &'a [u8]) -> Result<(usize, &'a [u8]), Miss>
-    ensures { Reads beside result (read (one_of_code (bytes_of words.now)) rest.now) }
+    ensures told { Reads beside result (read (one_of_code (bytes_of words.now)) rest.now) }
+    ensures place { IfOk result (λ x. x.0 < length words.now) }
 {
     for (place, word) in words.iter().enumerate() {
         if let Some(after) = behind(rest, word) {

@@ -15,7 +15,7 @@ loop-i-preserved c =
       going =
           codes_go_on (pos 0) row_number c.args.ranges.now c.loop-i.i c.index-ranges-i.result (take c.loop-i.i c.loop-i.into) (take (c.loop-i.i + 1) (slice_set c.loop-i.into c.loop-i.i (to_z w64 (of_z w64 n)))) n
           c.loop-i.here.now c.in_ok-number.after.now _ (omega arith)
-          (rw (sym c.index-ranges-i.is) (rw (sym c.mark.ensures) c.in_ok-number.ensures))
+          (rw (sym c.index-ranges-i.is) (rw (sym c.mark.ensures) c.in_ok-number.ensures.told))
           (take_more_set c.loop-i.into c.loop-i.i (to_z w64 (of_z w64 n)) (omega (arith, c.loop-i.invariant.size)) ∙ ap (λ (k : ℤ). take c.loop-i.i c.loop-i.into ++ k ∷ []) same)
           c.loop-i.invariant.going;
     }
