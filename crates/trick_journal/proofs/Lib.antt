@@ -1,0 +1,18 @@
+-- entries one by one
+pub mod Entries
+-- sessions one by one
+pub mod Sessions
+-- the codes of lines are sound
+pub mod IsSound
+-- a line is spelled as it is printed
+pub mod Texts
+-- the first line of a text, and what stands behind it
+pub mod Behind
+-- what a line says
+pub mod Lines
+-- what the reader keeps
+pub mod Keeping
+-- from rows to the answer for a text
+pub mod Answering
+-- no journal is a proper prefix of another
+pub mod Prefixes
