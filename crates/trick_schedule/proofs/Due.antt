@@ -48,7 +48,7 @@ mix_off false t a h = refl
 mix_off true false a h = refl
 mix_off true true a h = let no : true ≡ false = h refl in cc
 
-among_filter : (test : ℕ → Bool) (m : ℕ) (xs : List ℕ) → is_among m (filter test xs) ≡ (test m && is_among m xs)
+pub among_filter : (test : ℕ → Bool) (m : ℕ) (xs : List ℕ) → is_among m (filter test xs) ≡ (test m && is_among m xs)
 among_filter test m [] = sym (and_off (test m))
 among_filter test m (x ∷ xs) = by_test (among_filter test m xs) (test x) refl
   where
@@ -58,7 +58,7 @@ among_filter test m (x ∷ xs) = by_test (among_filter test m xs) (test x) refl
         ∙ mix_on (x == m) (test m) (is_among m xs) (λ h. ap test (sym (same_of x m h)) ∙ e)
     by_test others false e = others ∙ mix_off (x == m) (test m) (is_among m xs) (λ h. ap test (sym (same_of x m h)) ∙ e)
 
-jobs_kept : (jobs : List Job) (test : ℕ → Bool) (ks : List ℕ) → AreJobs jobs ks → AreJobs jobs (filter test ks)
+pub jobs_kept : (jobs : List Job) (test : ℕ → Bool) (ks : List ℕ) → AreJobs jobs ks → AreJobs jobs (filter test ks)
 jobs_kept jobs test [] are = tt
 jobs_kept jobs test (k ∷ ks) are = by_test (jobs_kept jobs test ks are.2) (test k)
   where
@@ -70,11 +70,11 @@ not_later : {A : Type 0} (k j : ℕ) (xs : List A) → k < j → is_among k (num
 not_later k j [] less = refl
 not_later k j (x ∷ xs) less = ap (λ b. b || is_among k (numbers_from (suc j) xs)) (other_of j k less) ∙ not_later k (suc j) xs (omega arith)
 
-numbers_are : (all : List Job) {A : Type 0} (k : ℕ) (xs : List A) → k + length xs ≤ length all → AreJobs all (numbers_from k xs)
+pub numbers_are : (all : List Job) {A : Type 0} (k : ℕ) (xs : List A) → k + length xs ≤ length all → AreJobs all (numbers_from k xs)
 numbers_are all k [] fits = tt
 numbers_are all k (x ∷ xs) fits = (omega arith, not_later k (suc k) xs (omega arith), numbers_are all (suc k) xs (omega arith))
 
-numbers_among : {A : Type 0} (k j : ℕ) (xs : List A) → j ≤ k → k < j + length xs → IsTrue (is_among k (numbers_from j xs))
+pub numbers_among : {A : Type 0} (k j : ℕ) (xs : List A) → j ≤ k → k < j + length xs → IsTrue (is_among k (numbers_from j xs))
 numbers_among k j [] low high = absurd (omega arith)
 numbers_among k j (x ∷ xs) low high = by_place (cases_Bool (j == k)) (λ less. numbers_among k (suc j) xs less (omega arith))
   where
@@ -89,10 +89,10 @@ numbers_among k j (x ∷ xs) low high = by_place (cases_Bool (j == k)) (λ less.
 -- ---- which jobs are due
 
 -- the test by which the due jobs are chosen
-abbrev is_chosen : Tic → ℕ → Bool
+abbrev pub is_chosen : Tic → ℕ → Bool
 is_chosen t k = is_due t.plan t.on t.number k && is_on_scheduled t.plan.jobs t.plan.threads k
 
-chosen : KeyOrderIsOne → (t : Tic) (k : ℕ) → IsDueIn t k → IsTrue (is_chosen t k)
+pub chosen : KeyOrderIsOne → (t : Tic) (k : ℕ) → IsDueIn t k → IsTrue (is_chosen t k)
 chosen law t k due =
     let among : IsTrue (is_among k (filter (is_chosen t) (job_numbers t.plan.jobs))) = law.same t.plan.jobs (filter (is_chosen t) (job_numbers t.plan.jobs)) k ∙ due in
     (and_parts (is_chosen t k) _ (sym (among_filter (is_chosen t) k (job_numbers t.plan.jobs)) ∙ among)).0

@@ -1,0 +1,12 @@
+-- the tables of a plan
+pub mod Lines
+-- the first job of a list that is wanted
+pub mod Firsts
+-- what a thread can do next
+pub mod Nexts
+-- stages and due jobs
+pub mod Stages
+-- commits and closes
+pub mod Ends
+-- the calls of a board
+pub mod Calls

@@ -1,0 +1,61 @@
+use Rattle.std.proofs.Common.{◌≡◌, ◌≤◌, length, ◌∙◌, ap, subst, sym, arith}
+use Rattle.std.proofs.lemmas.List.{length-replicate}
+use Rattle.trick_board.proofs.Calls.{opened_belongs}
+use Rattle.trick_board.proofs.Stages.{few_due}
+use Rattle.trick_board.specs.Board.{BoardView, IsBoardOf}
+use Rattle.trick_model.specs.PlanOf.{plan_of}
+use Rattle.trick_model.specs.Valid.{ids}
+use Rattle.trick_schedule.proofs.History.{length-waiting}
+use Rattle.trick_schedule.specs.Play.{with_waiting}
+use Rattle.trick_schedule.specs.declared.stage.Stage.TheVariants.{Idle}
+use Rattle.std.specs.Prelude.{replicate}
+use Rattle.trick_board.proofs.board.Board.open_tic.Goals as goal
+
+pub copy_jobs-requires : goal.copy_jobs-requires
+copy_jobs-requires g c =
+    let many : length c.self.inside.stages.items ≡ length c.args.plan.now.program.jobs = ap (λ (v : BoardView). v.jobs) c.self.view_is ∙ c.requires.belongs.many in
+    let few = few_due (plan_of c.args.plan.now) c.args.on.now c.args.tic c.args.due.now c.requires.due in
+    let room = c.self.invariant.room_is in
+    omega (arith, many, few, room)
+
+pub invariant_of-self : goal.invariant_of-self
+invariant_of-self g c =
+    let many : length c.self.inside.stages.items ≡ length c.args.plan.now.program.jobs = ap (λ (v : BoardView). v.jobs) c.self.view_is ∙ c.requires.belongs.many in
+    let few = few_due (plan_of c.args.plan.now) c.args.on.now c.args.tic c.args.due.now c.requires.due in
+    let same : length c.let_wait.new.stages.items ≡ length c.self.inside.stages.items =
+    ap length c.let_wait.ensures ∙ length-waiting (ids c.args.due.now) (replicate (length c.self.inside.stages.items) Idle)
+    ∙ length-replicate (length c.self.inside.stages.items) Idle in
+    let copied : length c.copy_jobs.new.into.items ≡ length c.args.due.now = ap length c.copy_jobs.ensures.items in
+    let limit = c.self.invariant.limit in
+    let flags = c.self.invariant.flags_are in
+    let room = c.self.invariant.room_is in
+    let capacity = c.copy_jobs.ensures.room in
+    let flagged = c.copy_flags.ensures.length in
+    record {
+      limit = omega (arith, same, limit);
+      flags_are = flagged ∙ flags ∙ sym same;
+      few = omega (arith, copied, few, many, same);
+      room_is = omega (arith, same, room, capacity);
+    }
+
+pub returns-clause-belongs : goal.returns-clause-belongs
+returns-clause-belongs g c =
+    let many : length c.self.inside.stages.items ≡ length c.args.plan.now.program.jobs = ap (λ (v : BoardView). v.jobs) c.self.view_is ∙ c.requires.belongs.many in
+    let belongs = subst (λ (v : BoardView). IsBoardOf c.args.plan.now v) (sym c.self.view_is) c.requires.belongs in
+    let same : length c.let_wait.new.stages.items ≡ length c.self.inside.stages.items =
+    ap length c.let_wait.ensures ∙ length-waiting (ids c.args.due.now) (replicate (length c.self.inside.stages.items) Idle)
+    ∙ length-replicate (length c.self.inside.stages.items) Idle in
+    record {
+      tables = belongs.tables;
+      many = same ∙ many;
+      opened = opened_belongs g.M.Cells.numbers g.M.Cells.scalars c.args.tic c.copy_flags.new.into.items c.copy_jobs.new.into.items c.let_wait.new.stages.items
+          c.replace.new.dest c.args.memory c.args.plan.now (length c.self.inside.stages.items) c.replace.ensures.after
+          (ap ids c.copy_jobs.ensures.items ∙ c.requires.due) many
+          (c.let_wait.ensures ∙ ap (λ l. with_waiting l (replicate (length c.self.inside.stages.items) Idle)) (sym (ap ids c.copy_jobs.ensures.items)))
+          c.requires.memory;
+    }
+
+pub returns-clause-jobs : goal.returns-clause-jobs
+returns-clause-jobs g c =
+    ap length c.let_wait.ensures ∙ length-waiting (ids c.args.due.now) (replicate (length c.self.inside.stages.items) Idle)
+    ∙ length-replicate (length c.self.inside.stages.items) Idle ∙ ap (λ (v : BoardView). v.jobs) c.self.view_is

@@ -1,0 +1,18 @@
+use Rattle.std.proofs.Common.{◌++◌, ◌∷◌, [], ◌∙◌, ap, get_or, refl}
+use Rattle.std.specs.Prelude.{cond}
+use Rattle.trick_model.specs.Valid.{ids}
+use Rattle.trick_queue.proofs.Queued.{queue_more}
+use Rattle.trick_queue.specs.Queue.{no_id}
+use Rattle.trick_schedule.specs.Tics.{depends_on}
+use Rattle.trick_board.proofs.tables.depended.Goals as goal
+
+pub loop-job-preserved : goal.loop-job-preserved
+loop-job-preserved c =
+    let all = c.class_scheduled-all.result.now in
+    let i = c.loop-job.job-index in
+    let job = get_or all i no_id in
+    let jobs = c.loop-job.jobs in
+    ap ids c.in_ok-add.ensures
+    ∙ ap (λ w. ids (jobs ++ cond w (job ∷ []) []))
+    (c.depends_on-wanted.ensures ∙ ap (λ pairs. depends_on pairs c.args.target.0 job.0) c.as_slice.ensures)
+    ∙ queue_more (depends_on c.args.plan.now.depends c.args.target.0) all i no_id job jobs c.loop-job-test.true refl c.loop-job.invariant

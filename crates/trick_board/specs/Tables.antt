@@ -1,0 +1,32 @@
+-- Lists of jobs that a board looks up, which a plan settles.
+use Rattle.std.specs.List.{slice_index_or}
+use Rattle.std.specs.Prelude.{◌≡◌, ℕ, ◌<◌, ◌==◌, List, [], filter, length}
+use Rattle.trick_board.specs.declared.tables.Tables.{Tables}
+use Rattle.trick_lang.specs.declared.class.Class.TheVariants as class
+use Rattle.trick_lang.specs.declared.job.Job.{Job}
+use Rattle.trick_lang.specs.declared.job.JobId.{JobId}
+use Rattle.trick_model.specs.Order.{jobs_in}
+use Rattle.trick_model.specs.Plan.{Plan, thread_of}
+use Rattle.trick_model.specs.Valid.{ids}
+use Rattle.trick_schedule.specs.Tics.{depends_on}
+
+-- the jobs of class scheduled, in key order
+abbrev pub scheduled : Plan → List ℕ
+scheduled p = jobs_in p.jobs class.Scheduled
+
+-- those of them that are on a thread
+abbrev pub line_of : Plan → ℕ → List ℕ
+line_of p thread = filter (λ k. thread_of p.jobs k == thread) (scheduled p)
+
+-- those of them that a job depends on
+abbrev pub depended_of : Plan → ℕ → List ℕ
+depended_of p k = filter (depends_on p.depends k) (scheduled p)
+
+-- the jobs of a list, of many lists
+abbrev pub ids_at : List (List JobId) → ℕ → List ℕ
+ids_at lists place = ids (slice_index_or lists place [])
+
+-- The tables are those of the plan: the jobs of each thread, and those that each job depends on.
+pub record IsFor (p : Plan) (tables : Tables) : Type 0 where
+  pub lines : (thread : ℕ) → ids_at tables.lines thread ≡ line_of p thread
+  pub depended : (k : ℕ) → k < length p.jobs → ids_at tables.depended k ≡ depended_of p k

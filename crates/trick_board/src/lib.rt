@@ -1,0 +1,13 @@
+//! The board of a tic: it hands the due jobs to threads one by one, and takes back what they come to,
+//! so that every order of takes and commits gives what one thread makes of them.
+#![tactic(auto)]
+
+mod answers;
+mod board;
+mod search;
+mod step;
+mod tables;
+
+pub use answers::{Closed, Commit, Took};
+pub use board::Board;
+pub use tables::Tables;

@@ -1,0 +1,173 @@
+//! Plain searches for the next job of a thread.
+
+ghost use Rattle.std.specs.Prelude.{◌≡◌, ◌<◌, length};
+ghost use Rattle.trick_board.specs.Search.{find_wanted, least_of, meets, missing_in, next_in, other_than};
+ghost use Rattle.trick_model.specs.Order.{is_below, key as key_of, precedes as precedes_of, rank as rank_of};
+ghost use Rattle.trick_model.specs.Plan.{job_at as job_at_of};
+ghost use Rattle.trick_model.specs.PlanOf.{plan_of};
+ghost use Rattle.trick_schedule.specs.Play.{stage_at};
+
+use crate::Tables;
+use crate::tables::list_at;
+use trick_lang::{Class, Job, JobId};
+use trick_model::Plan;
+use trick_schedule::Stage;
+
+/// Which jobs are looked for.
+#[derive(Clone, Copy)]
+pub enum Wanted {
+    Waiting,
+    InFlight,
+    /// Due, and not committed.
+    Open,
+}
+
+/// What a thread can do next.
+pub enum Next {
+    /// Take this job.
+    Ready(JobId),
+    /// Take the first job after the second one is committed; or wait for the one that is in flight.
+    Waits(JobId, JobId),
+    /// Nothing more in this tic.
+    Nothing,
+}
+
+/// The stage of a job.
+pub fn stage_of(stages: &[Stage], job: JobId) -> Stage
+    ensures { result ≡ stage_at stages.now job.0 }
+{
+    match stages.get(job.0 as usize) {
+        Some(stage) => *stage,
+        None => Stage::Idle,
+    }
+}
+
+// Whether a stage is of the wanted kind.
+fn is_wanted(wanted: Wanted, stage: Stage) -> bool
+    ensures { result ≡ meets wanted stage }
+{
+    match wanted {
+        Wanted::Waiting => matches!(stage, Stage::Waiting),
+        Wanted::InFlight => matches!(stage, Stage::InFlight),
+        Wanted::Open => matches!(stage, Stage::Waiting | Stage::InFlight),
+    }
+}
+
+// The first job of a list that is of the wanted kind.
+fn find(wanted: Wanted, stages: &[Stage], jobs: &[JobId]) -> Option<JobId>
+    ensures { result ≡ find_wanted wanted stages.now jobs.now }
+{
+    for job in jobs {
+        if is_wanted(wanted, stage_of(stages, *job)) {
+            return Some(*job);
+        }
+    }
+    None
+}
+
+// A job of a number; one that is not there is none of class scheduled.
+fn job_at(jobs: &[Job], job: JobId) -> Job
+    ensures { result ≡ job_at_of jobs.now job.0 }
+{
+    match jobs.get(job.0 as usize) {
+        Some(job) => *job,
+        None => Job {
+            object: 0,
+            method: 0,
+            instance: 0,
+            class: Class::Restart,
+            thread: 0,
+            phase: 0,
+            start: 0,
+            cycle: 0,
+            stop: 0,
+            number: 0,
+        },
+    }
+}
+
+// The rank of a class, which comes first in the keys of its jobs.
+fn rank(class: Class) -> u8
+    ensures { result ≡ rank_of class }
+{
+    class as u8
+}
+
+// Whether the key of the first job is the smaller one.
+fn is_smaller(one: Job, other: Job) -> bool
+    ensures { result ≡ is_below (key_of one) (key_of other) }
+{
+    let (first, second) = (rank(one.class), rank(other.class));
+    if first != second {
+        return first < second;
+    }
+    if one.phase != other.phase {
+        return one.phase < other.phase;
+    }
+    if one.object != other.object {
+        return one.object < other.object;
+    }
+    one.number < other.number
+}
+
+// Whether the first job comes before the second one in key order.
+fn precedes(plan: &Plan, one: JobId, other: JobId) -> bool
+    ensures { result ≡ precedes_of plan.now.program.jobs one.0 other.0 }
+{
+    let jobs = plan.program.jobs.as_slice();
+    is_smaller(job_at(jobs, one), job_at(jobs, other))
+}
+
+// A job that is another one.
+fn other(job: JobId, found: Option<JobId>) -> Option<JobId>
+    ensures { result ≡ other_than job found }
+{
+    match found {
+        None => None,
+        Some(other) => { if other.0 == job.0 { None } else { Some(other) } }
+    }
+}
+
+// The one of smaller key, if there is one.
+fn least(plan: &Plan, one: Option<JobId>, other: Option<JobId>) -> Option<JobId>
+    ensures { result ≡ least_of (plan_of plan.now) one other }
+{
+    let Some(first) = one else {
+        return other;
+    };
+    let Some(second) = other else {
+        return one;
+    };
+    if precedes(plan, second, first) {
+        Some(second)
+    } else {
+        Some(first)
+    }
+}
+
+// The least predecessor of a waiting job that is not committed.
+fn missing(plan: &Plan, tables: &Tables, stages: &[Stage], thread: u8, job: JobId) -> Option<JobId>
+    ensures { result ≡ missing_in (plan_of plan.now) tables.now stages.now thread job }
+{
+    let line = list_at(tables.lines.as_slice(), thread as usize);
+    let depended = list_at(tables.depended.as_slice(), job.0 as usize);
+    let before = other(job, find(Wanted::Open, stages, line));
+    least(plan, before, find(Wanted::Open, stages, depended))
+}
+
+/// What a thread can do next. It costs the jobs of the thread, and those that its next job depends on.
+pub fn next_of(plan: &Plan, tables: &Tables, stages: &[Stage], thread: u8) -> Next
+    ensures { result ≡ next_in (plan_of plan.now) tables.now stages.now thread }
+{
+    let line = list_at(tables.lines.as_slice(), thread as usize);
+    let Some(job) = find(Wanted::Waiting, stages, line) else {
+        return match find(Wanted::InFlight, stages, line) {
+            Some(job) => Next::Waits(job, job),
+            None => Next::Nothing,
+        };
+    };
+    match missing(plan, tables, stages, thread, job) {
+        Some(waits_for) => Next::Waits(job, waits_for),
+        None => Next::Ready(job),
+    }
+}

@@ -1,0 +1,130 @@
+ghost use Rattle.std.specs.List.{slice_index_or};
+ghost use Rattle.std.specs.Prelude.{◌≡◌, ℕ, ◌==◌, ◌∷◌, ◌++◌, ◌<◌, [], IfOk, cond, length};
+ghost use Rattle.trick_board.specs.Tables.{IsFor, depended_of, ids_at, line_of};
+ghost use Rattle.trick_model.specs.Plan.{thread_of};
+ghost use Rattle.trick_model.specs.PlanOf.{plan_of};
+ghost use Rattle.trick_model.specs.Valid.{ids};
+ghost use Rattle.trick_schedule.specs.Tics.{depends_on as depends_on_of};
+
+use std::alloc::{AllocError, Global};
+use trick_base::Items;
+use trick_lang::JobId;
+use trick_model::{Depends, Plan};
+
+// Threads go from 0 to 15.
+const THREADS: u8 = 16;
+
+/// Lists of jobs of class scheduled that a board looks up, each in key order.
+#[derive(Drop)]
+pub struct Tables {
+    /// By thread, its jobs.
+    pub(crate) lines: Items<Items<JobId>>,
+    /// By job, those that it depends on.
+    pub(crate) depended: Items<Items<JobId>>,
+}
+
+// The jobs of class scheduled, in key order.
+fn class_scheduled(plan: &Plan) -> &[JobId]
+    ensures { result.now ≡ slice_index_or plan.now.queues 2 [] }
+{
+    match plan.queues.as_slice().get(2) {
+        Some(jobs) => jobs.as_slice(),
+        None => &[],
+    }
+}
+
+// The thread of a job.
+pub(crate) fn thread_at(plan: &Plan, job: JobId) -> u8
+    ensures { result ≡ thread_of plan.now.program.jobs job.0 }
+{
+    match plan.program.jobs.as_slice().get(job.0 as usize) {
+        Some(job) => job.thread,
+        None => 0,
+    }
+}
+
+// Whether a job depends on another one.
+fn depends_on(pairs: &[Depends], target: JobId, depended: JobId) -> bool
+    ensures { result ≡ depends_on_of pairs.now target.0 depended.0 }
+{
+    pairs.iter().any(|pair| pair.target.0 == target.0 && pair.depended.0 == depended.0)
+}
+
+// Adds a job where it is wanted.
+fn add(jobs: &mut Items<JobId>, job: JobId, wanted: bool) -> Result<(), AllocError>
+    ensures { IfOk result (λ _. jobs.new ≡ jobs.old ++ cond wanted (job ∷ []) []) }
+{
+    if wanted {
+        jobs.push(job)?;
+    }
+    Ok(())
+}
+
+// The jobs of a thread.
+fn line(alloc: Global, plan: &Plan, thread: u8) -> Result<Items<JobId>, AllocError>
+    ensures { IfOk result (λ jobs. ids jobs ≡ line_of (plan_of plan.now) thread) }
+{
+    let mut jobs = Items::new(alloc);
+    let all = class_scheduled(plan);
+    for job in all {
+        add(&mut jobs, *job, thread_at(plan, *job) == thread)?;
+    }
+    Ok(jobs)
+}
+
+// The jobs that a job depends on.
+fn depended(alloc: Global, plan: &Plan, target: JobId) -> Result<Items<JobId>, AllocError>
+    ensures { IfOk result (λ jobs. ids jobs ≡ depended_of (plan_of plan.now) target.0) }
+{
+    let mut jobs = Items::new(alloc);
+    let all = class_scheduled(plan);
+    for job in all {
+        let wanted = depends_on(plan.depends.as_slice(), target, *job);
+        add(&mut jobs, *job, wanted)?;
+    }
+    Ok(jobs)
+}
+
+// The jobs of each thread.
+fn lines(alloc: Global, plan: &Plan) -> Result<Items<Items<JobId>>, AllocError>
+    ensures { IfOk result (λ lines. (thread : ℕ) → ids_at lines thread ≡ line_of (plan_of plan.now) thread) }
+{
+    let mut lines = Items::new(alloc);
+    for thread in 0..THREADS {
+        lines.push(line(alloc, plan, thread)?)?;
+    }
+    Ok(lines)
+}
+
+// The jobs that each job depends on.
+fn all_depended(alloc: Global, plan: &Plan) -> Result<Items<Items<JobId>>, AllocError>
+    ensures { IfOk result (λ all. (k : ℕ) → k < length plan.now.program.jobs → ids_at all k ≡ depended_of (plan_of plan.now) k) }
+{
+    let mut all = Items::new(alloc);
+    for number in 0..plan.program.jobs.len() {
+        all.push(depended(alloc, plan, JobId(number as u32))?)?;
+    }
+    Ok(all)
+}
+
+impl Tables {
+    // The tables of a plan. Their making costs the jobs times the jobs and the pairs.
+    pub(crate) fn new(alloc: Global, plan: &Plan) -> Result<Self, AllocError>
+        ensures { IfOk result (IsFor (plan_of plan.now)) }
+    {
+        Ok(Tables {
+            lines: lines(alloc, plan)?,
+            depended: all_depended(alloc, plan)?,
+        })
+    }
+}
+
+// A list of many, or none past the last one.
+pub(crate) fn list_at(lists: &[Items<JobId>], place: usize) -> &[JobId]
+    ensures { result.now ≡ slice_index_or lists.now place [] }
+{
+    match lists.get(place) {
+        Some(list) => list.as_slice(),
+        None => &[],
+    }
+}
