@@ -20,3 +20,5 @@ pub mod Extend
 pub mod Moves
 -- the jobs of a tic of an accepted plan
 pub mod Due
+-- all schedules of three jobs
+pub mod Examples

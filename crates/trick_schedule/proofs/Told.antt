@@ -102,7 +102,7 @@ history_commit before stages k g there took h i = elim (cases_eq i k) [
       (commit_take (job_of k) (job_of i)) (λ e. ne (sym (commit_same (job_of k) i e))) (h i))
 ]
 
-nothing_done : (x : Step) → Contains [] x → ⊥
+pub nothing_done : (x : Step) → Contains [] x → ⊥
 nothing_done x (i, less, e) = absurd (omega arith)
 
 pub no_history : (stages : List Stage) → ((k : ℕ) → is_taken (stage_at stages k) ≡ false) → ((k : ℕ) → is_done (stage_at stages k) ≡ false) → IsHistory [] stages
