@@ -33,8 +33,8 @@ pub(crate) fn push_memory<M: Cells>(
     Ok(())
 }
 
-// The full name of a cell.
-fn name_of(variables: &[Variable], cell: Cell) -> &[u8]
+/// The full name of a cell.
+pub(crate) fn name_of(variables: &[Variable], cell: Cell) -> &[u8]
     ensures { result.now ≡ slice_index_or (cell_names variables.now) cell.0 [] }
 {
     match variables.get(cell.0 as usize) {

@@ -6,6 +6,7 @@ use super::*;
 use std::alloc::{AllocError, Global};
 use std::test::Fail;
 use trick_base::Items;
+use trick_codes::LoadFault;
 use trick_lang::{Cell, Cells, JobId, Program};
 use trick_model::{Faults, Flags, Mode, Plan, Process, State, Taken, Thread};
 
@@ -82,7 +83,8 @@ fn queues(alloc: Global) -> Result<Items<Items<JobId>>, AllocError>
 }
 
 fn program(alloc: Global) -> Program
-    ensures { result.jobs ≡ [] }
+    ensures jobs { result.jobs ≡ [] }
+    ensures cells { result.cells ≡ [] }
 {
     Program {
         cells: Items::new(alloc),
@@ -105,7 +107,9 @@ fn no_flags(alloc: Global) -> Flags
 }
 
 // A plan whose only thread works beside the tics.
-fn plan(alloc: Global) -> Result<Plan, AllocError> {
+fn plan(alloc: Global) -> Result<Plan, AllocError>
+    ensures { IfOk result (λ plan. plan.program.cells ≡ []) }
+{
     Ok(Plan {
         program: program(alloc),
         frame: 1_000_000,
@@ -157,5 +161,86 @@ fn a_state_is_printed(rt: HostRuntime) -> Result<(), Fail> {
     assert_eq!(rt; threads_beside(alloc, &plan)?.len(), 1);
     assert_eq!(rt; jobs_of(alloc, &plan.program, BESIDE)?.len(), 0);
     assert_eq!(rt; scope(alloc, &plan, BESIDE)?.len(), 0);
+    Ok(())
+}
+
+const LINES: [&[u8]; 8] = [
+    b"checkpoint = 1;",
+    b"turn = 3;",
+    b"tic = 4;",
+    b"limit = 5;",
+    b"mode = Freeze;",
+    b"taken[0] = held;",
+    b"faults = 0;",
+    b"end;",
+];
+
+// The checkpoint above, with another line, counted from 1, in the place of that one.
+fn text(alloc: Global, line: usize, other: &[u8]) -> Result<Vec<u8>, AllocError> {
+    let mut text = Vec::new(alloc);
+    for (place, right) in LINES.iter().enumerate() {
+        if place + 1 == line {
+            text.extend_from_slice(other)?;
+        } else {
+            text.extend_from_slice(right)?;
+        }
+        text.push(10)?;
+    }
+    Ok(text)
+}
+
+// The refusal of a text.
+fn refusal(alloc: Global, text: &[u8]) -> Result<Option<LoadFault>, AllocError> {
+    let plan = plan(alloc)?;
+    match load(alloc, &plan, text, Few { number: None }) {
+        Ok(_) => Ok(None),
+        Err(fault) => Ok(Some(fault)),
+    }
+}
+
+#[test]
+fn a_checkpoint_is_loaded(rt: HostRuntime) -> Result<(), Fail> {
+    let alloc = rt.alloc();
+    let plan = plan(alloc)?;
+    let text = text(alloc, 0, b"")?;
+    match load(alloc, &plan, &text, Few { number: None }) {
+        Ok(state) => {
+            assert_eq!(rt; state.mode, Mode::Freeze);
+            assert_eq!(rt; print(alloc, &plan, &state)?.as_slice(), text.as_slice());
+        }
+        Err(fault) => assert_eq!(rt; Some(fault), None),
+    }
+    for at in 0..text.len() {
+        let (front, _) = text.split_at(at);
+        assert_eq!(rt; refusal(alloc, front)?, Some(LoadFault::Truncated { at }));
+    }
+    Ok(())
+}
+
+#[test]
+fn wrong_lines_are_refused(rt: HostRuntime) -> Result<(), Fail> {
+    let alloc = rt.alloc();
+    let cases = [
+        (2, b"turn = +3;".as_slice(), LoadFault::BadLine { line: 2 }),
+        (2, b"turn = 03;", LoadFault::BadLine { line: 2 }),
+        (3, b"tic = -0;", LoadFault::BadLine { line: 3 }),
+        (5, b"mode = Frozen;", LoadFault::BadLine { line: 5 }),
+        (6, b"end;", LoadFault::BadLine { line: 6 }),
+        (2, b"tic = 4;", LoadFault::WrongPlan { line: 2 }),
+        (6, b"taken[1] = none;", LoadFault::WrongPlan { line: 6 }),
+        (8, b"x y = z;", LoadFault::WrongPlan { line: 8 }),
+        (1, b"checkpoint = 2;", LoadFault::OutOfRange { line: 1 }),
+        (
+            3,
+            b"tic = 1000000000000002;",
+            LoadFault::OutOfRange { line: 3 },
+        ),
+        (7, b"faults = 1;", LoadFault::OutOfRange { line: 7 }),
+        (8, b"end;\n", LoadFault::Trailing { at: 95 }),
+    ];
+    for (line, other, want) in cases {
+        let text = text(alloc, line, other)?;
+        assert_eq!(rt; refusal(alloc, &text)?, Some(want), "{other:?}");
+    }
     Ok(())
 }
