@@ -149,7 +149,8 @@ impl<M: Cells> Board<M> {
         requires there { job.0 < length plan.now.program.jobs }
         requires waits { IfSome self.old.opened (λ o. stage_at o.progress.stages job.0 ≡ Waiting) }
         ensures taken { IfSome self.old.opened (λ o. self.new ≡ stepped plan.now self.old o (TakeOf job)) }
-        ensures filled { IfSome self.old.opened (λ o. IsFilledBy self.old.phase (reads plan.now.program job) o.progress.memory bench.old bench.new job) }
+        ensures filled { IfSome self.old.opened (λ o. IsFilledBy self.old.phase
+            (reads plan.now.program job) o.progress.memory bench.old bench.new job) }
         ensures belongs { IsBoardOf plan.now self.new }
     {
         if let Some(memory) = &self.memory {
@@ -164,7 +165,8 @@ impl<M: Cells> Board<M> {
         requires belongs { IsBoardOf plan.now self.old }
         requires job { bench.now.job ≡ Some job }
         requires evaluated { IsEvaluated plan.now.program bench.now }
-        requires inputs { IfSome self.old.opened (λ o. AgreeOn (reads plan.now.program job) o.progress.memory bench.now.inputs) }
+        requires inputs { IfSome self.old.opened (λ o. AgreeOn (reads plan.now.program job)
+            o.progress.memory bench.now.inputs) }
         ensures { IfSome self.old.opened (λ o. self.new ≡ stepped plan.now self.old o (CommitOf job)) }
     {
         let mut fault = None;
@@ -183,7 +185,8 @@ impl<M: Cells> Board<M> {
         requires job { bench.now.job ≡ Some job }
         requires evaluated { IsEvaluated plan.now.program bench.now }
         requires flies { IfSome self.old.opened (λ o. stage_at o.progress.stages job.0 ≡ InFlight) }
-        requires inputs { IfSome self.old.opened (λ o. AgreeOn (reads plan.now.program job) o.progress.memory bench.now.inputs) }
+        requires inputs { IfSome self.old.opened (λ o. AgreeOn (reads plan.now.program job)
+            o.progress.memory bench.now.inputs) }
         ensures committed { IfSome self.old.opened (λ o. self.new ≡ stepped plan.now self.old o (CommitOf job)) }
         ensures belongs { IsBoardOf plan.now self.new }
     {
@@ -221,9 +224,13 @@ impl<M: Cells> Board<M> {
         requires bench { IsBenchFor plan.now.program bench.old.parts }
         requires filled { IsFilled plan.now.program bench.old }
         requires evaluated { IsEvaluated plan.now.program bench.old }
-        ensures answer { IfSome self.old.opened (λ o. Commits self.old.phase o.progress.stages o.progress.memory (reads plan.now.program (the_job bench.old.job)) bench.old (the_job bench.old.job) result) }
-        ensures committed { result ≡ Commit.Committed → IfSome self.old.opened (λ o. self.new ≡ stepped plan.now self.old o (CommitOf (the_job bench.old.job))) }
-        ensures emptied { result ≡ Commit.Committed → bench.new ≡ record bench.old { phase = 0; job = None; outcome = None } }
+        ensures answer { IfSome self.old.opened (λ o. Commits self.old.phase o.progress.stages
+            o.progress.memory (reads plan.now.program (the_job bench.old.job)) bench.old
+            (the_job bench.old.job) result) }
+        ensures committed { result ≡ Commit.Committed → IfSome self.old.opened
+            (λ o. self.new ≡ stepped plan.now self.old o (CommitOf (the_job bench.old.job))) }
+        ensures emptied { result ≡ Commit.Committed → bench.new ≡ record
+            bench.old { phase = 0; job = None; outcome = None } }
         ensures kept { result ≢ Commit.Committed → (self.new ≡ self.old) × (bench.new ≡ bench.old) }
         ensures belongs { IsBoardOf plan.now self.new }
     {
@@ -256,13 +263,19 @@ impl<M: Cells> Board<M> {
         requires bench { IsBenchFor accepted.now.plan.program bench.old.parts }
         requires filled { IsFilled accepted.now.plan.program bench.old }
         requires evaluated { IsEvaluated accepted.now.plan.program bench.old }
-        ensures answer { IfSome self.old.opened (λ o. Commits self.old.phase o.progress.stages o.progress.memory (reads accepted.now.plan.program (the_job bench.old.job)) bench.old (the_job bench.old.job) result) }
-        ensures committed { result ≡ Commit.Committed → IfSome self.old.opened (λ o. self.new ≡ stepped accepted.now.plan self.old o (CommitOf (the_job bench.old.job))) }
-        ensures emptied { result ≡ Commit.Committed → bench.new ≡ record bench.old { phase = 0; job = None; outcome = None } }
+        ensures answer { IfSome self.old.opened (λ o. Commits self.old.phase o.progress.stages
+            o.progress.memory (reads accepted.now.plan.program (the_job bench.old.job)) bench.old
+            (the_job bench.old.job) result) }
+        ensures committed { result ≡ Commit.Committed → IfSome self.old.opened
+            (λ o. self.new ≡ stepped accepted.now.plan self.old o (CommitOf (the_job bench.old.job))) }
+        ensures emptied { result ≡ Commit.Committed → bench.new ≡ record
+            bench.old { phase = 0; job = None; outcome = None } }
         ensures kept { result ≢ Commit.Committed → (self.new ≡ self.old) × (bench.new ≡ bench.old) }
         ensures belongs { IsBoardOf accepted.now.plan self.new }
-        ensures never_stale { (first : List ℤ) (steps : List Step) → IfSome self.old.opened (λ o. IsLeftBy (tic_at accepted.now.plan o) first steps o.progress
-            → AgreeOn (reads accepted.now.plan.program (the_job bench.old.job)) bench.old.inputs (copy_of (played (tic_at accepted.now.plan o) (opening (tic_at accepted.now.plan o) first) steps) (the_job bench.old.job).0)
+        ensures never_stale { (first : List ℤ) (steps : List Step) → IfSome self.old.opened
+            (λ o. IsLeftBy (tic_at accepted.now.plan o) first steps o.progress
+            → AgreeOn (reads accepted.now.plan.program
+            (the_job bench.old.job)) bench.old.inputs (copy_of (played (tic_at accepted.now.plan o) (opening (tic_at accepted.now.plan o) first) steps) (the_job bench.old.job).0)
             → IsStale result → ⊥) }
     {
         every_schedule_is_serial();
@@ -276,7 +289,9 @@ impl<M: Cells> Board<M> {
         ensures count { IfSome self.old.opened (λ o. Counts (open_count o.progress.stages (ids o.due)) result) }
         ensures memory { IfSome self.old.opened (λ o. IfMemory result (λ m. M.numbers m ≡ o.progress.memory)) }
         ensures scalars { IfSome self.old.opened (λ o. IfMemory result (λ m. M.scalars m ≡ o.scalars)) }
-        ensures faults { IfSome self.old.opened (λ o. IfMemory result (λ _. faults.new ≡ with_faults (faults_in o.progress.stages (ids o.due)) faults.old)) }
+        ensures faults { IfSome self.old.opened
+            (λ o. IfMemory result (λ _. faults.new ≡ with_faults (faults_in
+            o.progress.stages (ids o.due)) faults.old)) }
         ensures closed { IfMemory result (λ _. self.new ≡ record self.old { opened = None }) }
         ensures left { IfLeft result ((self.new ≡ self.old) × (faults.new ≡ faults.old)) }
     {
@@ -300,11 +315,15 @@ impl<M: Cells> Board<M> {
         ensures count { IfSome self.old.opened (λ o. Counts (open_count o.progress.stages (ids o.due)) result) }
         ensures memory { IfSome self.old.opened (λ o. IfMemory result (λ m. M.numbers m ≡ o.progress.memory)) }
         ensures scalars { IfSome self.old.opened (λ o. IfMemory result (λ m. M.scalars m ≡ o.scalars)) }
-        ensures faults { IfSome self.old.opened (λ o. IfMemory result (λ _. faults.new ≡ with_faults (faults_in o.progress.stages (ids o.due)) faults.old)) }
+        ensures faults { IfSome self.old.opened
+            (λ o. IfMemory result (λ _. faults.new ≡ with_faults (faults_in
+            o.progress.stages (ids o.due)) faults.old)) }
         ensures closed { IfMemory result (λ _. self.new ≡ record self.old { opened = None }) }
         ensures left { IfLeft result ((self.new ≡ self.old) × (faults.new ≡ faults.old)) }
-        ensures serial { (plan : PlanValue) → ∥ IsAccepted (plan_of plan) ∥₁ → IsBoardOf plan self.old → (first : List ℤ) (steps : List Step)
-            → IfSome self.old.opened (λ o. IsLeftBy (tic_at plan o) first steps o.progress → IfMemory result (λ m. ComesTo (serial (plan_of plan) o.on o.tic first) (M.numbers m) faults.old faults.new)) }
+        ensures serial { (plan : PlanValue) → ∥ IsAccepted (plan_of plan) ∥₁ → IsBoardOf plan self.old
+            → (first : List ℤ) (steps : List Step)
+            → IfSome self.old.opened (λ o. IsLeftBy (tic_at plan o) first steps o.progress
+            → IfMemory result (λ m. ComesTo (serial (plan_of plan) o.on o.tic first) (M.numbers m) faults.old faults.new)) }
     {
         every_schedule_is_serial();
         boards_need_no_copies();
@@ -316,9 +335,13 @@ impl<M: Cells> Board<M> {
         requires open { IsSome self.old.opened }
         requires belongs { IsBoardOf plan.now self.old }
         requires bench { IsBenchFor plan.now.program bench.old.parts }
-        ensures answer { IfSome self.old.opened (λ o. Takes (tic_at plan.now o) o.progress.stages thread (the_job bench.new.job).0 result) }
-        ensures taken { result ≡ Took.Took → IfSome self.old.opened (λ o. self.new ≡ stepped plan.now self.old o (TakeOf (the_job bench.new.job))) }
-        ensures filled { result ≡ Took.Took → IfSome self.old.opened (λ o. IsFilledBy self.old.phase (reads plan.now.program (the_job bench.new.job)) o.progress.memory bench.old bench.new (the_job bench.new.job)) }
+        ensures answer { IfSome self.old.opened (λ o. Takes (tic_at plan.now o) o.progress.stages thread
+            (the_job bench.new.job).0 result) }
+        ensures taken { result ≡ Took.Took → IfSome self.old.opened
+            (λ o. self.new ≡ stepped plan.now self.old o (TakeOf (the_job bench.new.job))) }
+        ensures filled { result ≡ Took.Took → IfSome self.old.opened (λ o. IsFilledBy self.old.phase
+            (reads plan.now.program (the_job bench.new.job)) o.progress.memory bench.old bench.new
+            (the_job bench.new.job)) }
         ensures kept { result ≢ Took.Took → (self.new ≡ self.old) × (bench.new ≡ bench.old) }
         ensures belongs { IsBoardOf plan.now self.new }
     {
@@ -338,9 +361,13 @@ impl<M: Cells> Board<M> {
         requires open { IsSome self.old.opened }
         requires belongs { IsBoardOf accepted.now.plan self.old }
         requires bench { IsBenchFor accepted.now.plan.program bench.old.parts }
-        ensures answer { IfSome self.old.opened (λ o. Takes (tic_at accepted.now.plan o) o.progress.stages thread (the_job bench.new.job).0 result) }
-        ensures taken { result ≡ Took.Took → IfSome self.old.opened (λ o. self.new ≡ stepped accepted.now.plan self.old o (TakeOf (the_job bench.new.job))) }
-        ensures filled { result ≡ Took.Took → IfSome self.old.opened (λ o. IsFilledBy self.old.phase (reads accepted.now.plan.program (the_job bench.new.job)) o.progress.memory bench.old bench.new (the_job bench.new.job)) }
+        ensures answer { IfSome self.old.opened (λ o. Takes (tic_at accepted.now.plan o)
+            o.progress.stages thread (the_job bench.new.job).0 result) }
+        ensures taken { result ≡ Took.Took → IfSome self.old.opened
+            (λ o. self.new ≡ stepped accepted.now.plan self.old o (TakeOf (the_job bench.new.job))) }
+        ensures filled { result ≡ Took.Took → IfSome self.old.opened (λ o. IsFilledBy self.old.phase
+            (reads accepted.now.plan.program (the_job bench.new.job)) o.progress.memory
+            bench.old bench.new (the_job bench.new.job)) }
         ensures kept { result ≢ Took.Took → (self.new ≡ self.old) × (bench.new ≡ bench.old) }
         ensures belongs { IsBoardOf accepted.now.plan self.new }
     {

@@ -1,7 +1,6 @@
 -- Three jobs on three threads, of which the second depends on the first: all of their schedules.
 use Rattle.std.proofs.Common.{◌≡◌, ℕ, zero, suc, ◌+◌, true, false, List, [], ◌∷◌, Option, Some, None, Result, Ok, map, inr, refl}
 use Rattle.std.specs.Int.{int_wrap}
-use Rattle.std.specs.List.{Contains}
 use Rattle.std.specs.Prelude.{ℤ, pos, negsuc, ◌+ℤ◌, ◌*ℤ◌, replicate}
 use Rattle.trick_lang.specs.declared.class.Class.TheVariants.{Scheduled}
 use Rattle.trick_lang.specs.declared.fault.Stop.{Stop}
@@ -16,9 +15,9 @@ use Rattle.trick_model.specs.declared.flags.Flags.{Flags}
 use Rattle.trick_model.specs.declared.thread.Process.TheVariants.{Scheduled as InTics}
 use Rattle.trick_model.specs.declared.thread.Thread.{Thread}
 use Rattle.trick_schedule.proofs.Told.{nothing_done}
-use Rattle.trick_schedule.specs.Play.{faults_in, opening, played}
+use Rattle.trick_schedule.specs.Play.{opening, played}
 use Rattle.trick_schedule.specs.Schedule.{IsBegun, job_of}
-use Rattle.trick_schedule.specs.Tics.{Tic, due_jobs}
+use Rattle.trick_schedule.specs.Tics.{Tic}
 use Rattle.trick_schedule.specs.declared.step.Step.{Step}
 use Rattle.trick_schedule.specs.declared.step.Step.TheVariants.{Commit, Take}
 

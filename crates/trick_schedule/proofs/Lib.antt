@@ -22,3 +22,5 @@ pub mod Moves
 pub mod Due
 -- all schedules of three jobs
 pub mod Examples
+-- one thread alone
+pub mod Alone

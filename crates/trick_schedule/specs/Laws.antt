@@ -9,7 +9,7 @@ use Rattle.trick_model.specs.declared.flags.Flags.{Flags}
 use Rattle.trick_model.specs.declared.plan.Plan.{Plan as PlanValue}
 use Rattle.trick_schedule.specs.Play.{copy_of, faults_in, is_done, opening, played, stage_at}
 use Rattle.trick_schedule.specs.Progress.{IsInOrder, IsSound, begun, moved, progress_of}
-use Rattle.trick_schedule.specs.Schedule.{CanFollow, IsBegun, IsSchedule}
+use Rattle.trick_schedule.specs.Schedule.{CanFollow, IsBegun, IsSchedule, one_by_one}
 use Rattle.trick_schedule.specs.Tics.{IsDueIn, IsPredecessor, Tic, due_jobs, tic_of}
 use Rattle.trick_schedule.specs.declared.stage.Stage.{Stage}
 use Rattle.trick_schedule.specs.declared.stage.Stage.TheVariants.{InFlight, Waiting}
@@ -47,6 +47,10 @@ EveryCopy t = (first : List ℤ) (early late : List Step) (k : ℕ) → IsBegun 
     → copy_of (played t (opening t first) (early ++ late)) k ≡ copy_of (played t (opening t first) early) k
 
 -- ---- how schedules go on
+
+-- The due jobs one by one in key order are a schedule.
+abbrev pub OneByOne : Tic → Type 0
+OneByOne t = IsSchedule t (one_by_one (due_jobs t))
 
 -- The least of the due jobs that are not committed.
 pub record IsLeastOpen (t : Tic) (stages : List Stage) (k : ℕ) : Type 0 where

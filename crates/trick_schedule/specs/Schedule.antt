@@ -31,3 +31,8 @@ IsBegun t steps = CanAllFollow t [] steps
 pub record IsSchedule (t : Tic) (steps : List Step) : Type 0 where
   pub begun : IsBegun t steps
   pub whole : (k : ℕ) → IsDueIn t k → Contains steps (Commit (job_of k))
+
+-- these jobs, each taken and at once committed
+abbrev pub one_by_one : List ℕ → List Step
+one_by_one [] = []
+one_by_one (k ∷ ks) = Take (job_of k) ∷ Commit (job_of k) ∷ one_by_one ks

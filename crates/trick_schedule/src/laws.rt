@@ -1,7 +1,7 @@
 //! Laws of schedules, for each tic of every accepted plan and whatever flags and memory. A function that
 //! calls one of them may rest on what it says; the call itself does nothing.
 
-ghost use Rattle.trick_schedule.specs.Laws.{AtEachTic, EveryBeginning, EveryBoard, EveryCopy, EverySchedule, GoesOn};
+ghost use Rattle.trick_schedule.specs.Laws.{AtEachTic, EveryBeginning, EveryBoard, EveryCopy, EverySchedule, GoesOn, OneByOne};
 
 /// Every schedule of a tic gives the memory and the faults of its due jobs, one after the other in key
 /// order. After each beginning of a schedule the committed jobs are closed under predecessors, memory and
@@ -32,6 +32,16 @@ pub fn boards_need_no_copies()
 /// to a whole schedule.
 pub fn schedules_go_on()
     ensures { AtEachTic GoesOn }
+{
+    trick_model::laws::key_order_is_one();
+    trick_race::laws::due_jobs_are_settled();
+    trick_lang::laws::frame_law();
+    trick_lang::laws::write_law();
+}
+
+/// One thread runs a schedule: the due jobs, each taken and at once committed, in key order.
+pub fn one_thread_is_a_schedule()
+    ensures { AtEachTic OneByOne }
 {
     trick_model::laws::key_order_is_one();
     trick_race::laws::due_jobs_are_settled();
