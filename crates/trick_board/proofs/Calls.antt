@@ -1,11 +1,9 @@
 -- What the calls of a board do, by its fields: the tic is open where there is a memory.
-use Rattle.std.proofs.Common.{◌≡◌, ◌⊎◌, inl, inr, ℕ, ◌<◌, ◌≤◌, Bool, true, false, List, [], ◌∷◌, length, Option, Some, None, IsTrue, refl, sym, ◌∙◌, ap, subst, arith}
-use Rattle.std.proofs.lemmas.List.{length-set}
-use Rattle.std.specs.List.{slice_index_or}
+use Rattle.std.proofs.Common.{◌≡◌, ℕ, ◌<◌, Bool, true, false, List, length, Option, Some, None, refl, sym, ◌∙◌, ap, subst}
 use Rattle.std.specs.Option.{IfSome, option_map}
-use Rattle.std.specs.Prelude.{ℤ, IsSome, Result, Ok, Err, replicate, slice_set}
+use Rattle.std.specs.Prelude.{ℤ, IsSome, Result, Ok, Err, replicate}
 use Rattle.trick_board.proofs.Ends.{ends_serial, not_stale}
-use Rattle.trick_board.proofs.Nexts.{Sees, next_right}
+use Rattle.trick_board.proofs.Nexts.{next_right}
 use Rattle.trick_board.proofs.Stages.{due_kept, first_due}
 use Rattle.trick_board.specs.Answers.{CanDo, ComesTo, Commits, Counts, IfMemory, IsLeftBy, IsStale, open_count}
 use Rattle.trick_board.specs.Board.{BoardView, IsBoardOf, IsOpenOf, Opened, opened_of, stepped, tic_at}
@@ -27,19 +25,19 @@ use Rattle.trick_lang.specs.declared.job.JobId.{JobId}
 use Rattle.trick_lang.specs.declared.scalar.Scalar.{Scalar}
 use Rattle.trick_model.specs.Acceptance.{IsAccepted}
 use Rattle.trick_model.specs.FaultList.{FaultList, with_faults}
-use Rattle.trick_model.specs.Laws.{KeyOrderIsOne, is_among}
+use Rattle.trick_model.specs.Laws.{KeyOrderIsOne}
 use Rattle.trick_model.specs.Order.{jobs_at}
 use Rattle.trick_model.specs.Plan.{Plan, is_on}
 use Rattle.trick_model.specs.PlanOf.{plan_of}
-use Rattle.trick_model.specs.Running.{After, apply, outcome, serial}
+use Rattle.trick_model.specs.Running.{apply, outcome, serial}
 use Rattle.trick_model.specs.Valid.{ids}
 use Rattle.trick_model.specs.declared.plan.Plan.{Plan as PlanValue}
 use Rattle.trick_schedule.proofs.Due.{due_there}
 use Rattle.trick_schedule.specs.Laws.{AtEachTic, EveryBeginning, EveryBoard}
 use Rattle.trick_schedule.specs.Play.{copy_of, faults_in, is_due, opening, played, stage_at, with_waiting}
-use Rattle.trick_schedule.specs.Tics.{Tic, due_jobs, tic_of}
+use Rattle.trick_schedule.specs.Tics.{due_jobs, tic_of}
 use Rattle.trick_schedule.specs.declared.stage.Stage.{Stage}
-use Rattle.trick_schedule.specs.declared.stage.Stage.TheVariants.{Done, Idle, InFlight, Waiting}
+use Rattle.trick_schedule.specs.declared.stage.Stage.TheVariants.{Idle, InFlight}
 use Rattle.trick_schedule.specs.declared.step.Step.{Step}
 use Rattle.trick_schedule.specs.declared.step.Step.TheVariants.{Commit as CommitOf}
 

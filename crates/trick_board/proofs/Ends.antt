@@ -1,14 +1,11 @@
 -- Commits that are never stale, and closes that give the fold.
-use Rattle.std.proofs.Common.{◌≡◌, ◌⊎◌, inl, inr, ℕ, ◌+◌, Bool, true, false, cond, List, [], ◌∷◌, Option, Some, None, IsTrue, refl, sym, ◌∙◌, ap, subst, arith}
-use Rattle.std.specs.List.{slice_index_or}
-use Rattle.std.specs.Option.{IfSome}
-use Rattle.std.specs.Prelude.{ℤ, pos}
+use Rattle.std.proofs.Common.{◌≡◌, ◌⊎◌, inl, inr, ℕ, ◌+◌, Bool, true, false, cond, List, [], ◌∷◌, IsTrue, refl, sym, ◌∙◌, ap, subst, arith}
+use Rattle.std.specs.Prelude.{ℤ}
 use Rattle.trick_board.specs.Answers.{Commits, IsLeftBy, IsStale, open_count}
 use Rattle.trick_board.specs.declared.answers.Commit.{Commit}
 use Rattle.trick_board.specs.declared.answers.Commit.TheVariants.{Committed, Gone, NotTaken, Stale}
 use Rattle.trick_eval.specs.Bench.{BenchView}
 use Rattle.trick_lang.specs.Laws.{AgreeOn}
-use Rattle.trick_lang.specs.declared.fault.JobFault.{JobFault}
 use Rattle.trick_lang.specs.declared.job.JobId.{JobId}
 use Rattle.trick_model.specs.Laws.{is_among}
 use Rattle.trick_model.specs.Running.{serial}
@@ -16,11 +13,11 @@ use Rattle.trick_model.specs.State.{number_at}
 use Rattle.trick_schedule.proofs.History.{settled_serial}
 use Rattle.trick_schedule.proofs.Keys.{among_cases, none_among}
 use Rattle.trick_schedule.specs.Laws.{EveryBeginning, EveryBoard}
-use Rattle.trick_schedule.specs.Play.{Playing, copy_of, faults_in, is_done, opening, played, stage_at}
-use Rattle.trick_schedule.specs.Progress.{IsSettled, Progress, begun, moved, progress_of}
-use Rattle.trick_schedule.specs.Tics.{IsDueIn, Tic, due_jobs}
+use Rattle.trick_schedule.specs.Play.{copy_of, faults_in, is_done, opening, played, stage_at}
+use Rattle.trick_schedule.specs.Progress.{IsSettled, Progress, progress_of}
+use Rattle.trick_schedule.specs.Tics.{Tic, due_jobs}
 use Rattle.trick_schedule.specs.declared.stage.Stage.{Stage}
-use Rattle.trick_schedule.specs.declared.stage.Stage.TheVariants.{Done, Idle, InFlight, Waiting}
+use Rattle.trick_schedule.specs.declared.stage.Stage.TheVariants.{InFlight}
 use Rattle.trick_schedule.specs.declared.step.Step.{Step}
 
 -- what a board has is what the play has

@@ -1,22 +1,22 @@
 -- The first job of a list in key order is the least.
-use Rattle.std.proofs.Common.{◌≡◌, ◌⊎◌, inl, inr, ℕ, ◌+◌, ◌≤◌, ◌==◌, Bool, true, false, cond, List, [], ◌∷◌, length, Option, Some, None, IsTrue, refl, sym, ◌∙◌, ap, subst, arith}
+use Rattle.std.proofs.Common.{◌≡◌, ◌⊎◌, inl, inr, ℕ, Bool, true, false, cond, List, [], ◌∷◌, Some, None, IsTrue, refl, sym, ◌∙◌, ap, subst, arith}
 use Rattle.std.proofs.lemmas.Bool.{and_from, and_parts}
 use Rattle.std.specs.Prelude.{filter}
 use Rattle.trick_board.specs.Search.{find_first}
-use Rattle.trick_board.specs.Tables.{depended_of, line_of, scheduled}
+use Rattle.trick_board.specs.Tables.{scheduled}
 use Rattle.trick_lang.specs.declared.class.Class.TheVariants as class
 use Rattle.trick_lang.specs.declared.job.Job.{Job}
 use Rattle.trick_lang.specs.declared.job.JobId.{JobId}
 use Rattle.trick_model.specs.Laws.{AreInKeyOrder, IsBefore, KeyOrderIsOne, is_among}
 use Rattle.trick_model.specs.Order.{is_due, is_of_class, precedes}
-use Rattle.trick_model.specs.Plan.{job_numbers, thread_of}
+use Rattle.trick_model.specs.Plan.{job_numbers}
 use Rattle.trick_model.specs.PlanOf.{plan_of}
 use Rattle.trick_model.specs.Valid.{ids}
 use Rattle.trick_model.specs.declared.flags.Flags.{Flags}
 use Rattle.trick_model.specs.declared.plan.Plan.{Plan as PlanValue}
 use Rattle.trick_schedule.proofs.Due.{among_filter, chosen, due_there, jobs_kept, numbers_among, numbers_are}
-use Rattle.trick_schedule.proofs.Keys.{among_cases, among_first, among_rest, before_among, none_among, not_both, not_itself, same_of, test_of}
-use Rattle.trick_schedule.specs.Tics.{IsDueIn, depends_on, tic_of}
+use Rattle.trick_schedule.proofs.Keys.{among_cases, among_first, among_rest, before_among, none_among, not_both, not_itself}
+use Rattle.trick_schedule.specs.Tics.{IsDueIn, tic_of}
 
 -- ---- lists in key order
 

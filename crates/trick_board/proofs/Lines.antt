@@ -1,5 +1,5 @@
 -- The tables of a plan: threads that no job can have.
-use Rattle.std.proofs.Common.{◌≡◌, ℕ, ◌<◌, ◌≤◌, ◌==◌, nat_le, Bool, true, false, cond, List, [], ◌∷◌, length, refl, sym, ◌∙◌, ap, subst, arith, inl, inr}
+use Rattle.std.proofs.Common.{◌≡◌, ℕ, ◌≤◌, ◌==◌, nat_le, Bool, true, false, cond, List, [], ◌∷◌, length, refl, sym, ◌∙◌, ap, subst, arith, inl, inr}
 use Rattle.std.proofs.lemmas.Bool.{cases_lt}
 use Rattle.std.proofs.lemmas.Bool.Decides.{nat_tests}
 use Rattle.std.proofs.lemmas.List.{get_or_past}
@@ -8,7 +8,7 @@ use Rattle.std.specs.Prelude.{filter}
 use Rattle.trick_board.specs.Tables.{line_of, scheduled}
 use Rattle.trick_lang.specs.Valid.{have_right_threads}
 use Rattle.trick_lang.specs.declared.job.Job.{Job}
-use Rattle.trick_model.specs.Plan.{Plan, job_at, no_job, thread_of}
+use Rattle.trick_model.specs.Plan.{Plan, no_job, thread_of}
 
 none_pass : (test : ℕ → Bool) (ks : List ℕ) → ((k : ℕ) → test k ≡ false) → filter test ks ≡ []
 none_pass test [] none = refl

@@ -1,27 +1,26 @@
 -- What a thread can do next, by the tables of a plan.
-use Rattle.std.proofs.Common.{◌≡◌, ◌⊎◌, inl, inr, ℕ, ◌==◌, Bool, true, false, cond, List, [], ◌∷◌, length, Option, Some, None, IsTrue, refl, sym, ◌∙◌, ap, subst, arith}
-use Rattle.std.proofs.lemmas.Bool.{both_ways, cases_Bool}
+use Rattle.std.proofs.Common.{◌≡◌, ◌⊎◌, inl, inr, ℕ, ◌==◌, Bool, true, false, cond, List, [], ◌∷◌, Option, Some, None, IsTrue, refl, sym, ◌∙◌, ap, subst}
+use Rattle.std.proofs.lemmas.Bool.{both_ways}
 use Rattle.std.specs.List.{slice_index_or}
 use Rattle.std.specs.Prelude.{filter}
 use Rattle.trick_board.proofs.Firsts.{Found, among_tested, due_scheduled, find_none, find_some, tested, tested_order}
-use Rattle.trick_board.specs.Answers.{CanDo, FliesOn, IsLeast, IsMissing, IsReadyOn, LastFlies, WaitsFor, WaitsOn}
-use Rattle.trick_board.specs.Search.{find_first, find_wanted, is_in_flight, is_open, is_waiting, last_of, least_of, meets, missing_in, next_by, next_in, other_than, ready_or}
+use Rattle.trick_board.specs.Answers.{CanDo, IsLeast, IsMissing, WaitsOn}
+use Rattle.trick_board.specs.Search.{find_first, find_wanted, is_in_flight, is_open, is_waiting, last_of, least_of, missing_in, next_by, next_in, other_than, ready_or}
 use Rattle.trick_board.specs.Tables.{IsFor, depended_of, line_of, scheduled}
 use Rattle.trick_board.specs.declared.search.Wanted.TheVariants as wanted
 use Rattle.trick_board.specs.declared.tables.Tables.{Tables}
-use Rattle.trick_lang.specs.declared.job.Job.{Job}
 use Rattle.trick_lang.specs.declared.job.JobId.{JobId}
 use Rattle.trick_model.specs.Laws.{AreInKeyOrder, KeyOrderIsOne, is_among}
 use Rattle.trick_model.specs.Order.{precedes}
-use Rattle.trick_model.specs.Plan.{Plan, thread_of}
+use Rattle.trick_model.specs.Plan.{thread_of}
 use Rattle.trick_model.specs.PlanOf.{plan_of}
 use Rattle.trick_model.specs.Valid.{ids}
 use Rattle.trick_model.specs.declared.flags.Flags.{Flags}
 use Rattle.trick_model.specs.declared.plan.Plan.{Plan as PlanValue}
 use Rattle.trick_schedule.proofs.Due.{due_there}
-use Rattle.trick_schedule.proofs.Keys.{not_both, one_first, precedes_all, same_of, test_of}
+use Rattle.trick_schedule.proofs.Keys.{one_first, precedes_all, same_of, test_of}
 use Rattle.trick_schedule.specs.Play.{is_done, is_due, stage_at}
-use Rattle.trick_schedule.specs.Tics.{IsDueIn, IsPredecessor, Tic, depends_on, due_jobs, tic_of}
+use Rattle.trick_schedule.specs.Tics.{IsDueIn, Tic, depends_on, due_jobs, tic_of}
 use Rattle.trick_schedule.specs.declared.stage.Stage.{Stage}
 use Rattle.trick_schedule.specs.declared.stage.Stage.TheVariants.{Done, Idle, InFlight, Waiting}
 

@@ -1,5 +1,5 @@
 -- The stages of due jobs, and how many due jobs there are.
-use Rattle.std.proofs.Common.{◌≡◌, ◌⊎◌, inl, inr, ℕ, zero, suc, ◌<◌, ◌≤◌, Bool, true, false, cond, ◌&&◌, List, [], ◌∷◌, length, Option, IsTrue, refl, sym, ◌∙◌, ap, subst, arith}
+use Rattle.std.proofs.Common.{◌≡◌, inl, inr, ℕ, zero, suc, ◌<◌, ◌≤◌, Bool, true, false, cond, ◌&&◌, List, [], ◌∷◌, length, refl, sym, ◌∙◌, ap, subst, arith}
 use Rattle.std.proofs.lemmas.Bool.{cases_eq, cases_lt}
 use Rattle.std.proofs.lemmas.List.{get_or-set_other, get_or-set_same, length-replicate, set_past}
 use Rattle.std.specs.Prelude.{filter, replicate, slice_set}
@@ -12,10 +12,10 @@ use Rattle.trick_model.specs.Valid.{ids}
 use Rattle.trick_model.specs.declared.flags.Flags.{Flags}
 use Rattle.trick_schedule.proofs.Due.{due_there}
 use Rattle.trick_schedule.proofs.History.{waiting_at}
-use Rattle.trick_schedule.specs.Play.{first_stages, is_due, stage_at, with_waiting}
-use Rattle.trick_schedule.specs.Tics.{IsDueIn, Tic, due_jobs}
+use Rattle.trick_schedule.specs.Play.{first_stages, is_due, stage_at}
+use Rattle.trick_schedule.specs.Tics.{Tic, due_jobs}
 use Rattle.trick_schedule.specs.declared.stage.Stage.{Stage}
-use Rattle.trick_schedule.specs.declared.stage.Stage.TheVariants.{Done, Idle, InFlight, Waiting}
+use Rattle.trick_schedule.specs.declared.stage.Stage.TheVariants.{Idle, Waiting}
 
 -- a stage of a job that is as due as the one before leaves which jobs are due
 pub due_kept : (stages : List Stage) (k : ℕ) (s : Stage) → is_due s ≡ is_due (stage_at stages k) → (i : ℕ)

@@ -1,6 +1,5 @@
 -- What the calls of a board answer.
-use Rattle.std.specs.List.{slice_index_or}
-use Rattle.std.specs.Prelude.{◌≡◌, ◌≢◌, ◌⊎◌, ℕ, suc, ◌+◌, ◌<◌, ℤ, pos, Bool, true, false, cond, IsTrue, List, [], ◌∷◌, length, Option, Some, None}
+use Rattle.std.specs.Prelude.{◌≡◌, ◌≢◌, ◌⊎◌, ℕ, ◌+◌, ◌<◌, ℤ, false, cond, IsTrue, List, [], ◌∷◌, Some, None}
 use Rattle.trick_board.specs.declared.answers.Closed.{Closed}
 use Rattle.trick_board.specs.declared.answers.Closed.TheVariants.{Left, Memory}
 use Rattle.trick_board.specs.declared.answers.Commit.{Commit}
@@ -9,7 +8,7 @@ use Rattle.trick_board.specs.declared.answers.Took.{Took}
 use Rattle.trick_board.specs.declared.answers.Took.TheVariants.{Took as WasTaken, NotYet, ThreadDone}
 use Rattle.trick_board.specs.declared.search.Next.{Next}
 use Rattle.trick_board.specs.declared.search.Next.TheVariants as next
-use Rattle.trick_eval.specs.Bench.{BenchView, IsFirstDifference}
+use Rattle.trick_eval.specs.Bench.{BenchView, IsFirstDifference, the_job}
 use Rattle.trick_lang.specs.Laws.{AgreeOn}
 use Rattle.trick_lang.specs.declared.job.JobId.{JobId}
 use Rattle.trick_lang.specs.declared.range.CellRange.{CellRange}
@@ -17,12 +16,12 @@ use Rattle.trick_model.specs.FaultList.{FaultList, with_faults}
 use Rattle.trick_model.specs.Order.{precedes}
 use Rattle.trick_model.specs.Plan.{thread_of}
 use Rattle.trick_model.specs.Running.{After}
-use Rattle.trick_schedule.specs.Play.{is_done, stage_at}
+use Rattle.trick_schedule.specs.Play.{copy_of, is_done, opening, played, stage_at}
 use Rattle.trick_schedule.specs.Progress.{Progress, begun, moved}
 use Rattle.trick_schedule.specs.Schedule.{IsBegun}
 use Rattle.trick_schedule.specs.Tics.{IsDueIn, IsPredecessor, Tic}
 use Rattle.trick_schedule.specs.declared.stage.Stage.{Stage}
-use Rattle.trick_schedule.specs.declared.stage.Stage.TheVariants.{Idle, InFlight, Waiting, Done}
+use Rattle.trick_schedule.specs.declared.stage.Stage.TheVariants.{InFlight, Waiting}
 use Rattle.trick_schedule.specs.declared.step.Step.{Step}
 
 -- no job of the kind has a smaller key
@@ -100,6 +99,11 @@ IsStale (NotTaken other) = ⊥
 pub record IsLeftBy (t : Tic) (first : List ℤ) (steps : List Step) (progress : Progress) : Type 0 where
   pub is_begun : IsBegun t steps
   pub left : progress ≡ moved t (begun t first) steps
+
+-- The inputs of a bench are what its job was given at its take.
+abbrev pub HasCopy : Tic → List ℤ → List Step → BenchView → Type 0
+HasCopy t first steps bench =
+    let k = (the_job bench.job).0 in AgreeOn (t.plan.reads k) bench.inputs (copy_of (played t (opening t first) steps) k)
 
 -- ---- close
 

@@ -3,7 +3,6 @@ use Rattle.std.specs.List.{slice_index_or}
 use Rattle.std.specs.Prelude.{◌≡◌, ℕ, ◌<◌, ◌==◌, List, [], filter, length}
 use Rattle.trick_board.specs.declared.tables.Tables.{Tables}
 use Rattle.trick_lang.specs.declared.class.Class.TheVariants as class
-use Rattle.trick_lang.specs.declared.job.Job.{Job}
 use Rattle.trick_lang.specs.declared.job.JobId.{JobId}
 use Rattle.trick_model.specs.Order.{jobs_in}
 use Rattle.trick_model.specs.Plan.{Plan, thread_of}

@@ -1,6 +1,6 @@
 ghost use Rattle.std.specs.Option.{IfSome};
 ghost use Rattle.std.specs.Prelude.{◌≡◌, ◌≢◌, ℕ, ℤ, ◌<◌, ◌≤◌, List, IfOk, IsSome, MatchOption, None, Some, length};
-ghost use Rattle.trick_board.specs.Answers.{CanDo, ComesTo, Commits, Counts, IfLeft, IfMemory, IsFilledBy, IsLeftBy, IsStale, Takes, open_count};
+ghost use Rattle.trick_board.specs.Answers.{CanDo, ComesTo, Commits, Counts, HasCopy, IfLeft, IfMemory, IsFilledBy, IsLeftBy, IsStale, Takes, open_count};
 ghost use Rattle.trick_board.specs.Search.{is_in_flight};
 ghost use Rattle.trick_board.specs.Board.{IsBoardOf, IsOpenedWith, next_phase as next_phase_of, stepped, tic_at};
 ghost use Rattle.trick_eval.specs.Bench.{IsEvaluated, IsFilled, IsFirstDifference, IsFor as IsBenchFor, the_job};
@@ -274,8 +274,7 @@ impl<M: Cells> Board<M> {
         ensures belongs { IsBoardOf accepted.now.plan self.new }
         ensures never_stale { (first : List ℤ) (steps : List Step) → IfSome self.old.opened
             (λ o. IsLeftBy (tic_at accepted.now.plan o) first steps o.progress
-            → AgreeOn (reads accepted.now.plan.program
-            (the_job bench.old.job)) bench.old.inputs (copy_of (played (tic_at accepted.now.plan o) (opening (tic_at accepted.now.plan o) first) steps) (the_job bench.old.job).0)
+            → HasCopy (tic_at accepted.now.plan o) first steps bench.old
             → IsStale result → ⊥) }
     {
         every_schedule_is_serial();

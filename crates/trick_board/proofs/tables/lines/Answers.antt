@@ -1,4 +1,4 @@
-use Rattle.std.proofs.Common.{◌<◌, ◌≤◌, [], ap, sym, ◌∙◌, inl, inr, length, arith}
+use Rattle.std.proofs.Common.{◌≤◌, [], ap, sym, ◌∙◌, inl, inr, length, arith}
 use Rattle.std.proofs.lemmas.Bool.{cases_lt}
 use Rattle.std.proofs.lemmas.List.{get_or_past}
 use Rattle.trick_board.proofs.Lines.{no_line}

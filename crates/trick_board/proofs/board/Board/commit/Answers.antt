@@ -1,4 +1,4 @@
-use Rattle.std.proofs.Common.{List, subst}
+use Rattle.std.proofs.Common.{subst}
 use Rattle.std.specs.Option.{IfSome}
 use Rattle.trick_board.proofs.Calls.{never_stale}
 use Rattle.trick_board.specs.Answers.{IsLeftBy, IsStale}
