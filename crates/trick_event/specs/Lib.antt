@@ -8,5 +8,3 @@ pub mod Condition
 pub mod Event
 -- What is due when.
 pub mod Due
--- A program of one cell, for tests.
-pub mod Samples

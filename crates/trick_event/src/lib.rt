@@ -8,8 +8,6 @@ mod asked;
 mod condition;
 mod due;
 mod moment;
-#[cfg(test)]
-mod tests;
 
 pub use action::act;
 pub use agenda::Agenda;
