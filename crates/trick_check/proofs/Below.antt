@@ -1,0 +1,18 @@
+-- What is in a list of numbers that are all below one.
+use Rattle.std.proofs.Common.{◌≡◌, ℕ, zero, suc, ◌<◌, Bool, true, false, ◌||◌, ◌⊎◌, inl, inr, List, [], ◌∷◌, refl, subst}
+use Rattle.std.proofs.lemmas.Bool.{and_parts, eqb-true, ltb-true}
+use Rattle.trick_order.specs.Calls.{all_below, callees, each_below, has}
+
+or_cases : (x y : Bool) → (x || y) ≡ true → (x ≡ true) ⊎ (y ≡ true)
+or_cases true y h = inl refl
+or_cases false y h = inr h
+
+below_has : (n : ℕ) (xs : List ℕ) (k : ℕ) → all_below n xs ≡ true → has xs k ≡ true → k < n
+below_has n [] k all h = absurd (cc h)
+below_has n (x ∷ xs) k all h =
+    elim (or_cases _ (has xs k) h) [ inl p ↦ subst (λ j. j < n) (eqb-true x k p) (ltb-true x n (and_parts _ _ all).0) | inr p ↦ below_has n xs k (and_parts _ _ all).1 p ]
+
+pub callees_below : (n : ℕ) (g : List (List ℕ)) → each_below n g ≡ true → (a b : ℕ) → has (callees g a) b ≡ true → b < n
+callees_below n [] each a b h = absurd (cc h)
+callees_below n (c ∷ cs) each zero b h = below_has n c b (and_parts _ _ each).0 h
+callees_below n (c ∷ cs) each (suc a) b h = callees_below n cs (and_parts _ _ each).1 a b h

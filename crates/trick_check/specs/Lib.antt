@@ -1,0 +1,12 @@
+-- The parts of classes, and which methods call which.
+pub mod Parts
+-- What is made of the classes of a file.
+pub mod Walk
+-- Which program a file names.
+pub mod Named
+-- Which refusal a file has.
+pub mod Refused
+-- What the tests of a program go by.
+pub mod Tests
+-- The parts of a program, before they are joined.
+pub mod Draft

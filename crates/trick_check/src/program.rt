@@ -1,0 +1,132 @@
+ghost use Rattle.std.specs.Prelude.{◌≡◌, IfErr, IfOk, length};
+ghost use Rattle.trick_bodies.specs.Classes.{AreWhole, made};
+ghost use Rattle.trick_check.specs.Draft.{IsDraft, IsWhole};
+ghost use Rattle.trick_check.specs.Named.{IsNamed};
+ghost use Rattle.trick_check.specs.Parts.{AreOrders};
+ghost use Rattle.trick_check.specs.Refused.{IsRefused, JobsAreRight, NamesAreRight};
+ghost use Rattle.trick_check.specs.Walk.{all_made, objects_of, sizes_of};
+ghost use Rattle.trick_lang.specs.Syntax.{definitions_of, sdefine_of};
+ghost use Rattle.trick_names.specs.Tables.{tables_of};
+
+use crate::CheckFault;
+use crate::count::{Counted, count};
+use crate::draft::{Draft, is_tested, join};
+use crate::name::check_names;
+use crate::order::orders;
+use crate::step::check_steps;
+use crate::walk::make_classes;
+use std::alloc::{AllocError, Global as Memory};
+use trick_base::Items;
+use trick_bodies::Bodies;
+use trick_cells::{cells, items, laws as cell_laws, lay_out};
+use trick_jobs::jobs;
+use trick_lang::Program;
+use trick_lang::syntax::{Definition, SDefine};
+use trick_names::Tables;
+
+// What is made of the classes.
+fn make_bodies(
+    alloc: Memory,
+    definitions: &[Definition],
+    tables: &Tables,
+    orders: &[Items<usize>],
+    counted: &Counted,
+) -> Result<Bodies, AllocError>
+    requires tables { tables.now ≡ tables_of (definitions_of definitions.now) }
+    requires many { length orders.now ≡ length definitions.now }
+    requires ordered { AreOrders (definitions_of definitions.now) orders.now }
+    requires sizes { counted.now.sizes.items ≡ sizes_of (definitions_of definitions.now) }
+    requires objects { counted.now.objects ≡ objects_of (definitions_of definitions.now) }
+    requires right { JobsAreRight (definitions_of definitions.now) }
+    ensures made { IfOk result (λ bodies. made bodies ≡ all_made (definitions_of definitions.now) orders.now) }
+    ensures whole { IfOk result (λ bodies. AreWhole (made bodies)) }
+{
+    cell_laws::declared_law();
+    cell_laws::unfold_law();
+    cell_laws::count_law();
+    cell_laws::layout_law();
+    let layout = lay_out(alloc, &counted.sizes, tables)?;
+    make_classes(
+        alloc,
+        definitions,
+        orders,
+        counted.objects.as_slice(),
+        layout,
+    )
+}
+
+// All parts of the program.
+fn make(
+    alloc: Memory,
+    definitions: &[Definition],
+    tables: &Tables,
+    orders: &[Items<usize>],
+    counted: Counted,
+) -> Result<Draft, CheckFault>
+    requires tables { tables.now ≡ tables_of (definitions_of definitions.now) }
+    requires many { length orders.now ≡ length definitions.now }
+    requires ordered { AreOrders (definitions_of definitions.now) orders.now }
+    requires sizes { counted.sizes.items ≡ sizes_of (definitions_of definitions.now) }
+    requires objects { counted.objects ≡ objects_of (definitions_of definitions.now) }
+    requires right { JobsAreRight (definitions_of definitions.now) }
+    ensures draft { IfOk result (λ draft. IsDraft (definitions_of definitions.now) orders.now draft) }
+    ensures whole { IfOk result (λ draft. IsWhole draft) }
+    ensures refused { IfErr result (λ fault. IsRefused (definitions_of definitions.now) fault) }
+{
+    cell_laws::declared_law();
+    cell_laws::unfold_law();
+    cell_laws::count_law();
+    let bodies = make_bodies(alloc, definitions, tables, orders, &counted)?;
+    let objects = counted.objects;
+    let jobs = jobs(
+        alloc,
+        definitions,
+        bodies.numbers.as_slice(),
+        objects.as_slice(),
+    )?;
+    let cells = cells(alloc, &counted.sizes, tables)?;
+    let items = items(alloc, &tables.names)?;
+    match check_steps(alloc, &bodies, objects.as_slice(), jobs.as_slice()) {
+        Ok(()) => Ok(Draft {
+            cells,
+            items,
+            objects,
+            bodies,
+            jobs,
+        }),
+        Err(fault) => Err(fault),
+    }
+}
+
+// The program of a file whose names are right.
+fn resolve_definitions(
+    alloc: Memory,
+    definitions: &[Definition],
+    tables: &Tables,
+) -> Result<Program, CheckFault>
+    requires tables { tables.now ≡ tables_of (definitions_of definitions.now) }
+    requires right { NamesAreRight (definitions_of definitions.now) }
+    ensures named { IfOk result (λ program. IsNamed (definitions_of definitions.now) program) }
+    ensures refused { IfErr result (λ fault. IsRefused (definitions_of definitions.now) fault) }
+{
+    let orders = orders(alloc, definitions, tables)?;
+    let counted = count(alloc, definitions, tables)?;
+    let draft = make(alloc, definitions, tables, orders.as_slice(), counted)?;
+    let tested = is_tested(alloc, &draft)?;
+    if !tested {
+        return Err(CheckFault::OutOfMemory);
+    }
+    Ok(join(draft))
+}
+
+/// The program that a file names, or the first refusal of the first kind that the file has
+/// (docs/FORMATS.md, 4.4 and 5.3). It takes time and memory as the text and the cells that there are.
+/// A file that no reader gives, with names that no text has or with times or threads out of their
+/// ranges, is refused as for want of memory.
+pub fn resolve(alloc: Memory, sdef: &SDefine) -> Result<Program, CheckFault>
+    ensures named { IfOk result (λ program. IsNamed (sdefine_of sdef.now) program) }
+    ensures refused { IfErr result (λ fault. IsRefused (sdefine_of sdef.now) fault) }
+{
+    let tables = check_names(alloc, sdef)?;
+    resolve_definitions(alloc, sdef.definitions.as_slice(), &tables)
+}
