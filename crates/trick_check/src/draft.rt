@@ -24,7 +24,7 @@ pub struct Draft {
     pub jobs: Items<Job>,
 }
 
-/// Whether the parts pass all tests. Those of a file that was read from a text do.
+/// Whether the parts pass all tests. Those of a file that was read from a text should do so.
 pub fn is_tested(alloc: Memory, draft: &Draft) -> Result<bool, AllocError>
     ensures { IfOk result (λ tested. tested ≡ true → IsTested draft.now) }
 {

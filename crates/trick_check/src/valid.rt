@@ -1,6 +1,6 @@
 //! Tests of what every program keeps and a tree of any kind may lack: names of a text have at most 64
 //! bytes and no dot or bracket, times and threads are in their ranges. A tree that was read from a text
-//! passes them all.
+//! should pass them all, which is not proved yet.
 
 ghost use Rattle.std.specs.List.{list_all};
 ghost use Rattle.std.specs.Prelude.{◌≡◌, IfOk, IsTrue, Some, slice_get, true};
