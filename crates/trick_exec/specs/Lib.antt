@@ -1,0 +1,2 @@
+-- Who gives turns their entries: what it answers, and what it promises.
+pub mod Turns
