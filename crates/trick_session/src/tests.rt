@@ -1,6 +1,6 @@
 //! What lines do to a session, and its samples, with ample memory: a plan of one cell.
 
-ghost use Rattle.std.specs.Prelude.{◌≡◌, ◌∷◌, [], IfOk, codes, false, replicate};
+ghost use Rattle.std.specs.Prelude.{◌≡◌, ◌∷◌, [], IfOk, codes, false};
 ghost use Rattle.trick_lang.specs.Wrap.{IsOf};
 ghost use Rattle.trick_lang.specs.declared.scalar.Scalar.TheVariants.{Long};
 ghost use Rattle.trick_model.specs.declared.thread.Process.TheVariants.{Scheduled};
@@ -78,14 +78,22 @@ fn threads(alloc: Global) -> Result<Items<Thread>, AllocError>
     Ok(all)
 }
 
+// One queue for each of the ten classes.
 fn queues(alloc: Global) -> Result<Items<Items<JobId>>, AllocError>
-    ensures { IfOk result (λ all. all ≡ replicate 10 []) }
+    ensures { IfOk result (λ queues. queues ≡ [] ∷ [] ∷ [] ∷ [] ∷ [] ∷ [] ∷ [] ∷ [] ∷ [] ∷ [] ∷ []) }
 {
-    let mut all = Items::new(alloc);
-    for _class in 0..10u32 {
-        all.push(Items::new(alloc))?;
-    }
-    Ok(all)
+    let mut queues = Items::new(alloc);
+    queues.push(Items::new(alloc))?;
+    queues.push(Items::new(alloc))?;
+    queues.push(Items::new(alloc))?;
+    queues.push(Items::new(alloc))?;
+    queues.push(Items::new(alloc))?;
+    queues.push(Items::new(alloc))?;
+    queues.push(Items::new(alloc))?;
+    queues.push(Items::new(alloc))?;
+    queues.push(Items::new(alloc))?;
+    queues.push(Items::new(alloc))?;
+    Ok(queues)
 }
 
 fn program(alloc: Global) -> Result<Program, AllocError>
