@@ -16,6 +16,8 @@ ReadsSettle = (p : Program) (job : JobId) (ranges : List CellRange) (m n : List 
 
 -- A job stores only within the ranges of what it may write.
 abbrev pub StaysWithin : Type 0
-StaysWithin = (p : Program) (job : JobId) (ranges : List CellRange) (m : List ℤ) (stored : List (Option ℤ)) (c : ℕ) (n : ℤ)
-    → AreCellsOf (length p.cells) (writes p job) ranges → effect p job m ≡ Ok stored → slice_index_or stored c None ≡ Some n
+StaysWithin = (p : Program) (job : JobId) (ranges : List CellRange) (m : List ℤ) (stored : List (Option ℤ)) (c : ℕ)
+    (n : ℤ)
+    → AreCellsOf (length p.cells) (writes p job) ranges → effect p job m ≡ Ok stored
+    → slice_index_or stored c None ≡ Some n
     → IsTrue (is_in ranges c)

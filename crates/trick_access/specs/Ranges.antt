@@ -7,7 +7,8 @@ use Rattle.trick_lang.specs.declared.range.CellRange.{CellRange}
 abbrev pub are_sorted : ℕ → ℕ → List CellRange → Bool
 are_sorted from cells [] = true
 are_sorted from cells (r ∷ rs) =
-    (nat_le from (r.first).0 && (nat_le (r.first).0 (r.last).0 && nat_lt (r.last).0 cells)) && are_sorted ((r.last).0 + 2) cells rs
+    (nat_le from (r.first).0 && (nat_le (r.first).0 (r.last).0 && nat_lt (r.last).0 cells))
+    && are_sorted ((r.last).0 + 2) cells rs
 
 -- The cells of some ranges, of so many cells, as ranges that are in order, do not overlap and are as
 -- long as can be.

@@ -132,7 +132,8 @@ code Empty w locals n = Tree.Empty
 code (Block all) w locals n = Tree.Run (n + all_count all)
 -- a local is known in its own first value
 code (Declare line written name value) w locals n =
-    declared_code line (new_slot name w locals) (scalar_of written) (value_term value w (declared written name w locals))
+    declared_code line (new_slot name w locals) (scalar_of written)
+    (value_term value w (declared written name w locals))
 code (Assign line p change) w locals n = goal_code (path_goal p w locals) line (change_term change w locals)
 code (If branches) w locals n = Tree.If (branch_codes branches w locals n)
 code (For name from bound body) w locals n = loop_code (loop_slot name bound w locals) from bound (n + count body)

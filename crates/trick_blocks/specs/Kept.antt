@@ -21,7 +21,8 @@ codes_in (b ∷ bs) = b.codes ∷ codes_in bs
 -- places of a block lie in an object of its class, or in the memory
 abbrev pub bodies_lie : ℕ → List ℕ → List Body → Bool
 bodies_lie cells sizes [] = true
-bodies_lie cells sizes (b ∷ bs) = all_pass (cells_test cells (size_at sizes b.class)) b.codes && bodies_lie cells sizes bs
+bodies_lie cells sizes (b ∷ bs) = all_pass (cells_test cells (size_at sizes b.class)) b.codes
+    && bodies_lie cells sizes bs
 
 -- the class of a block; one that is not there has none
 abbrev pub class_in : List Body → ℕ → Option ℕ
@@ -48,7 +49,8 @@ AreAbove slots known = (slot : ℕ) → slot < slots → is_known known slot ≡
 pub record MethodKept (class slots : ℕ) (bodies : List Body) (block : ℕ) : Type 0 where
   pub there : block < length bodies
   pub class_is : class_in bodies block ≡ Some class
-  pub knows : (more : ℕ) (known : List Known) → slots ≤ more → AreAbove slots known → IsTrue (block_knows more (codes_in bodies) block known)
+  pub knows : (more : ℕ) (known : List Known) → slots ≤ more → AreAbove slots known
+      → IsTrue (block_knows more (codes_in bodies) block known)
 
 -- what is kept while methods are made, one after another
 pub record Keeps (p : Progress) : Type 0 where
@@ -57,11 +59,13 @@ pub record Keeps (p : Progress) : Type 0 where
   pub in_order : IsTrue (are_in_order 0 (codes_in p.bodies))
   pub own_class : IsTrue (bodies_run_own p.bodies p.bodies)
   pub deep : Deepen [] p.bodies
-  pub methods : (name : Name) (block : ℕ) → meaning_of name p.world.methods ≡ Some block → MethodKept p.world.class p.world.slots p.bodies block
+  pub methods : (name : Name) (block : ℕ) → meaning_of name p.world.methods ≡ Some block
+      → MethodKept p.world.class p.world.slots p.bodies block
 
 -- the methods that are made stay as they are
 abbrev pub Grows : Progress → Progress → Type 0
-Grows p q = (class block : ℕ) → MethodKept class p.world.slots p.bodies block → MethodKept class q.world.slots q.bodies block
+Grows p q = (class block : ℕ) → MethodKept class p.world.slots p.bodies block
+    → MethodKept class q.world.slots q.bodies block
 
 -- of each of these methods it is kept
 abbrev pub AreKept : Progress → List Method → Type 0

@@ -27,7 +27,12 @@ abbrev pub site_meaning : Option Site → Meaning
 site_meaning None = means.Nothing
 site_meaning (Some (Item value)) = means.Number value
 site_meaning (Some (Object first class)) =
-    means.Stands (record { own = false; first = first; loose = None; extent = record { dims = Plain; base = Group class } })
+    means.Stands (record {
+      own = false;
+      first = first;
+      loose = None;
+      extent = record { dims = Plain; base = Group class };
+    })
 
 -- a variable of the class hides it, and is counted from the first cell of the job's object
 abbrev pub field_meaning : Option Field → Option Site → Meaning
@@ -42,7 +47,8 @@ local_meaning (Some local) field site = means.Local local
 -- what the first name of a path stands for, where these locals are known
 abbrev pub named : Name → World → Names Local → Meaning
 named name w locals =
-    local_meaning (meaning_of name locals) (meaning_of name (fields_at w.layout.groups w.class)) (meaning_of name w.layout.sites)
+    local_meaning (meaning_of name locals) (meaning_of name (fields_at w.layout.groups w.class))
+    (meaning_of name w.layout.sites)
 
 -- where a path begins; only that of a place has further parts
 abbrev pub start_of : Meaning → Option Spot

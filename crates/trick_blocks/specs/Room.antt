@@ -19,7 +19,8 @@ LieIn limit n first (Some l) = (l.offset + n ≤ l.span) × (first + l.span ≤ 
 abbrev pub Fits : World → Option Spot → Type 0
 Fits w None = Unit {0}
 Fits w (Some s) =
-    LieIn (room w s.own) (size_of w.layout.sizes s.extent.dims s.extent.base) s.first s.loose × AreStrides w.layout.sizes s.extent.dims s.extent.base
+    LieIn (room w s.own) (size_of w.layout.sizes s.extent.dims s.extent.base) s.first s.loose
+    × AreStrides w.layout.sizes s.extent.dims s.extent.base
 
 -- the tables are right, and an object of the class has at most 65,536 cells
 pub record IsLaid (w : World) : Type 0 where

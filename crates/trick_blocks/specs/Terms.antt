@@ -101,4 +101,5 @@ abbrev mutual
   steps NoPart w locals at = NoStep
   steps (Member line name rest) w locals at = steps rest w locals (to_member name w at)
   steps (Index e rest) w locals at =
-      stepped (computed (literal_of e) (element_at at)) (term e w locals) (steps rest w locals (to_index (literal_of e) at))
+      stepped (computed (literal_of e) (element_at at)) (term e w locals)
+      (steps rest w locals (to_index (literal_of e) at))

@@ -68,7 +68,9 @@ dim length stride = record { length = length; stride = stride; cells = length * 
 abbrev pub world : World
 world = record {
   layout = record {
-    groups = ((a, field 0 Plain (Single Long)) ∷ (b, field 1 Plain (Single Long)) ∷ []) ∷ ((v, field 0 Plain (Single Long)) ∷ (w, field 1 (One (dim 3 1)) (Single Long)) ∷ (p, field 4 Plain (Group 0)) ∷ (q, field 6 (Two (dim 2 6) (dim 3 2)) (Group 0)) ∷ []) ∷ [];
+    groups = ((a, field 0 Plain (Single Long)) ∷ (b, field 1 Plain (Single Long)) ∷ [])
+        ∷ ((v, field 0 Plain (Single Long)) ∷ (w, field 1 (One (dim 3 1)) (Single Long))
+        ∷ (p, field 4 Plain (Group 0)) ∷ (q, field 6 (Two (dim 2 6) (dim 3 2)) (Group 0)) ∷ []) ∷ [];
     sizes = 2 ∷ 18 ∷ [];
     sites = (i, Item (pos 7)) ∷ (o, Object 5 1) ∷ [];
     cells = 23;
@@ -145,7 +147,8 @@ pub record AreResolved : Type 0 where
   pub computed_element : meant w (at_x NoPart) ≡ Cell (spot true 1 3 0 0 (Step 3 1 x_read NoStep))
   pub computed_first : meant q (at_x (at 2 (dot b))) ≡ Cell (spot true 6 12 5 1 (Step 2 6 x_read NoStep))
   pub computed_last : meant q (at 1 (at_x (dot b))) ≡ Cell (spot true 12 6 1 1 (Step 3 2 x_read NoStep))
-  pub computed_both : meant q (at_x (at_x (dot a))) ≡ Cell (spot true 6 12 0 0 (Step 2 6 x_read (Step 3 2 x_read NoStep)))
+  pub computed_both : meant q (at_x (at_x (dot a)))
+      ≡ Cell (spot true 6 12 0 0 (Step 2 6 x_read (Step 3 2 x_read NoStep)))
   -- an object's cells are counted from cell 0
   pub object : meant o (Member 1 p (dot b)) ≡ Cell (spot false 10 1 0 0 NoStep)
   pub item : meant i NoPart ≡ Number (pos 7)
@@ -155,16 +158,32 @@ pub record AreResolved : Type 0 where
   -- `long x; long y;`
   pub slots : codes (local x ∷ local y ∷ []) ≡ local_code 2 ∷ local_code 3 ∷ []
   -- `{ long x; } { long y; }`: what is known no more leaves its slot
-  pub slot_again : blocks (text.Block (row (local x ∷ [])) ∷ text.Block (row (local y ∷ [])) ∷ []) ≡ (local_code 2 ∷ []) ∷ (local_code 2 ∷ []) ∷ []
+  pub slot_again : blocks (text.Block (row (local x ∷ [])) ∷ text.Block (row (local y ∷ [])) ∷ [])
+      ≡ (local_code 2 ∷ []) ∷ (local_code 2 ∷ []) ∷ []
   pub blocks_run : codes (text.Block (row (local x ∷ [])) ∷ text.Block (row (local y ∷ [])) ∷ []) ≡ Run 10 ∷ Run 11 ∷ []
   -- a block stands behind those in it
-  pub nested : blocks (text.Block (row (set 1 ∷ text.Block (row (set 2 ∷ [])) ∷ [])) ∷ []) ≡ (set_code 2 ∷ []) ∷ (set_code 1 ∷ Run 10 ∷ []) ∷ []
+  pub nested : blocks (text.Block (row (set 1 ∷ text.Block (row (set 2 ∷ [])) ∷ [])) ∷ []) ≡ (set_code 2 ∷ [])
+      ∷ (set_code 1 ∷ Run 10 ∷ []) ∷ []
   -- `if (v) v = 1; else { v = 2; }`
-  pub branches : codes (text.If (text.Test 3 (place v NoPart) (set 1) (text.Else (text.Block (row (set 2 ∷ []))))) ∷ []) ≡ If (Test 3 (meant v NoPart) 10 (Else 12)) ∷ []
-  pub branch_blocks : blocks (text.If (text.Test 3 (place v NoPart) (set 1) (text.Else (text.Block (row (set 2 ∷ []))))) ∷ []) ≡ (set_code 1 ∷ []) ∷ (set_code 2 ∷ []) ∷ (Run 11 ∷ []) ∷ []
+  pub branches : codes (text.If (text.Test 3 (place v NoPart) (set 1) (text.Else (text.Block (row (set 2 ∷ [])))))
+      ∷ []) ≡ If (Test 3 (meant v NoPart) 10 (Else 12)) ∷ []
+  pub branch_blocks : blocks (text.If
+      (text.Test 3 (place v NoPart) (set 1) (text.Else (text.Block (row (set 2 ∷ []))))) ∷ []) ≡ (set_code 1 ∷ [])
+      ∷ (set_code 2 ∷ []) ∷ (Run 11 ∷ []) ∷ []
   -- `for (int x = 1; x < 3; x++) v = 1;`
   pub loop : codes (text.For x 1 (Below 3) (set 1) ∷ []) ≡ For 2 1 (Below 3) 10 ∷ []
   pub loop_block : blocks (text.For x 1 (Below 3) (set 1) ∷ []) ≡ (set_code 1 ∷ []) ∷ []
   pub call : codes (text.Call 1 m ∷ []) ≡ Run 4 ∷ []
   -- `void a() { long x; } void b() { long x; a(); }`: behind one block of the class 0
-  pub methods : (with_parts (1 ∷ 2 ∷ []) (Public ∷ HasMethod (record { name = a; body = row (local x ∷ []) }) ∷ HasMethod (record { name = b; body = row (local x ∷ text.Call 1 a ∷ []) }) ∷ []) (progress (record world { methods = [] }) (record { class = 0; codes = []; deep = 1 } ∷ []))) ≡ progress (record world { methods = (a, 1) ∷ (b, 2) ∷ []; slots = 4 }) (record { class = 0; codes = []; deep = 1 } ∷ record { class = 1; codes = local_code 2 ∷ []; deep = 1 } ∷ record { class = 1; codes = local_code 3 ∷ Run 1 ∷ []; deep = 2 } ∷ [])
+  pub methods : (with_parts (1 ∷ 2 ∷ []) (Public ∷ HasMethod (record { name = a; body = row (local x ∷ []) })
+      ∷ HasMethod (record { name = b; body = row (local x ∷ text.Call 1 a ∷ []) }) ∷ [])
+      (progress (record world { methods = [] }) (record { class = 0; codes = []; deep = 1 } ∷ [])))
+      ≡ progress (record world { methods = (a, 1) ∷ (b, 2) ∷ []; slots = 4 }) (record {
+        class = 0;
+        codes = [];
+        deep = 1;
+      } ∷ record { class = 1; codes = local_code 2 ∷ []; deep = 1 } ∷ record {
+        class = 1;
+        codes = local_code 3 ∷ Run 1 ∷ [];
+        deep = 2;
+      } ∷ [])

@@ -62,17 +62,22 @@ pub record LastFlies (t : Tic) (stages : List Stage) (thread job missing : ℕ) 
 -- What a thread can do next.
 abbrev pub CanDo : Tic → List Stage → ℕ → Next → Type 0
 CanDo t stages thread (next.Ready job) = IsReadyOn t stages thread job.0
-CanDo t stages thread (next.Waits job missing) = WaitsFor t stages thread job.0 missing.0 ⊎ LastFlies t stages thread job.0 missing.0
-CanDo t stages thread next.Nothing = (j : ℕ) → IsDueIn t j → thread_of t.plan.jobs j ≡ thread → IsTrue (is_done (stage_at stages j))
+CanDo t stages thread (next.Waits job missing) = WaitsFor t stages thread job.0 missing.0
+    ⊎ LastFlies t stages thread job.0 missing.0
+CanDo t stages thread next.Nothing = (j : ℕ) → IsDueIn t j → thread_of t.plan.jobs j ≡ thread
+    → IsTrue (is_done (stage_at stages j))
 
 -- What a take may answer, by the job that is then in the bench.
 abbrev pub Takes : Tic → List Stage → ℕ → ℕ → Took → Type 0
 Takes t stages thread k WasTaken = IsReadyOn t stages thread k
-Takes t stages thread k (NotYet job missing) = WaitsFor t stages thread job.0 missing.0 ⊎ LastFlies t stages thread job.0 missing.0
-Takes t stages thread k ThreadDone = (j : ℕ) → IsDueIn t j → thread_of t.plan.jobs j ≡ thread → IsTrue (is_done (stage_at stages j))
+Takes t stages thread k (NotYet job missing) = WaitsFor t stages thread job.0 missing.0
+    ⊎ LastFlies t stages thread job.0 missing.0
+Takes t stages thread k ThreadDone = (j : ℕ) → IsDueIn t j → thread_of t.plan.jobs j ≡ thread
+    → IsTrue (is_done (stage_at stages j))
 
 -- A take fills the bench with what the job reads, under the phase.
-pub record IsFilledBy (phase : ℕ) (ranges : List CellRange) (memory : List ℤ) (old new : BenchView) (job : JobId) : Type 0 where
+pub record IsFilledBy (phase : ℕ) (ranges : List CellRange) (memory : List ℤ) (old new : BenchView)
+    (job : JobId) : Type 0 where
   pub bench : new ≡ record old { phase = phase; job = Some job; outcome = None; inputs = new.inputs }
   pub inputs : AgreeOn ranges new.inputs memory
 
@@ -83,7 +88,8 @@ abbrev pub Commits : ℕ → List Stage → List ℤ → List CellRange → Benc
 Commits phase stages memory ranges bench job Committed =
     (bench.phase ≡ phase) × (stage_at stages job.0 ≡ InFlight) × AgreeOn ranges memory bench.inputs
 Commits phase stages memory ranges bench job (Stale cell kept given) =
-    (bench.phase ≡ phase) × (stage_at stages job.0 ≡ InFlight) × IsFirstDifference ranges memory bench.inputs cell.0 kept given
+    (bench.phase ≡ phase) × (stage_at stages job.0 ≡ InFlight)
+    × IsFirstDifference ranges memory bench.inputs cell.0 kept given
 Commits phase stages memory ranges bench job (Gone now given) = (now ≡ phase) × (given ≡ bench.phase) × (given ≢ now)
 Commits phase stages memory ranges bench job (NotTaken other) =
     (bench.phase ≡ phase) × (other ≡ job) × (stage_at stages job.0 ≢ InFlight)
@@ -103,7 +109,8 @@ pub record IsLeftBy (t : Tic) (first : List ℤ) (steps : List Step) (progress :
 -- The inputs of a bench are what its job was given at its take.
 abbrev pub HasCopy : Tic → List ℤ → List Step → BenchView → Type 0
 HasCopy t first steps bench =
-    let k = (the_job bench.job).0 in AgreeOn (t.plan.reads k) bench.inputs (copy_of (played t (opening t first) steps) k)
+    let k = (the_job bench.job).0 in AgreeOn (t.plan.reads k) bench.inputs
+    (copy_of (played t (opening t first) steps) k)
 
 -- ---- close
 

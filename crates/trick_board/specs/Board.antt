@@ -28,7 +28,8 @@ pub record Opened : Type 0 where
   pub progress : Progress
 
 -- an open tic, by the fields of a board
-abbrev pub opened_of : {M : Type 0} → (M → List ℤ) → (M → List Scalar) → ℕ → List Bool → List JobId → List Stage → M → Opened
+abbrev pub opened_of : {M : Type 0} → (M → List ℤ) → (M → List Scalar) → ℕ → List Bool → List JobId → List Stage → M
+    → Opened
 opened_of numbers scalars tic on due stages m = record {
   tic = tic;
   on = record { on = on };

@@ -76,7 +76,8 @@ last_of None = next.Nothing
 last_of (Some job) = next.Waits job job
 
 abbrev pub next_by : Plan → Tables → List Stage → ℕ → Option JobId → Next
-next_by p tables stages thread None = last_of (find_wanted wanted.InFlight stages (slice_index_or tables.lines thread []))
+next_by p tables stages thread None =
+    last_of (find_wanted wanted.InFlight stages (slice_index_or tables.lines thread []))
 next_by p tables stages thread (Some job) = ready_or job (missing_in p tables stages thread job)
 
 -- what the thread can do next

@@ -41,7 +41,8 @@ fault_of BadTime line = faults.Expected line
 
 -- the refusal of a token of the text is told by this fault
 abbrev pub IsToldBy : List ℕ → List Token → Refused Token → BodyFault → Type 0
-IsToldBy text ts z fault = (front : List Token) × (ts ≡ front ++ z.rest) × (fault ≡ fault_of (told z.kind z.rest) (told_line (last_line text) z.kind front z.rest))
+IsToldBy text ts z fault = (front : List Token) × (ts ≡ front ++ z.rest)
+    × (fault ≡ fault_of (told z.kind z.rest) (told_line (last_line text) z.kind front z.rest))
 
 -- ---- bodies
 
@@ -52,9 +53,13 @@ method text = grammar.method text list_limit method_levels
 -- The tokens from a place on start with one method, up to the other place; or reading refuses the first
 -- token with which no method goes on. A want of memory may come at any time.
 abbrev pub IsBody : List ℕ → List Token → ℕ → Result (Method × ℕ) BodyFault → Type 0
-IsBody text ts from (Ok v) = (rest : List Token) × IsExactFront number_of class_of spelled (method text) ts (Ok (method_of v.0, rest)) × (v.1 + length rest ≡ from + length ts)
+IsBody text ts from (Ok v) = (rest : List Token)
+    × IsExactFront number_of class_of spelled (method text) ts (Ok (method_of v.0, rest))
+    × (v.1 + length rest ≡ from + length ts)
 IsBody text ts from (Err faults.OutOfMemory) = Unit {0}
-IsBody text ts from (Err fault) = (z : Refused Token) × IsExactFront number_of class_of spelled (method text) ts (Err z) × (read number_of class_of [] (method text) ts ≡ Err z) × IsToldBy text ts z fault
+IsBody text ts from (Err fault) = (z : Refused Token)
+    × IsExactFront number_of class_of spelled (method text) ts (Err z)
+    × (read number_of class_of [] (method text) ts ≡ Err z) × IsToldBy text ts z fault
 
 -- ---- conditions
 
@@ -68,8 +73,11 @@ condition text = grammar.condition text list_limit nesting_limit
 abbrev pub IsRead : List ℕ → List Token → Option FirstFault → Result Expr BodyFault → Type 0
 IsRead text ts f (Ok e) = (f ≡ None) × IsExact number_of class_of spelled (condition text) ts (Ok (expression_of e))
 IsRead text ts f (Err faults.OutOfMemory) = Unit {0}
-IsRead text ts f (Err (faults.Text fault)) = (first : FirstFault) × (f ≡ Some first) × (first.fault ≡ fault) × IsFirst number_of class_of spelled (condition text) ts None
-IsRead text ts f (Err fault) = (z : Refused Token) × IsExact number_of class_of spelled (condition text) ts (Err z) × (read_all number_of class_of (condition text) ts ≡ Err z) × ((f ≡ None) ⊎ (z.rest ≢ [])) × IsToldBy text ts z fault
+IsRead text ts f (Err (faults.Text fault)) = (first : FirstFault) × (f ≡ Some first) × (first.fault ≡ fault)
+    × IsFirst number_of class_of spelled (condition text) ts None
+IsRead text ts f (Err fault) = (z : Refused Token) × IsExact number_of class_of spelled (condition text) ts (Err z)
+    × (read_all number_of class_of (condition text) ts ≡ Err z) × ((f ≡ None) ⊎ (z.rest ≢ []))
+    × IsToldBy text ts z fault
 
 -- the fault of a text that is not cut
 abbrev pub fault_of_text : TextFault → BodyFault
@@ -79,5 +87,6 @@ fault_of_text fault = faults.Text fault
 -- the text is cut and its tokens are read, or it is not cut
 abbrev pub IsCondition : List ℕ → Result Expr BodyFault → Type 0
 IsCondition text answer =
-    ((ts : List cut.Token) × (f : Option FirstFault) × IsCut Command text ts f × IsRead text (lexemes_of text ts) f answer)
+    ((ts : List cut.Token) × (f : Option FirstFault) × IsCut Command text ts f
+    × IsRead text (lexemes_of text ts) f answer)
     ⊎ ((fault : TextFault) × IsUncut text fault × (answer ≡ Err (fault_of_text fault)))

@@ -65,7 +65,8 @@ counting = the.Increment ∷ the.Decrement ∷ []
 -- op = "=" | "+=" | "-=" | "*=" | "/=" | "%=" | "&=" | "|=" | "^=" | "<<=" | ">>="
 abbrev pub assignments : List Symbol
 assignments =
-    the.Assign ∷ the.PlusAssign ∷ the.MinusAssign ∷ the.TimesAssign ∷ the.DivideAssign ∷ the.RemainderAssign ∷ the.AndAssign ∷ the.OrAssign ∷ the.XorAssign ∷ the.ShiftLeftAssign ∷ the.ShiftRightAssign ∷ []
+    the.Assign ∷ the.PlusAssign ∷ the.MinusAssign ∷ the.TimesAssign ∷ the.DivideAssign ∷ the.RemainderAssign
+    ∷ the.AndAssign ∷ the.OrAssign ∷ the.XorAssign ∷ the.ShiftLeftAssign ∷ the.ShiftRightAssign ∷ []
 
 -- ---- types
 
@@ -119,7 +120,8 @@ module _ (text : List ℕ) where
 
   -- v ( "<" | "<=" ) WHOLE, where the number is 1,000,000 at most
   unfoldable pub loop_test_body : Of Bound
-  loop_test_body = act (λ v. bound_of v.1.0.class v.1.1.number) (the_name ⨾ token (the.Less ∷ the.AtMost ∷ []) ⨾ token bounds)
+  loop_test_body = act (λ v. bound_of v.1.0.class v.1.1.number) (the_name ⨾ token (the.Less ∷ the.AtMost ∷ [])
+      ⨾ token bounds)
 
   abbrev pub loop_test : Of Bound
   loop_test = rule (outline names [] []) loop_test_body
@@ -128,7 +130,8 @@ module _ (text : List ℕ) where
   unfoldable pub header_body : Of Header
   header_body =
       act (λ v. (v.1.0.number, v.1.1.1.0))
-      (one the.Assign ⨾ token wholes ⨾ one the.Semicolon ⨾ loop_test ⨾ one the.Semicolon ⨾ loop_step ⨾ one the.CloseParen)
+      (one the.Assign ⨾ token wholes ⨾ one the.Semicolon ⨾ loop_test ⨾ one the.Semicolon ⨾ loop_step
+      ⨾ one the.CloseParen)
 
   abbrev pub plain_header : Of Header
   plain_header = rule (outline (the.Assign ∷ []) [] []) header_body
@@ -186,7 +189,13 @@ level_first If = the.If ∷ []
 level_first For = the.For ∷ []
 
 abbrev pub level_outline : Level → Outline Symbol
-level_outline k = record { nullable = false; inhabited = false; first = level_first k; more = []; barred = the.Else ∷ [] }
+level_outline k = record {
+  nullable = false;
+  inhabited = false;
+  first = level_first k;
+  more = [];
+  barred = the.Else ∷ [];
+}
 
 module _ (text : List ℕ) where
   abbrev pub named_of : Token → AfterName → Statement
@@ -197,7 +206,8 @@ module _ (text : List ℕ) where
 module _ (text : List ℕ) (limit : ℕ) where
   -- [ "=" expression ] ";": what stands behind the name of a local
   unfoldable pub value_body : ℕ → Of (Option Expression)
-  value_body n = act (λ v. v.0) (optional (act (λ v. v.1) (one the.Assign ⨾ expression text limit n)) ⨾ one the.Semicolon)
+  value_body n = act (λ v. v.0) (optional (act (λ v. v.1) (one the.Assign ⨾ expression text limit n))
+      ⨾ one the.Semicolon)
 
   abbrev pub value : ℕ → Of (Option Expression)
   value n = rule (outline (the.Assign ∷ the.Semicolon ∷ []) [] []) (value_body n)
@@ -212,14 +222,16 @@ module _ (text : List ℕ) (limit : ℕ) where
 
   -- operation = op expression | "++" | "--"
   unfoldable pub operation_body : ℕ → Of Change
-  operation_body n = act (λ v. change_of v.0.class v.1) (token assignments ⨾ expression text limit n) ∣ act (λ t. counting_of t.class) (token counting)
+  operation_body n = act (λ v. change_of v.0.class v.1) (token assignments ⨾ expression text limit n)
+      ∣ act (λ t. counting_of t.class) (token counting)
 
   abbrev pub operation : ℕ → Of Change
   operation n = rule (outline operation_first expression_more []) (operation_body n)
 
   -- { step } operation ";": what stands behind the first name of a place that is changed
   unfoldable pub free_change_body : ℕ → Of AfterName
-  free_change_body n = act (λ v. changes v.0 v.1.0) (repetition limit (step text limit n) ⨾ operation n ⨾ one the.Semicolon)
+  free_change_body n = act (λ v. changes v.0 v.1.0) (repetition limit (step text limit n) ⨾ operation n
+      ⨾ one the.Semicolon)
 
   abbrev pub free_change : ℕ → Of AfterName
   free_change n = rule (outline change_first [] []) (free_change_body n)
@@ -247,7 +259,8 @@ module _ (text : List ℕ) (limit : ℕ) where
 
   -- NAME and what stands behind it, by whether it is the name of a loop round it
   unfoldable pub by_name_body : ℕ → Of Statement
-  by_name_body n = act (λ v. named_of text v.0 v.1) (after Expected names (is_in_scope text) (alone (named n (bound_change n))) (alone (named n (free_change n))))
+  by_name_body n = act (λ v. named_of text v.0 v.1)
+      (after Expected names (is_in_scope text) (alone (named n (bound_change n))) (alone (named n (free_change n))))
 
   abbrev pub by_name : ℕ → Of Statement
   by_name n = rule (outline names [] []) (by_name_body n)
@@ -261,7 +274,8 @@ module _ (text : List ℕ) (limit : ℕ) where
 
   -- step { step } ";" behind the name of a loop round it: right behind that name ";" is refused
   unfoldable pub bound_steps_body : ℕ → Of (List Step)
-  bound_steps_body n = act (λ v. v.0) (some_steps text limit n ⨾ one the.Semicolon) ∣ refuse BadLoop (the.Semicolon ∷ [])
+  bound_steps_body n = act (λ v. v.0) (some_steps text limit n ⨾ one the.Semicolon)
+      ∣ refuse BadLoop (the.Semicolon ∷ [])
 
   abbrev pub bound_steps : ℕ → Of (List Step)
   bound_steps n = rule (outline steps_first [] []) (bound_steps_body n)
@@ -269,7 +283,8 @@ module _ (text : List ℕ) (limit : ℕ) where
   -- ( "++" | "--" ) place ";"
   unfoldable pub counted_body : ℕ → Of Statement
   counted_body n =
-      act (λ v. tree.Assign v.0.line (tree.path v.1.0.line (name_of text v.1.0) (parts_of v.1.1)) (counting_of v.0.class))
+      act (λ v. tree.Assign v.0.line (tree.path v.1.0.line (name_of text v.1.0) (parts_of v.1.1))
+      (counting_of v.0.class))
       (token counting ⨾ after Expected names (is_in_scope text) (alone (bound_steps n)) (alone (free_steps n)))
 
   abbrev pub counted : ℕ → Of Statement
@@ -277,7 +292,8 @@ module _ (text : List ℕ) (limit : ℕ) where
 
   -- basic NAME [ "=" expression ] ";"
   unfoldable pub declaration_body : ℕ → Of Statement
-  declaration_body n = act (λ v. tree.Declare v.0.0 (tree.Basic v.0.1) (name_of text v.1.0) v.1.1) (basic ⨾ token names ⨾ value n)
+  declaration_body n = act (λ v. tree.Declare v.0.0 (tree.Basic v.0.1) (name_of text v.1.0) v.1.1) (basic
+      ⨾ token names ⨾ value n)
 
   abbrev pub declaration : ℕ → Of Statement
   declaration n = rule (outline basic_first [] []) (declaration_body n)
@@ -294,14 +310,16 @@ module _ (text : List ℕ) (limit : ℕ) where
 
   -- block = "{" { statement } "}"
   unfoldable pub block_body : Of Statement → Of Statement
-  block_body inner = act (λ v. tree.Block (statements_of v.1.0)) (one the.OpenBrace ⨾ repetition limit inner ⨾ one the.CloseBrace)
+  block_body inner = act (λ v. tree.Block (statements_of v.1.0)) (one the.OpenBrace ⨾ repetition limit inner
+      ⨾ one the.CloseBrace)
 
   abbrev pub block_with : Of Statement → Of Statement
   block_with inner = rule (outline (the.OpenBrace ∷ []) [] (the.Else ∷ [])) (block_body inner)
 
   -- test = "if" "(" expression ")" statement; its line, the expression and the statement
   unfoldable pub test_body : Of Expression → Of Statement → Of Branch
-  test_body inner branch = act (λ v. (v.0.line, v.1.1.0, v.1.1.1.1)) (one the.If ⨾ one the.OpenParen ⨾ alone inner ⨾ one the.CloseParen ⨾ branch)
+  test_body inner branch = act (λ v. (v.0.line, v.1.1.0, v.1.1.1.1)) (one the.If ⨾ one the.OpenParen ⨾ alone inner
+      ⨾ one the.CloseParen ⨾ branch)
 
   abbrev pub test_with : Of Expression → Of Statement → Of Branch
   test_with inner branch = rule (outline (the.If ∷ []) [] (the.Else ∷ [])) (test_body inner branch)
@@ -317,7 +335,8 @@ module _ (text : List ℕ) (limit : ℕ) where
   -- test { "else" test } [ "else" statement ], so that an `else if` chain is a list. Each `else` is
   -- of the nearest `if`.
   unfoldable pub choice_body : Of Branch → Of Statement → Of Statement
-  choice_body test otherwise = act (λ v. tree.If (branches_of (v.0 ∷ v.1.0) v.1.1)) (test ⨾ nearest (else_with test otherwise))
+  choice_body test otherwise =
+      act (λ v. tree.If (branches_of (v.0 ∷ v.1.0) v.1.1)) (test ⨾ nearest (else_with test otherwise))
 
   abbrev pub choice_with : Of Branch → Of Statement → Of Statement
   choice_with test otherwise = rule (outline (the.If ∷ []) [] (the.Else ∷ [])) (choice_body test otherwise)
@@ -334,7 +353,8 @@ module _ (text : List ℕ) (limit : ℕ) where
   unfoldable pub loop_body : Of Statement → Of Statement
   loop_body branch =
       act (λ v. tree.For (name_of text v.1.1.1.0) v.1.1.1.1.0.0 v.1.1.1.1.0.1 v.1.1.1.1.1)
-      (one the.For ⨾ hint BadHeader (one the.OpenParen) ⨾ hint BadHeader (token (the.Int ∷ the.Long ∷ [])) ⨾ scoped_with branch)
+      (one the.For ⨾ hint BadHeader (one the.OpenParen) ⨾ hint BadHeader (token (the.Int ∷ the.Long ∷ []))
+      ⨾ scoped_with branch)
 
   abbrev pub loop_with : Of Statement → Of Statement
   loop_with branch = rule (outline (the.For ∷ []) [] (the.Else ∷ [])) (loop_body branch)
@@ -358,7 +378,8 @@ module _ (text : List ℕ) (limit : ℕ) where
   statement_body n block chosen loop = block ∣ chosen ∣ loop ∣ simple n
 
   abbrev pub statement_with : ℕ → Of Statement → Of Statement → Of Statement → Of Statement
-  statement_with n block chosen loop = rule (outline statement_first [] (the.Else ∷ [])) (statement_body n block chosen loop)
+  statement_with n block chosen loop =
+      rule (outline statement_first [] (the.Else ∷ [])) (statement_body n block chosen loop)
 
   -- the statement of an `if` or a `for`: a block, or a statement that counts as a level itself
   unfoldable pub branch_body : Of Statement → Of Statement → Of Statement
@@ -368,7 +389,8 @@ module _ (text : List ℕ) (limit : ℕ) where
   branch_with block other = rule (outline statement_first [] (the.Else ∷ [])) (branch_body block other)
 
   abbrev pub otherwise_with : Of Statement → Of Statement → Of Statement
-  otherwise_with block other = rule (outline (the.OpenBrace ∷ unbranched_first) [] (the.Else ∷ [])) (branch_body block other)
+  otherwise_with block other =
+      rule (outline (the.OpenBrace ∷ unbranched_first) [] (the.Else ∷ [])) (branch_body block other)
 
   -- ---- statements with n levels left. An `if` or a `for` with no level left is refused, since its
   -- bracket would be one more.
@@ -384,7 +406,8 @@ module _ (text : List ℕ) (limit : ℕ) where
   nested_body k (suc n) =
       let inner : Level → Of Statement = λ j. rule (level_outline j) (nested_body j n) in
       let block = block_with (statement_with n (inner Block) (inner If) (inner For)) in
-      nesting n k block (branch_with block (unblocked_with n (inner If) (inner For))) (otherwise_with block (unbranched_with n (inner For)))
+      nesting n k block (branch_with block (unblocked_with n (inner If) (inner For)))
+      (otherwise_with block (unbranched_with n (inner For)))
 
   abbrev pub nested : Level → ℕ → Of Statement
   nested k n = rule (level_outline k) (nested_body k n)

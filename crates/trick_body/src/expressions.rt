@@ -49,7 +49,8 @@ fn read_choices<'a>(
 ) -> Result<(Expr, &'a [Token]), Stop<'a, Symbol>>
     ensures { Gives (λ x. (expression_of x.0, x.1.now)) result
         (read number_of class_of [] (act (choose_of (expression_of first))
-        (any_number (choice (nested source.entry.text.now source.entry.limit Chosen depth) (operand source.entry.text.now source.entry.limit depth)))) rest.now) }
+        (any_number (choice (nested source.entry.text.now source.entry.limit Chosen depth)
+        (operand source.entry.text.now source.entry.limit depth)))) rest.now) }
 {
     let mut found = Vec::new(alloc);
     let mut last = first;
@@ -76,7 +77,8 @@ fn read_choice<'a>(
 ) -> Result<((Expr, Expr), &'a [Token]), Stop<'a, Symbol>>
     ensures { Gives (λ x. ((expression_of x.0.0, expression_of x.0.1), x.1.now)) result
         (read number_of class_of []
-        (choice (nested source.entry.text.now source.entry.limit Chosen depth) (operand source.entry.text.now source.entry.limit depth)) rest.now) }
+        (choice (nested source.entry.text.now source.entry.limit Chosen depth)
+        (operand source.entry.text.now source.entry.limit depth)) rest.now) }
 {
     let (value, rest) = read_nested(alloc, source, depth, Nested::Chosen, rest)?;
     let (next, rest) = read_binary(alloc, source, depth, LEVELS, rest)?;
@@ -111,7 +113,8 @@ fn read_level<'a>(
     rest: &'a [Token],
 ) -> Result<(Expr, &'a [Token]), Stop<'a, Symbol>>
     ensures { Gives (λ x. (expression_of x.0, x.1.now)) result
-        (read number_of class_of [] (binary (suc level) (operand source.entry.text.now source.entry.limit depth)) rest.now) }
+        (read number_of class_of [] (binary (suc level) (operand source.entry.text.now source.entry.limit depth))
+        rest.now) }
 {
     let (first, rest) = read_binary(alloc, source, depth, level, rest)?;
     let (links, rest) = read_links(alloc, source, depth, level, rest)?;
@@ -340,7 +343,8 @@ fn read_enclosed<'a>(
     rest: &'a [Token],
 ) -> Result<(Expr, &'a [Token]), Stop<'a, Symbol>>
     ensures { Gives (λ x. (expression_of x.0, x.1.now)) result
-        (read number_of class_of [] (enclosed first (expression source.entry.text.now source.entry.limit depth) last) rest.now) }
+        (read number_of class_of [] (enclosed first (expression source.entry.text.now source.entry.limit depth) last)
+        rest.now) }
 {
     let (_, rest) = take(rest, first)?;
     let (value, rest) = read_expression(alloc, source, depth, rest)?;
@@ -379,7 +383,8 @@ pub fn read_steps<'a>(
     rest: &'a [Token],
 ) -> Result<(Vec<Part>, &'a [Token]), Stop<'a, Symbol>>
     ensures { Gives (λ x. (map step_of x.0.items, x.1.now)) result
-        (read number_of class_of [] (repetition source.entry.limit (step source.entry.text.now source.entry.limit depth)) rest.now) }
+        (read number_of class_of [] (repetition source.entry.limit
+        (step source.entry.text.now source.entry.limit depth)) rest.now) }
 {
     read_more_steps(alloc, source, depth, (Vec::new(alloc), source.limit), rest)
 }
@@ -417,7 +422,8 @@ fn read_more_steps<'a>(
 ) -> Result<(Vec<Part>, &'a [Token]), Stop<'a, Symbol>>
     ensures { Gives (λ x. (map step_of x.0.items, x.1.now)) result
         (prefixed (map step_of so_far.0.items)
-        (read number_of class_of [] (repetition so_far.1 (step source.entry.text.now source.entry.limit depth)) rest.now)) }
+        (read number_of class_of [] (repetition so_far.1 (step source.entry.text.now source.entry.limit depth))
+        rest.now)) }
 {
     let (mut found, mut left) = so_far;
     let mut rest = rest;

@@ -192,7 +192,8 @@ fn read_free_named<'a>(
     rest: &'a [Token],
 ) -> Result<(AfterName, &'a [Token]), Stop<'a, Symbol>>
     ensures { Gives (λ x. (after_name_of x.0, x.1.now)) result
-        (read number_of class_of [] (named source.entry.text.now source.entry.limit depth (free_change source.entry.text.now source.entry.limit depth)) rest.now) }
+        (read number_of class_of [] (named source.entry.text.now source.entry.limit depth
+        (free_change source.entry.text.now source.entry.limit depth)) rest.now) }
 {
     if next_is_one_of(rest, &NAMES) {
         return read_local(alloc, source, depth, rest);
@@ -212,7 +213,8 @@ fn read_bound_named<'a>(
     rest: &'a [Token],
 ) -> Result<(AfterName, &'a [Token]), Stop<'a, Symbol>>
     ensures { Gives (λ x. (after_name_of x.0, x.1.now)) result
-        (read number_of class_of [] (named source.entry.text.now source.entry.limit depth (bound_change source.entry.text.now source.entry.limit depth)) rest.now) }
+        (read number_of class_of [] (named source.entry.text.now source.entry.limit depth
+        (bound_change source.entry.text.now source.entry.limit depth)) rest.now) }
 {
     if next_is_one_of(rest, &NAMES) {
         return read_local(alloc, source, depth, rest);
@@ -274,7 +276,8 @@ fn read_by_name<'a>(
     rest: &'a [Token],
 ) -> Result<(Stmt, &'a [Token]), Stop<'a, Symbol>>
     ensures { Gives (λ x. (statement_of x.0, x.1.now)) result
-        (read number_of class_of source.entry.scope.now (by_name source.entry.text.now source.entry.limit depth) rest.now) }
+        (read number_of class_of source.entry.scope.now (by_name source.entry.text.now source.entry.limit depth)
+        rest.now) }
 {
     let (first, rest) = take_hinted(rest, &NAMES, Refusal::Expected)?;
     let (after, rest) = if is_in_scope(source.text, source.scope, first) {
@@ -332,7 +335,8 @@ fn read_counted<'a>(
     rest: &'a [Token],
 ) -> Result<(Stmt, &'a [Token]), Stop<'a, Symbol>>
     ensures { Gives (λ x. (statement_of x.0, x.1.now)) result
-        (read number_of class_of source.entry.scope.now (counted source.entry.text.now source.entry.limit depth) rest.now) }
+        (read number_of class_of source.entry.scope.now (counted source.entry.text.now source.entry.limit depth)
+        rest.now) }
 {
     let (mark, rest) = take_one_of(rest, &COUNTING)?;
     let (name, rest) = take_hinted(rest, &NAMES, Refusal::Expected)?;
@@ -386,7 +390,8 @@ pub fn read_simple<'a>(
     rest: &'a [Token],
 ) -> Result<(Stmt, &'a [Token]), Stop<'a, Symbol>>
     ensures { Gives (λ x. (statement_of x.0, x.1.now)) result
-        (read number_of class_of source.entry.scope.now (simple source.entry.text.now source.entry.limit depth) rest.now) }
+        (read number_of class_of source.entry.scope.now (simple source.entry.text.now source.entry.limit depth)
+        rest.now) }
 {
     if next_is_one_of(rest, &NAMES) {
         return read_by_name(alloc, source, depth, rest);

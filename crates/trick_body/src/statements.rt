@@ -60,7 +60,8 @@ fn read_statement<'a>(
     rest: &'a [Token],
 ) -> Result<(Stmt, &'a [Token]), Stop<'a, Symbol>>
     ensures { Gives (λ x. (statement_of x.0, x.1.now)) result
-        (read number_of class_of source.entry.scope.now (statement source.entry.text.now source.entry.limit depth) rest.now) }
+        (read number_of class_of source.entry.scope.now (statement source.entry.text.now source.entry.limit depth)
+        rest.now) }
 {
     if next_is(rest, Symbol::OpenBrace) {
         return read_level(alloc, source, depth, Level::Block, rest);
@@ -84,7 +85,8 @@ fn read_unblocked<'a>(
     rest: &'a [Token],
 ) -> Result<(Stmt, &'a [Token]), Stop<'a, Symbol>>
     ensures { Gives (λ x. (statement_of x.0, x.1.now)) result
-        (read number_of class_of source.entry.scope.now (unblocked source.entry.text.now source.entry.limit depth) rest.now) }
+        (read number_of class_of source.entry.scope.now (unblocked source.entry.text.now source.entry.limit depth)
+        rest.now) }
 {
     if next_is(rest, Symbol::If) {
         return read_level(alloc, source, depth, Level::If, rest);
@@ -105,7 +107,8 @@ fn read_unbranched<'a>(
     rest: &'a [Token],
 ) -> Result<(Stmt, &'a [Token]), Stop<'a, Symbol>>
     ensures { Gives (λ x. (statement_of x.0, x.1.now)) result
-        (read number_of class_of source.entry.scope.now (unbranched source.entry.text.now source.entry.limit depth) rest.now) }
+        (read number_of class_of source.entry.scope.now (unbranched source.entry.text.now source.entry.limit depth)
+        rest.now) }
 {
     if next_is(rest, Symbol::For) {
         return read_level(alloc, source, depth, Level::For, rest);
@@ -123,7 +126,8 @@ fn read_level<'a>(
     rest: &'a [Token],
 ) -> Result<(Stmt, &'a [Token]), Stop<'a, Symbol>>
     ensures { Gives (λ x. (statement_of x.0, x.1.now)) result
-        (read number_of class_of source.entry.scope.now (nested source.entry.text.now source.entry.limit kind depth) rest.now) }
+        (read number_of class_of source.entry.scope.now (nested source.entry.text.now source.entry.limit kind depth)
+        rest.now) }
 {
     if depth == 0 {
         return read_too_deep(source, kind, rest);
@@ -138,7 +142,8 @@ fn read_too_deep<'a>(
     rest: &'a [Token],
 ) -> Result<(Stmt, &'a [Token]), Stop<'a, Symbol>>
     ensures { Gives (λ x. (statement_of x.0, x.1.now)) result
-        (read number_of class_of source.entry.scope.now (nested source.entry.text.now source.entry.limit kind 0) rest.now) }
+        (read number_of class_of source.entry.scope.now (nested source.entry.text.now source.entry.limit kind 0)
+        rest.now) }
 {
     Err(Stop::At(reason_at(rest, Refusal::TooDeep, kind.first()), rest))
 }
@@ -154,7 +159,8 @@ fn read_inside<'a>(
     rest: &'a [Token],
 ) -> Result<(Stmt, &'a [Token]), Stop<'a, Symbol>>
     ensures { Gives (λ x. (statement_of x.0, x.1.now)) result
-        (read number_of class_of source.entry.scope.now (nested source.entry.text.now source.entry.limit kind (suc depth)) rest.now) }
+        (read number_of class_of source.entry.scope.now (nested source.entry.text.now source.entry.limit kind
+        (suc depth)) rest.now) }
 {
     match kind {
         Level::Block => read_block(alloc, source, depth, rest),
@@ -173,7 +179,8 @@ fn read_block<'a>(
     rest: &'a [Token],
 ) -> Result<(Stmt, &'a [Token]), Stop<'a, Symbol>>
     ensures { Gives (λ x. (statement_of x.0, x.1.now)) result
-        (read number_of class_of source.entry.scope.now (block source.entry.text.now source.entry.limit depth) rest.now) }
+        (read number_of class_of source.entry.scope.now (block source.entry.text.now source.entry.limit depth)
+        rest.now) }
 {
     let (_, rest) = take(rest, Symbol::OpenBrace)?;
     let (statements, rest) = read_statements(alloc, source, depth, rest)?;
@@ -190,7 +197,8 @@ pub fn read_statements<'a>(
     rest: &'a [Token],
 ) -> Result<(Vec<Stmt>, &'a [Token]), Stop<'a, Symbol>>
     ensures { Gives (λ x. (map statement_of x.0.items, x.1.now)) result
-        (read number_of class_of source.entry.scope.now (repetition source.entry.limit (statement source.entry.text.now source.entry.limit depth)) rest.now) }
+        (read number_of class_of source.entry.scope.now
+        (repetition source.entry.limit (statement source.entry.text.now source.entry.limit depth)) rest.now) }
 {
     let mut found = Vec::new(alloc);
     let mut left = source.limit;
@@ -217,7 +225,8 @@ fn read_choice<'a>(
     rest: &'a [Token],
 ) -> Result<(Stmt, &'a [Token]), Stop<'a, Symbol>>
     ensures { Gives (λ x. (statement_of x.0, x.1.now)) result
-        (read number_of class_of source.entry.scope.now (chosen source.entry.text.now source.entry.limit depth) rest.now) }
+        (read number_of class_of source.entry.scope.now (chosen source.entry.text.now source.entry.limit depth)
+        rest.now) }
 {
     let mut found = Vec::new(alloc);
     let (first, rest) = read_test(alloc, source, depth, rest)?;
@@ -256,7 +265,8 @@ fn read_elses<'a>(
     rest: &'a [Token],
 ) -> Result<((Vec<Branch>, Option<Stmt>), &'a [Token]), Stop<'a, Symbol>>
     ensures { Gives (λ x. ((map branch_of x.0.0.items, option_map statement_of x.0.1), x.1.now)) result
-        (read number_of class_of source.entry.scope.now (choice_rest source.entry.text.now source.entry.limit depth (map branch_of found.items)) rest.now) }
+        (read number_of class_of source.entry.scope.now (choice_rest source.entry.text.now source.entry.limit depth
+        (map branch_of found.items)) rest.now) }
 {
     let mut found = found;
     let mut rest = rest;
@@ -281,7 +291,8 @@ fn read_else<'a>(
     rest: &'a [Token],
 ) -> Result<(Else, &'a [Token]), Stop<'a, Symbol>>
     ensures { Gives (λ x. (else_of x.0, x.1.now)) result
-        (read number_of class_of source.entry.scope.now (else_link source.entry.text.now source.entry.limit depth) rest.now) }
+        (read number_of class_of source.entry.scope.now (else_link source.entry.text.now source.entry.limit depth)
+        rest.now) }
 {
     let (_, rest) = take(rest, Symbol::Else)?;
     if next_is(rest, Symbol::If) {
@@ -302,7 +313,8 @@ fn read_test<'a>(
     rest: &'a [Token],
 ) -> Result<(Branch, &'a [Token]), Stop<'a, Symbol>>
     ensures { Gives (λ x. (branch_of x.0, x.1.now)) result
-        (read number_of class_of source.entry.scope.now (test source.entry.text.now source.entry.limit depth) rest.now) }
+        (read number_of class_of source.entry.scope.now (test source.entry.text.now source.entry.limit depth)
+        rest.now) }
 {
     let (word, rest) = take(rest, Symbol::If)?;
     let (_, rest) = take(rest, Symbol::OpenParen)?;
@@ -329,7 +341,8 @@ fn read_branch<'a>(
     rest: &'a [Token],
 ) -> Result<(Stmt, &'a [Token]), Stop<'a, Symbol>>
     ensures { Gives (λ x. (statement_of x.0, x.1.now)) result
-        (read number_of class_of source.entry.scope.now (branch source.entry.text.now source.entry.limit depth) rest.now) }
+        (read number_of class_of source.entry.scope.now (branch source.entry.text.now source.entry.limit depth)
+        rest.now) }
 {
     if next_is(rest, Symbol::OpenBrace) {
         return read_block(alloc, source, depth, rest);
@@ -347,7 +360,8 @@ fn read_otherwise<'a>(
     rest: &'a [Token],
 ) -> Result<(Stmt, &'a [Token]), Stop<'a, Symbol>>
     ensures { Gives (λ x. (statement_of x.0, x.1.now)) result
-        (read number_of class_of source.entry.scope.now (otherwise source.entry.text.now source.entry.limit depth) rest.now) }
+        (read number_of class_of source.entry.scope.now (otherwise source.entry.text.now source.entry.limit depth)
+        rest.now) }
 {
     if next_is(rest, Symbol::OpenBrace) {
         return read_block(alloc, source, depth, rest);
@@ -365,7 +379,8 @@ fn read_loop<'a>(
     rest: &'a [Token],
 ) -> Result<(Stmt, &'a [Token]), Stop<'a, Symbol>>
     ensures { Gives (λ x. (statement_of x.0, x.1.now)) result
-        (read number_of class_of source.entry.scope.now (loop_with source.entry.text.now source.entry.limit (branch source.entry.text.now source.entry.limit depth)) rest.now) }
+        (read number_of class_of source.entry.scope.now (loop_with source.entry.text.now source.entry.limit
+        (branch source.entry.text.now source.entry.limit depth)) rest.now) }
 {
     let (_, rest) = take(rest, Symbol::For)?;
     let (_, rest) = take_hinted(rest, &[Symbol::OpenParen], Refusal::BadHeader)?;
@@ -391,7 +406,8 @@ fn read_scoped<'a>(
     rest: &'a [Token],
 ) -> Result<((&'a Token, (u64, Bound), Stmt), &'a [Token]), Stop<'a, Symbol>>
     ensures { Gives (λ x. ((x.0.0.now, (x.0.1, statement_of x.0.2)), x.1.now)) result
-        (read number_of class_of source.entry.scope.now (scoped_with source.entry.text.now source.entry.limit (branch source.entry.text.now source.entry.limit depth)) rest.now) }
+        (read number_of class_of source.entry.scope.now (scoped_with source.entry.text.now source.entry.limit
+        (branch source.entry.text.now source.entry.limit depth)) rest.now) }
 {
     let (name, rest) = take_hinted(rest, &NAMES, Refusal::BadHeader)?;
     let scope = within(alloc, name, source.scope)?;
@@ -413,7 +429,8 @@ fn read_turns<'a>(
     rest: &'a [Token],
 ) -> Result<(((u64, Bound), Stmt), &'a [Token]), Stop<'a, Symbol>>
     ensures { Gives (λ x. ((x.0.0, statement_of x.0.1), x.1.now)) result
-        (read number_of class_of source.entry.scope.now (turns_with source.entry.text.now source.entry.limit (branch source.entry.text.now source.entry.limit depth)) rest.now) }
+        (read number_of class_of source.entry.scope.now (turns_with source.entry.text.now source.entry.limit
+        (branch source.entry.text.now source.entry.limit depth)) rest.now) }
 {
     let (header, rest) = read_header(source, rest)?;
     let (body, rest) = read_branch(alloc, source, depth, rest)?;

@@ -76,7 +76,8 @@ JobsAreRight ds = CellsAreRight ds × (jobs_in ds ≤ 512)
 
 -- the static steps of a job, where this is made of the classes
 abbrev pub steps_in : Made → Job → ℕ
-steps_in m job = block_steps (codes_in m.progress.bodies) (block_of (length m.progress.bodies) (method_of m.methods (Some job)))
+steps_in m job = block_steps (codes_in m.progress.bodies)
+    (block_of (length m.progress.bodies) (method_of m.methods (Some job)))
 
 -- the same by the steps of each block, which stand still at 2^64 - 1
 abbrev pub steps_by : List ℕ → Option Method → ℕ

@@ -47,8 +47,10 @@ Head = ℕ × (ℕ × (ℕ × Mode))
 unfoldable pub head_lines : Lines Head
 head_lines =
     seen_as (λ v. v.1) (λ head. (1, head))
-    (and_then (number_line (codes "checkpoint") 1 1) (λ version. and_then (number_line (codes "turn") 0 last_turn) (λ turn.
-    and_then (number_line (codes "tic") 0 (last_time + 1)) (λ tic. and_then (number_line (codes "limit") 0 (last_time + 1)) (λ limit. mode_line)))))
+    (and_then (number_line (codes "checkpoint") 1 1) (λ version.
+    and_then (number_line (codes "turn") 0 last_turn) (λ turn.
+    and_then (number_line (codes "tic") 0 (last_time + 1)) (λ tic.
+    and_then (number_line (codes "limit") 0 (last_time + 1)) (λ limit. mode_line)))))
 
 -- ---- cells and flags
 
@@ -58,7 +60,8 @@ memory_of plan = each (pos 0) (λ (v : Variable). integer_line v.name (range_of 
 
 -- a line for each of these cells, with this in front of its full name
 unfoldable pub cells_of : Plan → List ℕ → List Cell → Lines (List ℤ)
-cells_of plan front cells = each (pos 0) (λ (cell : Cell). integer_line (front ++ name_at plan cell) (range_at plan cell)) cells
+cells_of plan front cells =
+    each (pos 0) (λ (cell : Cell). integer_line (front ++ name_at plan cell) (range_at plan cell)) cells
 
 abbrev pub flag_at : ℕ → Bool
 flag_at zero = false
@@ -148,7 +151,8 @@ records_of plan = each nothing_taken (record_of plan) (threads_beside (plan_of p
 -- what the lines say, in their order
 abbrev pub Values : Type 0
 Values =
-    Head × (List ℤ × (List Bool × (List Bool × (List (Bool × Option (List ℤ)) × (List Taken × (FaultList × Unit {0}))))))
+    Head × (List ℤ × (List Bool × (List Bool
+    × (List (Bool × Option (List ℤ)) × (List Taken × (FaultList × Unit {0}))))))
 
 abbrev pub state_at : Values → State
 state_at v = record {
@@ -176,5 +180,8 @@ unfoldable pub checkpoint : Plan → Lines State
 checkpoint plan =
     seen_as state_at values_of
     (and_then head_lines (λ head. and_then (memory_of plan) (λ memory.
-    and_then (flags_of (codes "job") (length plan.program.jobs)) (λ jobs. and_then (flags_of (codes "event") (length plan.events)) (λ events.
-    and_then (groups_of plan) (λ groups. and_then (records_of plan) (λ taken. and_then (faults_lines (job_texts plan)) (λ faults. end_line))))))))
+    and_then (flags_of (codes "job") (length plan.program.jobs)) (λ jobs.
+    and_then (flags_of (codes "event") (length plan.events)) (λ events.
+    and_then (groups_of plan) (λ groups.
+    and_then (records_of plan) (λ taken.
+    and_then (faults_lines (job_texts plan)) (λ faults. end_line))))))))

@@ -27,7 +27,8 @@ job_text name instance = (name ++ codes " ") ++ (decimal instance ++ codes " ")
 
 -- the jobs of a plan
 abbrev pub job_texts : Plan → List (List ℕ)
-job_texts plan = map (λ (job : Job). job_text (job_name plan.program.objects plan.program.methods job) job.instance) plan.program.jobs
+job_texts plan = map (λ (job : Job). job_text (job_name plan.program.objects plan.program.methods job) job.instance)
+    plan.program.jobs
 
 -- the kinds, each with a space behind it
 abbrev pub kind_words : List (List ℕ)
@@ -54,7 +55,8 @@ pub record Fields : Type 0 where
 -- The kind is named and the numbers are written rightly, so that one of them is out of its range.
 abbrev pub are_spelled : Fields → Bool
 are_spelled f =
-    (bytes_eq f.kind (codes "DivideByZero") || bytes_eq f.kind (codes "IndexOutOfRange")) && (are_numbers 1 f.tic && are_numbers 1 f.line)
+    (bytes_eq f.kind (codes "DivideByZero") || bytes_eq f.kind (codes "IndexOutOfRange"))
+    && (are_numbers 1 f.tic && are_numbers 1 f.line)
 
 -- The instance is a number, or else the line is bad. No job of this name and instance: another plan.
 abbrev pub fields_kind : List (List ℕ) → Fields → Kind
@@ -141,10 +143,12 @@ fault_parts f = (f.tic, (f.job, (f.kind, f.line)))
 abbrev pub fault_code : List (List ℕ) → Code JobFault
 fault_code texts =
     read_as fault_at fault_parts
-    (sequence (number 0 (last_time + 1) 32) (λ tic. sequence (job_code texts) (λ job. sequence kind_code (λ kind. number 0 4294967295 59))))
+    (sequence (number 0 (last_time + 1) 32)
+    (λ tic. sequence (job_code texts) (λ job. sequence kind_code (λ kind. number 0 4294967295 59))))
 
 unfoldable pub fault_line : List (List ℕ) → ℕ → Lines JobFault
-fault_line texts k = let name = indexed (codes "fault") k in line (fault_kind texts name) (named name (fault_code texts))
+fault_line texts k =
+    let name = indexed (codes "fault") k in line (fault_kind texts name) (named name (fault_code texts))
 
 -- a fault for a place that has none
 abbrev pub no_fault : JobFault

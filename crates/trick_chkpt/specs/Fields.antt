@@ -7,7 +7,13 @@ use Rattle.trick_codes.specs.Code.{Told}
 
 -- the bytes of the fields
 abbrev pub fields_seen : FaultFields → Fields
-fields_seen f = record { tic = f.tic.now; job = f.job.now; instance = f.instance.now; kind = f.kind.now; line = f.line.now }
+fields_seen f = record {
+  tic = f.tic.now;
+  job = f.job.now;
+  instance = f.instance.now;
+  kind = f.kind.now;
+  line = f.line.now;
+}
 
 abbrev pub fields_where : Option FaultFields → Option Fields
 fields_where None = None

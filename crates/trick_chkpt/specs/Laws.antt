@@ -11,9 +11,11 @@ use Rattle.trick_model.specs.declared.plan.Plan.{Plan}
 -- No checkpoint of a plan is a proper prefix of another, and each is of one state.
 abbrev pub NoPrefix : Type 0
 NoPrefix =
-    (plan : Plan) (s t : State) (more : List ℕ) → HasPlainNames plan → HasInstances plan → Holds (checkpoint plan) s → Holds (checkpoint plan) t
+    (plan : Plan) (s t : State) (more : List ℕ) → HasPlainNames plan → HasInstances plan → Holds (checkpoint plan) s
+    → Holds (checkpoint plan) t
     → checkpoint_text (plan_of plan) s ++ more ≡ checkpoint_text (plan_of plan) t → (s ≡ t) × (more ≡ [])
 
 -- The lines of a checkpoint are the text of its state.
 abbrev pub OneText : Type 0
-OneText = (plan : Plan) (s : State) → Holds (checkpoint plan) s → text (checkpoint plan) s ≡ checkpoint_text (plan_of plan) s
+OneText = (plan : Plan) (s : State) → Holds (checkpoint plan) s
+    → text (checkpoint plan) s ≡ checkpoint_text (plan_of plan) s

@@ -13,14 +13,54 @@ use Rattle.trick_model.specs.declared.plan.Plan.{Plan}
 
 -- the numbers of a type
 abbrev pub range_of : Scalar → Range
-range_of scalar.Bool = record { below = 0; above = 1; lowest = le-add_right 0 9223372036854775808; highest = le-add_right 1 9223372036854775806 }
-range_of scalar.Char = record { below = 128; above = 127; lowest = le-add_right 128 9223372036854775680; highest = le-add_right 127 9223372036854775680 }
-range_of scalar.UChar = record { below = 0; above = 255; lowest = le-add_right 0 9223372036854775808; highest = le-add_right 255 9223372036854775552 }
-range_of scalar.Short = record { below = 32768; above = 32767; lowest = le-add_right 32768 9223372036854743040; highest = le-add_right 32767 9223372036854743040 }
-range_of scalar.UShort = record { below = 0; above = 65535; lowest = le-add_right 0 9223372036854775808; highest = le-add_right 65535 9223372036854710272 }
-range_of scalar.Int = record { below = 2147483648; above = 2147483647; lowest = le-add_right 2147483648 9223372034707292160; highest = le-add_right 2147483647 9223372034707292160 }
-range_of scalar.UInt = record { below = 0; above = 4294967295; lowest = le-add_right 0 9223372036854775808; highest = le-add_right 4294967295 9223372032559808512 }
-range_of scalar.Long = record { below = 9223372036854775808; above = 9223372036854775807; lowest = le-add_right 9223372036854775808 0; highest = le-add_right 9223372036854775807 0 }
+range_of scalar.Bool = record {
+  below = 0;
+  above = 1;
+  lowest = le-add_right 0 9223372036854775808;
+  highest = le-add_right 1 9223372036854775806;
+}
+range_of scalar.Char = record {
+  below = 128;
+  above = 127;
+  lowest = le-add_right 128 9223372036854775680;
+  highest = le-add_right 127 9223372036854775680;
+}
+range_of scalar.UChar = record {
+  below = 0;
+  above = 255;
+  lowest = le-add_right 0 9223372036854775808;
+  highest = le-add_right 255 9223372036854775552;
+}
+range_of scalar.Short = record {
+  below = 32768;
+  above = 32767;
+  lowest = le-add_right 32768 9223372036854743040;
+  highest = le-add_right 32767 9223372036854743040;
+}
+range_of scalar.UShort = record {
+  below = 0;
+  above = 65535;
+  lowest = le-add_right 0 9223372036854775808;
+  highest = le-add_right 65535 9223372036854710272;
+}
+range_of scalar.Int = record {
+  below = 2147483648;
+  above = 2147483647;
+  lowest = le-add_right 2147483648 9223372034707292160;
+  highest = le-add_right 2147483647 9223372034707292160;
+}
+range_of scalar.UInt = record {
+  below = 0;
+  above = 4294967295;
+  lowest = le-add_right 0 9223372036854775808;
+  highest = le-add_right 4294967295 9223372032559808512;
+}
+range_of scalar.Long = record {
+  below = 9223372036854775808;
+  above = 9223372036854775807;
+  lowest = le-add_right 9223372036854775808 0;
+  highest = le-add_right 9223372036854775807 0;
+}
 
 -- the full name and the range of a cell of a plan
 abbrev pub name_at : Plan → Cell → List ℕ

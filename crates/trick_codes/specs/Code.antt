@@ -79,7 +79,8 @@ Told A = Result (A × List ℕ) Miss
 
 -- a value is read, and what stands behind it is read on
 infixl 10 ◌>>=◌
-abbrev pub ◌>>=◌ : {A B E : Type 0} → Result (A × List ℕ) E → (A × List ℕ → Result (B × List ℕ) E) → Result (B × List ℕ) E
+abbrev pub ◌>>=◌ : {A B E : Type 0} → Result (A × List ℕ) E → (A × List ℕ → Result (B × List ℕ) E)
+    → Result (B × List ℕ) E
 (Ok x) >>= f = f x
 (Err e) >>= f = Err e
 
@@ -124,7 +125,8 @@ positive_of told = told >>= λ x. Ok (pos x.0, x.1)
 abbrev pub integer_at : (below above end : ℕ) → List ℕ → Told ℤ
 integer_at below above end [] = Err Ends
 integer_at below above end (t ∷ ts) =
-    if nat_eq t 45 && nat_le 1 below then negative_of (number_at 1 below end ts) else positive_of (number_at 0 above end (t ∷ ts))
+    if nat_eq t 45 && nat_le 1 below then negative_of (number_at 1 below end ts)
+    else positive_of (number_at 0 above end (t ∷ ts))
 
 abbrev pub free_at : (most end : ℕ) → List ℕ → Told (List ℕ)
 free_at most end [] = Err Ends
@@ -170,13 +172,15 @@ read (free most end) ts = free_at most end ts
 read (one_of ws) ts = word_from 0 ws (no_word (begins_word ws ts)) ts
 read (choice b c d) [] = Err Ends
 read (choice b c d) (t ∷ ts) =
-    if nat_eq t b then (read c (t ∷ ts) >>= λ x. Ok (left (x.0), x.1)) else (read d (t ∷ ts) >>= λ y. Ok (right (y.0), y.1))
+    if nat_eq t b then (read c (t ∷ ts) >>= λ x. Ok (left (x.0), x.1))
+    else (read d (t ∷ ts) >>= λ y. Ok (right (y.0), y.1))
 read (sequence c f) ts = read c ts >>= λ x. read (f x.0) x.1 >>= λ y. Ok ((x.0, y.0), y.1)
 read (read_as f g c) ts = read c ts >>= λ x. Ok (f x.0, x.1)
 
 -- none of the words is a prefix of another
 abbrev pub ArePrefixFree : List (List ℕ) → Type 0
-ArePrefixFree ws = (i j : ℕ) → i < length ws → j < length ws → (more : List ℕ) → get_or ws j [] ≡ get_or ws i [] ++ more → i ≡ j
+ArePrefixFree ws = (i j : ℕ) → i < length ws → j < length ws → (more : List ℕ)
+    → get_or ws j [] ≡ get_or ws i [] ++ more → i ≡ j
 
 -- the largest number that a code reads
 abbrev pub largest : ℕ
@@ -189,7 +193,8 @@ abbrev pub Sound : {A : Type 0} → Code A → Type 0
 Sound (nothing y) = Unit {0}
 Sound (literal bs) = Unit {0}
 Sound (number least most end) = (least ≤ 1) × (least ≤ most) × (most ≤ largest) × (is_ascii_digit end ≡ false)
-Sound (integer below above end) = (below ≤ largest) × (above ≤ largest) × (is_ascii_digit end ≡ false) × (nat_eq end 45 ≡ false)
+Sound (integer below above end) = (below ≤ largest) × (above ≤ largest) × (is_ascii_digit end ≡ false)
+    × (nat_eq end 45 ≡ false)
 Sound (free most end) = Unit {0}
 Sound (one_of ws) = (0 < length ws) × ArePrefixFree ws
 Sound (choice {A} {B} b c d) = Sound c × Sound d

@@ -65,7 +65,8 @@ has_form l i = nat_le 1 i && nat_le (i + 5) (length l) && bytes_eq (drop (length
 -- what is wrong with a line of this form
 abbrev pub wrong_part : List ℕ → ℕ → List ℕ → ℕ → Kind
 wrong_part name count l i =
-    if bytes_eq (name_in l i) name then (if are_numbers count (value_in l i) then OutOfRange else BadLine) else WrongPlan
+    if bytes_eq (name_in l i) name then (if are_numbers count (value_in l i) then OutOfRange else BadLine)
+    else WrongPlan
 
 abbrev pub kind_at : List ℕ → ℕ → List ℕ → Option ℕ → Kind
 kind_at name count l None = BadLine

@@ -40,7 +40,8 @@ IsPrefix {A} c ts = (x : A) × (more : List ℕ) × Holds c x × (text c x ≡ t
 abbrev pub IsDue : {A : Type 0} → Lines A → List ℕ → (List ℕ → Kind) → Type 0
 IsDue (no_line y) front k = ⊥
 IsDue (line j c) front k = (front ≡ []) × (j ≡ k)
-IsDue (and_then {A} c f) front k = IsDue c front k ⊎ ((x : A) × (more : List ℕ) × Holds c x × (front ≡ text c x ++ more) × IsDue (f x) more k)
+IsDue (and_then {A} c f) front k = IsDue c front k
+    ⊎ ((x : A) × (more : List ℕ) × Holds c x × (front ≡ text c x ++ more) × IsDue (f x) more k)
 IsDue (seen_as f g c) front k = IsDue c front k
 
 -- up to and with the first line feed, or all
@@ -102,4 +103,5 @@ each d c (k ∷ ks) = seen_as (λ p. p.0 ∷ p.1) (split_first d) (and_then (c k
 -- so many of the lines that the function says of a place, from this place on; the value has an item for each
 abbrev pub numbered : {A : Type 0} → A → (ℕ → Lines A) → (from count : ℕ) → Lines (List A)
 numbered d c from zero = no_line []
-numbered d c from (suc count) = seen_as (λ p. p.0 ∷ p.1) (split_first d) (and_then (c from) (λ x. numbered d c (from + 1) count))
+numbered d c from (suc count) =
+    seen_as (λ p. p.0 ∷ p.1) (split_first d) (and_then (c from) (λ x. numbered d c (from + 1) count))

@@ -19,7 +19,8 @@ line_behind front = count_by (λ b. b == 10) front + 1
 -- before it is one, with this line too it is none. The line that is due there says that this one is wrong so.
 abbrev pub IsRefusedAt : {A : Type 0} → Lines A → List ℕ → Kind → ℕ → Type 0
 IsRefusedAt c ts kind number =
-    (front : List ℕ) × (rest : List ℕ) × (ts ≡ front ++ rest) × IsPrefix c front × (IsPrefix c (front ++ first_line rest) → ⊥)
+    (front : List ℕ) × (rest : List ℕ) × (ts ≡ front ++ rest) × IsPrefix c front
+    × (IsPrefix c (front ++ first_line rest) → ⊥)
     × (number ≡ line_behind front) × (k : List ℕ → Kind) × IsDue c front k × (kind ≡ k (first_line rest))
 
 -- the text is a prefix of a value's text, and no value's text
@@ -28,7 +29,8 @@ IsProperPrefix {A} c ts = IsPrefix c ts × ((x : A) → Holds c x → ts ≡ tex
 
 -- a value's text, and something behind it, at this place
 abbrev pub GoesOnBehind : {A : Type 0} → Lines A → List ℕ → ℕ → Type 0
-GoesOnBehind {A} c ts at = (x : A) × (rest : List ℕ) × Holds c x × (ts ≡ text c x ++ rest) × (rest ≢ []) × (at ≡ length (text c x))
+GoesOnBehind {A} c ts at = (x : A) × (rest : List ℕ) × Holds c x × (ts ≡ text c x ++ rest) × (rest ≢ [])
+    × (at ≡ length (text c x))
 
 -- why the text is not loaded; where memory ran out, nothing is said of it
 abbrev pub Refuses : {A : Type 0} → Lines A → List ℕ → LoadFault → Type 0

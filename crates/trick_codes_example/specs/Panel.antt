@@ -56,9 +56,16 @@ notes_lines = seen_as (λ v. v.1) (λ xs. (length xs, xs)) (and_then (number_lin
 -- the whole file
 unfoldable pub panel : List Gauge → Lines Readings
 panel gauges =
-    seen_as (λ v. record { turn = v.1.0; mode = v.1.1.0; values = v.1.1.1.0; last = v.1.1.1.1.0; notes = v.1.1.1.1.1.0 })
+    seen_as (λ v. record {
+      turn = v.1.0;
+      mode = v.1.1.0;
+      values = v.1.1.1.0;
+      last = v.1.1.1.1.0;
+      notes = v.1.1.1.1.1.0;
+    })
     (λ r. (1, (r.turn, (r.mode, (r.values, (r.last, (r.notes, tt)))))))
-    (and_then (number_line (codes "panel") 1 1) (λ version. and_then (number_line (codes "turn") 0 9223372036854775807) (λ turn.
+    (and_then (number_line (codes "panel") 1 1) (λ version.
+    and_then (number_line (codes "turn") 0 9223372036854775807) (λ turn.
     and_then mode_line (λ mode. and_then (gauge_lines gauges) (λ values.
     and_then (last_line (ranges_of gauges)) (λ last. and_then notes_lines (λ notes. end_line)))))))
 
@@ -72,7 +79,8 @@ last_text (Some ns) = (title (codes "last") ++ row_text ns) ++ codes "\n"
 -- the lines before those of the gauges, and those behind them
 abbrev pub first_text : Readings → List ℕ
 first_text r =
-    text (number_line (codes "panel") 1 1) 1 ++ (text (number_line (codes "turn") 0 9223372036854775807) r.turn ++ text mode_line r.mode)
+    text (number_line (codes "panel") 1 1) 1
+    ++ (text (number_line (codes "turn") 0 9223372036854775807) r.turn ++ text mode_line r.mode)
 
 abbrev pub last_lines_text : Readings → List ℕ
 last_lines_text r = last_text r.last ++ (text notes_lines r.notes ++ text end_line tt)

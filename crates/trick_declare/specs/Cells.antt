@@ -88,7 +88,8 @@ pub record KeepsRest (old new : Program) : Type 0 where
 
 -- What a program is told to add is added last. A refusal leaves the cells as they were, and a want of
 -- memory may come at any time.
-abbrev pub Adds : Result (List Variable) DeclareFault → Result (Unit {0}) DeclareFault → List Variable → List Variable → Type 0
+abbrev pub Adds : Result (List Variable) DeclareFault → Result (Unit {0}) DeclareFault → List Variable → List Variable
+    → Type 0
 Adds expected (Ok done) old new = (more : List Variable) × (expected ≡ Ok more) × (new ≡ old ++ more)
 Adds expected (Err refused) old new = ((refused ≡ fault.OutOfMemory) ⊎ (expected ≡ Err refused)) × (new ≡ old)
 
@@ -113,4 +114,5 @@ pub record KeepsPlan (old new : Plan) : Type 0 where
 abbrev pub DeclaresIn : List ℕ → Result (Unit {0}) DeclareFault → Program → Program → Type 0
 DeclaresIn text (Err fault.OutOfMemory) old new = new.cells ≡ old.cells
 DeclaresIn text result old new =
-    (declared : Option Declaration) × Declares text declared × Adds (added old.objects old.cells declared) result old.cells new.cells
+    (declared : Option Declaration) × Declares text declared
+    × Adds (added old.objects old.cells declared) result old.cells new.cells

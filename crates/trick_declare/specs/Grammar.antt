@@ -46,7 +46,8 @@ read_or_none (Err refused) = None
 abbrev pub declaration_of : List ℕ → List cut.Token → Option Declaration
 declaration_of text ts = read_or_none (read_all number_of class_of (declaration text) (lexemes_of text ts))
 
--- What a text declares: what its tokens are the declaration of, where it has tokens. It is cut in the style of commands.
+-- What a text declares: what its tokens are the declaration of, where it has tokens. It is cut in the style of
+-- commands.
 abbrev pub Declares : List ℕ → Option Declaration → Type 0
 Declares text declared =
     ((ts : List cut.Token) × AreAllTokens Command text ts × (declared ≡ declaration_of text ts))

@@ -13,4 +13,5 @@ DeclaresOne = (text : List ℕ) (a b : Option Declaration) → Declares text a �
 -- reading gives the one declaration of a text, and else the first token with which none goes on
 abbrev pub DeclarationsAreExact : Type 0
 DeclarationsAreExact =
-    (text : List ℕ) (ts : List Token) → IsExact number_of class_of spelled (declaration text) ts (read_all number_of class_of (declaration text) ts)
+    (text : List ℕ) (ts : List Token)
+    → IsExact number_of class_of spelled (declaration text) ts (read_all number_of class_of (declaration text) ts)

@@ -36,7 +36,8 @@ pub record IsFor (p : Program) (parts : Parts) : Type 0 where
   pub slots : parts.slots ≡ p.slots
   pub room : (job : JobId) → job.0 < length p.jobs → deep_at p.blocks (body_of p job) ≤ parts.room
   pub some : 0 < parts.room
-  pub reads : (job : JobId) → job.0 < length p.jobs → AreCellsOf (length p.cells) (reads p job) (slice_index_or parts.reads job.0 [])
+  pub reads : (job : JobId) → job.0 < length p.jobs
+      → AreCellsOf (length p.cells) (reads p job) (slice_index_or parts.reads job.0 [])
 
 -- the job of a bench that is filled
 abbrev pub the_job : Option JobId → JobId
@@ -79,7 +80,8 @@ IsEmpty (Some job) phase outcome = Unit
 
 -- the fields of a bench fit one another: the stack is empty, no local variable has a number, and the
 -- buffer of the cells is empty but where it holds an effect
-pub record IsClean {U : Type 0} (outcome : Option (Result U Stop)) (cells : ℕ) (working : State) (frames : List Frame) : Type 0 where
+pub record IsClean {U : Type 0} (outcome : Option (Result U Stop)) (cells : ℕ) (working : State)
+    (frames : List Frame) : Type 0 where
   pub empty : frames ≡ []
   pub begun : working.locals ≡ replicate (length working.locals) None
   pub kept : IsKept outcome cells working.stored

@@ -18,7 +18,8 @@ use Rattle.trick_lang.specs.declared.tree.Block.{Block}
 abbrev pub picked : Branches → Sight → Result (Option ℕ) Stop
 picked NoElse s = Ok None
 picked (Else block) s = Ok (Some block)
-picked (Test line test block rest) s = at_line line (value test s) (λ n. if is_true n then Ok (Some block) else picked rest s)
+picked (Test line test block rest) s =
+    at_line line (value test s) (λ n. if is_true n then Ok (Some block) else picked rest s)
 
 -- a frame is the rest of a block, or the turns of a loop that are left
 abbrev pub frame_run : List (List Code) → Setting → Frame → State → Result State Stop

@@ -176,7 +176,12 @@ impl Bench {
         requires job { job.0 < length program.now.jobs }
         requires memory { length (M.numbers from.now) ≡ length program.now.cells }
         ensures inputs { AgreeOn (reads program.now job) self.new.inputs (M.numbers from.now) }
-        ensures rest { self.new ≡ record self.old { phase = phase; job = Some job; outcome = None; inputs = self.new.inputs } }
+        ensures rest { self.new ≡ record self.old {
+          phase = phase;
+          job = Some job;
+          outcome = None;
+          inputs = self.new.inputs;
+        } }
     {
         self.working.clear_stored();
         self.outcome = None;
@@ -192,7 +197,8 @@ impl Bench {
         requires evaluated { IsEvaluated program.now self.now }
         requires length { length (M.numbers into.old) ≡ length program.now.cells }
         requires scalars { M.scalars into.old ≡ scalars_of program.now.cells }
-        ensures numbers { M.numbers into.new ≡ after_effect (effect program.now (the_job self.now.job) self.now.inputs) (M.numbers into.old) }
+        ensures numbers { M.numbers into.new
+            ≡ after_effect (effect program.now (the_job self.now.job) self.now.inputs) (M.numbers into.old) }
         ensures scalars { M.scalars into.new ≡ M.scalars into.old }
     {
         range_law();
@@ -208,8 +214,10 @@ impl Bench {
         requires bench { IsFor program.now self.now.parts }
         requires filled { IsFilled program.now self.now }
         requires memory { length (M.numbers from.now) ≡ length program.now.cells }
-        ensures { MatchOption result (AgreeOn (reads program.now (the_job self.now.job)) (M.numbers from.now) self.now.inputs)
-            (λ d. IsFirstDifference (reads program.now (the_job self.now.job)) (M.numbers from.now) self.now.inputs (d.0).0 d.1 d.2) }
+        ensures { MatchOption result (AgreeOn (reads program.now (the_job self.now.job)) (M.numbers from.now)
+            self.now.inputs)
+            (λ d. IsFirstDifference (reads program.now (the_job self.now.job)) (M.numbers from.now) self.now.inputs
+            (d.0).0 d.1 d.2) }
     {
         let job = job_of(self.job);
         let ranges = ranges_of(self.reads.as_slice(), job);
@@ -241,7 +249,8 @@ fn job_of(job: Option<JobId>) -> JobId
 pub fn eval(program: &Program, bench: &mut Bench)
     requires bench { IsFor program.now bench.old.parts }
     requires filled { IsFilled program.now bench.old }
-    ensures { bench.new ≡ record bench.old { outcome = Some (effect program.now (the_job bench.old.job) bench.old.inputs) } }
+    ensures { bench.new ≡ record bench.old
+        { outcome = Some (effect program.now (the_job bench.old.job) bench.old.inputs) } }
 {
     let job = job_of(bench.job);
     let base = base(program, job);

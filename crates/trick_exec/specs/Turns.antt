@@ -124,7 +124,8 @@ abbrev pub may_all_come : List Entry → Sessions → Bool
 may_all_come [] s = true
 may_all_come (entry ∷ []) s = is_entry entry && may_come entry s
 may_all_come (entry ∷ other ∷ entries) s =
-    is_entry entry && (may_come entry s && (may_follow entry other && may_all_come (other ∷ entries) (after_entry entry s)))
+    is_entry entry && (may_come entry s
+    && (may_follow entry other && may_all_come (other ∷ entries) (after_entry entry s)))
 
 -- the sessions after these entries
 abbrev pub after_entries : List Entry → Sessions → Sessions

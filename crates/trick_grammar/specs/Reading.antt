@@ -44,7 +44,8 @@ abbrev pub prefixed : {T A : Type 0} → List A → Reading T (List A) → Readi
 prefixed found q = q >>= λ xs. Ok (found ++ xs.0, xs.1)
 
 -- what a link adds to the links behind it
-abbrev pub linked : {T A B : Type 0} → Link A B → List T → (List T → Reading T (List A × Option B)) → Reading T (List A × Option B)
+abbrev pub linked : {T A B : Type 0} → Link A B → List T → (List T → Reading T (List A × Option B))
+    → Reading T (List A × Option B)
 linked (onward x) rest more = more rest >>= λ y. Ok ((x ∷ y.0.0, y.0.1), y.1)
 linked (last y) rest more = Ok (([], Some y), rest)
 
@@ -57,18 +58,22 @@ module _ {C T : Type 0} (number : C → ℕ) (class : T → C) where
   -- items for as long as one begins, n at most
   abbrev pub read_items : {A : Type 0} → (List T → Reading T A) → List C → ℕ → List T → Reading T (List A)
   read_items item cs zero ts = if next_in number class cs ts then refused TooLong ts else Ok ([], ts)
-  read_items item cs (suc n) ts = if next_in number class cs ts then (item ts >>= λ x. read_items item cs n x.1 >>= λ xs. Ok (x.0 ∷ xs.0, xs.1)) else Ok ([], ts)
+  read_items item cs (suc n) ts = if next_in number class cs ts
+      then (item ts >>= λ x. read_items item cs n x.1 >>= λ xs. Ok (x.0 ∷ xs.0, xs.1)) else Ok ([], ts)
 
   -- links for as long as one begins, up to the last; there are no more of them than tokens, so the
   -- first list, which counts them, is never too short
-  abbrev pub read_links : {A B : Type 0} → (List T → Reading T (Link A B)) → List C → List T → List T → Reading T (List A × Option B)
+  abbrev pub read_links : {A B : Type 0} → (List T → Reading T (Link A B)) → List C → List T → List T
+      → Reading T (List A × Option B)
   read_links link cs [] ts = Ok (([], None), ts)
-  read_links link cs (u ∷ us) ts = if next_in number class cs ts then (link ts >>= λ x. linked x.0 x.1 (λ rest. read_links link cs us rest)) else Ok (([], None), ts)
+  read_links link cs (u ∷ us) ts = if next_in number class cs ts
+      then (link ts >>= λ x. linked x.0 x.1 (λ rest. read_links link cs us rest)) else Ok (([], None), ts)
 
   -- one token of these classes that repeats the innermost name in scope
   abbrev pub read_again : (T → List ℕ) → List C → List T → List T → Reading T T
   read_again key cs e [] = refused Expected []
-  read_again key cs e (t ∷ ts) = if is_one_of number (class t) cs && repeats number class key cs e t then Ok (t, ts) else refused Expected (t ∷ ts)
+  read_again key cs e (t ∷ ts) = if is_one_of number (class t) cs && repeats number class key cs e t then Ok (t, ts)
+      else refused Expected (t ∷ ts)
 
   -- why a token is refused where none is due: one of these classes for this reason, another one is
   -- not expected
@@ -88,7 +93,8 @@ module _ {C T : Type 0} (number : C → ℕ) (class : T → C) where
   read e (rule i a) ts = read e a ts
   read e (hint k a) ts = with_hint k (read e a ts)
   read e (scope k cs b) ts = with_hint k (read_token cs ts) >>= λ x. read (x.0 ∷ e) b x.1 >>= λ y. Ok ((x.0, y.0), y.1)
-  read e (after k cs test b c) ts = with_hint k (read_token cs ts) >>= λ x. (if test e x.0 then read e b x.1 else read e c x.1) >>= λ y. Ok ((x.0, y.0), y.1)
+  read e (after k cs test b c) ts = with_hint k (read_token cs ts)
+      >>= λ x. (if test e x.0 then read e b x.1 else read e c x.1) >>= λ y. Ok ((x.0, y.0), y.1)
   read e (again key cs) ts = read_again key cs e ts
   read e (alone a) ts = read [] a ts
   read e (act f a) ts = read e a ts >>= λ x. Ok (f x.0, x.1)

@@ -46,5 +46,7 @@ module _ {C T : Type 0} (number : C → ℕ) (class : T → C) where
     -- What is read up to rest is the one text of the grammar that the tokens start with; or the first
     -- token is refused with which no text goes on, and they start with no text.
     abbrev pub IsExactFront : {A : Type 0} → Grammar C T A → List T → Reading T A → Type 0
-    IsExactFront {A} g ts (Ok x) = StartsWith number class [] g ts x.0 x.1 × ((y : A) (rest : List T) → StartsWith number class [] g ts y rest → (y ≡ x.0) × (rest ≡ x.1))
-    IsExactFront {A} g ts (Err e) = IsRefusedAt g ts e.rest × ((y : A) (rest : List T) → StartsWith number class [] g ts y rest → ⊥)
+    IsExactFront {A} g ts (Ok x) = StartsWith number class [] g ts x.0 x.1
+        × ((y : A) (rest : List T) → StartsWith number class [] g ts y rest → (y ≡ x.0) × (rest ≡ x.1))
+    IsExactFront {A} g ts (Err e) = IsRefusedAt g ts e.rest
+        × ((y : A) (rest : List T) → StartsWith number class [] g ts y rest → ⊥)

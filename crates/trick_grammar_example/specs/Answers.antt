@@ -10,7 +10,9 @@ use Rattle.trick_grammar_example.specs.declared.program.Fault.TheVariants.{OutOf
 -- Ok is the one value of the text. A refusal has the line of the first token with which no text
 -- goes on, and the reason for which reading refuses it.
 abbrev pub Answers : {X Y : Type 0} → (X → Y) → Of Y → List Token → ℕ → Result X Fault → Type 0
-Answers {X} {Y} view g ts last_line (Ok x) = IsText number_of class_of g ts (view x) × ((y : Y) → IsText number_of class_of g ts y → y ≡ view x)
+Answers {X} {Y} view g ts last_line (Ok x) = IsText number_of class_of g ts (view x)
+    × ((y : Y) → IsText number_of class_of g ts y → y ≡ view x)
 Answers view g ts last_line (Err OutOfMemory) = Unit {0}
 Answers view g ts last_line (Err (Refused kind line)) =
-    (rest : List Token) × IsRefusedAt number_of class_of spelled g ts rest × (line ≡ line_of last_line rest) × (read_all number_of class_of g ts ≡ Err (record { kind = kind; rest = rest }))
+    (rest : List Token) × IsRefusedAt number_of class_of spelled g ts rest × (line ≡ line_of last_line rest)
+    × (read_all number_of class_of g ts ≡ Err (record { kind = kind; rest = rest }))

@@ -45,14 +45,16 @@ module _ (limit : ℕ) where
 
   -- product = primary { "*" primary }
   unfoldable pub product_body : Of Expression → Of Expression
-  product_body inner = act (λ v. grouped v.0 v.1) (primary_with inner ⨾ repetition limit (one Times ⨾ primary_with inner))
+  product_body inner = act (λ v. grouped v.0 v.1) (primary_with inner
+      ⨾ repetition limit (one Times ⨾ primary_with inner))
 
   abbrev pub product_with : Of Expression → Of Expression
   product_with inner = rule (outline operand_first (Times ∷ []) []) (product_body inner)
 
   -- sum = product { ( "+" | "-" ) product }
   unfoldable pub sum_body : Of Expression → Of Expression
-  sum_body inner = act (λ v. grouped v.0 v.1) (product_with inner ⨾ repetition limit (token (Plus ∷ Minus ∷ []) ⨾ product_with inner))
+  sum_body inner = act (λ v. grouped v.0 v.1) (product_with inner
+      ⨾ repetition limit (token (Plus ∷ Minus ∷ []) ⨾ product_with inner))
 
   abbrev pub sum_with : Of Expression → Of Expression
   sum_with inner = rule (outline operand_first (Times ∷ Plus ∷ Minus ∷ []) []) (sum_body inner)
@@ -80,7 +82,8 @@ module _ (limit : ℕ) where
 
   -- simple = NAME ( "=" sum | "++" ) ";"
   unfoldable pub simple_body : ℕ → Of Statement
-  simple_body n = act (λ v. set_or_increment v.0 v.1.0) (one Name ⨾ (act (λ v. Some v.1) (one Assign ⨾ sum n) ∣ act (λ v. None) (one Increment)) ⨾ one Semicolon)
+  simple_body n = act (λ v. set_or_increment v.0 v.1.0) (one Name
+      ⨾ (act (λ v. Some v.1) (one Assign ⨾ sum n) ∣ act (λ v. None) (one Increment)) ⨾ one Semicolon)
 
   abbrev pub simple : ℕ → Of Statement
   simple n = rule (outline (Name ∷ []) [] []) (simple_body n)
@@ -90,7 +93,8 @@ module _ (limit : ℕ) where
   items = rule (outline (Name ∷ []) (Comma ∷ Name ∷ []) []) (separated_body Comma (Name ∷ []) [] item limit)
 
   unfoldable pub list_body : Of Statement
-  list_body = act (λ v. list v.1.0 v.1.1.1.0) (one Enum ⨾ one Name ⨾ one OpenBrace ⨾ items ⨾ one CloseBrace ⨾ one Semicolon)
+  list_body = act (λ v. list v.1.0 v.1.1.1.0) (one Enum ⨾ one Name ⨾ one OpenBrace ⨾ items ⨾ one CloseBrace
+      ⨾ one Semicolon)
 
   abbrev pub list_statement : Of Statement
   list_statement = rule (outline (Enum ∷ []) [] []) list_body
@@ -104,7 +108,8 @@ module _ (limit : ℕ) where
 
   -- when = "if" "(" sum ")" statement
   unfoldable pub when_body : ℕ → Of Statement → Of Statement
-  when_body n statement = act (λ v. when v.1.1.0 v.1.1.1.1) (one If ⨾ one OpenParen ⨾ sum n ⨾ one CloseParen ⨾ statement)
+  when_body n statement = act (λ v. when v.1.1.0 v.1.1.1.1) (one If ⨾ one OpenParen ⨾ sum n ⨾ one CloseParen
+      ⨾ statement)
 
   abbrev pub when_with : ℕ → Of Statement → Of Statement
   when_with n statement = rule (outline (If ∷ []) [] (Else ∷ [])) (when_body n statement)
@@ -122,7 +127,8 @@ module _ (limit : ℕ) where
 
   -- choice = when { "else" when } [ "else" other ], each "else" with the nearest "if"
   unfoldable pub choice_body : ℕ → Of Statement → Of Statement → Of Statement
-  choice_body n statement other = act (λ v. chosen v.0 v.1) (when_with n statement ⨾ nearest (link_with n statement other))
+  choice_body n statement other =
+      act (λ v. chosen v.0 v.1) (when_with n statement ⨾ nearest (link_with n statement other))
 
   abbrev pub choice_with : ℕ → Of Statement → Of Statement → Of Statement
   choice_with n statement other = rule (outline (If ∷ []) [] (Else ∷ [])) (choice_body n statement other)

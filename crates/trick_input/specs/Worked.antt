@@ -69,7 +69,8 @@ pub record HaveForms : Type 0 where
   pub amf_cycle : read (trick_call the.AmfCycle (the.Whole ∷ the.Comma ∷ the.Decimal ∷ [])) ≡ Ok row.AmfCycle
   -- trick.exec_add_depends_on_job("a.w", 1, "b.w", 1)
   pub depends_on :
-      read (trick_call the.DependsOn (the.Text ∷ the.Comma ∷ the.Whole ∷ the.Comma ∷ the.Text ∷ the.Comma ∷ the.Whole ∷ []))
+      read (trick_call the.DependsOn (the.Text ∷ the.Comma ∷ the.Whole ∷ the.Comma ∷ the.Text ∷ the.Comma ∷ the.Whole
+      ∷ []))
       ≡ Ok row.DependsOn
   -- trick.exec_set_job_onoff("a", 1, False)
   pub set_job :

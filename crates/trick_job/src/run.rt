@@ -35,8 +35,12 @@ pub fn run_job<M: Cells>(
     requires bench { IsFor setting.plan.now.program bench.old.parts }
     requires job { job.0 < length setting.plan.now.program.jobs }
     requires memory { IsMemoryOf setting.plan.now.program (M.numbers memory.old) (M.scalars memory.old) }
-    ensures memory { M.numbers memory.new ≡ (apply (plan_of setting.entry.plan.now) (is_on setting.entry.on.now job.0) setting.entry.tic job.0 (M.numbers memory.old)).memory }
-    ensures faults { faults.new ≡ with_faults (apply (plan_of setting.entry.plan.now) (is_on setting.entry.on.now job.0) setting.entry.tic job.0 (M.numbers memory.old)).faults faults.old }
+    ensures memory { M.numbers memory.new
+        ≡ (apply (plan_of setting.entry.plan.now) (is_on setting.entry.on.now job.0) setting.entry.tic job.0
+        (M.numbers memory.old)).memory }
+    ensures faults { faults.new ≡ with_faults
+        (apply (plan_of setting.entry.plan.now) (is_on setting.entry.on.now job.0) setting.entry.tic job.0
+        (M.numbers memory.old)).faults faults.old }
     ensures belongs { IsMemoryOf setting.entry.plan.now.program (M.numbers memory.new) (M.scalars memory.new) }
     ensures bench { bench.new.parts ≡ bench.old.parts }
 {
@@ -68,8 +72,12 @@ pub fn run_jobs<M: Cells>(
     requires bench { IsFor setting.plan.now.program bench.old.parts }
     requires jobs { AreJobsOf setting.plan.now.program jobs.now }
     requires memory { IsMemoryOf setting.plan.now.program (M.numbers memory.old) (M.scalars memory.old) }
-    ensures memory { M.numbers memory.new ≡ (after_jobs (plan_of setting.entry.plan.now) (is_on setting.entry.on.now) setting.entry.tic (ids jobs.now) (M.numbers memory.old)).memory }
-    ensures faults { faults.new ≡ with_faults (after_jobs (plan_of setting.entry.plan.now) (is_on setting.entry.on.now) setting.entry.tic (ids jobs.now) (M.numbers memory.old)).faults faults.old }
+    ensures memory { M.numbers memory.new
+        ≡ (after_jobs (plan_of setting.entry.plan.now) (is_on setting.entry.on.now) setting.entry.tic (ids jobs.now)
+        (M.numbers memory.old)).memory }
+    ensures faults { faults.new ≡ with_faults
+        (after_jobs (plan_of setting.entry.plan.now) (is_on setting.entry.on.now) setting.entry.tic (ids jobs.now)
+        (M.numbers memory.old)).faults faults.old }
     ensures belongs { IsMemoryOf setting.entry.plan.now.program (M.numbers memory.new) (M.scalars memory.new) }
     ensures bench { bench.new.parts ≡ bench.old.parts }
 {

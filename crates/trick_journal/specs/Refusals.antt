@@ -70,5 +70,6 @@ ReadsTitle p start ts (Err e) = IsRefused p start ts e
 
 -- and behind the title the line that says where the journal begins
 abbrev pub ReadsBegin : Plan → (start : ℕ) → List ℕ → Result (ℕ × Bor (List ℕ)) JournalFault → Type 0
-ReadsBegin p start rest (Ok x) = (x.0 ≤ start) × (x.0 ≤ last_turn) × (front_text titled ++ rest ≡ front_text (going x.0 []) ++ x.1.now)
+ReadsBegin p start rest (Ok x) = (x.0 ≤ start) × (x.0 ≤ last_turn)
+    × (front_text titled ++ rest ≡ front_text (going x.0 []) ++ x.1.now)
 ReadsBegin p start rest (Err e) = IsRefused p start (front_text titled ++ rest) e

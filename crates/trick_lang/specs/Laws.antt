@@ -87,21 +87,26 @@ SameEffect = (p : Program) (job : JobId) (m n : List ℤ) → AgreeOn (reads p j
 -- a job stores only to cells that it may write
 abbrev pub WritesOnly : Type 0
 WritesOnly =
-    (p : Program) (job : JobId) (m : List ℤ) (stored : List (Option ℤ)) (c : ℕ) (n : ℤ) → effect p job m ≡ Ok stored → slice_index_or stored c None ≡ Some n → IsTrue (is_in (writes p job) c)
+    (p : Program) (job : JobId) (m : List ℤ) (stored : List (Option ℤ)) (c : ℕ) (n : ℤ) → effect p job m ≡ Ok stored
+    → slice_index_or stored c None ≡ Some n → IsTrue (is_in (writes p job) c)
 
 -- what a job stores is in the range of its cell's type
 abbrev pub StoresInRange : Type 0
 StoresInRange =
-    (p : Program) (job : JobId) (m : List ℤ) (stored : List (Option ℤ)) (c : ℕ) (n : ℤ) → effect p job m ≡ Ok stored → slice_index_or stored c None ≡ Some n → IsInRange (scalars_of p.cells) c n
+    (p : Program) (job : JobId) (m : List ℤ) (stored : List (Option ℤ)) (c : ℕ) (n : ℤ) → effect p job m ≡ Ok stored
+    → slice_index_or stored c None ≡ Some n → IsInRange (scalars_of p.cells) c n
 
 -- an effect has one entry for each cell
 abbrev pub StoresByCell : Type 0
-StoresByCell = (p : Program) (job : JobId) (m : List ℤ) (stored : List (Option ℤ)) → effect p job m ≡ Ok stored → length stored ≡ length p.cells
+StoresByCell = (p : Program) (job : JobId) (m : List ℤ) (stored : List (Option ℤ)) → effect p job m ≡ Ok stored
+    → length stored ≡ length p.cells
 
 -- what a job of the program may read and write are cells of the program
 pub record StaysInCells : Type 0 where
-  pub reads_there : (p : Program) (job : JobId) (c : ℕ) → job.0 < length p.jobs → IsTrue (is_in (reads p job) c) → c < length p.cells
-  pub writes_there : (p : Program) (job : JobId) (c : ℕ) → job.0 < length p.jobs → IsTrue (is_in (writes p job) c) → c < length p.cells
+  pub reads_there : (p : Program) (job : JobId) (c : ℕ) → job.0 < length p.jobs → IsTrue (is_in (reads p job) c)
+      → c < length p.cells
+  pub writes_there : (p : Program) (job : JobId) (c : ℕ) → job.0 < length p.jobs → IsTrue (is_in (writes p job) c)
+      → c < length p.cells
 
 -- ---- a memory that is overwritten
 
@@ -110,17 +115,32 @@ pub record OverwritesRight : Type 0 where
   -- as many numbers as before
   pub as_many : (stored : List (Option ℤ)) (numbers : List ℤ) → length (overwritten stored numbers) ≡ length numbers
   -- in each cell the number stored to it, or else its own
-  pub at : (stored : List (Option ℤ)) (numbers : List ℤ) (c : ℕ) → c < length numbers → slice_index_or (overwritten stored numbers) c (pos 0) ≡ unwrap_or (slice_index_or stored c None) (slice_index_or numbers c (pos 0))
+  pub at : (stored : List (Option ℤ)) (numbers : List ℤ) (c : ℕ) → c < length numbers
+      → slice_index_or (overwritten stored numbers) c (pos 0)
+      ≡ unwrap_or (slice_index_or stored c None) (slice_index_or numbers c (pos 0))
   -- numbers in their ranges, where those stored and those before are
-  pub in_range : (scalars : List Scalar) (stored : List (Option ℤ)) (numbers : List ℤ) → ((c : ℕ) (n : ℤ) → slice_index_or stored c None ≡ Some n → IsInRange scalars c n) → AreInRange scalars numbers → AreInRange scalars (overwritten stored numbers)
+  pub in_range : (scalars : List Scalar) (stored : List (Option ℤ)) (numbers : List ℤ)
+      → ((c : ℕ) (n : ℤ) → slice_index_or stored c None ≡ Some n → IsInRange scalars c n) → AreInRange scalars numbers
+      → AreInRange scalars (overwritten stored numbers)
 
 -- ---- blocks
 
 -- What a table gives a block, where blocks run only blocks before them, is what the rule makes of
 -- its statements and of what the table gives.
 pub record BlocksHold : Type 0 where
-  pub runs : (scalars : List Scalar) (base : ℕ) (memory : ℕ → ℤ) (blocks : List (List Code)) (k : ℕ) (s : State) → IsTrue (are_in_order 0 blocks) → block_runs scalars base memory blocks k s ≡ run_all (block_at blocks k) (record { scalars = scalars; base = base; memory = memory; blocks = block_runs scalars base memory blocks }) s
-  pub reads : (base : ℕ) (blocks : List (List Code)) (k : ℕ) → IsTrue (are_in_order 0 blocks) → block_reads base blocks k ≡ all_reads (block_at blocks k) base (block_reads base blocks)
-  pub writes : (base : ℕ) (blocks : List (List Code)) (k : ℕ) → IsTrue (are_in_order 0 blocks) → block_writes base blocks k ≡ all_writes (block_at blocks k) base (block_writes base blocks)
-  pub steps : (blocks : List (List Code)) (k : ℕ) → IsTrue (are_in_order 0 blocks) → block_steps blocks k ≡ all_steps (block_at blocks k) (block_steps blocks)
-  pub knows : (slots : ℕ) (blocks : List (List Code)) (k : ℕ) (known : List Known) → IsTrue (are_in_order 0 blocks) → block_knows slots blocks k known ≡ all_know slots (block_at blocks k) (block_knows slots blocks) known
+  pub runs : (scalars : List Scalar) (base : ℕ) (memory : ℕ → ℤ) (blocks : List (List Code)) (k : ℕ) (s : State)
+      → IsTrue (are_in_order 0 blocks) → block_runs scalars base memory blocks k s
+      ≡ run_all (block_at blocks k) (record {
+        scalars = scalars;
+        base = base;
+        memory = memory;
+        blocks = block_runs scalars base memory blocks;
+      }) s
+  pub reads : (base : ℕ) (blocks : List (List Code)) (k : ℕ) → IsTrue (are_in_order 0 blocks)
+      → block_reads base blocks k ≡ all_reads (block_at blocks k) base (block_reads base blocks)
+  pub writes : (base : ℕ) (blocks : List (List Code)) (k : ℕ) → IsTrue (are_in_order 0 blocks)
+      → block_writes base blocks k ≡ all_writes (block_at blocks k) base (block_writes base blocks)
+  pub steps : (blocks : List (List Code)) (k : ℕ) → IsTrue (are_in_order 0 blocks)
+      → block_steps blocks k ≡ all_steps (block_at blocks k) (block_steps blocks)
+  pub knows : (slots : ℕ) (blocks : List (List Code)) (k : ℕ) (known : List Known) → IsTrue (are_in_order 0 blocks)
+      → block_knows slots blocks k known ≡ all_know slots (block_at blocks k) (block_knows slots blocks) known

@@ -88,12 +88,14 @@ code_knows slots (Assign line place change) blocks known =
 code_knows slots (If branches) blocks known = branch_knows branches blocks known
 -- the bound of a loop is at most 1,000,000, so that its numbers are in the range of an int
 code_knows slots (For slot from bound block) blocks known =
-    is_free slots known slot && (nat_le (bound_number bound) 1000000 && blocks block (record { slot = slot; scalar = None } ∷ known))
+    is_free slots known slot && (nat_le (bound_number bound) 1000000
+    && blocks block (record { slot = slot; scalar = None } ∷ known))
 code_knows slots (Run block) blocks known = blocks block known
 
 abbrev pub all_know : ℕ → List Code → (ℕ → List Known → Bool) → List Known → Bool
 all_know slots [] blocks known = true
-all_know slots (first ∷ rest) blocks known = code_knows slots first blocks known && all_know slots rest blocks (after first known)
+all_know slots (first ∷ rest) blocks known = code_knows slots first blocks known
+    && all_know slots rest blocks (after first known)
 
 -- whether each block keeps the rules where these local variables are known
 abbrev pub block_knows : ℕ → List (List Code) → ℕ → List Known → Bool

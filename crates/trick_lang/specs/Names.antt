@@ -14,7 +14,8 @@ is_short name = nat_le (length name) 64
 
 abbrev pub are_short_names : List Object → List Method → List EnumItem → Bool
 are_short_names objects methods items =
-    list_all (λ object. is_short object.name) objects && (list_all (λ method. is_short method.name) methods && list_all (λ item. is_short item.name) items)
+    list_all (λ object. is_short object.name) objects && (list_all (λ method. is_short method.name) methods
+    && list_all (λ item. is_short item.name) items)
 
 -- no two of a list are alike by the test
 abbrev pub are_apart : {X : Type 0} → (X → X → Bool) → List X → Bool

@@ -42,7 +42,8 @@ abbrev mutual
 
   pub choices_of : {m : _} → Row_of-Choice m → Expression → Choices
   choices_of end_of-Choice last = Last last
-  choices_of (more_of-Choice test e rest) last = SyntaxTree.Choice (expression_of test) (expression_of e) (choices_of rest last)
+  choices_of (more_of-Choice test e rest) last =
+      SyntaxTree.Choice (expression_of test) (expression_of e) (choices_of rest last)
 
   pub parts_of : {m : _} → Row_of-Part m → Parts
   parts_of end_of-Part = NoPart
@@ -55,7 +56,8 @@ links_of_list (l ∷ ls) = SyntaxTree.Link l.operator (expression_of l.operand) 
 
 abbrev pub choices_of_list : List Choice → Expression → Choices
 choices_of_list [] last = Last last
-choices_of_list (c ∷ cs) last = SyntaxTree.Choice (expression_of c.test) (expression_of c.value) (choices_of_list cs last)
+choices_of_list (c ∷ cs) last =
+    SyntaxTree.Choice (expression_of c.test) (expression_of c.value) (choices_of_list cs last)
 
 abbrev pub parts_of_list : List Part → Parts
 parts_of_list [] = NoPart
@@ -85,7 +87,8 @@ abbrev mutual
   pub statement_of : Stmt → Statement
   statement_of Empty = SyntaxTree.Empty
   statement_of (Block' shape all) = SyntaxTree.Block (statements_of all)
-  statement_of (Declare line written name value) = SyntaxTree.Declare line (written_of written) name (first_value_of value)
+  statement_of (Declare line written name value) =
+      SyntaxTree.Declare line (written_of written) name (first_value_of value)
   statement_of (Assign line path change) = SyntaxTree.Assign line (path_of path) (change_of change)
   statement_of (If' shape branches otherwise) = SyntaxTree.If (branches_of branches (else_of otherwise))
   statement_of (For' name from bound p body) = SyntaxTree.For name from bound (statement_of body)
@@ -97,7 +100,8 @@ abbrev mutual
 
   pub branches_of : {m : _} → Row_of-Branch m → Branches → Branches
   branches_of end_of-Branch last = last
-  branches_of (more_of-Branch line test b rest) last = Test line (expression_of test) (statement_of b) (branches_of rest last)
+  branches_of (more_of-Branch line test b rest) last =
+      Test line (expression_of test) (statement_of b) (branches_of rest last)
 
   -- what stands behind the last `else`
   pub else_of : Held-Stmt-If-1 → Branches

@@ -45,7 +45,8 @@ size_of sizes class = slice_index_or sizes class 0
 -- places of a block lie in an object of its class, or in the memory
 abbrev pub lie_in : ℕ → List ℕ → List Block → Bool
 lie_in cells sizes [] = true
-lie_in cells sizes (b ∷ bs) = all_pass (cells_test cells (size_of sizes b.class)) (code_list b.statements) && lie_in cells sizes bs
+lie_in cells sizes (b ∷ bs) = all_pass (cells_test cells (size_of sizes b.class)) (code_list b.statements)
+    && lie_in cells sizes bs
 
 -- ---- blocks
 
@@ -86,7 +87,8 @@ code_fits blocks height room Empty = true
 code_fits blocks height room (Declare line slot scalar e) = true
 code_fits blocks height room (SetLocal line slot scalar change) = true
 code_fits blocks height room (Assign line place change) = true
-code_fits blocks height room (If branches) = branch_blocks (λ block. nat_le (height + deep_at blocks block) room) branches
+code_fits blocks height room (If branches) =
+    branch_blocks (λ block. nat_le (height + deep_at blocks block) room) branches
 code_fits blocks height room (For slot from bound block) = nat_lt (height + deep_at blocks block) room
 code_fits blocks height room (Run block) = nat_le (height + deep_at blocks block) room
 
@@ -174,4 +176,5 @@ method_of methods (Some job) = slice_get methods job.method
 -- a job has at most 1,000,000 static steps
 abbrev pub are_short : List Block → List Method → List Job → Bool
 are_short blocks methods =
-    list_all (λ job. nat_le (block_steps (codes_of blocks) (block_of (length blocks) (method_of methods (Some job)))) 1000000)
+    list_all (λ job. nat_le (block_steps (codes_of blocks) (block_of (length blocks) (method_of methods (Some job))))
+    1000000)

@@ -55,7 +55,8 @@ IdleTicsPass =
 -- From the limit on no tic is run.
 abbrev pub LimitStops : Type 0
 LimitStops =
-    (p : Plan) (a : Asking) (count : ℕ) → a.state.limit ≤ a.state.tic → tics p count a ≡ record { asking = a; writes = [] }
+    (p : Plan) (a : Asking) (count : ℕ) → a.state.limit ≤ a.state.tic
+    → tics p count a ≡ record { asking = a; writes = [] }
 
 -- ---- what a turn can change
 
@@ -174,4 +175,5 @@ pub record KeyOrderIsOne : Type 0 where
   pub ordered : (plan : PlanValue) (ks : List ℕ) → AreJobs plan.program.jobs ks
       → AreInKeyOrder plan.program.jobs (in_key_order plan.program.jobs ks)
   pub same : (jobs : List Job) (ks : List ℕ) → HaveSame ks (in_key_order jobs ks)
-  pub one : (jobs : List Job) (ks js : List ℕ) → AreInKeyOrder jobs ks → AreInKeyOrder jobs js → HaveSame ks js → ks ≡ js
+  pub one : (jobs : List Job) (ks js : List ℕ) → AreInKeyOrder jobs ks → AreInKeyOrder jobs js → HaveSame ks js
+      → ks ≡ js

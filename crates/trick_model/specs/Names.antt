@@ -27,7 +27,8 @@ one_more (Some k) = Some (suc k)
 -- the place of a name in a list of names
 abbrev pub find_name : List ℕ → List (List ℕ) → Option ℕ
 find_name name [] = None
-find_name name (other ∷ others) = elim (bytes_eq name other) [ true ↦ Some 0 | false ↦ one_more (find_name name others) ]
+find_name name (other ∷ others) =
+    elim (bytes_eq name other) [ true ↦ Some 0 | false ↦ one_more (find_name name others) ]
 
 -- the job of a name and an instance
 abbrev pub find_job : List ℕ → ℕ → List (List ℕ) → List Job → Option ℕ

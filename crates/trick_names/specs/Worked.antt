@@ -274,7 +274,8 @@ pub record AreAnswered : Type 0 where
   -- enum e { i = 2147483647 };
   pub greatest_value : refused (Enum e (item 1 i (Some (pos 2147483647)) ∷ []) ∷ []) ≡ None
   -- enum e { i = 2147483647, j };
-  pub value_behind_it : refused (Enum e (item 1 i (Some (pos 2147483647)) ∷ item 2 j None ∷ []) ∷ []) ≡ Some (NotScalar 2)
+  pub value_behind_it : refused (Enum e (item 1 i (Some (pos 2147483647)) ∷ item 2 j None ∷ []) ∷ [])
+      ≡ Some (NotScalar 2)
   -- enum e { i = -2147483648 };
   pub least_value : refused (Enum e (item 1 i (Some (negsuc 2147483647)) ∷ []) ∷ []) ≡ None
   -- enum e { i = -2147483649 };

@@ -11,7 +11,8 @@ use Rattle.trick_model.specs.declared.flags.Flags.{Flags}
 use Rattle.trick_model.specs.declared.plan.Plan.{Plan}
 
 -- A memory of the plan, and the due jobs of the tic in key order.
-pub record IsGiven (plan : Plan) (numbers : List ℤ) (scalars : List Scalar) (on : Flags) (due : List JobId) (tic : ℕ) : Type 0 where
+pub record IsGiven (plan : Plan) (numbers : List ℤ) (scalars : List Scalar) (on : Flags) (due : List JobId)
+    (tic : ℕ) : Type 0 where
   pub memory : IsMemoryOf plan.program numbers scalars
   pub right : ids due ≡ jobs_at (plan_of plan) on tic
   pub in_range : tic ≤ last_time

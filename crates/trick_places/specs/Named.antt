@@ -62,8 +62,10 @@ pub record IsHeld (done : List (List Variable)) (group : ℕ) (name : Name) (f :
 
 -- the tables tell where the cells are: of structs and classes, and of all objects
 pub record AreNamed (layout : Layout) (done : List (List Variable)) (memory : List Variable) : Type 0 where
-  pub members : (group : ℕ) (name : Name) (f : Field) → meaning_of name (fields_at layout.groups group) ≡ Some f → IsHeld done group name f
-  pub objects : (name : Name) (first class : ℕ) → meaning_of name layout.sites ≡ Some (Object first class) → HasAt memory first (under name (cells_at done class))
+  pub members : (group : ℕ) (name : Name) (f : Field) → meaning_of name (fields_at layout.groups group) ≡ Some f
+      → IsHeld done group name f
+  pub objects : (name : Name) (first class : ℕ) → meaning_of name layout.sites ≡ Some (Object first class)
+      → HasAt memory first (under name (cells_at done class))
 
 -- ---- texts of paths
 

@@ -64,7 +64,8 @@ jobs_at_work p thread taken work.Round = in_key_order p.jobs (jobs_of p.jobs thr
 -- the fold over the taken cells, with the taken flags; its faults have the tic of publication
 abbrev pub folded : Plan → Thread → Started → ℕ → After
 folded p thread started tic =
-    after_jobs p (flag_in (jobs_of p.jobs thread) started.taken.on.on) tic (jobs_at_work p thread started.taken started.work)
+    after_jobs p (flag_in (jobs_of p.jobs thread) started.taken.on.on) tic
+    (jobs_at_work p thread started.taken started.work)
     (spread (scope p thread) started.taken.cells (zeros p))
 
 -- To publish it gives every cell that a job that ran may write the number that the fold ends with.

@@ -39,7 +39,8 @@ id_at ids place = (slice_index_or ids place no_id).0
 -- So it is with these jobs, from one place to another.
 abbrev pub AreNext : List Job → List JobId → List ℕ → (from first end : ℕ) → Type 0
 AreNext jobs ids tics from first end =
-    (place : ℕ) → first ≤ place → place < end → IsNext (times_at jobs (id_at ids place)) from (slice_index_or tics place never)
+    (place : ℕ) → first ≤ place → place < end
+    → IsNext (times_at jobs (id_at ids place)) from (slice_index_or tics place never)
 
 -- Queues: their jobs in key order with the next tic of each, the first tic that is not passed, the tic
 -- asked for last, and the jobs that are due then.

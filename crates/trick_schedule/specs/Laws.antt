@@ -25,14 +25,16 @@ AtEachTic P = (plan : PlanValue) (on : Flags) (number : ℕ) → ∥ IsAccepted 
 -- What a schedule comes to is what the due jobs come to, one after the other in key order.
 pub record IsSerial (t : Tic) (first : List ℤ) (steps : List Step) : Type 0 where
   pub memory : (played t (opening t first) steps).memory ≡ (serial t.plan t.on t.number first).memory
-  pub faults : faults_in (played t (opening t first) steps).stages (due_jobs t) ≡ (serial t.plan t.on t.number first).faults
+  pub faults : faults_in (played t (opening t first) steps).stages (due_jobs t)
+      ≡ (serial t.plan t.on t.number first).faults
 
 abbrev pub EverySchedule : Tic → Type 0
 EverySchedule t = (first : List ℤ) (steps : List Step) → IsSchedule t steps → IsSerial t first steps
 
 -- After each beginning of a schedule memory and faults are those of the committed jobs, and no copy is stale.
 abbrev pub EveryBeginning : Tic → Type 0
-EveryBeginning t = (first : List ℤ) (steps : List Step) → IsBegun t steps → IsSound t first (played t (opening t first) steps)
+EveryBeginning t = (first : List ℤ) (steps : List Step) → IsBegun t steps
+    → IsSound t first (played t (opening t first) steps)
 
 -- ---- a board, which keeps no copies
 
@@ -43,7 +45,8 @@ EveryBoard t = (first : List ℤ) (steps : List Step) → IsBegun t steps
 
 -- What a job was given at its take stays its copy in all that comes after.
 abbrev pub EveryCopy : Tic → Type 0
-EveryCopy t = (first : List ℤ) (early late : List Step) (k : ℕ) → IsBegun t (early ++ late) → Contains early (Take (record { 0 = k }))
+EveryCopy t = (first : List ℤ) (early late : List Step) (k : ℕ) → IsBegun t (early ++ late)
+    → Contains early (Take (record { 0 = k }))
     → copy_of (played t (opening t first) (early ++ late)) k ≡ copy_of (played t (opening t first) early) k
 
 -- ---- how schedules go on

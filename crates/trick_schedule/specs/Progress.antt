@@ -16,7 +16,8 @@ use Rattle.trick_schedule.specs.declared.step.Step.TheVariants.{Commit, Take}
 pub record IsInOrder (t : Tic) (stages : List Stage) : Type 0 where
   pub many : length stages ≡ length t.plan.jobs
   pub due : (k : ℕ) → is_due (stage_at stages k) ≡ is_among k (due_jobs t)
-  pub closed : (a k : ℕ) → IsPredecessor t a k → IsTrue (is_taken (stage_at stages k)) → IsTrue (is_done (stage_at stages a))
+  pub closed : (a k : ℕ) → IsPredecessor t a k → IsTrue (is_taken (stage_at stages k))
+      → IsTrue (is_done (stage_at stages a))
 
 -- the committed jobs one after the other, in key order
 abbrev pub after_committed : Tic → List Stage → List ℤ → After

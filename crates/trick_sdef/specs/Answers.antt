@@ -60,11 +60,14 @@ fault_of BadTime line bad = bad
 
 -- the fault of a refused token, behind these tokens of the text
 abbrev pub told_behind : List ℕ → List cut.Token → List Token → Refused Token → SdefFault
-told_behind text ts front z = fault_of (told z.kind z.rest) (told_line (last_line text) z.kind front z.rest) (bad_time text (slice_get ts (length front)))
+told_behind text ts front z =
+    fault_of (told z.kind z.rest) (told_line (last_line text) z.kind front z.rest)
+    (bad_time text (slice_get ts (length front)))
 
 -- the refusal of a token of the text is told by this fault
 abbrev pub IsToldBy : List ℕ → List cut.Token → Refused Token → SdefFault → Type 0
-IsToldBy text ts z fault = (front : List Token) × (lexemes_of text ts ≡ front ++ z.rest) × (fault ≡ told_behind text ts front z)
+IsToldBy text ts z fault = (front : List Token) × (lexemes_of text ts ≡ front ++ z.rest)
+    × (fault ≡ told_behind text ts front z)
 
 -- ---- simulation definitions
 
@@ -83,8 +86,11 @@ IsAnswer text ts answer = IsExact number_of class_of spelled (file text) (lexeme
 abbrev pub IsRead : List ℕ → List cut.Token → Option FirstFault → Result SDefine SdefFault → Type 0
 IsRead text ts f (Ok s) = (f ≡ None) × IsAnswer text ts (Ok (sdefine_of s))
 IsRead text ts f (Err faults.OutOfMemory) = Unit {0}
-IsRead text ts f (Err (faults.Text fault)) = (first : FirstFault) × (f ≡ Some first) × (first.fault ≡ fault) × IsFirst number_of class_of spelled (file text) (lexemes_of text ts) None
-IsRead text ts f (Err fault) = (z : Refused Token) × IsAnswer text ts (Err z) × (read_all number_of class_of (file text) (lexemes_of text ts) ≡ Err z) × ((f ≡ None) ⊎ (z.rest ≢ [])) × IsToldBy text ts z fault
+IsRead text ts f (Err (faults.Text fault)) = (first : FirstFault) × (f ≡ Some first) × (first.fault ≡ fault)
+    × IsFirst number_of class_of spelled (file text) (lexemes_of text ts) None
+IsRead text ts f (Err fault) = (z : Refused Token) × IsAnswer text ts (Err z)
+    × (read_all number_of class_of (file text) (lexemes_of text ts) ≡ Err z) × ((f ≡ None) ⊎ (z.rest ≢ []))
+    × IsToldBy text ts z fault
 
 -- the fault of a text that is not cut
 abbrev pub fault_of_text : TextFault → SdefFault

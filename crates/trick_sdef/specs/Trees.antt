@@ -10,7 +10,16 @@ abbrev pub times_of : Times → grammar.Times
 times_of t = record { class = t.class; start = t.start; cycle = t.cycle; stop = t.stop }
 
 abbrev pub job_line_of : JobLine → tree.JobLine
-job_line_of j = record { class = j.class; thread = j.thread; phase = j.phase; start = j.start; cycle = j.cycle; stop = j.stop; line = j.line; method = j.method }
+job_line_of j = record {
+  class = j.class;
+  thread = j.thread;
+  phase = j.phase;
+  start = j.start;
+  cycle = j.cycle;
+  stop = j.stop;
+  line = j.line;
+  method = j.method;
+}
 
 abbrev pub item_of : EnumItem → tree.EnumItem
 item_of i = record { line = i.line; name = i.name; value = i.value }

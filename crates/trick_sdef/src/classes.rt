@@ -109,7 +109,8 @@ fn read_int_member<'a>(
     rest: &'a [Token],
 ) -> Result<(ClassPart, &'a [Token]), Stop<'a, Symbol>>
     ensures { Gives (λ x. (class_part_of x.0, x.1.now)) result
-        (read number_of class_of [] (act (λ v. int_part_of source.entry.text.now source.entry.limit name.now v) (int_member source.entry.text.now source.entry.limit)) rest.now) }
+        (read number_of class_of [] (act (λ v. int_part_of source.entry.text.now source.entry.limit name.now v)
+        (int_member source.entry.text.now source.entry.limit)) rest.now) }
 {
     let (lengths, rest) = read_lengths(alloc, rest)?;
     let (mut declarators, rest) = read_more_declarators(alloc, source, rest)?;
@@ -131,7 +132,8 @@ fn read_after_int<'a>(
     rest: &'a [Token],
 ) -> Result<(ClassPart, &'a [Token]), Stop<'a, Symbol>>
     ensures { Gives (λ x. (class_part_of x.0, x.1.now)) result
-        (read number_of class_of [] (act (λ v. int_part_of source.entry.text.now source.entry.limit name.now v) (after_int source.entry.text.now source.entry.limit depth)) rest.now) }
+        (read number_of class_of [] (act (λ v. int_part_of source.entry.text.now source.entry.limit name.now v)
+        (after_int source.entry.text.now source.entry.limit depth)) rest.now) }
 {
     if !next_is(rest, Symbol::OpenParen) {
         return read_int_member(alloc, source, name, rest);
@@ -190,7 +192,8 @@ fn read_after_name<'a>(
     rest: &'a [Token],
 ) -> Result<(ClassPart, &'a [Token]), Stop<'a, Symbol>>
     ensures { Gives (λ x. (class_part_of x.0, x.1.now)) result
-        (read number_of class_of [] (act (λ v. named_part_of source.entry.text.now source.entry.limit name.now v) (after_name source.entry.text.now source.entry.limit)) rest.now) }
+        (read number_of class_of [] (act (λ v. named_part_of source.entry.text.now source.entry.limit name.now v)
+        (after_name source.entry.text.now source.entry.limit)) rest.now) }
 {
     let line = name.line;
     if next_is(rest, Symbol::OpenParen) {
@@ -289,7 +292,8 @@ fn read_parts<'a>(
     rest: &'a [Token],
 ) -> Result<(Vec<ClassPart>, &'a [Token]), Stop<'a, Symbol>>
     ensures { Gives (λ x. (map class_part_of x.0.items, x.1.now)) result
-        (read number_of class_of [] (repetition source.entry.limit (part source.entry.text.now source.entry.limit depth)) rest.now) }
+        (read number_of class_of [] (repetition source.entry.limit
+        (part source.entry.text.now source.entry.limit depth)) rest.now) }
 {
     let mut found = Vec::new(alloc);
     let mut left = source.limit;

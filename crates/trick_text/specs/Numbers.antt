@@ -18,8 +18,10 @@ whole_limit = 9223372036854775808
 
 -- decimal digits, one at least, with a zero in front only where it stands alone
 abbrev pub is_plain_number : List ℕ → Bool
-is_plain_number bytes = list_all is_ascii_digit bytes && (not (starts_with nat_eq bytes (codes "0")) || (length bytes == 1)) && nat_lt 0 (length bytes)
+is_plain_number bytes = list_all is_ascii_digit bytes
+    && (not (starts_with nat_eq bytes (codes "0")) || (length bytes == 1)) && nat_lt 0 (length bytes)
 
 -- the number of plain digits, where it is no larger than a whole number may be
 abbrev pub plain_number : List ℕ → Option ℕ
-plain_number bytes = if is_plain_number bytes && nat_le (digits_value 10 bytes) whole_limit then Some (digits_value 10 bytes) else None
+plain_number bytes = if is_plain_number bytes && nat_le (digits_value 10 bytes) whole_limit
+    then Some (digits_value 10 bytes) else None

@@ -85,7 +85,8 @@ number_front text =
     let hexadecimal = hexadecimal_digits text in
     let digits = prefix_len is_ascii_digit text in
     if nat_lt 0 hexadecimal then whole_front (2 + hexadecimal) text
-    else if begins (codes ".") (drop digits text) then decimal_front (digits + 1 + prefix_len is_ascii_digit (drop (digits + 1) text))
+    else if begins (codes ".") (drop digits text)
+    then decimal_front (digits + 1 + prefix_len is_ascii_digit (drop (digits + 1) text))
     else whole_front digits text
 
 -- the double quote; in input files and commands the single quote too

@@ -52,12 +52,14 @@ LiesIn text t = (t.start < t.end) × (t.end ≤ length text)
 -- white space and comments alone, one after the other, from i up to j
 pub data AreBlanks (style : Style) (text : List ℕ) : ℕ → ℕ → Type 0 where
   nothing : {i : ℕ} → AreBlanks style text i i
-  blank : {i j n : ℕ} → AreBlanks style text i j → front style (drop j text) ≡ pieces.Blank n → AreBlanks style text i (j + n)
+  blank : {i j n : ℕ} → AreBlanks style text i j → front style (drop j text) ≡ pieces.Blank n
+      → AreBlanks style text i (j + n)
 
 -- from i up to j these tokens stand, with white space and comments alone round them
 abbrev pub AreTokens : Style → List ℕ → ℕ → List Token → ℕ → Type 0
 AreTokens style text i [] j = AreBlanks style text i j
-AreTokens style text i (t ∷ ts) j = AreBlanks style text i t.start × IsToken style text t × AreTokens style text t.end ts j
+AreTokens style text i (t ∷ ts) j = AreBlanks style text i t.start × IsToken style text t
+    × AreTokens style text t.end ts j
 
 -- these are the tokens of a text that is not too long, all of them and no others
 abbrev pub AreAllTokens : Style → List ℕ → List Token → Type 0
@@ -81,11 +83,13 @@ pub record IsFault (style : Style) (text : List ℕ) (first : FirstFault) : Type
 -- of its tokens, where it has none.
 abbrev pub IsCut : Style → List ℕ → List Token → Option FirstFault → Type 0
 IsCut style text ts None = AreAllTokens style text ts
-IsCut style text ts (Some first) = (length text ≤ text_limit) × AreTokens style text 0 ts first.start × IsFault style text first
+IsCut style text ts (Some first) = (length text ≤ text_limit) × AreTokens style text 0 ts first.start
+    × IsFault style text first
 
 -- the text is cut off by this fault
 abbrev pub IsCutOff : Style → List ℕ → TextFault → Type 0
-IsCutOff style text fault = (ts : List Token) × (first : FirstFault) × IsCut style text ts (Some first) × (first.fault ≡ fault)
+IsCutOff style text fault = (ts : List Token) × (first : FirstFault) × IsCut style text ts (Some first)
+    × (first.fault ≡ fault)
 
 -- it has more bytes than a text may have, and is refused with that limit
 abbrev pub IsTooLong : List ℕ → ℕ → Type 0

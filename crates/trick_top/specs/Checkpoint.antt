@@ -34,4 +34,5 @@ contents_text simulation memory =
 
 -- the version of the format, and then all of the state
 abbrev pub checkpoint_text : Counting → State → List ℕ
-checkpoint_text simulation state = line (codes "checkpoint") (codes "1") ++ place_text state ++ contents_text simulation state.memory
+checkpoint_text simulation state = line (codes "checkpoint") (codes "1") ++ place_text state
+    ++ contents_text simulation state.memory

@@ -6,14 +6,18 @@ use Rattle.std.specs.Str.{bytes_eq}
 -- the words of the language
 abbrev pub language : List (List ℕ)
 language =
-    codes "include" ∷ codes "enum" ∷ codes "struct" ∷ codes "class" ∷ codes "public" ∷ codes "bool" ∷ codes "char" ∷ codes "short" ∷ codes "int"
-    ∷ codes "long" ∷ codes "unsigned" ∷ codes "void" ∷ codes "return" ∷ codes "if" ∷ codes "else" ∷ codes "for" ∷ codes "true" ∷ codes "false" ∷ []
+    codes "include" ∷ codes "enum" ∷ codes "struct" ∷ codes "class" ∷ codes "public" ∷ codes "bool" ∷ codes "char"
+    ∷ codes "short" ∷ codes "int"
+    ∷ codes "long" ∷ codes "unsigned" ∷ codes "void" ∷ codes "return" ∷ codes "if" ∷ codes "else" ∷ codes "for"
+    ∷ codes "true" ∷ codes "false" ∷ []
 
 -- words of C++ and of Trick that are outside the profile
 abbrev pub outside : List (List ℕ)
 outside =
-    codes "double" ∷ codes "float" ∷ codes "string" ∷ codes "template" ∷ codes "while" ∷ codes "do" ∷ codes "switch" ∷ codes "break"
-    ∷ codes "continue" ∷ codes "goto" ∷ codes "static" ∷ codes "const" ∷ codes "protected" ∷ codes "private" ∷ codes "virtual"
+    codes "double" ∷ codes "float" ∷ codes "string" ∷ codes "template" ∷ codes "while" ∷ codes "do" ∷ codes "switch"
+    ∷ codes "break"
+    ∷ codes "continue" ∷ codes "goto" ∷ codes "static" ∷ codes "const" ∷ codes "protected" ∷ codes "private"
+    ∷ codes "virtual"
     ∷ codes "collect" ∷ codes "vcollect" ∷ codes "integrate" ∷ codes "job_class_order" ∷ []
 
 abbrev pub is_one_of : List (List ℕ) → List ℕ → Bool

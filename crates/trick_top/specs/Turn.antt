@@ -24,4 +24,5 @@ tics_left state = min (frame_end state.tic) state.limit - state.tic
 
 -- one turn: the tics that its frame has left, and the count of turns rises
 abbrev pub after_turn : Counting → State → State
-after_turn simulation state = let ended = after_tics simulation (tics_left state) state in record ended { turn = ended.turn + 1 }
+after_turn simulation state =
+    let ended = after_tics simulation (tics_left state) state in record ended { turn = ended.turn + 1 }

@@ -37,7 +37,8 @@ abbrev pub line_of : Verdict → List ℕ
 line_of Usage = codes "usage: tricks serial|run|replay|check|list|gen\n"
 line_of (NoFile name) = codes "refused NoFile " ++ name ++ codes "\n"
 line_of (TextRefused source) = codes "refused NotInProfile " ++ source_text source ++ codes " 0\n"
-line_of (Ended turn tic) = codes "ended turns=" ++ decimal turn ++ codes " tic=" ++ decimal tic ++ codes " faults=0 sessions=0\n"
+line_of (Ended turn tic) = codes "ended turns=" ++ decimal turn ++ codes " tic=" ++ decimal tic
+    ++ codes " faults=0 sessions=0\n"
 line_of ShelfFault = codes "refused ShelfFault\n"
 line_of OutOfMemory = codes "refused OutOfMemory\n"
 

@@ -90,7 +90,8 @@ module _ {B E : Type 0} where
 
   -- the pass has the turn, and the value in the slot stands for the history and what this turn tells
   abbrev pub IsReady : (B → List E → Type 0) → Option E → Pass B E → Type 0
-  IsReady stands e p = (p.seat.inner.me.0.holding ≡ true) × (value : B) × IsInSlot p value × stands value (seen p ++ entries_told e)
+  IsReady stands e p = (p.seat.inner.me.0.holding ≡ true) × (value : B) × IsInSlot p value
+      × stands value (seen p ++ entries_told e)
 
   -- the turn is over, and what it told is at the end of the history
   pub record Releases (e : Option E) (p q : Pass B E) : Type 0 where

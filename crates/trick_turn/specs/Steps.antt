@@ -1,4 +1,5 @@
--- What a step on the word tells the seat that made it: of the step, the seat before, the number found, and the seat after.
+-- What a step on the word tells the seat that made it: of the step, the seat before, the number found, and the seat
+-- after.
 -- A seat is its view and the slots that it has taken out, each with its value.
 use Rattle.std.specs.Prelude.{◌≡◌, ◌≢◌, ℕ, List, ◌∷◌, Option, Some}
 use mathlib.Core.List.{IsPrefix}
@@ -14,7 +15,8 @@ module _ {B E : Type 0} (stands : B → List E → Type 0) (seat : E → ℕ) wh
 
   -- the turn was free: the seat has it, and the value, which stands for the history
   abbrev pub HasClaimed : Me (Option B) (View E) → Me (Option B) (View E) → Type 0
-  HasClaimed m n = (history : List E) × (value : B) × (n.0 ≡ after_claim m.0 history) × (n.1 ≡ (0, Some value) ∷ m.1) × stands value history × GoesOn m.0 history
+  HasClaimed m n = (history : List E) × (value : B) × (n.0 ≡ after_claim m.0 history) × (n.1 ≡ (0, Some value) ∷ m.1)
+      × stands value history × GoesOn m.0 history
 
   -- the turn was held: the seat counts a miss
   abbrev pub HasMissed : Me (Option B) (View E) → ℕ → Me (Option B) (View E) → Type 0

@@ -1,5 +1,7 @@
--- The rule that the table of a lock keeps between any two steps. It has five parts, in this order below, which `TurnRule`
--- puts together. The table has one word, the turn: 0 where it is free, else the number of the seat that has it. It has one
+-- The rule that the table of a lock keeps between any two steps. It has five parts, in this order below, which
+-- `TurnRule`
+-- puts together. The table has one word, the turn: 0 where it is free, else the number of the seat that has it. It
+-- has one
 -- slot, the value's home.
 use Rattle.std.specs.Prelude.{◌≡◌, ◌≢◌, ℕ, ◌<◌, ◌≤◌, ◌==◌, true, false, List, length, filter, All, Option, Some, slice_index}
 use mathlib.Core.Option.{some}
@@ -17,7 +19,8 @@ module _ {E : Type 0} where
 
   -- the seats whose numbers are not 0 have different numbers; a seat that was joined to another has 0
   abbrev pub HaveDifferentNumbers : List (View E) → Type 0
-  HaveDifferentNumbers views = (i j : ℕ) (v w : View E) → get_elem? views i ≡ some v → get_elem? views j ≡ some w → 0 < v.number → v.number ≡ w.number → i ≡ j
+  HaveDifferentNumbers views = (i j : ℕ) (v w : View E) → get_elem? views i ≡ some v → get_elem? views j ≡ some w
+      → 0 < v.number → v.number ≡ w.number → i ≡ j
 
   -- No number is given twice. The first seat's view counts the numbers that were given, and no view and no entry has a
   -- later one.
@@ -27,7 +30,8 @@ module _ {E : Type 0} where
     pub below : EachView views (λ v. v.number ≤ count)
     pub named : All (λ e. seat e ≤ count) history
 
-  -- What each seat has seen is a prefix of the longest of these, which is called the history. What a view notes beside that,
+  -- What each seat has seen is a prefix of the longest of these, which is called the history. What a view notes
+  -- beside that,
   -- at a join, is a prefix of what it has seen.
   pub record AreSeen (views : List (View E)) (history : List E) : Type 0 where
     pub prefixes : EachView views (λ v. IsPrefix v.seen history)
@@ -43,7 +47,8 @@ module _ {B E : Type 0} where
     pub nobody : EachView s.views (λ v. v.holding ≡ false)
     pub home : (value : B) × (get_elem? s.homes 0 ≡ some (some (Some value))) × stands value history
 
-  -- Where the word is a seat's number, that seat alone holds the turn, and it has seen the history, as it had at its claim.
+  -- Where the word is a seat's number, that seat alone holds the turn, and it has seen the history, as it had at its
+  -- claim.
   pub record IsHeld (s : State (Option B) (View E)) (history : List E) : Type 0 where
     pub index : ℕ
     pub holder : View E

@@ -47,8 +47,11 @@ module _ {B E : Type 0} where
 
 -- the pass is lent to the turn, and ends as what the turn leaves; where the turn was held, it has counted a miss
 abbrev pub LendsPass : (B E : RattleType) → MutBor (Pass B.Denot E.Denot) → Claim B.Denot E.Denot → Fml
-LendsPass B E p c = follows_so (pass_row B E) (pass_row B E) p.ghost_name (loan_of c) (λ left last. IfGot c (λ _. last ≡ left)) (λ last. IfBusy c (Misses p.now last))
+LendsPass B E p c = follows_so (pass_row B E) (pass_row B E) p.ghost_name (loan_of c) (λ left last. IfGot c (λ _. last
+    ≡ left)) (λ last. IfBusy c (Misses p.now last))
 
 -- the value is lent, and stays the turn's as what was written to it
-abbrev pub LendsValue : (B E : RattleType) → Ghosts B.Denot E.Denot → MutBor (Turn B.Denot E.Denot) → MutBor B.Denot → Fml
-LendsValue B E keeps t r = Lends (turn_row (record { mir = named 1; lft = [] }) B E keeps) B t r (λ written. record t.now { value = written })
+abbrev pub LendsValue : (B E : RattleType) → Ghosts B.Denot E.Denot → MutBor (Turn B.Denot E.Denot) → MutBor B.Denot
+    → Fml
+LendsValue B E keeps t r = Lends (turn_row (record { mir = named 1; lft = [] }) B E keeps) B t r
+    (λ written. record t.now { value = written })

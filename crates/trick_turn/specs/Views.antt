@@ -5,7 +5,16 @@ use Rattle.trick_turn.specs.declared.view.View.{View}
 module _ {E : Type 0} where
   -- a seat with this number that has done nothing, and has seen this much
   abbrev pub fresh_view : ℕ → ℕ → List E → View E
-  fresh_view number made log = record { number = number; holding = false; seen = log; beside = []; own = []; misses = 0; found = 0; made = made }
+  fresh_view number made log = record {
+    number = number;
+    holding = false;
+    seen = log;
+    beside = [];
+    own = [];
+    misses = 0;
+    found = 0;
+    made = made;
+  }
 
   -- the seat that a join leaves behind
   abbrev pub spent_view : View E
@@ -26,7 +35,12 @@ module _ {E : Type 0} where
 
   -- release: the turn is over, and what it told is at the end of the history
   abbrev pub after_release : View E → Option E → View E
-  after_release v e = record v { holding = false; seen = v.seen ++ entries_told e; beside = []; own = v.own ++ entries_told e }
+  after_release v e = record v {
+    holding = false;
+    seen = v.seen ++ entries_told e;
+    beside = [];
+    own = v.own ++ entries_told e;
+  }
 
   -- split a seat: the first seat counts one more, and that count is the new seat's number
   abbrev pub after_split : View E → View E

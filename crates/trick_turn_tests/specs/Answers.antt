@@ -23,7 +23,8 @@ module _ {B : Type 0} where
 
   -- the call stored a number, and the history before it leaves the board open
   abbrev pub HasStored : Pass B Entry → Pass B Entry → ℕ → ℕ → Type 0
-  HasStored p q cell number = (log : List Entry) × HasAddedTo log p q (Store (number_of p) cell number) × IsSome (after None log)
+  HasStored p q cell number = (log : List Entry) × HasAddedTo log p q (Store (number_of p) cell number)
+      × IsSome (after None log)
 
   -- the history that the pass has now seen leaves the board closed
   abbrev pub FoundClosed : Pass B Entry → Pass B Entry → Type 0
@@ -31,7 +32,8 @@ module _ {B : Type 0} where
 
   -- another pass had the turn
   abbrev pub FoundBusy : Pass B Entry → Pass B Entry → ℕ → Type 0
-  FoundBusy p q found = (found ≢ 0) × (seen q ≡ seen p) × (own q ≡ own p) × (missed q ≡ missed p + 1) × (last_found q ≡ found)
+  FoundBusy p q found = (found ≢ 0) × (seen q ≡ seen p) × (own q ≡ own p) × (missed q ≡ missed p + 1)
+      × (last_found q ≡ found)
 
   -- what a call that waits for nobody answers
   abbrev pub IsAnswered : Pass B Entry → Pass B Entry → ℕ → ℕ → Stored → Type 0

@@ -13,7 +13,8 @@ abbrev pub after : Option (List ℕ) → List Entry → Option (List ℕ)
 after left [] = left
 after left (e ∷ es) = after (step left e) es
 
--- a closed board may be opened, and an open one stored into and closed; the chief, whose pass has the number 1, opens and closes
+-- a closed board may be opened, and an open one stored into and closed; the chief, whose pass has the number 1, opens
+-- and closes
 abbrev pub May : Option (List ℕ) → Entry → Type 0
 May left (Open seat numbers flags tic) = (left ≡ None) × (seat ≡ 1)
 May left (Store seat cell number) = IsSome left
@@ -43,7 +44,8 @@ opening numbers board flags tic = Open 1 (unwrap_or (option_map numbers board) [
 -- the last opening of a list that is not closed
 abbrev pub opened_from : Option Opening → List Entry → Option Opening
 opened_from o [] = o
-opened_from o (Open seat numbers flags tic ∷ es) = opened_from (Some record { numbers = numbers; flags = flags; tic = tic }) es
+opened_from o (Open seat numbers flags tic ∷ es) =
+    opened_from (Some record { numbers = numbers; flags = flags; tic = tic }) es
 opened_from o (Store seat cell number ∷ es) = opened_from o es
 opened_from o (Close seat ∷ es) = opened_from None es
 
