@@ -33,14 +33,14 @@ asked_is plan jobs q tic same is passed from asked =
 
 -- ---- the next tic
 
-not_due_at : (d : Due) (t : ℕ) → ((d : Due) (t : ℕ) → IsTrue (is_due_at d t) → IsDue d t) → (IsDue d t → ⊥) → is_due_at d t ≡ false
+pub not_due_at : (d : Due) (t : ℕ) → ((d : Due) (t : ℕ) → IsTrue (is_due_at d t) → IsDue d t) → (IsDue d t → ⊥) → is_due_at d t ≡ false
 not_due_at d t exact not_then = by_test (is_due_at d t) refl
   where
     by_test : (b : Bool) → is_due_at d t ≡ b → is_due_at d t ≡ false
     by_test true e = absurd (not_then (exact d t e))
     by_test false e = e
 
-filter_none : (test : ℕ → Bool) (xs : List ℕ) → ((k : ℕ) → k < length xs → test (get_or xs k 0) ≡ false) → filter test xs ≡ []
+pub filter_none : (test : ℕ → Bool) (xs : List ℕ) → ((k : ℕ) → k < length xs → test (get_or xs k 0) ≡ false) → filter test xs ≡ []
 filter_none test [] none = refl
 filter_none test (x ∷ xs) none =
     ap (λ b. cond b (x ∷ filter test xs) (filter test xs)) (none zero (omega arith)) ∙ filter_none test xs (λ k less. none (suc k) (omega arith))

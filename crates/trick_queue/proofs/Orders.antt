@@ -39,7 +39,7 @@ mix_off true true a h = let no : true ≡ false = h refl in cc
 
 -- ---- filtered lists
 
-among_filter : (test : ℕ → Bool) (m : ℕ) (xs : List ℕ) → is_among m (filter test xs) ≡ (test m && is_among m xs)
+pub among_filter : (test : ℕ → Bool) (m : ℕ) (xs : List ℕ) → is_among m (filter test xs) ≡ (test m && is_among m xs)
 among_filter test m [] = sym (and_false (test m))
 among_filter test m (x ∷ xs) = by_test (among_filter test m xs) (test x) refl
   where
@@ -48,7 +48,7 @@ among_filter test m (x ∷ xs) = by_test (among_filter test m xs) (test x) refl
         ∙ mix_on (x == m) (test m) (is_among m xs) (λ h. ap test (sym (same_of x m h)) ∙ e)
     by_test others false e = others ∙ mix_off (x == m) (test m) (is_among m xs) (λ h. ap test (sym (same_of x m h)) ∙ e)
 
-filter_both : (p q : ℕ → Bool) (xs : List ℕ) → filter q (filter p xs) ≡ filter (λ k. p k && q k) xs
+pub filter_both : (p q : ℕ → Bool) (xs : List ℕ) → filter q (filter p xs) ≡ filter (λ k. p k && q k) xs
 filter_both p q [] = refl
 filter_both p q (x ∷ xs) = by_test (filter_both p q xs) (p x)
   where
@@ -57,7 +57,7 @@ filter_both p q (x ∷ xs) = by_test (filter_both p q xs) (p x)
     by_test others true = ap (λ l. cond (q x) (x ∷ l) l) others
     by_test others false = others
 
-filter_same : (p q : ℕ → Bool) → ((k : ℕ) → p k ≡ q k) → (xs : List ℕ) → filter p xs ≡ filter q xs
+pub filter_same : (p q : ℕ → Bool) → ((k : ℕ) → p k ≡ q k) → (xs : List ℕ) → filter p xs ≡ filter q xs
 filter_same p q same [] = refl
 filter_same p q same (x ∷ xs) = ap (λ b. cond b (x ∷ filter p xs) (filter p xs)) (same x) ∙ ap (λ l. cond (q x) (x ∷ l) l) (filter_same p q same xs)
 
@@ -88,7 +88,7 @@ order_kept jobs test (k ∷ ks) ordered = by_test (order_kept jobs test ks order
     by_test others true = (before_kept jobs test k ks ordered.0, others)
     by_test others false = others
 
-jobs_kept : (jobs : List Job) (test : ℕ → Bool) (ks : List ℕ) → AreJobs jobs ks → AreJobs jobs (filter test ks)
+pub jobs_kept : (jobs : List Job) (test : ℕ → Bool) (ks : List ℕ) → AreJobs jobs ks → AreJobs jobs (filter test ks)
 jobs_kept jobs test [] are = tt
 jobs_kept jobs test (k ∷ ks) are = by_test (jobs_kept jobs test ks are.2) (test k)
   where
@@ -100,11 +100,11 @@ not_later : {A : Type 0} (k j : ℕ) (xs : List A) → k < j → is_among k (num
 not_later k j [] less = refl
 not_later k j (x ∷ xs) less = ap (λ b. b || is_among k (numbers_from (suc j) xs)) (other_of j k less) ∙ not_later k (suc j) xs (omega arith)
 
-numbers_are : (all : List Job) {A : Type 0} (k : ℕ) (xs : List A) → k + length xs ≤ length all → AreJobs all (numbers_from k xs)
+pub numbers_are : (all : List Job) {A : Type 0} (k : ℕ) (xs : List A) → k + length xs ≤ length all → AreJobs all (numbers_from k xs)
 numbers_are all k [] fits = tt
 numbers_are all k (x ∷ xs) fits = (omega arith, not_later k (suc k) xs (omega arith), numbers_are all (suc k) xs (omega arith))
 
-filter_order : (plan : PlanValue) (test : ℕ → Bool) (ks : List ℕ) → AreJobs plan.program.jobs ks
+pub filter_order : (plan : PlanValue) (test : ℕ → Bool) (ks : List ℕ) → AreJobs plan.program.jobs ks
     → filter test (in_key_order plan.program.jobs ks) ≡ in_key_order plan.program.jobs (filter test ks)
 filter_order plan test ks are =
     let jobs = plan.program.jobs in

@@ -6,5 +6,6 @@ mod jobs;
 mod queues;
 mod tree;
 
-pub use queues::Queues;
+pub use jobs::{next_of, times};
+pub use queues::{Queues, fill, pass};
 pub use tree::{NEVER, Tics};

@@ -56,8 +56,8 @@ fn is_due_then(times: Due, tic: u64) -> bool
     is_due(times, tic)
 }
 
-// Gives each job its next tic from a tic on.
-fn fill(plan: &Plan, jobs: &[JobId], from: u64, tics: &mut Tics)
+/// Gives each of these jobs its next tic from a tic on.
+pub fn fill(plan: &Plan, jobs: &[JobId], from: u64, tics: &mut Tics)
     requires scheduled { AreScheduled plan.now.program.jobs jobs.now }
     requires as_many { length tics.old ≡ length jobs.now }
     ensures as_many { length tics.new ≡ length jobs.now }
@@ -80,9 +80,10 @@ fn note(due: &mut Vec<JobId>, job: JobId, is_due: bool)
     }
 }
 
-// Passes a tic: notes the jobs that are due then, and gives each job whose tic is not later its next
-// one. Only these are looked at.
-fn pass(plan: &Plan, jobs: &[JobId], tic: u64, tics: &mut Tics, due: &mut Vec<JobId>)
+/// Passes a tic, which is not above 10^15: notes the jobs that are due then, and gives each job whose tic
+/// is not later its next one. Only these are looked at, at a cost that grows with the height of the tree.
+/// Takes no memory.
+pub fn pass(plan: &Plan, jobs: &[JobId], tic: u64, tics: &mut Tics, due: &mut Vec<JobId>)
     requires scheduled { AreScheduled plan.now.program.jobs jobs.now }
     requires as_many { length tics.old ≡ length jobs.now }
     requires known { AreKnown plan.now.program.jobs jobs.now tics.old tic 0 (length jobs.now) }
