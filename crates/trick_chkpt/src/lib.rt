@@ -21,6 +21,7 @@ mod records;
 mod tests;
 mod thread_scope;
 
+pub use faults::push_fault;
 pub use loader::load;
 pub use plan_jobs::{jobs_of, threads_beside};
 pub use printer::print;
