@@ -25,8 +25,8 @@ fn scalar_at(program: &Program, cell: Cell) -> Scalar
     program.cells.as_slice()[cell.0 as usize].scalar
 }
 
-// The number, if it is one of the type.
-fn fitting(scalar: Scalar, number: i128) -> Option<i64>
+/// The number, if it is one of the type. Takes no memory.
+pub fn fitting(scalar: Scalar, number: i128) -> Option<i64>
     ensures number { result ≡ fitting scalar number }
     ensures range { IfSome result (IsOf scalar) }
 {

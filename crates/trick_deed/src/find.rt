@@ -61,8 +61,8 @@ fn is_job(program: &Program, job: &Job, name: &[u8], instance: u64) -> bool
     u64::from(job.instance) == instance && is_joined(name, object, method)
 }
 
-/// The job of a name and an instance.
-pub(crate) fn find_job(program: &Program, name: &[u8], instance: u64) -> Option<JobId>
+/// The job of a name and an instance. It takes time as there are jobs, and no memory.
+pub fn find_job(program: &Program, name: &[u8], instance: u64) -> Option<JobId>
     ensures job { option_map (λ (job : JobId). job.0) result
         ≡ find_job name.now instance (map (job_name program.now.objects program.now.methods) program.now.jobs)
         program.now.jobs }

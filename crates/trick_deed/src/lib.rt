@@ -10,6 +10,6 @@ mod named;
 #[cfg(test)]
 mod tests;
 
-pub use ask::{deed_in_plan, deed_of};
+pub use ask::{deed_in_plan, deed_of, fitting};
 pub use deed::Deed;
-pub use find::find_cell;
+pub use find::{find_cell, find_job};
