@@ -1,0 +1,109 @@
+//! One tic.
+
+ghost use Rattle.std.specs.Prelude.{◌≡◌, ◌+◌, ◌<◌, ◌≤◌, IfOk, OnOk};
+ghost use Rattle.trick_job.specs.Belongs.{IsMemoryOf};
+ghost use Rattle.trick_model.specs.PlanOf.{plan_of};
+ghost use Rattle.trick_model.specs.State.{seen};
+ghost use Rattle.trick_model.specs.Tic.{jobs_done, tic as tic_of};
+ghost use Rattle.trick_model.specs.Time.{last_time};
+ghost use Rattle.trick_outside.specs.Does.{Does};
+ghost use Rattle.trick_tic.specs.Course.{IsUnderWay};
+ghost use Rattle.trick_tic.specs.Current.{asking_of};
+ghost use Rattle.trick_tic.specs.Due.{AreJobsFor};
+ghost use Rattle.trick_tic.specs.Steps.{steps_of};
+
+use crate::{Course, Current};
+use std::alloc::Global;
+use trick_lang::Cells;
+use trick_model::{Accepted, State, laws};
+use trick_outside::{Shelf, Stop};
+use trick_phase::Phases;
+use trick_queue::Queues;
+
+// Runs the due jobs of a tic.
+fn run_due<M: Cells, H: Phases<M>>(
+    accepted: &Accepted,
+    tic: u64,
+    state: State<M>,
+    queues: &mut Queues,
+    phases: &mut H,
+) -> State<M>
+    requires own { H.is_for phases.old accepted.now.plan }
+    requires jobs { AreJobsFor accepted.now.plan queues.old tic }
+    requires memory { IsMemoryOf accepted.now.plan.program (M.numbers state.memory) (M.scalars state.memory) }
+    requires tic { tic ≤ last_time }
+    ensures done { seen M.numbers result ≡ jobs_done (plan_of accepted.now.plan) tic (seen M.numbers state) }
+    ensures scalars { M.scalars result.memory ≡ M.scalars state.memory }
+    ensures jobs { AreJobsFor accepted.now.plan queues.new (tic + 1) }
+    ensures own { H.is_for phases.new accepted.now.plan }
+{
+    queues.ask(accepted.plan(), tic);
+    if queues.due().is_empty() {
+        return state;
+    }
+    let State {
+        turn,
+        tic: now,
+        limit,
+        mode,
+        memory,
+        jobs,
+        events,
+        groups,
+        last,
+        taken,
+        mut faults,
+    } = state;
+    let memory = phases.tic(accepted, memory, &jobs, queues.due(), tic, &mut faults);
+    State {
+        turn,
+        tic: now,
+        limit,
+        mode,
+        memory,
+        jobs,
+        events,
+        groups,
+        last,
+        taken,
+        faults,
+    }
+}
+
+/// The next tic of a state: its reads, its events, its due jobs, and its rows, each in one append. It is
+/// for a tic below the limit. It costs what is due at the tic. It stops where the shelf failed, or where
+/// there was no memory for a row; the state is gone then.
+pub fn tic<M: Cells + Drop, F: Shelf, H: Phases<M>>(
+    alloc: Global,
+    accepted: &Accepted,
+    current: Current<M>,
+    course: &mut Course,
+    shelf: &mut F,
+    phases: &mut H,
+) -> Result<Current<M>, Stop>
+    requires own { H.is_for phases.old accepted.now.plan }
+    requires under_way { IsUnderWay accepted.now.plan course.old (seen M.numbers current.state)
+        (M.scalars current.state.memory) }
+    requires below { current.state.tic < current.state.limit }
+    ensures state { IfOk result (λ after. asking_of M.numbers after
+        ≡ (tic_of (plan_of accepted.now.plan) (asking_of M.numbers current)).asking) }
+    ensures does { Does F.Shelf shelf.old shelf.new result
+        (steps_of (tic_of (plan_of accepted.now.plan) (asking_of M.numbers current)).writes) }
+    ensures under_way { IfOk result (λ after. IsUnderWay accepted.now.plan course.new (seen M.numbers after.state)
+        (M.scalars after.state.memory)) }
+    ensures own { H.is_for phases.new accepted.now.plan }
+{
+    laws::plans_are_sound();
+    let Current {
+        mut state,
+        mut asked,
+    } = current;
+    let tic = state.tic;
+    course.fire(accepted.plan(), tic, &mut state, &mut asked);
+    let mut state = run_due(accepted, tic, state, &mut course.queues, phases);
+    course
+        .rows
+        .write(alloc, accepted.plan(), tic, &mut state, shelf)?;
+    state.tic = tic + 1;
+    Ok(Current { state, asked })
+}
