@@ -1,0 +1,50 @@
+//! The jobs of a class.
+
+ghost use Rattle.std.specs.Prelude.{◌≡◌};
+ghost use Rattle.trick_eval.specs.Bench.{IsFor};
+ghost use Rattle.trick_job.specs.Belongs.{IsMemoryOf};
+ghost use Rattle.trick_model.specs.Order.{jobs_in, rank as rank_of};
+ghost use Rattle.trick_model.specs.PlanOf.{plan_of};
+ghost use Rattle.trick_model.specs.Running.{run_class as class_ran};
+ghost use Rattle.trick_model.specs.State.{seen};
+ghost use Rattle.trick_model.specs.Valid.{ids};
+
+use trick_eval::Bench;
+use trick_job::{Setting, run_jobs};
+use trick_lang::{Cells, Class, JobId};
+use trick_model::{Plan, State};
+
+// The rank of a class, by which queues stand.
+fn rank(class: Class) -> usize
+    ensures { result ≡ rank_of class }
+{
+    class as usize
+}
+
+// The jobs of a class, in key order.
+fn class_jobs(plan: &Plan, class: Class) -> &[JobId]
+    ensures { ids result.now ≡ jobs_in plan.now.program.jobs class }
+{
+    match plan.queues.as_slice().get(rank(class)) {
+        Some(jobs) => jobs.as_slice(),
+        None => &[],
+    }
+}
+
+/// Runs the jobs of a class that are on, one after another in key order. Their faults have the state's
+/// next tic. Takes no memory.
+pub fn run_class<M: Cells>(plan: &Plan, class: Class, state: &mut State<M>, bench: &mut Bench)
+    requires bench { IsFor plan.now.program bench.old.parts }
+    requires memory { IsMemoryOf plan.now.program (M.numbers state.old.memory) (M.scalars state.old.memory) }
+    ensures ran { seen M.numbers state.new ≡ class_ran (plan_of plan.now) class (seen M.numbers state.old) }
+    ensures memory { IsMemoryOf plan.now.program (M.numbers state.new.memory) (M.scalars state.new.memory) }
+    ensures bench { bench.new.parts ≡ bench.old.parts }
+{
+    let setting = Setting {
+        plan,
+        on: &state.jobs,
+        tic: state.tic,
+    };
+    let jobs = class_jobs(plan, class);
+    run_jobs(setting, jobs, bench, &mut state.memory, &mut state.faults);
+}
