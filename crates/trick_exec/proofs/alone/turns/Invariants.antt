@@ -1,0 +1,21 @@
+use Rattle.std.proofs.Common.{ℕ, ◌+◌, ◌-◌}
+use Rattle.trick_exec.proofs.AloneLemmas.{InRun}
+use Rattle.trick_exec.proofs.alone.turns.Given as goal
+use Rattle.trick_exec.specs.Pass.{IsEquipped}
+use Rattle.trick_model.specs.PlanOf.{plan_of}
+use Rattle.trick_model.specs.State.{seen}
+use Rattle.trick_model.specs.Time.{last_time}
+
+-- so many turns are done
+abbrev pub invariant-turns : goal.invariant-turns
+invariant-turns g l =
+    let plan = l.accepted.plan in
+    record {
+      run : (count : ℕ) × InRun g.F.Shelf (plan_of plan) l.fn.shelf l.shelf (seen g.M.Cells.numbers l.fn.state) (seen g.M.Cells.numbers l.state) count;
+      equipped : IsEquipped plan l.equipment (seen g.M.Cells.numbers l.state) (g.M.Cells.scalars l.state.memory);
+      own : g.H.Phases.is_for l.phases plan;
+    }
+
+-- the tics that are left
+abbrev pub decreases-turns : goal.decreases-turns
+decreases-turns g l = (last_time + 1) - l.state.tic
