@@ -1,0 +1,2 @@
+-- a line grows by one field at a time
+pub mod Fields

@@ -1,0 +1,82 @@
+-- Worked lines: one for each code.
+use Rattle.std.specs.Prelude.{◌≡◌, ℕ, ◌^◌, ◌-◌, true, List, [], ◌∷◌, None, codes}
+use Rattle.trick_check.specs.declared.fault.CheckFault.TheVariants as check
+use Rattle.trick_input.specs.declared.fault.InputFault.TheVariants as input
+use Rattle.trick_lang.specs.declared.job.Job.{Job}
+use Rattle.trick_model.specs.Plan.{Event, Plan, no_job}
+use Rattle.trick_model.specs.declared.group.Group.{Group}
+use Rattle.trick_race.specs.declared.fault.PlanFault.TheVariants as plan
+use Rattle.trick_refusal.specs.Check.{check_line}
+use Rattle.trick_refusal.specs.Input.{input_line}
+use Rattle.trick_refusal.specs.Plan.{plan_line}
+use Rattle.trick_refusal.specs.SDefine.{s_define_line}
+use Rattle.trick_sdef.specs.declared.fault.SdefFault.TheVariants as sdef
+use Rattle.trick_text.specs.declared.fault.TextFault.TheVariants as text
+use Rattle.trick_text.specs.declared.fault.TimeFault.TheVariants as time
+
+pub record HaveSDefineLines : Type 0 where
+  pub long_text : s_define_line (sdef.Text (text.LongText 16777216)) ≡ codes "refused LongText S_define 16777216\n"
+  pub bad_byte : s_define_line (sdef.Text (text.BadByte 0)) ≡ codes "refused BadByte S_define 0\n"
+  pub open_comment : s_define_line (sdef.Text (text.OpenComment 30)) ≡ codes "refused OpenComment S_define 30\n"
+  pub long_number : s_define_line (sdef.Text (text.LongNumber 7)) ≡ codes "refused LongNumber S_define 7\n"
+  pub expected : s_define_line (sdef.Expected 1) ≡ codes "refused Expected S_define 1\n"
+  pub not_in_profile : s_define_line (sdef.NotInProfile 12) ≡ codes "refused NotInProfile S_define 12\n"
+  pub loop_bound : s_define_line (sdef.LoopBound 4) ≡ codes "refused LoopBound S_define 4\n"
+  pub long_list : s_define_line (sdef.LongList 9 64) ≡ codes "refused LongList S_define 9 64\n"
+  pub inexact : s_define_line (sdef.Time (time.InexactTime 5)) ≡ codes "refused InexactTime S_define 5\n"
+  pub too_large : s_define_line (sdef.Time (time.TimeTooLarge 6)) ≡ codes "refused TimeTooLarge S_define 6\n"
+  pub no_memory : s_define_line sdef.OutOfMemory ≡ codes "refused OutOfMemory\n"
+
+pub record HaveCheckLines : Type 0 where
+  pub twice : check_line (check.Twice (codes "lamp")) ≡ codes "refused Twice S_define lamp\n"
+  pub unknown : check_line (check.Unknown 3) ≡ codes "refused Unknown S_define 3\n"
+  pub not_scalar : check_line (check.NotScalar 8) ≡ codes "refused NotScalar S_define 8\n"
+  pub recursive : check_line (check.Recursive (codes "turn")) ≡ codes "refused Recursive S_define turn\n"
+  pub many_cells :
+      check_line (check.TooManyCells (2 ^ 64 - 1)) ≡ codes "refused TooManyCells S_define 18446744073709551615\n"
+  pub many_jobs : check_line (check.TooManyJobs 513) ≡ codes "refused TooManyJobs S_define 513\n"
+  pub many_steps :
+      check_line (check.TooManySteps (codes "lamp.toggle") 1) ≡ codes "refused TooManySteps S_define lamp.toggle 1\n"
+
+pub record HaveInputLines : Type 0 where
+  pub bad_byte : input_line (input.Text (text.BadByte 17)) ≡ codes "refused BadByte input 17\n"
+  pub expected : input_line (input.Expected 2) ≡ codes "refused Expected input 2\n"
+  pub not_in_profile : input_line (input.NotInProfile 1) ≡ codes "refused NotInProfile input 1\n"
+  pub bad_literal : input_line (input.BadLiteral 10) ≡ codes "refused BadLiteral input 10\n"
+
+-- a job of which this is the instance
+abbrev pub instance : ℕ → Job
+instance k = record no_job { instance = k }
+
+-- a group of this name
+abbrev pub group : List ℕ → Group
+group name = record { name = name; cycle = 1; changes = true; cells = [] }
+
+-- an event of this name
+abbrev pub event : List ℕ → Event
+event name = record { name = name; cycle = 1; condition = None; reads = []; actions = [] }
+
+-- a plan with two jobs, two cells, a group and an event, whatever else it has
+abbrev pub small : Plan → Plan
+small p = record p {
+  names = codes "o.n" ∷ codes "o.y" ∷ [];
+  jobs = instance 1 ∷ instance 2 ∷ [];
+  job_names = codes "a.w" ∷ codes "b.w" ∷ [];
+  groups = group (codes "g") ∷ [];
+  events = event (codes "e") ∷ [];
+}
+
+pub record HavePlanLines (p : Plan) : Type 0 where
+  pub no_thread : plan_line (small p) (plan.NoThread 7) ≡ codes "refused NoThread 7\n"
+  pub class_on_child : plan_line (small p) (plan.ClassOnChild (record { 0 = 1 })) ≡ codes "refused ClassOnChild b.w 2\n"
+  pub backwards :
+      plan_line (small p) (plan.Backwards (record { 0 = 0 }) (record { 0 = 1 }))
+      ≡ codes "refused Backwards a.w 1 b.w 2\n"
+  pub shared_writer :
+      plan_line (small p) (plan.SharedWriter (record { 0 = 0 }) 1 2) ≡ codes "refused SharedWriter o.n 1 2\n"
+  pub recorded : plan_line (small p) (plan.AsyncRecorded 0 (record { 0 = 1 })) ≡ codes "refused AsyncRecorded g o.y\n"
+  pub async_event : plan_line (small p) (plan.AsyncEvent 0) ≡ codes "refused AsyncEvent e\n"
+  pub race :
+      plan_line (small p) (plan.Race (record { 0 = 0 }) (record { 0 = 1 }) 3)
+      ≡ codes "refused Race a.w 1 b.w 2 3\n"
+  pub no_memory : plan_line (small p) plan.OutOfMemory ≡ codes "refused OutOfMemory\n"
