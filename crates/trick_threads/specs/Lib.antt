@@ -1,0 +1,6 @@
+-- The threads of a plan.
+pub mod Threads
+-- The order of the jobs of a class, by one number for each key.
+pub mod Keys
+-- Worked threads and queues.
+pub mod Worked
