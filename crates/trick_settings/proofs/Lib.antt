@@ -1,0 +1,4 @@
+-- Facts of each item of a list.
+pub mod Lists
+-- The ranges of what lines say of the run and of its threads.
+pub mod Ranges

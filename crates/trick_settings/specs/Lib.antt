@@ -1,0 +1,2 @@
+-- What an input says of the run and of its threads.
+pub mod Settings

@@ -1,0 +1,75 @@
+//! What one line says of the run and of its threads.
+
+ghost use Rattle.std.specs.Prelude.{◌≡◌, ◌+◌};
+ghost use Rattle.trick_settings.specs.Settings.{cycle_said, frame_said, frozen_said, later, limit_said, process_said};
+
+use trick_input::Form;
+use trick_model::Process;
+
+/// The last tic that a time can be.
+pub(crate) const LAST_TIME: u64 = 1_000_000_000_000_000;
+
+// The frame that a line names.
+pub(crate) fn frame_said(form: &Form) -> Option<u64>
+    ensures { result ≡ frame_said form.now }
+{
+    match form {
+        Form::SoftwareFrame { time: Ok(tics) } if 0 < *tics && *tics <= 1_000_000_000 => {
+            Some(*tics)
+        }
+        _ => None,
+    }
+}
+
+// The first tic that is not run, by a line.
+pub(crate) fn limit_said(form: &Form) -> Option<u64>
+    ensures { result ≡ limit_said form.now }
+{
+    match form {
+        Form::Stop { time: Ok(tics) } if *tics <= LAST_TIME => Some(*tics + 1),
+        _ => None,
+    }
+}
+
+// Whether the run starts in Freeze, by a line.
+pub(crate) fn frozen_said(form: &Form) -> Option<bool>
+    ensures { result ≡ frozen_said form.now }
+{
+    match form {
+        Form::Freeze => Some(true),
+        _ => None,
+    }
+}
+
+// The process type that a line names a thread for.
+pub(crate) fn process_said(number: u64, form: &Form) -> Option<Process>
+    ensures { result ≡ process_said number form.now }
+{
+    match form {
+        Form::ProcessType { thread, process } if *thread == number => Some(*process),
+        _ => None,
+    }
+}
+
+// The cycle that a line names a thread for.
+pub(crate) fn cycle_said(number: u64, form: &Form) -> Option<u64>
+    ensures { result ≡ cycle_said number form.now }
+{
+    match form {
+        Form::AmfCycle {
+            thread,
+            time: Ok(tics),
+        } if *thread == number && 0 < *tics && *tics <= LAST_TIME => Some(*tics),
+        _ => None,
+    }
+}
+
+// What a line says, if it says something, or else what was said before.
+pub(crate) fn later<T: Copy + Drop>(said: Option<T>, before: Option<T>) -> Option<T>
+    ensures { result ≡ later said before }
+{
+    match said {
+        Some(said) => Some(said),
+        None => before,
+    }
+}
