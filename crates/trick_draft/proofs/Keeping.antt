@@ -1,0 +1,220 @@
+-- What lines about cells, jobs and reads keep of a draft.
+use Rattle.std.proofs.Common.{rules, ◌≡◌, ◌∙◌, ◌+◌, ◌<◌, ◌≤◌, ◌++◌, ◌∷◌, [], ℕ, zero, suc, ℤ, Bool, true, false, not, ◌&&◌, ◌||◌, nat_lt, List, Option, Some, None, is_none, is_some, Result, Ok, IsTrue, All, length, map, slice_set, refl, sym, ap, subst, arith, if◌then◌else◌}
+use Rattle.std.proofs.lemmas.Bool.Decides.{Decides-int_eq}
+use Rattle.std.proofs.lemmas.List.Elements.{All-push}
+use Rattle.std.proofs.lemmas.List.Sums.{AllPass-from_list_all}
+use Rattle.std.proofs.lemmas.List.{length-replicate, length-set}
+use Rattle.std.specs.List.{list_all}
+use Rattle.std.specs.Ordering.{int_eq}
+use Rattle.trick_deed.specs.Deeds.{fitting}
+use Rattle.trick_draft.proofs.Added.{room}
+use Rattle.trick_draft.proofs.Mirrored.{cell_there, mirrored}
+use Rattle.trick_draft.proofs.Passed.{first_passed, holds, is_answer, neither, there}
+use Rattle.trick_draft.specs.Drafts.{begun, names_of}
+use Rattle.trick_draft.specs.Jobs.{Jobs, job_named, jobs_of, passing, waiting_job}
+use Rattle.trick_draft.specs.Kept.{AreAdded, ArePairs, AreReads, IsDraftOf, IsMirrored, IsSet}
+use Rattle.trick_draft.specs.Laws.{Keeps}
+use Rattle.trick_draft.specs.Lines.{add_read_line, assign_line, can_do, can_do_all, depend_line, fitting_in, is_full, or_first, or_job, or_none, or_nothing, set_job_line}
+use Rattle.trick_draft.specs.declared.draft.Draft.{Draft}
+use Rattle.trick_draft.specs.declared.fault.LineFault.TheVariants as fault
+use Rattle.trick_lang.specs.SyntaxTree.{Name}
+use Rattle.trick_lang.specs.Wrap.{IsInRange, IsOf, scalar_at, wrap}
+use Rattle.trick_lang.specs.declared.cells.Cell.{Cell}
+use Rattle.trick_lang.specs.declared.job.JobId.{JobId}
+use Rattle.trick_lang.specs.declared.program.Program.{Program}
+use Rattle.trick_lang.specs.declared.scalar.Scalar.{Scalar}
+use Rattle.trick_model.specs.Names.{deed_of}
+use Rattle.trick_model.specs.Time.{last_time}
+use Rattle.trick_model.specs.Valid.{IsDoable, IsPair, can_depend}
+use Rattle.trick_model.specs.declared.action.Action.{Action}
+use Rattle.trick_model.specs.declared.depends.Depends.{Depends}
+use Rattle.trick_model.specs.declared.read_at.ReadAt.{ReadAt}
+use Rattle.trick_model.specs.declared.thread.Thread.{Thread}
+use Rattle.trick_names.specs.Names.{meaning_of}
+
+-- nothing holds of each item of no list
+pub of_none : {A : Type 0} (P : A → Type 0) → All P []
+of_none P k d lt = absurd (omega (arith, lt))
+
+same_number : (a b : ℤ) → int_eq a b ≡ true → a ≡ b
+same_number a b e = (Decides-int_eq a b).0 e
+
+-- a number that fits is one of the type
+fits : (scalar : Scalar) (number m : ℤ) → fitting scalar number ≡ Some m → IsOf scalar m
+fits scalar number m h = by (int_eq (wrap scalar number) number) refl h
+  where
+    one : number ≡ m → wrap scalar number ≡ number → IsOf scalar m
+    one e is = subst (λ (n : ℤ). IsOf scalar n) e is
+
+    by : (b : Bool) → int_eq (wrap scalar number) number ≡ b
+        → elim b as (λ _. Option ℤ) [ true ↦ Some number | false ↦ None ] ≡ Some m → IsOf scalar m
+    by true e is = one (cc is) (same_number (wrap scalar number) number e)
+    by false e is = absurd (cc is)
+
+-- what passes a test does
+passes : {T : Type 0} (test : T → Bool) (o : Option T) (x : T) → passing test o ≡ Some x → test x ≡ true
+passes test None x h = absurd (cc h)
+passes {T} test (Some y) x h = by (test y) refl h
+  where
+    by : (b : Bool) → test y ≡ b → (let none : Option T = None in if b then Some y else none) ≡ Some x → test x ≡ true
+    by true e is = let one : y ≡ x = cc is in sym (ap test one) ∙ e
+    by false e is = absurd (cc is)
+
+both : (a b : Bool) → a ≡ true → b ≡ true → (a && b) ≡ true
+both a b x y = rw x y
+
+module _ (jobs : Jobs) (threads : List Thread) where
+  -- ---- cells
+
+  set_right : (d : Draft) (name : Name) (number : ℤ) → IsDraftOf jobs threads d → (cell : Option Cell) → cell
+      ≡ meaning_of name d.cells.names → is_none cell ≡ false
+      → is_none (fitting_in d cell number) ≡ false
+      → IsSet d.cells.scalars (or_first cell, or_nothing (fitting_in d cell number))
+  set_right d name number right None is found fit = absurd (cc found)
+  set_right d name number right (Some cell) is found fit =
+      by (fitting (scalar_at d.cells.scalars cell.0) number) refl fit
+    where
+      by : (o : Option ℤ) → fitting (scalar_at d.cells.scalars cell.0) number ≡ o → is_none o ≡ false
+          → IsSet d.cells.scalars (cell, or_nothing o)
+      by None e f = absurd (cc f)
+      by (Some m) e f = record {
+        there = cell_there d.cells right.cells name cell (sym is);
+        in_range = fits (scalar_at d.cells.scalars cell.0) number m e;
+      }
+
+  pub assign : (name : Name) (number : ℤ) (d e : Draft) → assign_line name number d ≡ Ok e → Keeps jobs threads d e
+  assign name number d e h =
+      let cell = meaning_of name d.cells.names in
+      let fit = fitting_in d cell number in
+      let new : Draft = record d { assigns = d.assigns ++ (or_first cell, or_nothing fit) ∷ [] } in
+      let p = first_passed (is_none cell) fault.UnknownName ((is_none fit, fault.OutOfRange) ∷ []) new e h in
+      let q = first_passed (is_none fit) fault.OutOfRange [] new e p.1 in
+      subst (Keeps jobs threads d) (is_answer new e q.1) (record {
+        cells = refl;
+        right = λ right. record {
+          cells = right.cells;
+          flagged = right.flagged;
+          assigns = All-push (IsSet d.cells.scalars) d.assigns (or_first cell, or_nothing fit) right.assigns
+              (set_right d name number right cell refl p.0 q.0);
+          depends = right.depends;
+          reads = right.reads;
+          groups = right.groups;
+          events = right.events;
+          added_groups = right.added_groups;
+          added_events = right.added_events;
+        };
+      })
+
+  -- ---- jobs
+
+  pair_right : (target depended : Option JobId)
+      → ((j : JobId) → target ≡ Some j → can_depend jobs.all threads j ≡ true)
+      → ((j : JobId) → depended ≡ Some j → can_depend jobs.all threads j ≡ true)
+      → is_none target ≡ false → is_none depended ≡ false
+      → IsPair jobs.all threads (record { target = or_job target; depended = or_job depended })
+  pair_right None depended first second a b = absurd (cc a)
+  pair_right (Some target) None first second a b = absurd (cc b)
+  pair_right (Some target) (Some depended) first second a b =
+      both (can_depend jobs.all threads target) (can_depend jobs.all threads depended) (first target refl)
+      (second depended refl)
+
+  pub depend : (target : Name) (instance : ℕ) (depended : Name) (depended_instance : ℕ) (d e : Draft)
+      → depend_line (waiting_job jobs threads target instance) (waiting_job jobs threads depended depended_instance) d
+      ≡ Ok e → Keeps jobs threads d e
+  depend target instance depended depended_instance d e h =
+      let first = waiting_job jobs threads target instance in
+      let second = waiting_job jobs threads depended depended_instance in
+      let pair : Depends = record { target = or_job first; depended = or_job second } in
+      let new : Draft = record d { depends = d.depends ++ pair ∷ [] } in
+      let p = first_passed (is_none first || is_none second) fault.UnknownJob
+      ((is_full d.depends 512, fault.TooMany 512) ∷ []) new e h in
+      let q = first_passed (is_full d.depends 512) (fault.TooMany 512) [] new e p.1 in
+      let found = neither (is_none first) (is_none second) p.0 in
+      subst (Keeps jobs threads d) (is_answer new e q.1) (record {
+        cells = refl;
+        right = λ right. record {
+          cells = right.cells;
+          flagged = right.flagged;
+          assigns = right.assigns;
+          depends = record {
+            few = room d.depends pair 512 q.0;
+            right = All-push (IsPair jobs.all threads) d.depends pair right.depends.right
+                (pair_right first second (passes (can_depend jobs.all threads) (job_named jobs target instance))
+                (passes (can_depend jobs.all threads) (job_named jobs depended depended_instance)) found.0 found.1);
+          };
+          reads = right.reads;
+          groups = right.groups;
+          events = right.events;
+          added_groups = right.added_groups;
+          added_events = right.added_events;
+        };
+      })
+
+  pub set_job : (job : Option JobId) (on : Bool) (d e : Draft) → set_job_line job on d ≡ Ok e → Keeps jobs threads d e
+  set_job job on d e h =
+      let new : Draft = record d { jobs = record { on = slice_set d.jobs.on (or_job job).0 on } } in
+      let p = first_passed (is_none job) fault.UnknownJob [] new e h in
+      subst (Keeps jobs threads d) (is_answer new e p.1) (record {
+        cells = refl;
+        right = λ right. record {
+          cells = right.cells;
+          flagged = length-set d.jobs.on (or_job job).0 on ∙ right.flagged;
+          assigns = right.assigns;
+          depends = right.depends;
+          reads = right.reads;
+          groups = right.groups;
+          events = right.events;
+          added_groups = right.added_groups;
+          added_events = right.added_events;
+        };
+      })
+
+  -- ---- actions
+
+  pub doable : (d : Draft) (actions : Option (List Action)) → can_do_all jobs d actions ≡ true
+      → All (IsDoable (names_of jobs d)) (or_none actions)
+  doable d None h = absurd (cc h)
+  doable d (Some actions) h = AllPass-from_list_all (can_do jobs d) actions h
+
+  pub add_read : (tic : ℕ) → tic ≤ last_time → (actions : Option (List Action)) (d e : Draft)
+      → add_read_line jobs tic actions d ≡ Ok e → Keeps jobs threads d e
+  add_read tic early actions d e h =
+      let read : ReadAt = record { tic = tic; actions = or_none actions } in
+      let new : Draft = record d { reads = d.reads ++ read ∷ [] } in
+      let p = first_passed (not (can_do_all jobs d actions)) fault.BadAction
+      ((is_full d.reads 4096, fault.TooMany 4096) ∷ []) new e h in
+      let q = first_passed (is_full d.reads 4096) (fault.TooMany 4096) [] new e p.1 in
+      subst (Keeps jobs threads d) (is_answer new e q.1) (record {
+        cells = refl;
+        right = λ right. record {
+          cells = right.cells;
+          flagged = right.flagged;
+          assigns = right.assigns;
+          depends = right.depends;
+          reads = record {
+            few = room d.reads read 4096 q.0;
+            times = All-push (λ (r : ReadAt). r.tic ≤ last_time) d.reads read right.reads.times early;
+            doable = All-push (λ (r : ReadAt). All (IsDoable (names_of jobs d)) r.actions) d.reads read
+                right.reads.doable (doable d actions (holds (can_do_all jobs d actions) p.0));
+          };
+          groups = right.groups;
+          events = right.events;
+          added_groups = right.added_groups;
+          added_events = right.added_events;
+        };
+      })
+
+-- ---- before the first line
+
+pub begun_right : (p : Program) (threads : List Thread) → IsDraftOf (jobs_of p) threads (begun p)
+begun_right p threads = record {
+  cells = (mirrored p (begun p) refl).cells;
+  flagged = length-replicate (length p.jobs) true;
+  assigns = of_none _;
+  depends = record { few = omega arith; right = of_none _ };
+  reads = record { few = omega arith; times = of_none _; doable = of_none _ };
+  groups = of_none _;
+  events = of_none _;
+  added_groups = record { few = omega arith; differ = refl; there = of_none _ };
+  added_events = record { few = omega arith; differ = refl; there = of_none _ };
+}

@@ -1,0 +1,123 @@
+//! Events, and their changes one by one.
+
+ghost use Rattle.std.specs.Prelude.{◌≡◌, ◌<◌, ◌≤◌, IfOk, OnOk, Some, true, length};
+ghost use Rattle.trick_draft.specs.Changed.{changed};
+ghost use Rattle.trick_draft.specs.Lines.{with_numbered};
+ghost use Rattle.trick_draft.specs.Places.{place_for};
+ghost use Rattle.trick_draft.specs.declared.event.EventDraft.{EventDraft};
+
+use crate::Condition;
+use std::alloc::{AllocError, Global};
+use std::mem;
+use trick_base::{Items, Word};
+use trick_model::Action;
+
+/// An event, as the lines so far have made it.
+#[derive(Drop)]
+pub struct EventDraft {
+    pub name: Word,
+    /// In tics; the software frame where no line says otherwise.
+    pub cycle: u64,
+    pub condition: Option<Condition>,
+    /// Lists of actions by rising number, from 0 to 15.
+    pub actions: Items<(u8, Items<Action>)>,
+    /// Whether the event begins active.
+    pub on: bool,
+}
+
+// Gives an event a cycle.
+pub(crate) fn set_cycle(alloc: Global, events: &mut Items<EventDraft>, at: usize, tics: u64)
+    requires { at < length events.old }
+    ensures { events.new ≡ changed (λ (event : EventDraft). record event { cycle = tics }) events.old at }
+{
+    let mut all = mem::replace(events, Items::new(alloc)).into_vec();
+    all[at].cycle = tics;
+    *events = Items::from_vec(all);
+}
+
+// Lets an event begin active.
+pub(crate) fn activate(alloc: Global, events: &mut Items<EventDraft>, at: usize)
+    requires { at < length events.old }
+    ensures { events.new ≡ changed (λ (event : EventDraft). record event { on = true }) events.old at }
+{
+    let mut all = mem::replace(events, Items::new(alloc)).into_vec();
+    all[at].on = true;
+    *events = Items::from_vec(all);
+}
+
+// Gives an event a condition.
+pub(crate) fn set_condition(
+    alloc: Global,
+    events: &mut Items<EventDraft>,
+    at: usize,
+    condition: Condition,
+)
+    requires { at < length events.old }
+    ensures { events.new
+        ≡ changed (λ (event : EventDraft). record event { condition = Some condition }) events.old at }
+{
+    let mut all = mem::replace(events, Items::new(alloc)).into_vec();
+    let _none = mem::replace(&mut all[at].condition, Some(condition));
+    *events = Items::from_vec(all);
+}
+
+// The place of the first list of a larger number.
+fn place_of(lists: &[(u8, Items<Action>)], number: u8) -> usize
+    ensures place { result ≡ place_for number lists.now }
+    ensures within { result ≤ length lists.now }
+{
+    for place in 0..lists.len() {
+        if number < lists[place].0 {
+            return place;
+        }
+    }
+    lists.len()
+}
+
+// Adds a list of actions at its place by number.
+fn insert(
+    lists: Items<(u8, Items<Action>)>,
+    number: u8,
+    actions: Items<Action>,
+) -> Result<Items<(u8, Items<Action>)>, AllocError>
+    ensures { IfOk result (λ all. all ≡ with_numbered (number, actions) lists) }
+{
+    let mut all = lists.into_vec();
+    let place = place_of(&all, number);
+    all.insert(place, (number, actions))?;
+    Ok(Items::from_vec(all))
+}
+
+// Gives an event a list of actions.
+fn give(
+    alloc: Global,
+    event: &mut EventDraft,
+    number: u8,
+    actions: Items<Action>,
+) -> Result<(), AllocError>
+    ensures { OnOk result (event.new
+        ≡ record event.old { actions = with_numbered (number, actions) event.old.actions }) }
+{
+    let lists = mem::replace(&mut event.actions, Items::new(alloc));
+    event.actions = insert(lists, number, actions)?;
+    Ok(())
+}
+
+// Gives an event a list of actions.
+pub(crate) fn add_actions(
+    alloc: Global,
+    events: &mut Items<EventDraft>,
+    at: usize,
+    number: u8,
+    actions: Items<Action>,
+) -> Result<(), AllocError>
+    requires { at < length events.old }
+    ensures { OnOk result (events.new ≡ changed
+        (λ (event : EventDraft). record event { actions = with_numbered (number, actions) event.actions })
+        events.old at) }
+{
+    let mut all = mem::replace(events, Items::new(alloc)).into_vec();
+    give(alloc, &mut all[at], number, actions)?;
+    *events = Items::from_vec(all);
+    Ok(())
+}

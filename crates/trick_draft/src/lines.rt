@@ -1,0 +1,139 @@
+//! The lines of cells, jobs and reads.
+
+ghost use Rattle.std.specs.Prelude.{◌≡◌, OnOk, false};
+ghost use Rattle.trick_declare.specs.Cells.{KeepsRest, is_taken};
+ghost use Rattle.trick_draft.specs.Cells.{AreNumbered};
+ghost use Rattle.trick_draft.specs.Jobs.{jobs_of};
+ghost use Rattle.trick_draft.specs.Kept.{Mirrors};
+ghost use Rattle.trick_draft.specs.Lines.{Did, add_read_line, assign_line, declare_line, depend_line, set_job_line};
+ghost use Rattle.trick_draft.specs.Seen.{AddsDeclared, declared_in};
+
+use crate::{Draft, LineFault};
+use std::alloc::Global;
+use trick_base::{Items, Word};
+use trick_declare::{Declaration, DeclareFault, add};
+use trick_lang::{JobId, Program};
+use trick_model::{Action, Depends, ReadAt};
+
+// Adds the cells of a declaration to a program, whose name is free.
+fn add_declared(
+    alloc: Global,
+    program: &mut Program,
+    declaration: &Declaration,
+) -> Result<(), LineFault>
+    requires free { is_taken declaration.now.name program.old.objects program.old.cells ≡ false }
+    ensures cells { AddsDeclared result program.old.cells program.new.cells declaration.now }
+    ensures rest { KeepsRest program.old program.new }
+{
+    match add(alloc, program, declaration) {
+        Ok(()) => Ok(()),
+        Err(DeclareFault::TooManyCells { count: _ }) => Err(LineFault::TooMany { limit: 65_536 }),
+        Err(_) => Err(LineFault::OutOfMemory),
+    }
+}
+
+impl Draft {
+    /// `PATH = LIT`: the cell of a full name begins with a number. A name that is no cell's is
+    /// `UnknownName`, and a number that its type does not have `OutOfRange`.
+    pub fn assign(&mut self, name: &Word, number: i128) -> Result<(), LineFault>
+        ensures { Did result self.new (assign_line name.now number self.old) }
+    {
+        let Some(cell) = self.cells.names.meaning(name) else {
+            return Err(LineFault::UnknownName);
+        };
+        let Some(stored) = self.cells.fitting(cell, number) else {
+            return Err(LineFault::OutOfRange);
+        };
+        self.assigns.push((cell, stored))?;
+        Ok(())
+    }
+
+    /// `trick.exec_add_depends_on_job("target", I, "depended", J)`: the target waits for the depended
+    /// job. `waiting_job` finds both; without one it is `UnknownJob`. The 513th pair is `TooMany`.
+    pub fn depend(
+        &mut self,
+        target: Option<JobId>,
+        depended: Option<JobId>,
+    ) -> Result<(), LineFault>
+        ensures { Did result self.new (depend_line target depended self.old) }
+    {
+        let Some(target) = target else {
+            return Err(LineFault::UnknownJob);
+        };
+        let Some(depended) = depended else {
+            return Err(LineFault::UnknownJob);
+        };
+        if self.depends.len() >= 512 {
+            return Err(LineFault::TooMany { limit: 512 });
+        }
+        self.depends.push(Depends { target, depended })?;
+        Ok(())
+    }
+
+    /// `trick.exec_set_job_onoff("job", I, LIT)`: a job begins on or off. `job_of` finds it; without
+    /// one it is `UnknownJob`.
+    pub fn set_job(&mut self, job: Option<JobId>, on: bool) -> Result<(), LineFault>
+        ensures { Did result self.new (set_job_line job on self.old) }
+    {
+        let Some(job) = job else {
+            return Err(LineFault::UnknownJob);
+        };
+        let place = job.0 as usize;
+        if place >= self.jobs.on.len() {
+            return Ok(());
+        }
+        self.jobs.on.set(place, on);
+        Ok(())
+    }
+
+    /// `trick.TMM_declare_var_s("type name[n][m]")`: cells are declared, and added to the program. A
+    /// name that is taken is `TwiceNamed`, a text that does not read (None) `BadAction`, and more than
+    /// 65,536 cells are `TooMany`.
+    pub fn declare(
+        &mut self,
+        alloc: Global,
+        program: &mut Program,
+        declared: Option<&Declaration>,
+    ) -> Result<(), LineFault>
+        requires { Mirrors program.old self.old }
+        ensures line { Did result self.new (declare_line (declared_in declared.entry) self.old) }
+        ensures cells { OnOk result (Mirrors program.new self.new) }
+        ensures rest { KeepsRest program.old program.new }
+    {
+        let Some(declaration) = declared else {
+            return Err(LineFault::BadAction);
+        };
+        if self.cells.is_taken(alloc, &declaration.name)? {
+            return Err(LineFault::TwiceNamed);
+        }
+        let count = program.cells.len();
+        add_declared(alloc, program, declaration)?;
+        self.cells
+            .add_cells(alloc, &program.cells.as_slice()[count..])?;
+        Ok(())
+    }
+
+    /// `trick.add_read(TIME, "actions")`: actions at a tic, which is at most 10^15. Actions that do not
+    /// read (None) or cannot all be done are `BadAction`, and the 4,097th read is `TooMany`.
+    pub fn add_read(
+        &mut self,
+        program: &Program,
+        tic: u64,
+        actions: Option<Items<Action>>,
+    ) -> Result<(), LineFault>
+        requires { AreNumbered self.old.cells }
+        ensures { Did result self.new (add_read_line (jobs_of program.now) tic actions self.old) }
+    {
+        let Some(actions) = actions else {
+            return Err(LineFault::BadAction);
+        };
+        if !self.can_do_all(program, actions.as_slice()) {
+            return Err(LineFault::BadAction);
+        }
+        if self.reads.len() >= 4_096 {
+            return Err(LineFault::TooMany { limit: 4_096 });
+        }
+        self.reads.push(ReadAt { tic, actions })?;
+        Ok(())
+    }
+}
