@@ -1,0 +1,83 @@
+//! Takes and commits of jobs by name.
+
+ghost use Rattle.std.specs.Prelude.{◌≡◌, ◌≤◌, IsSome};
+ghost use Rattle.trick_board.specs.Board.{IsBoardOf};
+ghost use Rattle.trick_eval.specs.Bench.{IsFor};
+ghost use Rattle.trick_model.specs.Plan.{thread_of};
+ghost use Rattle.trick_play.specs.Steps.{Commits, HoldsRight, Takes, has_job};
+
+use trick_board::{Board, Commit, Took};
+use trick_eval::{Bench, eval};
+use trick_lang::{Cells, JobId};
+use trick_model::{Accepted, Plan};
+
+/// The thread of a job; 0 for a job that is not there.
+pub fn thread_at(plan: &Plan, job: JobId) -> u8
+    ensures thread { result ≡ thread_of plan.now.program.jobs job.0 }
+    ensures small { result ≤ 15 }
+{
+    match plan.program.jobs.as_slice().get(job.0 as usize) {
+        Some(job) => job.thread,
+        None => 0,
+    }
+}
+
+// Whether the bench has the job.
+fn has(bench: &Bench, job: JobId) -> bool
+    ensures { result ≡ has_job bench.now.job job }
+{
+    match bench.job() {
+        Some(held) => held.0 == job.0,
+        None => false,
+    }
+}
+
+/// Takes a job where it is the next one of its thread and all of its predecessors are committed, and
+/// evaluates it. Otherwise the answer is false, and another job may be taken.
+pub fn take_job<M: Cells>(
+    board: &mut Board<M>,
+    bench: &mut Bench,
+    accepted: &Accepted,
+    job: JobId,
+) -> bool
+    requires open { IsSome board.old.opened }
+    requires belongs { IsBoardOf accepted.now.plan board.old }
+    requires bench { IsFor accepted.now.plan.program bench.old.parts }
+    ensures takes { Takes accepted.now.plan board.old board.new job bench.new result }
+    ensures belongs { IsBoardOf accepted.now.plan board.new }
+    ensures bench { bench.new.parts ≡ bench.old.parts }
+{
+    let plan = accepted.plan();
+    match board.take(accepted, thread_at(plan, job), bench) {
+        Took::Took => {
+            eval(&plan.program, bench);
+            has(bench, job)
+        }
+        Took::NotYet { .. } => false,
+        Took::ThreadDone => false,
+    }
+}
+
+/// Commits a job that is in the bench. Otherwise the answer is false, and nothing changes.
+pub fn commit_job<M: Cells>(
+    board: &mut Board<M>,
+    bench: &mut Bench,
+    accepted: &Accepted,
+    job: JobId,
+) -> bool
+    requires open { IsSome board.old.opened }
+    requires belongs { IsBoardOf accepted.now.plan board.old }
+    requires bench { IsFor accepted.now.plan.program bench.old.parts }
+    requires held { HoldsRight accepted.now.plan board.old bench.old }
+    ensures commits { Commits accepted.now.plan board.old board.new job bench.old bench.new result }
+    ensures belongs { IsBoardOf accepted.now.plan board.new }
+    ensures bench { bench.new.parts ≡ bench.old.parts }
+{
+    if !has(bench, job) {
+        return false;
+    }
+    match board.commit(accepted, bench) {
+        Commit::Committed => true,
+        Commit::Stale { .. } | Commit::Gone { .. } | Commit::NotTaken { .. } => unreachable!(),
+    }
+}
