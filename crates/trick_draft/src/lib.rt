@@ -15,8 +15,6 @@ mod handle;
 mod jobs;
 pub mod laws;
 mod lines;
-#[cfg(test)]
-mod tests;
 
 pub use cells::KnownCells;
 pub use condition::Condition;
