@@ -1,0 +1,67 @@
+//! What the texts of lines read as.
+
+ghost use Rattle.std.specs.Prelude.{◌≡◌, IfOk, option_map};
+ghost use Rattle.trick_command.specs.Answers.{actions_in};
+ghost use Rattle.trick_lang.specs.Syntax.{expression_of};
+ghost use Rattle.trick_lines.specs.Texts.{AreTexts, IsConditionOf, texts_in};
+
+use std::alloc::{AllocError, Global};
+use trick_base::{Items, Word};
+use trick_body::BodyFault;
+use trick_command::ActionFault;
+use trick_declare::Declaration;
+use trick_input::Form;
+use trick_lang::syntax::Expr;
+use trick_model::Action;
+
+// The declaration and the condition of a line, where it has them and they read.
+#[derive(Drop)]
+pub(crate) struct Texts {
+    pub declaration: Option<Declaration>,
+    pub condition: Option<Expr>,
+}
+
+// The actions of a text.
+pub(crate) fn actions_of(alloc: Global, text: &Word) -> Result<Option<Items<Action>>, AllocError>
+    ensures { IfOk result (λ actions. actions ≡ actions_in text.now) }
+{
+    match trick_command::actions(alloc, text.as_slice()) {
+        Ok(actions) => Ok(Some(Items::from_vec(actions))),
+        Err(ActionFault::BadAction) => Ok(None),
+        Err(ActionFault::OutOfMemory) => Err(AllocError),
+    }
+}
+
+// The condition that a text is.
+fn condition_of(alloc: Global, text: &Word) -> Result<Option<Expr>, AllocError>
+    ensures { IfOk result (λ condition. IsConditionOf text.now (option_map expression_of condition)) }
+{
+    match trick_body::condition(alloc, text.as_slice()) {
+        Ok(condition) => Ok(Some(condition)),
+        Err(BodyFault::OutOfMemory) => Err(AllocError),
+        Err(_) => Ok(None),
+    }
+}
+
+// What the text of a line reads as.
+pub(crate) fn texts_of(alloc: Global, form: &Form) -> Result<Texts, AllocError>
+    ensures { IfOk result (λ texts. AreTexts form.now (texts_in texts)) }
+{
+    match form {
+        Form::Declare { declaration } => Ok(Texts {
+            declaration: Declaration::read(alloc, declaration.as_slice())?,
+            condition: None,
+        }),
+        Form::SetCondition {
+            variable: _,
+            condition,
+        } => Ok(Texts {
+            declaration: None,
+            condition: condition_of(alloc, condition)?,
+        }),
+        _ => Ok(Texts {
+            declaration: None,
+            condition: None,
+        }),
+    }
+}
