@@ -10,3 +10,5 @@ pub mod Kinds
 pub mod Drafted
 -- Laws of drafts.
 pub mod Laws
+-- Worked lines.
+pub mod Worked

@@ -1,5 +1,5 @@
 -- What each line says, given the lines before it.
-use Rattle.std.specs.Prelude.{ℕ, nat_lt, ◌==◌, ◌||◌, not, List, [], ◌∷◌, Result, Ok}
+use Rattle.std.specs.Prelude.{ℕ, nat_lt, ◌==◌, ◌||◌, not, [], ◌∷◌, Result, Ok}
 use Rattle.trick_command.specs.Answers.{actions_in}
 use Rattle.trick_draft.specs.Jobs.{Jobs, job_named, waiting_job}
 use Rattle.trick_draft.specs.Lines.{activate_line, add_event_line, add_group_line, add_read_line, add_variable_line, assign_line, declare_line, depend_line, new_event_line, new_group_line, set_action_line, set_changes_line, set_condition_line, set_cycle_line, set_group_line, set_job_line, this_own_line, unless}

@@ -11,7 +11,7 @@ use Rattle.trick_input.specs.declared.call.Form.{Form}
 use Rattle.trick_input.specs.declared.call.Form.TheVariants as form
 use Rattle.trick_lang.specs.Syntax.{expression_of}
 use Rattle.trick_lang.specs.SyntaxTree.{Expression}
-use Rattle.trick_lines.specs.declared.texts as code
+use Rattle.trick_lines.specs.declared.texts.ReadTexts.{ReadTexts}
 use Rattle.trick_text.specs.Tokens.{AreAllTokens}
 use Rattle.trick_text.specs.declared.token.Style.TheVariants.{Command}
 use Rattle.trick_text.specs.declared.token.Token.{Token}
@@ -39,5 +39,5 @@ AreTexts (form.SetCondition variable text) texts = IsConditionOf text texts.cond
 AreTexts other texts = Unit {0}
 
 -- texts of the code
-abbrev pub texts_in : code.Texts.Texts → Texts
+abbrev pub texts_in : ReadTexts → Texts
 texts_in texts = record { declaration = texts.declaration; condition = option_map expression_of texts.condition }

@@ -2,6 +2,7 @@
 //! nothing.
 
 ghost use Rattle.trick_lines.specs.Laws.{AnswersOne};
+ghost use Rattle.trick_lines.specs.Worked.{AreWorked, AreWorkedInTurn};
 
 /// Lines answer one thing.
 pub fn lines_answer_one()
@@ -10,3 +11,13 @@ pub fn lines_answer_one()
     trick_declare::laws::declares_one();
     trick_text::laws::one_list();
 }
+
+/// Lines are answered as FORMATS says, at worked lines: each range and each time at its ends.
+pub fn worked_lines_are_answered()
+    ensures { AreWorked }
+{}
+
+/// Worked lines in turn: the first refusal decides.
+pub fn worked_lines_in_turn_are_answered()
+    ensures { AreWorkedInTurn }
+{}

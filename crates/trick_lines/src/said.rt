@@ -1,25 +1,22 @@
 //! What each line says, by its form.
 
 ghost use Rattle.std.specs.Prelude.{◌≡◌, OnOk, true, false};
-ghost use Rattle.trick_command.specs.Answers.{actions_in};
 ghost use Rattle.trick_declare.specs.Cells.{KeepsRest};
 ghost use Rattle.trick_draft.specs.Cells.{AreNumbered};
 ghost use Rattle.trick_draft.specs.Jobs.{Jobs, jobs_of};
 ghost use Rattle.trick_draft.specs.Kept.{Mirrors};
-ghost use Rattle.trick_draft.specs.Lines.{Did, add_read_line, set_action_line, set_condition_line};
+ghost use Rattle.trick_draft.specs.Lines.{Did};
 ghost use Rattle.trick_draft.specs.declared.draft.Draft.{Draft};
 ghost use Rattle.trick_lines.specs.Kinds.{is_declaration, is_event_line, is_group_line, is_job_line, is_run_line, is_text_line};
 ghost use Rattle.trick_lines.specs.Said.{amf_cycle_line, frame_line, said, thread_line};
 ghost use Rattle.trick_lines.specs.Texts.{Texts, texts_in};
-ghost use Rattle.trick_lines.specs.Times.{tics_of};
 ghost use Rattle.trick_settings.specs.declared.settings.Settings.{Settings};
 
-use crate::texts::{Texts, actions_of};
+use crate::texts::{ReadTexts, actions_of};
 use crate::times::tics_of;
 use std::alloc::Global;
-use trick_base::Word;
 use trick_draft::{Draft, LineFault, job_of, waiting_job};
-use trick_input::{Form, Time};
+use trick_input::Form;
 use trick_lang::Program;
 use trick_settings::Settings;
 
@@ -27,7 +24,7 @@ use trick_settings::Settings;
 #[derive(Drop)]
 pub(crate) struct Line<'a> {
     pub form: &'a Form,
-    pub texts: Texts,
+    pub texts: ReadTexts,
 }
 
 // A frame has from 1 to 10^9 tics.
@@ -147,45 +144,12 @@ fn event_line(
     }
 }
 
-// `trick.add_read(TIME, "actions")`.
-fn add_read(
-    alloc: Global,
-    program: &Program,
-    draft: &mut Draft,
-    time: Time,
-    text: &Word,
-) -> Result<(), LineFault>
-    requires { AreNumbered draft.old.cells }
-    ensures { Did result draft.new
-        (add_read_line (jobs_of program.now) (tics_of time) (actions_in text.now) draft.old) }
-{
-    let actions = actions_of(alloc, text)?;
-    draft.add_read(program, tics_of(time), actions)
-}
-
-// `v.action(K, "actions")`.
-fn set_action(
-    alloc: Global,
-    program: &Program,
-    draft: &mut Draft,
-    action: (&Word, u64),
-    text: &Word,
-) -> Result<(), LineFault>
-    requires { AreNumbered draft.old.cells }
-    ensures { Did result draft.new
-        (set_action_line (jobs_of program.now) action.0.now action.1 (actions_in text.now) draft.old) }
-{
-    let actions = actions_of(alloc, text)?;
-    let (variable, number) = action;
-    draft.set_action(alloc, program, variable, number, actions)
-}
-
 // A line with a text that says what is done, or when.
 fn text_line(
     alloc: Global,
     program: &Program,
     form: &Form,
-    texts: &Texts,
+    texts: &ReadTexts,
     draft: &mut Draft,
 ) -> Result<(), LineFault>
     requires kind { is_text_line form.now ≡ true }
@@ -194,7 +158,10 @@ fn text_line(
         (said (jobs_of program.now) settings (texts_in texts.now) form.now draft.old) }
 {
     match form {
-        Form::AddRead { time, actions } => add_read(alloc, program, draft, *time, actions),
+        Form::AddRead { time, actions } => {
+            let actions = actions_of(alloc, actions)?;
+            draft.add_read(program, tics_of(*time), actions)
+        }
         Form::SetCondition {
             variable,
             condition: _,
@@ -203,7 +170,10 @@ fn text_line(
             variable,
             number,
             actions,
-        } => set_action(alloc, program, draft, (variable, *number), actions),
+        } => {
+            let actions = actions_of(alloc, actions)?;
+            draft.set_action(alloc, program, variable, *number, actions)
+        }
         _ => unreachable!(),
     }
 }

@@ -56,7 +56,7 @@ const WHOLE: &[u8] = b"trick.exec_set_software_frame(0.5)\nc = -128\n\
     g = trick.DRAscii(\"log\")\ng.set_cycle(0.5)\ng.add_variable(\"q[1]\")\ng.thisown = 0\n\
     trick.add_data_record_group(g)\ng.freq = trick.DR_Changes\ng.disable()\n\
     e = trick.new_event(\"late\")\ne.condition(0, \"c > 3 && q[0] < 2\")\n\
-    e.action(15, \"q[0] = 5; trick.dr_enable_group(\\\"log\\\")\")\ne.activate()\ntrick.add_event(e)\n\
+    e.action(15, 'q[0] = 5; trick.dr_enable_group(\"log\")')\ne.activate()\ntrick.add_event(e)\n\
     trick.add_read(2.0, \"c = 127\")\ntrick.stop(9.0)\n";
 
 const REFUSED: [(&[u8], JoinFault); 16] = [

@@ -1,6 +1,6 @@
 //! What the texts of lines read as.
 
-ghost use Rattle.std.specs.Prelude.{◌≡◌, IfOk, option_map};
+ghost use Rattle.std.specs.Prelude.{◌≡◌, ◌≢◌, IfOk, None, option_map};
 ghost use Rattle.trick_command.specs.Answers.{actions_in};
 ghost use Rattle.trick_lang.specs.Syntax.{expression_of};
 ghost use Rattle.trick_lines.specs.Texts.{AreTexts, IsConditionOf, texts_in};
@@ -16,7 +16,7 @@ use trick_model::Action;
 
 // The declaration and the condition of a line, where it has them and they read.
 #[derive(Drop)]
-pub(crate) struct Texts {
+pub(crate) struct ReadTexts {
     pub declaration: Option<Declaration>,
     pub condition: Option<Expr>,
 }
@@ -32,34 +32,45 @@ pub(crate) fn actions_of(alloc: Global, text: &Word) -> Result<Option<Items<Acti
     }
 }
 
+// A text that is refused is no condition.
+fn no_condition(fault: BodyFault) -> Result<Option<Expr>, AllocError>
+    ensures { IfOk result (λ condition. (condition ≡ None) × (fault ≢ BodyFault.OutOfMemory)) }
+{
+    match fault {
+        BodyFault::OutOfMemory => Err(AllocError),
+        _ => Ok(None),
+    }
+}
+
 // The condition that a text is.
 fn condition_of(alloc: Global, text: &Word) -> Result<Option<Expr>, AllocError>
     ensures { IfOk result (λ condition. IsConditionOf text.now (option_map expression_of condition)) }
 {
+    trick_body::laws::conditions_are_exact();
+    trick_text::laws::one_cut();
     match trick_body::condition(alloc, text.as_slice()) {
         Ok(condition) => Ok(Some(condition)),
-        Err(BodyFault::OutOfMemory) => Err(AllocError),
-        Err(_) => Ok(None),
+        Err(fault) => no_condition(fault),
     }
 }
 
 // What the text of a line reads as.
-pub(crate) fn texts_of(alloc: Global, form: &Form) -> Result<Texts, AllocError>
+pub(crate) fn texts_of(alloc: Global, form: &Form) -> Result<ReadTexts, AllocError>
     ensures { IfOk result (λ texts. AreTexts form.now (texts_in texts)) }
 {
     match form {
-        Form::Declare { declaration } => Ok(Texts {
+        Form::Declare { declaration } => Ok(ReadTexts {
             declaration: Declaration::read(alloc, declaration.as_slice())?,
             condition: None,
         }),
         Form::SetCondition {
             variable: _,
             condition,
-        } => Ok(Texts {
+        } => Ok(ReadTexts {
             declaration: None,
             condition: condition_of(alloc, condition)?,
         }),
-        _ => Ok(Texts {
+        _ => Ok(ReadTexts {
             declaration: None,
             condition: None,
         }),

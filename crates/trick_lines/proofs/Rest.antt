@@ -1,0 +1,31 @@
+-- What is kept of a program, and lists by their items.
+use Rattle.std.proofs.Common.{◌≡◌, ◌∙◌, ◌+◌, ◌<◌, ℕ, suc, List, ◌∷◌, length, drop, get_or, refl, sym, ap, add-one}
+use Rattle.std.proofs.Math.Seq.{drop-cons}
+use Rattle.trick_declare.specs.Cells.{KeepsRest}
+use Rattle.trick_lang.specs.declared.program.Program.{Program}
+
+pub same_rest : (p : Program) → KeepsRest p p
+same_rest p = record {
+  items = refl;
+  sizes = refl;
+  objects = refl;
+  blocks = refl;
+  methods = refl;
+  jobs = refl;
+  slots = refl;
+}
+
+pub rest_then : (p q r : Program) → KeepsRest p q → KeepsRest q r → KeepsRest p r
+rest_then p q r first then = record {
+  items = then.items ∙ first.items;
+  sizes = then.sizes ∙ first.sizes;
+  objects = then.objects ∙ first.objects;
+  blocks = then.blocks ∙ first.blocks;
+  methods = then.methods ∙ first.methods;
+  jobs = then.jobs ∙ first.jobs;
+  slots = then.slots ∙ first.slots;
+}
+
+pub from_here : {A : Type 0} (xs : List A) (i : ℕ) (item : A) → i < length xs → item ≡ get_or xs i item
+    → drop i xs ≡ item ∷ drop (i + 1) xs
+from_here xs i item h is = rw (add-one, drop-cons xs i item) (ap (λ x. x ∷ drop (suc i) xs) (sym is))

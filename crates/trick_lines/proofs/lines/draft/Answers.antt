@@ -1,0 +1,60 @@
+use Rattle.std.proofs.Common.{◌+◌, Err, ap, drop, subst, sym}
+use Rattle.std.proofs.lemmas.Result.{err_from_is_err_and}
+use Rattle.trick_draft.specs.Drafts.{begun}
+use Rattle.trick_draft.specs.Jobs.{jobs_of}
+use Rattle.trick_draft.specs.Kept.{IsDraftOf}
+use Rattle.trick_draft.specs.declared.draft.Draft.{Draft}
+use Rattle.trick_lines.proofs.Going.{ends, left_at_first, left_behind, left_with}
+use Rattle.trick_lines.proofs.Keeping.{same_jobs}
+use Rattle.trick_lines.proofs.Rest.{from_here, rest_then, same_rest}
+use Rattle.trick_lines.proofs.lines.draft.Goals as goal
+use Rattle.trick_lines.specs.Drafted.{Answers, Drafted}
+
+pub loop-call-init : goal.loop-call-init
+loop-call-init c =
+    let p = c.args.program.now in
+    let jobs = jobs_of p in
+    let threads = c.args.settings.now.threads in
+    record {
+      left = left_at_first jobs c.args.settings.now c.args.calls.now (begun p) c.in_ok-draft.draft c.in_ok-draft.ensures;
+      rest = same_rest p;
+      mirrors = ap (λ (d : Draft). d.cells) c.in_ok-draft.ensures;
+      right = subst (λ (d : Draft). IsDraftOf jobs threads d) (sym c.in_ok-draft.ensures) (c.begins_right.ensures p threads);
+    }
+
+pub returns-in_err-add_line-clause-draft : goal.returns-in_err-add_line-clause-draft
+returns-in_err-add_line-clause-draft c =
+    let first = c.args.program.now in
+    let now = c.loop-call.program in
+    let calls = c.args.calls.now in
+    let i = c.loop-call.call-index in
+    let call = c.call-item.result in
+    let p = err_from_is_err_and c.from_residual-in_err-add_line.result c.from_residual-in_err-add_line.ensures.1 in
+    let f = c.in_err-add_line.field-0.0 in
+    let next = from_here calls i call c.loop-call-test.true c.call-item.is in
+    let left = left_with (jobs_of first) c.args.settings.now calls (begun first) call (drop (i + 1) calls) (drop i calls)
+    c.loop-call.draft next c.loop-call.invariant.left in
+    let done : Answers (Drafted (jobs_of first) c.args.settings.now calls (begun first)) (Err f) =
+    ends (jobs_of first) c.args.settings.now calls (begun first) f (jobs_of now) call (drop (i + 1) calls)
+    c.loop-call.draft c.add_line.new.draft (same_jobs first now c.loop-call.invariant.rest) left
+    c.in_err-add_line.ensures.line in
+    rw (p.1, p.2) done
+
+pub loop-call-preserved : goal.loop-call-preserved
+loop-call-preserved c =
+    let first = c.args.program.now in
+    let now = c.loop-call.program in
+    let calls = c.args.calls.now in
+    let i = c.loop-call.call-index in
+    let call = c.call-item.result in
+    let next = from_here calls i call c.loop-call-test.true c.call-item.is in
+    let left = left_with (jobs_of first) c.args.settings.now calls (begun first) call (drop (i + 1) calls) (drop i calls)
+    c.loop-call.draft next c.loop-call.invariant.left in
+    record {
+      left = left_behind (jobs_of first) c.args.settings.now calls (begun first) c.in_ok-add_line.field-0 (jobs_of now) call
+          (drop (i + 1) calls) c.loop-call.draft c.add_line.new.draft
+          (same_jobs first now c.loop-call.invariant.rest) left c.in_ok-add_line.ensures.line;
+      rest = rest_then first now c.add_line.new.program c.loop-call.invariant.rest c.in_ok-add_line.ensures.rest;
+      mirrors = c.in_ok-add_line.ensures.mirrors;
+      right = c.in_ok-add_line.ensures.right;
+    }
