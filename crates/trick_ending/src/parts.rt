@@ -1,0 +1,80 @@
+//! The parts of a plan beside its program.
+
+ghost use Rattle.std.specs.Prelude.{◌≡◌, IfOk, map};
+ghost use Rattle.trick_draft.specs.Jobs.{jobs_of};
+ghost use Rattle.trick_draft.specs.Kept.{IsDraftOf};
+ghost use Rattle.trick_ending.specs.Ending.{AreParts};
+ghost use Rattle.trick_model.specs.Valid.{ids, queues_of};
+
+use crate::events::events;
+use crate::groups::groups;
+use std::alloc::{AllocError, Global};
+use trick_base::Items;
+use trick_draft::Draft;
+use trick_lang::{Cell, JobId, Program};
+use trick_model::{Depends, Event, Flags, Group, ReadAt, Thread};
+use trick_settings::Settings;
+use trick_threads::queues;
+
+/// What a plan has beside its program.
+#[derive(Drop)]
+pub struct Parts {
+    /// The tics of a software frame, from 1 to 10^9.
+    pub frame: u64,
+    /// The first tic that is not run, at most 10^15 + 1.
+    pub limit: u64,
+    /// Whether the run starts in Freeze.
+    pub frozen: bool,
+    /// By number.
+    pub threads: Items<Thread>,
+    /// For each class, by rank, its jobs in key order.
+    pub queues: Items<Items<JobId>>,
+    /// In the order of their lines.
+    pub depends: Items<Depends>,
+    /// In the order of their adding.
+    pub groups: Items<Group>,
+    /// In the order of their adding.
+    pub events: Items<Event>,
+    /// In the order of their lines.
+    pub reads: Items<ReadAt>,
+    /// In the order of their lines.
+    pub assigns: Items<(Cell, i64)>,
+    /// The flags of the jobs at the start.
+    pub jobs: Flags,
+    /// The flags of the events at the start.
+    pub events_on: Flags,
+    /// The flags of the groups at the start.
+    pub groups_on: Flags,
+}
+
+// The parts of the plan of a program that the lines of an input give. It takes time as there are jobs,
+// groups and events, and a sort of the jobs.
+pub(crate) fn parts_from(
+    alloc: Global,
+    program: &Program,
+    draft: Draft,
+    settings: Settings,
+) -> Result<Parts, AllocError>
+    requires { IsDraftOf (jobs_of program.now) settings.threads draft }
+    ensures parts { IfOk result (AreParts draft settings) }
+    ensures queues { IfOk result (λ parts. map ids parts.queues ≡ queues_of program.now.jobs) }
+{
+    let queues = queues(alloc, program)?;
+    let (groups, groups_on) = groups(alloc, draft.groups, &draft.added_groups)?;
+    let (events, events_on) = events(alloc, draft.events, &draft.added_events)?;
+    Ok(Parts {
+        frame: settings.frame,
+        limit: settings.limit,
+        frozen: settings.frozen,
+        threads: settings.threads,
+        queues,
+        depends: draft.depends,
+        groups,
+        events,
+        reads: draft.reads,
+        assigns: draft.assigns,
+        jobs: draft.jobs,
+        events_on,
+        groups_on,
+    })
+}
