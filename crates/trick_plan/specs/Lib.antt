@@ -1,0 +1,2 @@
+-- What a program and the lines of an input join to.
+pub mod Plan

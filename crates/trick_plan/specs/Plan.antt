@@ -1,0 +1,30 @@
+-- What a program and the lines of an input join to.
+use Rattle.std.specs.Prelude.{List, Result, Ok, Err}
+use Rattle.trick_declare.specs.Cells.{KeepsRest}
+use Rattle.trick_draft.specs.Drafts.{begun}
+use Rattle.trick_draft.specs.Jobs.{jobs_of}
+use Rattle.trick_draft.specs.Kept.{Mirrors}
+use Rattle.trick_draft.specs.declared.draft.Draft.{Draft}
+use Rattle.trick_ending.specs.Ending.{AreParts, parts_of}
+use Rattle.trick_input.specs.declared.call.Call.{Call}
+use Rattle.trick_lang.specs.declared.program.Program.{Program}
+use Rattle.trick_lines.specs.Drafted.{Answers, Drafted}
+use Rattle.trick_lines.specs.declared.fault.JoinFault.{JoinFault}
+use Rattle.trick_model.specs.declared.plan.Plan.{Plan}
+use Rattle.trick_settings.specs.Settings.{settings_in}
+
+-- The lines answer this, from the draft before the first line on.
+abbrev pub AreAnswered : Program → List Call → Result Draft JoinFault → Type 0
+AreAnswered p calls answer = Drafted (jobs_of p) (settings_in p.jobs calls) calls (begun p) answer
+
+-- The plan has the program, with the cells that the draft knows, and what the draft and the settings say.
+pub record HasDraft (p : Program) (calls : List Call) (plan : Plan) (d : Draft) : Type 0 where
+  pub rest : KeepsRest p plan.program
+  pub cells : Mirrors plan.program d
+  pub parts : AreParts d (settings_in p.jobs calls) (parts_of plan)
+
+-- A program and the lines of an input join to this: the plan that has the draft behind the last line, or the
+-- first refusal. A want of memory may come at any time.
+abbrev pub IsPlan : Program → List Call → Result Plan JoinFault → Type 0
+IsPlan p calls (Ok plan) = (d : Draft) × AreAnswered p calls (Ok d) × HasDraft p calls plan d
+IsPlan p calls (Err refused) = Answers (AreAnswered p calls) (Err refused)

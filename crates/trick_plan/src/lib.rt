@@ -1,0 +1,7 @@
+//! The plan of a simulation: a program and the lines of an input, joined.
+#![tactic(auto)]
+
+mod joined;
+
+pub use joined::plan;
+pub use trick_lines::JoinFault;
