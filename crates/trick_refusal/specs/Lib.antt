@@ -8,6 +8,8 @@ pub mod SDefine
 pub mod Check
 -- The lines of what an input is refused for.
 pub mod Input
+-- The lines of what the join of a program and an input is refused for.
+pub mod Join
 -- The lines of what a plan is refused for.
 pub mod Plan
 -- Of the code alone: what a field of a line holds.

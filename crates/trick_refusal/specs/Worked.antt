@@ -3,11 +3,13 @@ use Rattle.std.specs.Prelude.{◌≡◌, ℕ, ◌^◌, ◌-◌, true, List, [], 
 use Rattle.trick_check.specs.declared.fault.CheckFault.TheVariants as check
 use Rattle.trick_input.specs.declared.fault.InputFault.TheVariants as input
 use Rattle.trick_lang.specs.declared.job.Job.{Job}
+use Rattle.trick_lines.specs.declared.fault.JoinFault.TheVariants as join
 use Rattle.trick_model.specs.Plan.{Event, Plan, no_job}
 use Rattle.trick_model.specs.declared.group.Group.{Group}
 use Rattle.trick_race.specs.declared.fault.PlanFault.TheVariants as plan
 use Rattle.trick_refusal.specs.Check.{check_line}
 use Rattle.trick_refusal.specs.Input.{input_line}
+use Rattle.trick_refusal.specs.Join.{join_line}
 use Rattle.trick_refusal.specs.Plan.{plan_line}
 use Rattle.trick_refusal.specs.SDefine.{s_define_line}
 use Rattle.trick_sdef.specs.declared.fault.SdefFault.TheVariants as sdef
@@ -43,6 +45,17 @@ pub record HaveInputLines : Type 0 where
   pub expected : input_line (input.Expected 2) ≡ codes "refused Expected input 2\n"
   pub not_in_profile : input_line (input.NotInProfile 1) ≡ codes "refused NotInProfile input 1\n"
   pub bad_literal : input_line (input.BadLiteral 10) ≡ codes "refused BadLiteral input 10\n"
+
+pub record HaveJoinLines : Type 0 where
+  pub inexact : join_line (join.Time (time.InexactTime 5)) ≡ codes "refused InexactTime input 5\n"
+  pub too_large : join_line (join.Time (time.TimeTooLarge 6)) ≡ codes "refused TimeTooLarge input 6\n"
+  pub unknown_name : join_line (join.UnknownName 3) ≡ codes "refused UnknownName input 3\n"
+  pub unknown_job : join_line (join.UnknownJob 12) ≡ codes "refused UnknownJob input 12\n"
+  pub out_of_range : join_line (join.OutOfRange 1) ≡ codes "refused OutOfRange input 1\n"
+  pub twice_named : join_line (join.TwiceNamed 4) ≡ codes "refused TwiceNamed input 4\n"
+  pub bad_action : join_line (join.BadAction 9) ≡ codes "refused BadAction input 9\n"
+  pub too_many : join_line (join.TooMany 70 64) ≡ codes "refused TooMany input 70 64\n"
+  pub no_memory : join_line join.OutOfMemory ≡ codes "refused OutOfMemory\n"
 
 -- a job of which this is the instance
 abbrev pub instance : ℕ → Job

@@ -1,7 +1,7 @@
 //! Worked lines. Each function is a promise, and does nothing.
 
 ghost use Rattle.trick_model.specs.Plan.{Plan};
-ghost use Rattle.trick_refusal.specs.Worked.{HaveCheckLines, HaveInputLines, HavePlanLines, HaveSDefineLines};
+ghost use Rattle.trick_refusal.specs.Worked.{HaveCheckLines, HaveInputLines, HaveJoinLines, HavePlanLines, HaveSDefineLines};
 
 /// The lines of what an S_define is refused for.
 pub fn s_define_lines()
@@ -16,6 +16,11 @@ pub fn check_lines()
 /// The lines of what an input is refused for.
 pub fn input_lines()
     ensures { HaveInputLines }
+{}
+
+/// The lines of what the join of a program and an input is refused for.
+pub fn join_lines()
+    ensures { HaveJoinLines }
 {}
 
 /// The lines of what a plan is refused for.

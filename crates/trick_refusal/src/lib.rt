@@ -5,6 +5,7 @@
 mod check;
 mod field;
 mod input;
+mod join;
 pub mod laws;
 mod line;
 mod name;
@@ -16,5 +17,6 @@ mod text;
 
 pub use check::check_line;
 pub use input::input_line;
+pub use join::join_line;
 pub use plan::plan_line;
 pub use s_define::s_define_line;

@@ -2,7 +2,8 @@
 
 ghost use Rattle.std.specs.Prelude.{◌≡◌, ◌++◌, IfOk, OnOk, map};
 ghost use Rattle.trick_refusal.specs.Line.{fields as fields_of, out_of_memory as out_of_memory_line};
-ghost use Rattle.trick_refusal.specs.Line.{refused as refused_line, refused_at as refused_at_line};
+ghost use Rattle.trick_refusal.specs.Line.{refused as refused_line, refused_above as refused_above_line};
+ghost use Rattle.trick_refusal.specs.Line.{refused_at as refused_at_line};
 ghost use Rattle.trick_refusal.specs.Seen.{field_text};
 
 use crate::field::{Field, push_field};
@@ -46,4 +47,22 @@ pub(crate) fn refused_at(
     ensures { IfOk result (λ line. line.items ≡ refused_at_line code.now source.now number) }
 {
     refused(alloc, code, &[Field::Name(source), Field::Number(number)])
+}
+
+/// The line of a text that is refused at a line, for more than a limit.
+pub(crate) fn refused_above(
+    alloc: Global,
+    code: &[u8],
+    source: &[u8],
+    line: u64,
+    limit: u64,
+) -> Result<Vec<u8>, AllocError>
+    ensures { IfOk result (λ text. text.items ≡ refused_above_line code.now source.now line limit) }
+{
+    let fields = [
+        Field::Name(source),
+        Field::Number(line),
+        Field::Number(limit),
+    ];
+    refused(alloc, code, &fields)
 }

@@ -3,8 +3,7 @@
 ghost use Rattle.std.specs.Prelude.{◌≡◌, IfOk};
 ghost use Rattle.trick_refusal.specs.SDefine.{s_define_line as line_of};
 
-use crate::field::Field;
-use crate::line::{out_of_memory, refused, refused_at};
+use crate::line::{out_of_memory, refused_above, refused_at};
 use crate::name::S_DEFINE;
 use crate::text::{text_line, time_line};
 use std::alloc::{AllocError, Global};
@@ -27,14 +26,13 @@ pub fn s_define_line(alloc: Global, fault: SdefFault) -> Result<Vec<u8>, AllocEr
         SdefFault::LoopBound { line } => {
             refused_at(alloc, b"LoopBound", S_DEFINE, u64::from(line))
         }
-        SdefFault::LongList { line, limit } => {
-            let fields = [
-                Field::Name(S_DEFINE),
-                Field::Number(u64::from(line)),
-                Field::Number(u64::from(limit)),
-            ];
-            refused(alloc, b"LongList", &fields)
-        }
+        SdefFault::LongList { line, limit } => refused_above(
+            alloc,
+            b"LongList",
+            S_DEFINE,
+            u64::from(line),
+            u64::from(limit),
+        ),
         SdefFault::Time(fault) => time_line(alloc, S_DEFINE, fault),
         SdefFault::OutOfMemory => out_of_memory(alloc),
     }

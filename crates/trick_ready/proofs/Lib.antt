@@ -1,0 +1,2 @@
+-- a refusal of a step is one of both texts
+mod Refusals
