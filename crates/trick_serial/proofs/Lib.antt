@@ -1,0 +1,2 @@
+-- What a run that stopped or ended hands on.
+pub mod SerialLemmas
