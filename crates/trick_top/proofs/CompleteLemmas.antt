@@ -1,22 +1,23 @@
 -- Which row it is, where the shelf tells what it holds and no call failed.
-use Rattle.std.proofs.Common.{◌≡◌, ℕ, List, ◌∷◌, ◌++◌, None, Some, inl, inr, refl, sym, ◌∙◌, ap, subst, map, Contains, true}
+use Rattle.std.proofs.Common.{◌≡◌, ℕ, zero, suc, List, ◌∷◌, ◌++◌, None, Some, inl, inr, refl, sym, ◌∙◌, ap, subst, map, Contains, true}
 use Rattle.std.specs.FinMap.{get}
-use Rattle.std.specs.Prelude.{Option, ◌⊎◌}
+use Rattle.std.specs.Prelude.{◌⊎◌}
 use Rattle.trick_base.specs.Files.{Files}
+use Rattle.trick_model.specs.declared.plan.Plan.{Plan}
 use Rattle.trick_outside.proofs.CallLemmas.{fails-late}
 use Rattle.trick_outside.specs.Calls.{AllLeave, Call, fails}
 use Rattle.trick_top.proofs.FoundLemmas.{in_the_midst, lacks_none, leave_reads, reads_quiet, same_texts}
 use Rattle.trick_top.proofs.OutcomeLemmas.{faults}
-use Rattle.trick_top.specs.Counting.{IsCounting, IsStop}
+use Rattle.trick_top.specs.Acts.{Acts, IsBuilt, IsUnbuilt, checked, last_state, listed, no_memory, no_memory_to_write, not_built, not_written, ran}
 use Rattle.trick_top.specs.Found.{names, reads, texts}
-use Rattle.trick_top.specs.Outcome.{Goes, GoesOn, Outcome, Simulated, ended, gone_on, input_refused, missing, no_memory_to_keep, no_memory_to_read, no_memory_to_write, not_read, not_understood, not_written, s_define_refused, unread}
-use Rattle.trick_top.specs.Status.{Refuses}
-use Rattle.trick_top.specs.Verdict.{Verdict, status_of}
+use Rattle.trick_top.specs.Outcome.{Goes, GoesOn, Outcome, Performed, acted, gone_on, missing, no_memory_to_keep, no_memory_to_read, not_read, not_understood, plan_refused, text_refused, unread}
+use Rattle.trick_top.specs.Status.{AreAccepted, HaveBadPlan, HaveNoPlan}
+use Rattle.trick_top.specs.Verdict.{Verdict, ended_status, status_of}
 use Rattle.trick_top.specs.Words.{AreRefused, Asked, Asks, IsWanted, Nothing, Unknown, Wanted, command_of, names_of}
-use Rattle.trick_top.specs.declared.counting.Counting.{Counting}
-use Rattle.trick_top.specs.declared.verdict.Source.TheVariants.{Input, SDefine}
-use Rattle.trick_top.specs.declared.verdict.Source.{Source}
 use Rattle.trick_top.specs.declared.words.Command.{Command}
+use Rattle.trick_top.specs.declared.words.Task.TheVariants.{Serial}
+use Rattle.trick_top.specs.declared.words.Task.TheVariants as task
+use Rattle.trick_top.specs.declared.words.Task.{Task}
 use Rattle.trick_words.specs.Command as lines
 use Rattle.trick_words.specs.declared.command.Command as declared
 
@@ -76,23 +77,54 @@ module _ (command : Command) (held now : Files) where
       let same : texts files ≡ given = same_texts (texts files) given (sym (leave_reads files calls held now left).0 ∙ ap (map (get held)) (sym named) ∙ all) in
       inl (calls, subst (λ texts. GoesOn command texts calls verdict) same goes, λ e. never (fails-late (reads files) calls (reads_quiet files) ∙ e))
 
--- both texts are of the language, so the run is done
-pub described_ends : {s_define input : List ℕ} {calls : List Call} {verdict : Verdict} → (fails calls ≡ true → ⊥) → (simulation : Counting) → IsCounting s_define simulation → (stop : ℕ) → IsStop input stop
-    → Simulated s_define input calls verdict → (status_of verdict ≡ 0) ⊎ (status_of verdict ≡ 6)
-described_ends never simulation counting stop stops (s_define_refused none) = absurd (none simulation counting)
-described_ends never simulation counting stop stops (input_refused other none) = absurd (none stop stops)
-described_ends never simulation counting stop stops not_understood = inr refl
-described_ends never simulation counting stop stops (ended describes) = inl refl
-described_ends never simulation counting stop stops (not_written describes part fault) = absurd (never fault)
-described_ends never simulation counting stop stops (no_memory_to_write describes part none) = inr refl
+-- what a status says that is that of a run or a look that came to its end
+abbrev pub IsEnd : Task → ℕ → Type 0
+IsEnd t status = (status ≡ 0) ⊎ (((status ≡ 4) × (t ≡ Serial)) ⊎ (status ≡ 6))
 
--- a text is not of the language, so it is refused
-pub refused_ends : {s_define input : List ℕ} {calls : List Call} {verdict : Verdict} (source : Source) → (fails calls ≡ true → ⊥) → Refuses source s_define input
-    → Simulated s_define input calls verdict → (status_of verdict ≡ 2) ⊎ (status_of verdict ≡ 6)
-refused_ends source never refuses (s_define_refused none) = inl refl
-refused_ends source never refuses (input_refused counting none) = inl refl
-refused_ends source never refuses not_understood = inr refl
-refused_ends SDefine never refuses (ended {simulation = simulation} describes) = absurd (refuses simulation describes.counting)
-refused_ends Input never refuses (ended describes) = absurd (refuses.1 describes.stop describes.stops)
-refused_ends source never refuses (not_written describes part fault) = absurd (never fault)
-refused_ends source never refuses (no_memory_to_write describes part none) = inr refl
+ended_is_end : (faults : ℕ) → IsEnd Serial (ended_status faults)
+ended_is_end zero = inl refl
+ended_is_end (suc faults) = inr (inl (refl, refl))
+
+not_unbuilt : (t : Task) (plan : Plan) → IsBuilt t plan → IsUnbuilt t plan → ⊥
+not_unbuilt task.Serial plan built unbuilt = cc
+not_unbuilt task.Check plan built unbuilt = unbuilt
+not_unbuilt task.List plan built unbuilt = unbuilt
+
+acted_ends : {t : Task} {plan : Plan} {calls : List Call} {verdict : Verdict} → (fails calls ≡ true → ⊥) → IsBuilt t plan → Acts plan t calls verdict → IsEnd t (status_of verdict)
+acted_ends never built checked = inl refl
+acted_ends never built listed = inl refl
+acted_ends never built no_memory = inr (inr refl)
+acted_ends {t = t} {plan = plan} never built (not_built unbuilt) = absurd (not_unbuilt t plan built unbuilt)
+acted_ends {plan = plan} never built (ran lists in_tics whole) = ended_is_end ((last_state plan lists).faults).count
+acted_ends never built (not_written lists in_tics under_way part fault) = absurd (never fault)
+acted_ends never built (no_memory_to_write lists in_tics under_way part none) = inr (inr refl)
+
+-- nothing refuses the texts, so it comes to its end
+pub accepted_ends : {t : Task} {s_define input : List ℕ} {calls : List Call} {verdict : Verdict} → (fails calls ≡ true → ⊥) → AreAccepted t s_define input
+    → Performed t s_define input calls verdict → IsEnd t (status_of verdict)
+accepted_ends never good (text_refused is) = absurd (good.texts _ is)
+accepted_ends never good (plan_refused is) = absurd (good.plans _ is)
+accepted_ends never good not_understood = inr (inr refl)
+accepted_ends never good (acted ready acts) = acted_ends never (good.built _ ready) acts
+
+-- no plan is accepted or refused, so a text is refused
+pub no_plan_ends : {t : Task} {s_define input : List ℕ} {calls : List Call} {verdict : Verdict} → (fails calls ≡ true → ⊥) → HaveNoPlan t s_define input
+    → Performed t s_define input calls verdict → (status_of verdict ≡ 2) ⊎ (status_of verdict ≡ 6)
+no_plan_ends never none (text_refused is) = inl refl
+no_plan_ends never none (plan_refused is) = absurd (none.plans _ is)
+no_plan_ends never none not_understood = inr refl
+no_plan_ends never none (acted ready checked) = absurd (none.unbuilt _ ready)
+no_plan_ends never none (acted ready listed) = absurd (none.unbuilt _ ready)
+no_plan_ends never none (acted ready no_memory) = inr refl
+no_plan_ends never none (acted ready (not_built unbuilt)) = inl refl
+no_plan_ends never none (acted {plan = plan} ready (ran lists in_tics whole)) = absurd (not_unbuilt Serial plan in_tics (none.unbuilt plan ready))
+no_plan_ends never none (acted ready (not_written lists in_tics under_way part fault)) = absurd (never fault)
+no_plan_ends never none (acted ready (no_memory_to_write lists in_tics under_way part quiet)) = inr refl
+
+-- no text is refused and no plan is accepted, so the plan is refused
+pub bad_plan_ends : {t : Task} {s_define input : List ℕ} {calls : List Call} {verdict : Verdict} → HaveBadPlan s_define input
+    → Performed t s_define input calls verdict → (status_of verdict ≡ 3) ⊎ (status_of verdict ≡ 6)
+bad_plan_ends bad (text_refused is) = absurd (bad.texts _ is)
+bad_plan_ends bad (plan_refused is) = inl refl
+bad_plan_ends bad not_understood = inr refl
+bad_plan_ends bad (acted ready acts) = absurd (bad.ready _ ready)

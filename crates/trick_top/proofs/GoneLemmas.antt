@@ -1,15 +1,23 @@
 -- How a command goes on a shelf.
-use Rattle.std.proofs.Common.{◌≡◌, ℕ, List, [], ◌∷◌, ◌++◌, Some, refl, sym, ◌∙◌, ap, subst, append_assoc, length, suc}
+use Rattle.std.proofs.Common.{◌≡◌, ℕ, List, [], ◌∷◌, ◌++◌, Some, refl, sym, ◌∙◌, ap, subst, append_assoc, arith, length, slice_index_or, suc}
+use Rattle.trick_model.specs.declared.plan.Plan.{Plan}
 use Rattle.trick_outside.proofs.DoesLemmas.{Joins, went_none, went_then}
 use Rattle.trick_outside.specs.Calls.{Call, Read}
 use Rattle.trick_outside.specs.Does.{Went}
 use Rattle.trick_outside.specs.declared.shelf.Shelf.{Ghosts}
+use Rattle.trick_ready.specs.Answers.{IsUnready}
+use Rattle.trick_ready.specs.Texts.{IsReady}
+use Rattle.trick_ready.specs.declared.unready.Unready.TheVariants as unready
+use Rattle.trick_ready.specs.declared.unready.Unready.{Unready}
 use Rattle.trick_top.proofs.FoundLemmas.{names-append, reads-append, texts-append}
 use Rattle.trick_top.specs.Found.{Found, names, reads, texts}
-use Rattle.trick_top.specs.Outcome.{GoesOn, HasFound, HasGone, HasGoneOn, HasNotFound, Unread, gone_on, no_memory_to_keep, unread}
-use Rattle.trick_top.specs.Verdict.{OutOfMemory, Usage, Verdict}
+use Rattle.trick_top.specs.Acts.{HasActed}
+use Rattle.trick_top.specs.Outcome.{GoesOn, HasFound, HasGone, HasGoneOn, HasNotFound, HasPerformed, Performed, Unread, acted, gone_on, no_memory_to_keep, not_understood, plan_refused, text_refused}
+use Rattle.trick_top.specs.Outcome as outcome
+use Rattle.trick_top.specs.Verdict.{OutOfMemory, Usage, Verdict, unready_verdict}
 use Rattle.trick_top.specs.Words.{Asked, Nothing, Unknown, names_of}
 use Rattle.trick_top.specs.declared.words.Command.{Command}
+use Rattle.trick_top.specs.declared.words.Task.{Task}
 
 -- the words ask for nothing
 pub gone_nowhere : {S : Type 0} {shelf : Ghosts S} (s : S) → shelf.called s [] s → HasGone shelf s s Nothing Usage
@@ -20,10 +28,44 @@ pub gone_unknown : {S : Type 0} {shelf : Ghosts S} (s : S) → shelf.called s []
     → HasGone shelf s s Unknown OutOfMemory
 gone_unknown s none = record { calls = []; went = went_none s none; outcome = (refl, refl) }
 
+-- the two texts decide without a call of the shelf
+pub performed_quiet : {S : Type 0} {shelf : Ghosts S} (s : S) (t : Task) (s_define input : List ℕ) (verdict : Verdict) → shelf.called s [] s
+    → Performed t s_define input [] verdict → HasPerformed shelf s s t s_define input verdict
+performed_quiet s t s_define input verdict none is = record { calls = []; went = went_none s none; performed = is }
+
+-- the texts have a plan, and it went on with it
+pub performed_acted : {S : Type 0} {shelf : Ghosts S} {old new : S} {plan : Plan} (t : Task) (s_define input : List ℕ) (verdict : Verdict) → IsReady s_define input plan
+    → HasActed shelf old new plan t verdict → HasPerformed shelf old new t s_define input verdict
+performed_acted t s_define input verdict ready on = record { calls = on.calls; went = on.went; performed = acted ready on.acts }
+
+-- the texts have no plan to go on with
+pub unready_performed : (t : Task) (s_define input : List ℕ) (refused : Unready) → IsUnready s_define input refused → Performed t s_define input [] (unready_verdict refused)
+unready_performed t s_define input (unready.TextRefused line) is = text_refused is
+unready_performed t s_define input (unready.PlanRefused line) is = plan_refused is
+unready_performed t s_define input unready.OutOfMemory is = not_understood
+
+pub performed_unready : {S : Type 0} {shelf : Ghosts S} (s : S) (t : Task) (s_define input : List ℕ) (verdict : Verdict) (refused : Unready) → shelf.called s [] s
+    → verdict ≡ unready_verdict refused → IsUnready s_define input refused → HasPerformed shelf s s t s_define input verdict
+performed_unready s t s_define input verdict refused none is unready =
+    performed_quiet s t s_define input verdict none (subst (Performed t s_define input []) (sym is) (unready_performed t s_define input refused unready))
+
+-- two texts are found
+pub gone_on_two : {S : Type 0} {shelf : Ghosts S} {old new : S} (command : Command) (given : List (List ℕ)) (s_define input : List ℕ) (verdict : Verdict) → given ≡ s_define ∷ input ∷ []
+    → HasPerformed shelf old new command.task s_define input verdict → HasGoneOn shelf old new command given verdict
+gone_on_two command given s_define input verdict is on =
+    record { calls = on.calls; went = on.went; goes = subst (λ given. GoesOn command given on.calls verdict) (sym is) on.performed }
+
+-- a list of two
+pub two_items : (given : List (List ℕ)) → length given ≡ 2 → given ≡ slice_index_or given 0 [] ∷ slice_index_or given 1 [] ∷ []
+two_items (s_define ∷ input ∷ []) is = refl
+two_items [] is = absurd (omega (arith, is))
+two_items (s_define ∷ []) is = absurd (omega (arith, is))
+two_items (s_define ∷ input ∷ more ∷ given) is = absurd (omega (arith, is))
+
 -- a file was not read
 pub gone_unread : {S : Type 0} {shelf : Ghosts S} {old new : S} {wanted : List (List ℕ)} (command : Command) (verdict : Verdict) → wanted ≡ names_of command
     → HasNotFound shelf old new wanted verdict → HasGone shelf old new (Asked command) verdict
-gone_unread command verdict same is = record { calls = is.calls; went = is.went; outcome = unread (subst (λ names. Unread names is.calls verdict) same is.unread) }
+gone_unread command verdict same is = record { calls = is.calls; went = is.went; outcome = outcome.unread (subst (λ names. Unread names is.calls verdict) same is.unread) }
 
 -- all files were found, and it went on with their texts
 pub gone_further : {S : Type 0} {shelf : Ghosts S} {old mid new : S} {wanted given : List (List ℕ)} (command : Command) (kept : List (List ℕ)) (verdict : Verdict) → Joins shelf

@@ -1,13 +1,11 @@
-pub mod RunLemmas
-pub mod PieceLemmas
 pub mod FoundLemmas
 pub mod OutcomeLemmas
 pub mod SaysLemmas
+pub mod StandsLemmas
 pub mod CompleteLemmas
 pub mod PrintLemmas
-pub mod SimulatedLemmas
+pub mod ActedLemmas
 pub mod GoneLemmas
 pub mod TopLemmas
-pub mod QuietLemmas
 pub mod WordLemmas
 mod Examples

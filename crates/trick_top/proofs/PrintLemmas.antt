@@ -1,19 +1,23 @@
 -- How a verdict is printed.
-use Rattle.std.proofs.Common.{◌≡◌, ◌≢◌, ◌++◌, ℕ, List, inl, inr, refl, sym, ◌∙◌, ap, Some, arith, true}
+use Rattle.std.proofs.Common.{◌≡◌, ◌≢◌, ◌++◌, ℕ, zero, suc, List, inl, inr, refl, sym, ◌∙◌, ap, Some, arith, true}
 use Rattle.std.specs.Prelude.{◌⊎◌}
 use Rattle.trick_outside.specs.Pieces.{Piece, Pieces, fails, stops}
 use Rattle.trick_outside.specs.Puts.{ArePiecesOf}
 use Rattle.trick_outside.specs.declared.sink.Sink.{Ghosts}
 use Rattle.trick_top.specs.Printed.{Prints, cut_off, no_line, not_printed, printed}
 use Rattle.trick_top.specs.Status.{EndsWith, TookLine}
-use Rattle.trick_top.specs.Verdict.{Ended, NoFile, OutOfMemory, ShelfFault, TextRefused, Usage, Verdict, is_made, line_of, status_of}
+use Rattle.trick_top.specs.Verdict.{Accepted, Ended, Listed, NoFile, OutOfMemory, PlanRefused, ShelfFault, TextRefused, Usage, Verdict, is_made, line_of, status_of}
 
 -- no verdict has status 8
 no_eight : (verdict : Verdict) → status_of verdict ≡ 8 → ⊥
 no_eight Usage e = omega arith
 no_eight (NoFile name) e = omega arith
-no_eight (TextRefused source) e = omega arith
-no_eight (Ended turn tic) e = omega arith
+no_eight (TextRefused line) e = omega arith
+no_eight (PlanRefused line) e = omega arith
+no_eight (Accepted cells jobs threads) e = omega arith
+no_eight (Listed line) e = omega arith
+no_eight (Ended turns tic zero sessions) e = omega arith
+no_eight (Ended turns tic (suc faults) sessions) e = omega arith
 no_eight ShelfFault e = omega arith
 no_eight OutOfMemory e = omega arith
 

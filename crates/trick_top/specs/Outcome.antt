@@ -1,59 +1,35 @@
 -- How a command may go on a shelf: a case for each row of the table of statuses, with each call and
 -- its answer, and the verdict.
-use Rattle.std.specs.Prelude.{◌≡◌, ℕ, List, [], ◌∷◌, ◌++◌, None, false, true, codes}
-use Rattle.trick_outside.specs.Calls.{Call, Get, Read, Stopped, fails}
-use Rattle.trick_outside.specs.Does.{IsPartOf, Went, added, created}
+use Rattle.std.specs.Prelude.{◌≡◌, ℕ, List, [], ◌∷◌, ◌++◌, None}
+use Rattle.trick_model.specs.declared.plan.Plan.{Plan}
+use Rattle.trick_outside.specs.Calls.{Call, Get, Read, Stopped}
+use Rattle.trick_outside.specs.Does.{Went}
 use Rattle.trick_outside.specs.declared.shelf.Shelf.{Ghosts}
 use Rattle.trick_outside.specs.declared.stop.Stop.TheVariants.{Shelf, Memory}
-use Rattle.trick_top.specs.Checkpoint.{checkpoint_text}
-use Rattle.trick_top.specs.Counting.{IsCounting, IsStop}
+use Rattle.trick_ready.specs.Texts.{IsPlanRefused, IsReady, IsTextRefused}
+use Rattle.trick_top.specs.Acts.{Acts}
 use Rattle.trick_top.specs.Found.{Found, names, reads, texts}
-use Rattle.trick_top.specs.Run.{IsFinal}
-use Rattle.trick_top.specs.Verdict.{Verdict, Usage, NoFile, TextRefused, Ended, ShelfFault, OutOfMemory}
+use Rattle.trick_top.specs.Verdict.{Verdict, Usage, NoFile, TextRefused, PlanRefused, ShelfFault, OutOfMemory}
 use Rattle.trick_top.specs.Words.{Wanted, Asked, Nothing, Unknown, names_of}
-use Rattle.trick_top.specs.declared.counting.Counting.{Counting}
-use Rattle.trick_top.specs.declared.state.State.{State}
-use Rattle.trick_top.specs.declared.verdict.Source.TheVariants.{SDefine, Input}
 use Rattle.trick_top.specs.declared.words.Command.{Command}
-use Rattle.trick_top.specs.declared.words.Command.TheVariants.{Serial}
+use Rattle.trick_top.specs.declared.words.Task.{Task}
 
-abbrev pub final_name : List ℕ
-final_name = codes "final.chk"
-
--- what a run does at its end: it writes the checkpoint of its last state
-abbrev pub final_steps : Counting → State → List Call
-final_steps simulation final = created final_name ∷ added final_name (checkpoint_text simulation final) ∷ []
-
--- these texts describe a run that ends in this state
-pub record Describes (s_define input : List ℕ) (simulation : Counting) (final : State) : Type 0 where
-  pub counting : IsCounting s_define simulation
-  pub stop : ℕ
-  pub stops : IsStop input stop
-  pub ends : IsFinal simulation stop final
-
--- How a run of two texts goes: the S_define decides first, then the input, and then the shelf.
-pub data Simulated (s_define input : List ℕ) : List Call → Verdict → Type 0 where
-  s_define_refused : ((simulation : Counting) → IsCounting s_define simulation → ⊥)
-      → Simulated s_define input [] (TextRefused SDefine)
-  input_refused : {simulation : Counting} → IsCounting s_define simulation → ((stop : ℕ) → IsStop input stop → ⊥)
-      → Simulated s_define input [] (TextRefused Input)
+-- How the two texts of a simulation go: they decide first, by the lines that refuse them, and then
+-- what is done with the plan that they have.
+pub data Performed (t : Task) (s_define input : List ℕ) : List Call → Verdict → Type 0 where
+  text_refused : {line : List ℕ} → IsTextRefused s_define input line
+      → Performed t s_define input [] (TextRefused line)
+  plan_refused : {line : List ℕ} → IsPlanRefused s_define input line
+      → Performed t s_define input [] (PlanRefused line)
   -- want of memory at a text
-  not_understood : Simulated s_define input [] OutOfMemory
-  ended : {simulation : Counting} {final : State} → Describes s_define input simulation final
-      → Simulated s_define input (final_steps simulation final) (Ended final.turn final.tic)
-  -- the last call failed
-  not_written : {simulation : Counting} {final : State} {part : List Call}
-      → Describes s_define input simulation final → IsPartOf part (final_steps simulation final) → fails part ≡ true
-      → Simulated s_define input part ShelfFault
-  -- no call failed
-  no_memory_to_write : {simulation : Counting} {final : State} {part : List Call}
-      → Describes s_define input simulation final → IsPartOf part (final_steps simulation final) → fails part ≡ false
-      → Simulated s_define input part OutOfMemory
+  not_understood : Performed t s_define input [] OutOfMemory
+  acted : {plan : Plan} {calls : List Call} {verdict : Verdict} → IsReady s_define input plan
+      → Acts plan t calls verdict → Performed t s_define input calls verdict
 
 -- How a command goes once its files are found, by their texts.
 abbrev pub GoesOn : Command → List (List ℕ) → List Call → Verdict → Type 0
-GoesOn (Serial name other) (s_define ∷ input ∷ []) calls verdict = Simulated s_define input calls verdict
-GoesOn (Serial name other) given calls verdict = ⊥
+GoesOn command (s_define ∷ input ∷ []) calls verdict = Performed command.task s_define input calls verdict
+GoesOn command given calls verdict = ⊥
 
 -- How the files of these names are read, one after another, where it ends with a verdict.
 pub data Unread (wanted : List (List ℕ)) : List Call → Verdict → Type 0 where
@@ -88,12 +64,12 @@ pub record HasGone {S : Type 0} (shelf : Ghosts S) (old new : S) (wanted : Wante
   pub went : Went shelf old new calls
   pub outcome : Outcome wanted calls verdict
 
--- How the run of two texts went on a shelf, from old to new.
-pub record HasSimulated {S : Type 0} (shelf : Ghosts S) (old new : S) (s_define input : List ℕ)
+-- How a command went with two texts on a shelf, from old to new.
+pub record HasPerformed {S : Type 0} (shelf : Ghosts S) (old new : S) (t : Task) (s_define input : List ℕ)
     (verdict : Verdict) : Type 0 where
   pub calls : List Call
   pub went : Went shelf old new calls
-  pub simulated : Simulated s_define input calls verdict
+  pub performed : Performed t s_define input calls verdict
 
 -- How a command went on, once its files were found.
 pub record HasGoneOn {S : Type 0} (shelf : Ghosts S) (old new : S) (command : Command) (given : List (List ℕ))

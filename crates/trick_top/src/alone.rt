@@ -1,68 +1,55 @@
-ghost use Rattle.std.specs.Prelude.{◌≡◌, ◌⊎◌, ℕ, List, [], ◌∷◌, None, Some, Contains, length};
+ghost use Rattle.std.specs.Prelude.{◌≡◌, ◌≢◌, ◌⊎◌, ℕ, List, [], ◌∷◌, None, Some, Contains, length};
+ghost use Rattle.trick_model.specs.declared.entry.Entry.{Entry};
+ghost use Rattle.trick_model.specs.declared.plan.Plan.{Plan};
 ghost use Rattle.trick_outside.specs.Causes.{Rose};
 ghost use Rattle.trick_outside.specs.Does.{Went};
+ghost use Rattle.trick_top.specs.Acts.{ended_verdict, last_state};
 ghost use Rattle.trick_top.specs.Answered.{HasAnswered};
 ghost use Rattle.trick_top.specs.Called.{HasCalled};
-ghost use Rattle.trick_top.specs.Counting.{IsCounting, IsStop};
-ghost use Rattle.trick_top.specs.Outcome.{HasGone, HasGoneOn, HasSimulated};
+ghost use Rattle.trick_top.specs.Outcome.{HasGone, HasGoneOn, HasPerformed};
 ghost use Rattle.trick_top.specs.Printed.{Prints};
-ghost use Rattle.trick_top.specs.Status.{EndsWith, Finds, HoldsSame, IsRefusal, MissesFile, Refuses, RefusesText};
-ghost use Rattle.trick_top.specs.Status.{RunsToEnd, Stands, TookLine};
-ghost use Rattle.trick_top.specs.Verdict.{Ended, NoFile, OutOfMemory, TextRefused, Usage, line_of, refused_text};
-ghost use Rattle.trick_top.specs.Verdict.{verdict_of};
+ghost use Rattle.trick_top.specs.Status.{AreAccepted, EndsWith, Finds, HaveBadPlan, HaveNoPlan, HoldsSame, IsDone};
+ghost use Rattle.trick_top.specs.Status.{IsRefusal, MissesFile, RefusesPlan, RefusesText, RunsToEnd, Stands, TookLine};
+ghost use Rattle.trick_top.specs.Verdict.{NoFile, OutOfMemory, Usage, line_of, unready_verdict, verdict_of};
+ghost use Rattle.trick_top.specs.Verdict.{Verdict as VerdictOf};
 ghost use Rattle.trick_top.specs.Words.{AreRefused, Asked, names_of};
-ghost use Rattle.trick_top.specs.declared.counting.Counting.{Counting};
-ghost use Rattle.trick_top.specs.declared.state.State.{State};
-ghost use Rattle.trick_top.specs.declared.verdict.Source.{Source};
+ghost use Rattle.trick_top.specs.declared.words.Task.TheVariants as tasks;
+ghost use Rattle.trick_top.specs.declared.words.Task.{Task};
 
-use crate::executive::run;
 use crate::files::read_files;
-use crate::finish::write_final;
-use crate::input::read_input;
-use crate::refusal::Refusal;
-use crate::s_define::read_s_define;
-use crate::verdict::{Source, Verdict};
-use crate::words::{Command, read_words};
+use crate::plans::act;
+use crate::verdict::Verdict;
+use crate::words::{Command, Task, read_words};
 use std::alloc::Global;
 use trick_base::{Items, Word};
-use trick_outside::{Printed, Shelf, Sink, Stop, put};
+use trick_outside::{Printed, Shelf, Sink, put};
+use trick_ready::{Unready, ready};
 use trick_words::laws;
 
-/// The verdict on a text that was not read.
-fn refused(refusal: Refusal, source: Source) -> Verdict<'static>
-    ensures { verdict_of result ≡ refused_text refusal source }
+/// The verdict on two texts that have no plan to go on with.
+fn refused(unready: Unready) -> Verdict<'static>
+    ensures { verdict_of result ≡ unready_verdict unready }
 {
-    match refusal {
-        Refusal::NotInProfile => Verdict::TextRefused(source),
-        Refusal::OutOfMemory => Verdict::OutOfMemory,
+    match unready {
+        Unready::TextRefused { line } => Verdict::TextRefused(line),
+        Unready::PlanRefused { line } => Verdict::PlanRefused(line),
+        Unready::OutOfMemory => Verdict::OutOfMemory,
     }
 }
 
-/// Runs the simulation that two texts describe.
-fn simulate<F: Shelf>(
+/// What a command does with the two texts of a simulation.
+fn perform_on<F: Shelf>(
     alloc: Global,
+    task: Task,
     s_define: &[u8],
     input: &[u8],
     shelf: &mut F,
 ) -> Verdict<'static>
-    ensures { HasSimulated F.Shelf shelf.old shelf.new s_define.now input.now (verdict_of result) }
+    ensures { HasPerformed F.Shelf shelf.old shelf.new task s_define.now input.now (verdict_of result) }
 {
-    let simulation = match read_s_define(alloc, s_define) {
-        Ok(simulation) => simulation,
-        Err(refusal) => return refused(refusal, Source::SDefine),
-    };
-    let stop = match read_input(alloc, input) {
-        Ok(stop) => stop,
-        Err(refusal) => return refused(refusal, Source::Input),
-    };
-    let state = run(&simulation, stop);
-    match write_final(alloc, &simulation, &state, shelf) {
-        Ok(()) => Verdict::Ended {
-            turn: state.turn,
-            tic: state.tic,
-        },
-        Err(Stop::Shelf) => Verdict::ShelfFault,
-        Err(Stop::Memory) => Verdict::OutOfMemory,
+    match ready(alloc, s_define, input) {
+        Ok(accepted) => act(alloc, &accepted, task, shelf),
+        Err(unready) => refused(unready),
     }
 }
 
@@ -76,9 +63,13 @@ fn go_on<F: Shelf>(
     requires { length texts.now ≡ length (names_of command.now) }
     ensures { HasGoneOn F.Shelf shelf.old shelf.new command.now texts.now (verdict_of result) }
 {
-    match command {
-        Command::Serial { .. } => simulate(alloc, texts[0].as_slice(), texts[1].as_slice(), shelf),
-    }
+    perform_on(
+        alloc,
+        command.task,
+        texts[0].as_slice(),
+        texts[1].as_slice(),
+        shelf,
+    )
 }
 
 /// What a command does; its verdict is not printed yet.
@@ -92,9 +83,9 @@ fn perform<'a, F: Shelf>(alloc: Global, command: &'a Command, shelf: &mut F) -> 
 }
 
 /// Prints a verdict's line. The status of the program.
-fn print_line<O: Sink>(verdict: Verdict, line: &[u8], out: &mut O) -> u8
-    requires { line.now ≡ line_of (verdict_of verdict) }
-    ensures { Prints O.Sink out.old out.new (verdict_of verdict.entry) result }
+fn print_line<O: Sink>(verdict: &Verdict, line: &[u8], out: &mut O) -> u8
+    requires { line.now ≡ line_of (verdict_of verdict.now) }
+    ensures { Prints O.Sink out.old out.new (verdict_of verdict.now) result }
 {
     match put(out, line) {
         Printed::Done => verdict.status(),
@@ -104,10 +95,10 @@ fn print_line<O: Sink>(verdict: Verdict, line: &[u8], out: &mut O) -> u8
 }
 
 /// Prints a verdict, or want of memory where there is none for its line. The status of the program.
-fn print<O: Sink>(alloc: Global, verdict: Verdict, out: &mut O) -> u8
-    ensures { Prints O.Sink out.old out.new (verdict_of verdict.entry) result }
+fn print<O: Sink>(alloc: Global, verdict: &Verdict, out: &mut O) -> u8
+    ensures { Prints O.Sink out.old out.new (verdict_of verdict.now) result }
 {
-    if let Some(line) = verdict.fixed_line() {
+    if let Some(line) = verdict.held_line() {
         return print_line(verdict, line, out);
     }
     match verdict.line(alloc) {
@@ -121,7 +112,7 @@ fn print<O: Sink>(alloc: Global, verdict: Verdict, out: &mut O) -> u8
 pub fn print_out_of_memory<O: Sink>(out: &mut O) -> u8
     ensures { Prints O.Sink out.old out.new OutOfMemory result }
 {
-    print_line(Verdict::OutOfMemory, b"refused OutOfMemory\n", out)
+    print_line(&Verdict::OutOfMemory, b"refused OutOfMemory\n", out)
 }
 
 /// Does what the words ask for, and prints its verdict's line. The status of the program.
@@ -131,9 +122,9 @@ fn answer<F: Shelf, O: Sink>(alloc: Global, words: &[Word], shelf: &mut F, out: 
     match read_words(alloc, words) {
         Ok(Some(command)) => {
             let verdict = perform(alloc, &command, shelf);
-            print(alloc, verdict, out)
+            print(alloc, &verdict, out)
         }
-        Ok(None) => print(alloc, Verdict::Usage, out),
+        Ok(None) => print(alloc, &Verdict::Usage, out),
         Err(_) => print_out_of_memory(out),
     }
 }
@@ -142,8 +133,9 @@ fn answer<F: Shelf, O: Sink>(alloc: Global, words: &[Word], shelf: &mut F, out: 
 /// for nobody. The words come without the program's name. Answers the status of the program (see
 /// docs/RULES.md); the sink is given one line, last of all.
 ///
-/// Today the one command is `serial S_DEFINE INPUT`, of one counting class. It writes `final.chk`.
-/// After the shelf failed it is not called again.
+/// Today the commands are `serial`, `check` and `list`, each followed by the names of an S_define and of
+/// an input. `serial` writes the files of the run, and the other two write nothing. After the shelf
+/// failed it is not called again.
 pub fn tricks_alone<F: Shelf, O: Sink>(
     alloc: Global,
     words: &[Word],
@@ -156,12 +148,18 @@ pub fn tricks_alone<F: Shelf, O: Sink>(
     ensures called { HasCalled F.Shelf O.Sink shelf.old shelf.new out.old out.new result }
 
     // What each status says.
-    ensures done { result ≡ 0 → (final : State) × RunsToEnd F.Shelf shelf.old shelf.new words.now final
-        × TookLine (O.holds out.old) (O.holds out.new) (line_of (Ended final.turn final.tic)) }
+    ensures done { result ≡ 0 → (verdict : VerdictOf) × IsDone F.Shelf shelf.old shelf.new words.now verdict
+        × TookLine (O.holds out.old) (O.holds out.new) (line_of verdict) }
     ensures usage { result ≡ 1 → AreRefused words.now × Went F.Shelf shelf.old shelf.new []
         × TookLine (O.holds out.old) (O.holds out.new) (line_of Usage) }
-    ensures text_refused { result ≡ 2 → (source : Source) × RefusesText F.Shelf shelf.old shelf.new words.now source
-        × TookLine (O.holds out.old) (O.holds out.new) (line_of (TextRefused source)) }
+    ensures text_refused { result ≡ 2 → (line : List ℕ) × RefusesText F.Shelf shelf.old shelf.new words.now line
+        × TookLine (O.holds out.old) (O.holds out.new) line }
+    ensures plan_refused { result ≡ 3 → (line : List ℕ) × RefusesPlan F.Shelf shelf.old shelf.new words.now line
+        × TookLine (O.holds out.old) (O.holds out.new) line }
+    ensures faults { result ≡ 4 → (plan : Plan) × (lists : List (List Entry))
+        × RunsToEnd F.Shelf shelf.old shelf.new words.now plan lists
+        × (((last_state plan lists).faults).count ≢ 0)
+        × TookLine (O.holds out.old) (O.holds out.new) (line_of (ended_verdict (last_state plan lists))) }
     ensures shelf_fault { result ≡ 5 → Rose (F.failures shelf.old) (F.failures shelf.new) }
     ensures sink_fault { result ≡ 8 → Rose (O.failures out.old) (O.failures out.new) }
     ensures no_file { result ≡ 9 → (name : List ℕ) × MissesFile F.Shelf shelf.old shelf.new words.now name
@@ -173,16 +171,21 @@ pub fn tricks_alone<F: Shelf, O: Sink>(
 
     // When each comes. Want of memory is free, and a failed sink decides over all else.
     ensures usage_all { AreRefused words.now → EndsWith result 1 }
-    ensures no_file_all { (given : _) → Finds F.Shelf shelf.old words.now given → Contains given None
-        → ¬ Rose (F.failures shelf.old) (F.failures shelf.new) → EndsWith result 9 }
-    ensures text_refused_all { (source : Source) (s_define input : _)
-        → Finds F.Shelf shelf.old words.now (Some s_define ∷ Some input ∷ [])
-        → Refuses source s_define input → ¬ Rose (F.failures shelf.old) (F.failures shelf.new) → EndsWith result 2 }
-    ensures complete { (s_define input : _) (simulation : Counting) (stop : ℕ)
-        → Finds F.Shelf shelf.old words.now (Some s_define ∷ Some input ∷ [])
-        → IsCounting s_define simulation → IsStop input stop
+    ensures no_file_all { (task : Task) (given : _) → Finds F.Shelf shelf.old words.now task given
+        → Contains given None → ¬ Rose (F.failures shelf.old) (F.failures shelf.new) → EndsWith result 9 }
+    ensures text_refused_all { (task : Task) (s_define input : _)
+        → Finds F.Shelf shelf.old words.now task (Some s_define ∷ Some input ∷ [])
+        → HaveNoPlan task s_define input
+        → ¬ Rose (F.failures shelf.old) (F.failures shelf.new) → EndsWith result 2 }
+    ensures plan_refused_all { (task : Task) (s_define input : _)
+        → Finds F.Shelf shelf.old words.now task (Some s_define ∷ Some input ∷ [])
+        → HaveBadPlan s_define input
+        → ¬ Rose (F.failures shelf.old) (F.failures shelf.new) → EndsWith result 3 }
+    ensures complete { (task : Task) (s_define input : _)
+        → Finds F.Shelf shelf.old words.now task (Some s_define ∷ Some input ∷ [])
+        → AreAccepted task s_define input
         → ¬ Rose (F.failures shelf.old) (F.failures shelf.new) → ¬ Rose (O.failures out.old) (O.failures out.new)
-        → (result ≡ 0) ⊎ (result ≡ 6) }
+        → (result ≡ 0) ⊎ (((result ≡ 4) × (task ≡ tasks.Serial)) ⊎ (result ≡ 6)) }
 {
     laws::one_command();
     answer(alloc, words, shelf, out)

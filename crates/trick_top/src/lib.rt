@@ -2,19 +2,8 @@
 #![tactic(auto)]
 
 mod alone;
-mod checkpoint;
-mod counting;
-mod executive;
 mod files;
-mod finish;
-mod input;
-mod keyword;
-mod memory;
-mod piece;
-mod read;
-mod refusal;
-mod s_define;
-mod state;
+mod plans;
 mod verdict;
 mod words;
 

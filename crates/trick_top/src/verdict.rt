@@ -1,9 +1,10 @@
-ghost use Rattle.std.specs.Prelude.{◌≡◌, ◌++◌, IfNone, IfOk, IfSome, true};
-ghost use Rattle.trick_top.specs.Verdict.{Ended, is_made, line_of, source_text, status_of, verdict_of};
+ghost use Rattle.std.specs.Prelude.{◌≡◌, ◌++◌, IfNone, IfOk, IfSome, OnOk, decimal, true};
+ghost use Rattle.trick_top.specs.Verdict.{Accepted, Ended as EndedBy, ended_status as ended_status_of, is_made, line_of, status_of, verdict_of};
 
 use itoa::Buffer;
 use std::alloc::{AllocError, Global};
 use trick_base::Word;
+use trick_serial::Ended;
 
 const USAGE: &[u8] = b"usage: tricks serial|run|replay|check|list|gen\n";
 
@@ -11,40 +12,27 @@ const SHELF_FAULT: &[u8] = b"refused ShelfFault\n";
 
 const OUT_OF_MEMORY: &[u8] = b"refused OutOfMemory\n";
 
-/// One of the two texts that describe a simulation.
-#[derive(Clone, Copy, Debug, PartialEq, Eq)]
-pub(crate) enum Source {
-    SDefine,
-    Input,
-}
-
-/// How a command ends.
-#[derive(Clone, Copy, Debug)]
+/// How a command ends. Lines have their line feed.
+#[derive(Debug, Drop)]
 pub(crate) enum Verdict<'a> {
     /// The words ask for no command.
     Usage,
     /// There is no file of this name.
     NoFile(&'a Word),
-    /// This text is not in the language.
-    TextRefused(Source),
-    /// The run ended after so many turns; the tic is the next that it would run.
-    Ended { turn: u64, tic: u64 },
+    /// A text is refused, with this line.
+    TextRefused(Vec<u8>),
+    /// The plan is not accepted, with this line.
+    PlanRefused(Vec<u8>),
+    /// The plan is accepted: it has so many cells, jobs and threads.
+    Accepted { cells: u64, jobs: u64, threads: u64 },
+    /// The cells are listed by this line.
+    Listed(Vec<u8>),
+    /// The run came to its end.
+    Ended(Ended),
     /// The shelf failed.
     ShelfFault,
     /// There was no memory.
     OutOfMemory,
-}
-
-impl Source {
-    /// The text as printed lines call it.
-    fn name(self) -> &'static [u8]
-        ensures { result.now ≡ source_text self }
-    {
-        match self {
-            Source::SDefine => b"S_define",
-            Source::Input => b"input",
-        }
-    }
 }
 
 /// The pieces, one behind the other.
@@ -57,61 +45,98 @@ fn joined(alloc: Global, first: &[u8], second: &[u8], third: &[u8]) -> Result<Ve
     Ok(line)
 }
 
+// Appends a piece and a number behind it.
+fn push_number(line: &mut Vec<u8>, piece: &[u8], number: u64) -> Result<(), AllocError>
+    ensures { OnOk result (line.new.items ≡ line.old.items ++ piece.now ++ decimal number) }
+{
+    line.extend_from_slice(piece)?;
+    line.extend_from_slice(Buffer::new().format(number).as_bytes())
+}
+
+fn accepted_line(alloc: Global, cells: u64, jobs: u64, threads: u64) -> Result<Vec<u8>, AllocError>
+    ensures { IfOk result (λ line. line.items ≡ line_of (Accepted cells jobs threads)) }
+{
+    let mut line = Vec::new(alloc);
+    push_number(&mut line, b"accepted cells=", cells)?;
+    push_number(&mut line, b" jobs=", jobs)?;
+    push_number(&mut line, b" threads=", threads)?;
+    line.extend_from_slice(b"\n")?;
+    Ok(line)
+}
+
+fn ended_line(alloc: Global, ended: Ended) -> Result<Vec<u8>, AllocError>
+    ensures { IfOk result (λ line. line.items ≡ line_of (EndedBy ended.turns ended.tic ended.faults 0)) }
+{
+    let mut line = Vec::new(alloc);
+    push_number(&mut line, b"ended turns=", ended.turns)?;
+    push_number(&mut line, b" tic=", ended.tic)?;
+    push_number(&mut line, b" faults=", ended.faults)?;
+    push_number(&mut line, b" sessions=", 0)?;
+    line.extend_from_slice(b"\n")?;
+    Ok(line)
+}
+
+/// The status of a run that came to its end.
+fn ended_status(faults: u64) -> u8
+    ensures { result ≡ ended_status_of faults }
+{
+    match faults {
+        0 => 0,
+        _ => 4,
+    }
+}
+
 impl Verdict<'_> {
     /// The status of the program.
-    pub(crate) fn status(self) -> u8
-        ensures { result ≡ status_of (verdict_of self.entry) }
+    pub(crate) fn status(&self) -> u8
+        ensures { result ≡ status_of (verdict_of self.now) }
     {
         match self {
             Verdict::Usage => 1,
             Verdict::NoFile(_) => 9,
             Verdict::TextRefused(_) => 2,
-            Verdict::Ended { .. } => 0,
+            Verdict::PlanRefused(_) => 3,
+            Verdict::Accepted { .. } | Verdict::Listed(_) => 0,
+            Verdict::Ended(ended) => ended_status(ended.faults),
             Verdict::ShelfFault => 5,
             Verdict::OutOfMemory => 6,
         }
     }
 
-    /// The line to be printed, where it is always the same.
-    pub(crate) fn fixed_line(self) -> Option<&'static [u8]>
-        ensures fixed { IfSome result (λ line. line.now ≡ line_of (verdict_of self.entry)) }
-        ensures made { IfNone result (is_made (verdict_of self.entry) ≡ true) }
+    /// The line to be printed, where it need not be made.
+    pub(crate) fn held_line(&self) -> Option<&[u8]>
+        ensures held { IfSome result (λ line. line.now ≡ line_of (verdict_of self.now)) }
+        ensures made { IfNone result (is_made (verdict_of self.now) ≡ true) }
     {
         match self {
             Verdict::Usage => Some(USAGE),
-            Verdict::NoFile(_) | Verdict::TextRefused(_) | Verdict::Ended { .. } => None,
+            Verdict::NoFile(_) | Verdict::Accepted { .. } | Verdict::Ended(_) => None,
+            Verdict::TextRefused(line) => Some(line),
+            Verdict::PlanRefused(line) => Some(line),
+            Verdict::Listed(line) => Some(line),
             Verdict::ShelfFault => Some(SHELF_FAULT),
             Verdict::OutOfMemory => Some(OUT_OF_MEMORY),
         }
     }
 
     /// The line to be printed.
-    pub(crate) fn line(self, alloc: Global) -> Result<Vec<u8>, AllocError>
-        ensures { IfOk result (λ line. line.items ≡ line_of (verdict_of self.entry)) }
+    pub(crate) fn line(&self, alloc: Global) -> Result<Vec<u8>, AllocError>
+        ensures { IfOk result (λ line. line.items ≡ line_of (verdict_of self.now)) }
     {
         match self {
             Verdict::Usage => Vec::from_slice(alloc, USAGE),
             Verdict::NoFile(name) => joined(alloc, b"refused NoFile ", name.as_slice(), b"\n"),
-            Verdict::TextRefused(source) => joined(
-                alloc,
-                b"refused NotInProfile ",
-                source.name(),
-                b" 0\n",
-            ),
-            Verdict::Ended { turn, tic } => ended_line(alloc, turn, tic),
+            Verdict::TextRefused(line) => Vec::from_slice(alloc, line),
+            Verdict::PlanRefused(line) => Vec::from_slice(alloc, line),
+            Verdict::Accepted {
+                cells,
+                jobs,
+                threads,
+            } => accepted_line(alloc, *cells, *jobs, *threads),
+            Verdict::Listed(line) => Vec::from_slice(alloc, line),
+            Verdict::Ended(ended) => ended_line(alloc, *ended),
             Verdict::ShelfFault => Vec::from_slice(alloc, SHELF_FAULT),
             Verdict::OutOfMemory => Vec::from_slice(alloc, OUT_OF_MEMORY),
         }
     }
-}
-
-fn ended_line(alloc: Global, turn: u64, tic: u64) -> Result<Vec<u8>, AllocError>
-    ensures { IfOk result (λ line. line.items ≡ line_of (Ended turn tic)) }
-{
-    let mut line = Vec::from_slice(alloc, b"ended turns=")?;
-    line.extend_from_slice(Buffer::new().format(turn).as_bytes())?;
-    line.extend_from_slice(b" tic=")?;
-    line.extend_from_slice(Buffer::new().format(tic).as_bytes())?;
-    line.extend_from_slice(b" faults=0 sessions=0\n")?;
-    Ok(line)
 }

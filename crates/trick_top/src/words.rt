@@ -5,11 +5,24 @@ use std::alloc::{AllocError, Global};
 use trick_base::Word;
 use trick_words::{laws, read_command};
 
-/// What the words of a command line ask for: a command that the program has today.
+/// What is done with the two texts of a simulation.
+#[derive(Clone, Copy, Debug, PartialEq, Eq)]
+pub(crate) enum Task {
+    /// The run on one thread, from the start.
+    Serial,
+    /// Accepts or refuses the plan, and runs nothing.
+    Check,
+    /// Lists the cells.
+    List,
+}
+
+/// What the words of a command line ask for: a command that the program has today. Each is about the
+/// texts in two files.
 #[derive(Debug, Drop)]
-pub(crate) enum Command {
-    /// One run on one thread, of the texts in these two files.
-    Serial { s_define: Word, input: Word },
+pub(crate) struct Command {
+    pub(crate) task: Task,
+    pub(crate) s_define: Word,
+    pub(crate) input: Word,
 }
 
 impl Command {
@@ -20,9 +33,7 @@ impl Command {
     pub(crate) fn names(&self) -> [&Word; 2]
         ensures { map (λ name. name.now) result ≡ names_of self.now }
     {
-        match self {
-            Command::Serial { s_define, input } => [s_define, input],
-        }
+        [&self.s_define, &self.input]
     }
 }
 
@@ -35,8 +46,22 @@ fn command_of(line: trick_words::Command) -> Option<Command>
             s_define,
             input,
             from: None,
-        } => Some(Command::Serial { s_define, input }),
-        _ => None,
+        } => Some(Command {
+            task: Task::Serial,
+            s_define,
+            input,
+        }),
+        trick_words::Command::Check { s_define, input } => Some(Command {
+            task: Task::Check,
+            s_define,
+            input,
+        }),
+        trick_words::Command::List { s_define, input } => Some(Command {
+            task: Task::List,
+            s_define,
+            input,
+        }),
+        _other => None,
     }
 }
 

@@ -3,7 +3,7 @@ use Rattle.trick_top.specs.Printed.{cut_off, not_printed, printed}
 use Rattle.trick_top.specs.Verdict.{verdict_of}
 
 pub returns-in-Done : goal.returns-in-Done
-returns-in-Done g c = rw c.status.ensures (printed {verdict = verdict_of c.args.verdict} (rw (← c.requires) c.in-Done.ensures))
+returns-in-Done g c = rw c.status.ensures (printed {verdict = verdict_of c.args.verdict.now} (rw (← c.requires) c.in-Done.ensures))
 
 pub returns-in-Failed : goal.returns-in-Failed
 returns-in-Failed g c = not_printed (rw (← c.requires) c.in-Failed.ensures)

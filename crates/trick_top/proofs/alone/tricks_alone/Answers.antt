@@ -13,6 +13,12 @@ returns-clause-usage g c = top.usage c.one_command.ensures c.answer.ensures
 pub returns-clause-text_refused : goal.returns-clause-text_refused
 returns-clause-text_refused g c = top.text_refused c.one_command.ensures c.answer.ensures
 
+pub returns-clause-plan_refused : goal.returns-clause-plan_refused
+returns-clause-plan_refused g c = top.plan_refused c.one_command.ensures c.answer.ensures
+
+pub returns-clause-faults : goal.returns-clause-faults
+returns-clause-faults g c = top.ended_with_faults c.one_command.ensures c.answer.ensures
+
 pub returns-clause-shelf_fault : goal.returns-clause-shelf_fault
 returns-clause-shelf_fault g c = top.shelf_fault c.one_command.ensures c.answer.ensures
 
@@ -36,6 +42,9 @@ returns-clause-no_file_all g c = top.no_file_all c.one_command.ensures c.answer.
 
 pub returns-clause-text_refused_all : goal.returns-clause-text_refused_all
 returns-clause-text_refused_all g c = top.text_refused_all c.one_command.ensures c.answer.ensures
+
+pub returns-clause-plan_refused_all : goal.returns-clause-plan_refused_all
+returns-clause-plan_refused_all g c = top.plan_refused_all c.one_command.ensures c.answer.ensures
 
 pub returns-clause-complete : goal.returns-clause-complete
 returns-clause-complete g c = top.complete c.one_command.ensures c.answer.ensures

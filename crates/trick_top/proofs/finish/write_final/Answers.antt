@@ -1,8 +1,0 @@
-use Rattle.trick_outside.proofs.DoesLemmas.{does_none}
-use Rattle.trick_top.proofs.finish.write_final.Goals as goal
-
-pub returns-in_default : goal.returns-in_default
-returns-in_default g c = does_none c.args.shelf.now _ _ (g.met.F.Shelf.called_none c.args.shelf.now) (λ ok. cc) (λ f. cc)
-
-pub returns-in_default-print : goal.returns-in_default-print
-returns-in_default-print g c = does_none c.args.shelf.now _ _ (g.met.F.Shelf.called_none c.args.shelf.now) (λ ok. cc) (λ f. cc)
