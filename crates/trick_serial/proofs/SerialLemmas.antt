@@ -1,6 +1,6 @@
 -- What a run that stopped or ended hands on.
-use Rattle.std.proofs.Common.{◌≡◌, List, Ok, Err, IsOk, refl, subst}
-use Rattle.std.specs.Prelude.{Result, IsErrOf}
+use Rattle.std.proofs.Common.{◌≡◌, List, [], Ok, Err, IsOk, refl}
+use Rattle.std.specs.Prelude.{Result}
 use Rattle.trick_exec.proofs.AloneLemmas.{stops_at_once}
 use Rattle.trick_exec.specs.Alone.{RunsAlone}
 use Rattle.trick_model.specs.Plan.{Plan}

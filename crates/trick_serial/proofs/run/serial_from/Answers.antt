@@ -6,17 +6,17 @@ use Rattle.trick_serial.proofs.SerialLemmas.{came, none_kept, stopped}
 use Rattle.trick_serial.proofs.run.serial_from.Goals as goal
 use Rattle.trick_serial.specs.Serial.{ended_by}
 
-pub returns-in_default-clause-run : goal.returns-in_default-clause-run
-returns-in_default-clause-run g c =
-    none_kept _ (plan_of c.args.accepted.now.plan) (seen g.M.Cells.numbers c.args.state) (g.met.F.Shelf.called_none _)
+pub returns-in_default : goal.returns-in_default
+returns-in_default g c =
+    record { run = none_kept _ (plan_of c.args.accepted.now.plan) (seen g.M.Cells.numbers c.args.state) (g.met.F.Shelf.called_none _) }
 
-pub returns-in_err-last-clause-run : goal.returns-in_err-last-clause-run
-returns-in_err-last-clause-run g c =
+pub returns-in_err-last : goal.returns-in_err-last
+returns-in_err-last g c =
     let error = err_from_is_err_and c.from_residual.result c.from_residual.ensures.1 in
     let run = c.in_err-last.ensures.run in
-    rw error.1 (stopped (plan_of c.args.accepted.now.plan) (seen g.M.Cells.numbers c.args.state) run.0 _ _ run.1 refl error.2)
+    rw error.1 (record { run = stopped (plan_of c.args.accepted.now.plan) (seen g.M.Cells.numbers c.args.state) run.0 _ _ run.1 refl error.2 })
 
-pub returns-clause-run : goal.returns-clause-run
-returns-clause-run g c =
+pub returns : goal.returns
+returns g c =
     let run = c.in_ok-last.ensures.run in
-    came (plan_of c.args.accepted.now.plan) (seen g.M.Cells.numbers c.args.state) run.0 _ run.1 refl (c.ended_by.ensures ∙ ap ended_by run.2)
+    record { run = came (plan_of c.args.accepted.now.plan) (seen g.M.Cells.numbers c.args.state) run.0 _ run.1 refl (c.ended_by.ensures ∙ ap ended_by run.2) }
