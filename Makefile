@@ -1,5 +1,5 @@
 # make demo      proves, builds and runs the counter example, and shows its final checkpoint
-# make test      the gate: every proof, every edit that must fail, every test, the program
+# make test      the gate: every proof, every edit that must fail, every test, the program, the examples
 # make tricks    the program, at build/tricks
 # make install   the program, at $(PREFIX)/bin/tricks
 
@@ -13,6 +13,7 @@ demo: tricks
 
 test:
 	rt ci
+	examples/check
 
 # `rt run` builds what it runs. With no words the program prints its usage and ends with status 1,
 # so what tells is that the program is there afterwards.

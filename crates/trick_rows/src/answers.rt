@@ -1,6 +1,7 @@
 //! Statuses and what is printed with them, by `check`, `list` and `serial`.
 
 use crate::models::{COUNTER, PLANT};
+use crate::runs::{READS, RECORDED, TANK, TANK_RUN};
 use crate::told::{accepts, answers, tells, with_texts, words};
 use std::test::Fail;
 use trick_outside::{MemoryShelf, MemorySink, Shelf};
@@ -225,40 +226,6 @@ fn the_sink_fails_or_takes_a_part(rt: HostRuntime) -> Result<(), Fail> {
 
 #[test]
 fn simulations_that_are_accepted(rt: HostRuntime) -> Result<(), Fail> {
-    let tank = r#"/* PURPOSE: (tank) */
-#include "sim_objects/default_trick_sys.sm"
-enum Phase { FILL, HOLD };
-struct Tank { long level; int count[2]; };
-class TankSimObject : public Trick::SimObject {
-  public:
-    Tank tank;
-    Phase phase;
-    int init() { tank.level = 10; phase = FILL; return(0); }
-    int fill() {
-      if (phase == FILL) { tank.level += 4; }
-      if (tank.level > 20) { phase = HOLD; }
-      tank.count[phase]++;
-      return 0;
-    }
-    TankSimObject() {
-      ("default_data") init();
-      C1 P10 (0.5, "scheduled") fill();
-    }
-};
-TankSimObject plant;
-"#;
-    let run = r#"# tank run
-trick.exec_set_software_frame(1.0)
-drg = trick.sim_services.DRAscii("plant")
-drg.thisown = 0
-drg.set_cycle(1.0)
-drg.freq = trick.sim_services.DR_Always
-drg.add_variable("plant.tank.level")
-drg.add_variable("plant.phase")
-trick.add_data_record_group(drg, trick.DR_Buffer)
-drg.enable()
-trick.stop(2.0)
-"#;
     let event = r#"e = trick.new_event("full")
 e.condition(0, "counter.n >= 2")
 e.action(0, "trick.freeze()")
@@ -268,26 +235,14 @@ trick.stop(5.0)
 "#;
     let cases = [
         (COUNTER, "trick.stop(3.0)", "cells=1 jobs=1 threads=1"),
-        (tank, run, "cells=4 jobs=2 threads=2"),
+        (TANK, TANK_RUN, "cells=4 jobs=2 threads=2"),
         (COUNTER, event, "cells=1 jobs=1 threads=1"),
         (
             COUNTER,
             "trick.TMM_declare_var_s(\"int spare[2]\")\nspare[1] = -3\ntrick.stop(3.0)",
             "cells=3 jobs=1 threads=1",
         ),
-        (
-            "class O : public Trick::SimObject { public: long v; };\nO o;\n",
-            "o.v = 5
-trick.add_read(2.0, \"o.v = 7\")
-trick.add_read(4.0, \"o.v = 5\")
-g = trick.DRAscii(\"g\")
-g.freq = trick.DR_Changes
-g.add_variable(\"o.v\")
-g.set_cycle(1.0)
-trick.add_data_record_group(g)
-trick.stop(4.0)",
-            "cells=1 jobs=0 threads=1",
-        ),
+        (RECORDED, READS, "cells=1 jobs=0 threads=1"),
         (PLANT, "", "cells=11 jobs=4 threads=2"),
         ("", "trick.stop(0.0)", "cells=0 jobs=0 threads=1"),
         ("// nothing", "", "cells=0 jobs=0 threads=1"),

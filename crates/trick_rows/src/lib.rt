@@ -7,6 +7,8 @@ mod accepted;
 #[cfg(test)]
 mod answers;
 #[cfg(test)]
+mod failing;
+#[cfg(test)]
 mod forms;
 #[cfg(test)]
 mod limits;
@@ -18,6 +20,8 @@ mod models;
 mod races;
 #[cfg(test)]
 mod repeated;
+#[cfg(test)]
+mod runs;
 #[cfg(test)]
 mod scan;
 #[cfg(test)]

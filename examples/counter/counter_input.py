@@ -1,0 +1,2 @@
+# Stop after 3 seconds: the jobs of that tic still run.
+trick.stop(3.0)
