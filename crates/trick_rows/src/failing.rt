@@ -19,15 +19,16 @@ faults = 0;
 end;
 ";
 
+const HEADER: (&str, &str) = ("log_g.csv", "tic,o.v\n");
+
+const ONE_ROW: (&str, &str) = ("log_g.csv", "tic,o.v\n0,5\n");
+
+const TWO_ROWS: (&str, &str) = ("log_g.csv", "tic,o.v\n0,5\n2000000,7\n");
+
+const LOG: (&str, &str) = ("log_g.csv", "tic,o.v\n0,5\n2000000,7\n4000000,5\n");
+
 #[test]
 fn each_call_of_a_run_fails(rt: HostRuntime) -> Result<(), Fail> {
-    let rows = [
-        "tic,o.v\n",
-        "tic,o.v\n0,5\n",
-        "tic,o.v\n0,5\n2000000,7\n",
-        "tic,o.v\n0,5\n2000000,7\n4000000,5\n",
-    ];
-    let whole = ("log_g.csv", rows[3]);
     // What is held beside the two texts, where this call fails: their two gets, then create and append of
     // the journal and of the log, its three rows, and create and append of the last files.
     let calls: [&[(&str, &str)]; 14] = [
@@ -37,16 +38,16 @@ fn each_call_of_a_run_fails(rt: HostRuntime) -> Result<(), Fail> {
         &[("journal.txt", "")],
         &[JOURNAL],
         &[JOURNAL, ("log_g.csv", "")],
-        &[JOURNAL, ("log_g.csv", rows[0])],
-        &[JOURNAL, ("log_g.csv", rows[1])],
-        &[JOURNAL, ("log_g.csv", rows[2])],
-        &[JOURNAL, whole],
-        &[JOURNAL, whole, ("final.chk", "")],
-        &[JOURNAL, whole, ("final.chk", FINAL)],
-        &[JOURNAL, whole, ("final.chk", FINAL), ("faults.txt", "")],
+        &[JOURNAL, HEADER],
+        &[JOURNAL, ONE_ROW],
+        &[JOURNAL, TWO_ROWS],
+        &[JOURNAL, LOG],
+        &[JOURNAL, LOG, ("final.chk", "")],
+        &[JOURNAL, LOG, ("final.chk", FINAL)],
+        &[JOURNAL, LOG, ("final.chk", FINAL), ("faults.txt", "")],
         &[
             JOURNAL,
-            whole,
+            LOG,
             ("final.chk", FINAL),
             ("faults.txt", "total 0\n"),
         ],
