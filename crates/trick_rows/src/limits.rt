@@ -3,42 +3,46 @@
 use crate::models::{PLANT, PLANT_COUNTS};
 use crate::repeated::{numbered, repeated};
 use crate::told::{accepts, refuses_text};
+use std::process::Abort;
 use std::test::Fail;
 
+/// Whether a line may stand so often behind others, and no more often.
+fn stands_at_most(
+    rt: &(impl Abort + AllocGlobal),
+    front: &str,
+    line: &str,
+    limit: u32,
+) -> Result<(), Fail> {
+    let most = repeated(rt.alloc(), limit, line)?;
+    let input = format!(in rt.alloc(); "{front}{most}")?;
+    accepts(rt, PLANT, input.as_str(), PLANT_COUNTS)?;
+    let last = front
+        .lines()
+        .count()
+        .saturating_add(limit as usize)
+        .saturating_add(1);
+    let input = format!(in rt.alloc(); "{front}{most}{line}trick.stop(0.0000001)")?;
+    let what = format!(in rt.alloc(); "TooMany input {last} {limit}")?;
+    refuses_text(rt, PLANT, input.as_str(), what.as_str())
+}
+
 #[test]
-fn pairs_reads_and_variables(rt: HostRuntime) -> Result<(), Fail> {
-    // what stands in front, the line that is counted, how often it may stand, and the line of the one
-    // more
-    let cases = [
-        (
-            "",
-            "trick.exec_add_depends_on_job('plant.fill', 2, 'plant.fill', 1)\n",
-            512,
-            513,
-        ),
-        ("", "trick.add_read(1.0, 'trick.stop()')\n", 4096, 4097),
-        (
-            "v = trick.DRAscii('v')\n",
-            "v.add_variable('plant.open')\n",
-            256,
-            258,
-        ),
-        (
-            "v = trick.DRAscii('v')\ntrick.add_data_record_group(v)\n\n",
-            "v.add_variable('plant.open')\n",
-            256,
-            260,
-        ),
-    ];
-    for (front, line, limit, last) in cases {
-        let most = repeated(rt.alloc(), limit, line)?;
-        let input = format!(in rt.alloc(); "{front}{most}")?;
-        accepts(&rt, PLANT, input.as_str(), PLANT_COUNTS)?;
-        let input = format!(in rt.alloc(); "{front}{most}{line}trick.stop(0.0000001)")?;
-        let what = format!(in rt.alloc(); "TooMany input {last} {limit}")?;
-        refuses_text(&rt, PLANT, input.as_str(), what.as_str())?;
-    }
-    Ok(())
+fn pairs_of_jobs(rt: HostRuntime) -> Result<(), Fail> {
+    let line = "trick.exec_add_depends_on_job('plant.fill', 2, 'plant.fill', 1)\n";
+    stands_at_most(&rt, "", line, 512)
+}
+
+#[test]
+fn reads(rt: HostRuntime) -> Result<(), Fail> {
+    stands_at_most(&rt, "", "trick.add_read(1.0, 'trick.stop()')\n", 4096)
+}
+
+#[test]
+fn variables_of_a_group(rt: HostRuntime) -> Result<(), Fail> {
+    let line = "v.add_variable('plant.open')\n";
+    stands_at_most(&rt, "v = trick.DRAscii('v')\n", line, 256)?;
+    let front = "v = trick.DRAscii('v')\ntrick.add_data_record_group(v)\n\n";
+    stands_at_most(&rt, front, line, 256)
 }
 
 #[test]
@@ -82,13 +86,7 @@ fn actions_of_an_event(rt: HostRuntime) -> Result<(), Fail> {
 
 #[test]
 fn cells_that_are_declared(rt: HostRuntime) -> Result<(), Fail> {
-    accepts(
-        &rt,
-        PLANT,
-        "trick.TMM_declare_var_s('int x[65525]')",
-        "cells=65536 jobs=4 threads=2",
-    )?;
-    // 11 cells are there; in the third line they become too many
+    // 11 cells are there, and in the third line they become too many
     let last = [
         "int x[63526]",
         "int x[65525]",
@@ -107,4 +105,14 @@ trick.TMM_declare_var_s('{declaration}')"
         refuses_text(&rt, PLANT, input.as_str(), "TooMany input 3 65536")?;
     }
     Ok(())
+}
+
+#[test]
+fn as_many_cells_as_may_be(rt: HostRuntime) -> Result<(), Fail> {
+    accepts(
+        &rt,
+        PLANT,
+        "trick.TMM_declare_var_s('int x[65525]')",
+        "cells=65536 jobs=4 threads=2",
+    )
 }

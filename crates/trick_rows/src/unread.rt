@@ -1,9 +1,10 @@
 //! Lines of an input that are of no form.
 
 use crate::models::{COUNTER, PLANT};
-use crate::told::refuses_text;
+use crate::told::{refuses_text, tells, with_texts};
 use std::process::Abort;
 use std::test::Fail;
+use trick_outside::MemoryShelf;
 
 /// Whether each of these lines is refused with a code, in the line that it is, behind others.
 fn refuse_lines(rt: &(impl Abort + AllocGlobal), code: &str, lines: &[&str]) -> Result<(), Fail> {
@@ -211,10 +212,7 @@ fn faults_of_the_text_of_an_input(rt: HostRuntime) -> Result<(), Fail> {
 fn an_input_has_at_most_16777216_bytes(rt: HostRuntime) -> Result<(), Fail> {
     // before every other fault
     let text = vec![in rt.alloc(); b'\''; 16_777_217]?;
-    refuses_text(
-        &rt,
-        COUNTER,
-        str::from_utf8(&text)?,
-        "LongText input 16777216",
-    )
+    let mut shelf = with_texts(MemoryShelf::new(rt.alloc()), COUNTER, "")?.with_file(b"i", &text)?;
+    let line = "refused LongText input 16777216";
+    tells(&rt, &["check", "s", "i"], &mut shelf, 2, line)
 }
