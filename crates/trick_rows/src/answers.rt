@@ -218,7 +218,8 @@ fn the_sink_fails_or_takes_a_part(rt: HostRuntime) -> Result<(), Fail> {
             let failing = vec![in alloc; taken as u64]?;
             let mut out = MemorySink::failing(alloc, failing).with_most(1);
             assert_eq!(rt; tricks_alone(alloc, &command, &mut shelf, &mut out), 8);
-            assert_eq!(rt; out.bytes(), &line.as_bytes()[..taken]);
+            assert_eq!(rt; out.bytes().len(), taken);
+            assert!(rt; line.as_bytes().starts_with(out.bytes()));
         }
     }
     Ok(())
