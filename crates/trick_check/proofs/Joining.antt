@@ -30,16 +30,14 @@ order_takes ds class order is k low =
 pub count_is : (ds : SDefine) → ((tables : _) → capped (names_count (counts (all_groups tables)) tables.names) ≡ capped (length (memory_cells tables))) → JobsAreRight ds → names_count (sizes_of ds) (tables_of ds).names ≡ cells_in ds
 count_is ds law right = same_count (names_count (sizes_of ds) (tables_of ds).names) (cells_in ds) (law (tables_of ds)) right.0.1
 
-pub named : (ds : SDefine) (orders : List (List ℕ)) (d : Draft) (p : Program) → IsDraft ds orders d → IsJoined d p → IsNamed ds p
-named ds orders d p draft joined =
+pub named : (ds : SDefine) (d : Draft) (p : Program) → IsDraft ds d → IsJoined d p → IsNamed ds p
+named ds d p draft joined =
     record {
       right = draft.right;
       cells = joined.cells ∙ draft.cells;
       items = joined.items ∙ draft.items;
       sizes = joined.sizes ∙ ap (λ (q : Layout). q.sizes) draft.layout;
       objects = joined.objects ∙ draft.objects;
-      orders = orders;
-      ordered = draft.ordered;
       blocks = ap bodies_of joined.blocks ∙ ap (λ (m : Made). m.progress.bodies) draft.bodies;
       methods = joined.methods ∙ ap (λ (m : Made). m.methods) draft.bodies;
       slots = joined.slots ∙ ap (λ (m : Made). m.progress.world.slots) draft.bodies;

@@ -22,3 +22,7 @@ pub mod Used
 pub mod Whole
 -- What a program asks of the blocks of its parts.
 pub mod Joined
+-- A file that names a program has no refusal.
+pub mod Excluded
+-- A file has one refusal.
+pub mod OneRefusal

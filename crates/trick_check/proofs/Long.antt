@@ -1,18 +1,19 @@
 -- The steps of jobs, by those of blocks.
-use Rattle.std.proofs.Common.{◌≡◌, ℕ, suc, ◌+◌, ◌<◌, ◌≤◌, List, [], ◌∷◌, ◌++◌, length, get_or, slice_get, Option, Some, None, Bool, true, false, nat_le, refl, ap, sym, ◌∙◌, subst, arith, ◌==◌, ◌≢◌, eq-eqb}
+use Rattle.std.proofs.Common.{◌≡◌, ℕ, zero, suc, ◌+◌, ◌<◌, ◌≤◌, List, [], ◌∷◌, ◌++◌, length, get_or, slice_get, Option, Some, None, Bool, true, false, nat_le, refl, ap, sym, ◌∙◌, subst, arith, ◌==◌, ◌≢◌, eq-eqb}
 use Rattle.std.proofs.Math.ListN.{get_or-eq_default, length-append}
-use Rattle.std.proofs.lemmas.Bool.{eqb-true, le-leb}
+use Rattle.std.proofs.lemmas.Bool.{and_parts, eqb-true, le-leb, leb-true}
 use Rattle.std.proofs.lemmas.Option.{get_or_from_slice_get, slice_get-get_or}
 use Rattle.std.specs.List.{list_all}
 use Rattle.trick_blocks.specs.Held.{bodies_of}
 use Rattle.trick_blocks.specs.Kept.{codes_in}
 use Rattle.trick_bodies.specs.Classes.{Made, made}
 use Rattle.trick_bodies.specs.declared.class.Bodies.{Bodies}
-use Rattle.trick_check.specs.Refused.{IsFirstLong, IsLongJob, steps_by, steps_in}
+use Rattle.trick_check.specs.Refused.{AreShortJobs, IsFirstLong, IsLongJob, steps_by, steps_in}
+use Rattle.trick_check.specs.Walk.{all_made, jobs_named}
 use Rattle.trick_lang.specs.Blocks.{table}
 use Rattle.trick_lang.specs.Count.{all_steps, block_steps}
 use Rattle.trick_lang.specs.Names.{job_name}
-use Rattle.trick_lang.specs.SyntaxTree.{Name}
+use Rattle.trick_lang.specs.SyntaxTree.{Name, SDefine}
 use Rattle.trick_lang.specs.Tree.{Code}
 use Rattle.trick_lang.specs.TreeOf.{codes_of}
 use Rattle.trick_lang.specs.Valid.{are_short, block_of, method_of}
@@ -106,6 +107,27 @@ short_all b jobs f =
     let is : steps_in (made b) job ≡ block_steps (codes_of blocks) (block_of (length blocks) o) =
     ap (λ q. block_steps q (block_of (length (bodies_of blocks)) o)) (codes_are blocks) ∙ ap (λ q. block_steps (codes_of blocks) (block_of q o)) (bodies_many blocks) in
     le-leb (block_steps (codes_of blocks) (block_of (length blocks) o)) 1000000 (subst (λ n. n ≤ 1000000) is (f k job low at)))
+
+each_passes : {X : Type 0} (p : X → Bool) (xs : List X) (k : ℕ) (x : X) → list_all p xs ≡ true → slice_get xs k ≡ Some x → p x ≡ true
+each_passes p [] k x all at = absurd (cc at)
+each_passes p (y ∷ ys) zero x all at = let same : y ≡ x = cc in subst (λ z. p z ≡ true) same (and_parts _ _ all).0
+each_passes p (y ∷ ys) (suc k) x all at = each_passes p ys k x (and_parts _ _ all).1 at
+
+-- and each is short where all are
+short_each : (b : Bodies) (jobs : List Job) → are_short b.blocks.items b.methods jobs ≡ true → AreShortJobs (made b) jobs
+short_each b jobs all k job at =
+    let blocks = b.blocks.items in
+    let o = method_of b.methods (Some job) in
+    let is : steps_in (made b) job ≡ block_steps (codes_of blocks) (block_of (length blocks) o) =
+    ap (λ q. block_steps q (block_of (length (bodies_of blocks)) o)) (codes_are blocks) ∙ ap (λ q. block_steps (codes_of blocks) (block_of q o)) (bodies_many blocks) in
+    let short = leb-true (block_steps (codes_of blocks) (block_of (length blocks) o)) 1000000
+    (each_passes (λ job. nat_le (block_steps (codes_of blocks) (block_of (length blocks) (method_of b.methods (Some job)))) 1000000) jobs k job all at) in
+    subst (λ n. n ≤ 1000000) (sym is) short
+
+-- the jobs of a file are short where those that are made are
+pub short_jobs : (ds : SDefine) (b : Bodies) (jobs : List Job) → made b ≡ all_made ds → jobs ≡ jobs_named ds → are_short b.blocks.items b.methods jobs ≡ true → AreShortJobs (all_made ds) (jobs_named ds)
+short_jobs ds b jobs is_made are_jobs all =
+    subst (λ m. AreShortJobs m (jobs_named ds)) is_made (subst (λ (q : List Job). AreShortJobs (made b) q) are_jobs (short_each b jobs all))
 
 -- the refusal of a long job
 pub long_job_is : (m : Made) (objects : List Object) (jobs : List Job) (k : ℕ) (d : Job) (ms : List Method) (name : Name) → (k < length jobs) × ((job : Job) → slice_get jobs k ≡ Some job → IsFirstLong m jobs k job) → ms ≡ m.methods → name ≡ job_name objects ms (get_or jobs k d) → IsLongJob m objects jobs name (get_or jobs k d).instance

@@ -26,10 +26,10 @@ pub class_layout : (b : Bool) (class : ℕ) (order : List ℕ) (parts : List tre
 class_layout true class order parts m = parts_layout order parts (progress (record m.progress.world { class = class; methods = [] }) m.progress.bodies)
 class_layout false class order parts m = refl
 
-pub first_layout : (ds : SDefine) (objects : List Object) (orders : List (List ℕ)) (n : ℕ) → (made_of_first ds objects orders n).progress.world.layout ≡ file_layout ds
-first_layout ds objects orders zero = refl
-first_layout ds objects orders (suc n) =
-    class_layout (has_object objects n) n (order_at orders n) (parts_at ds n) (made_of_first ds objects orders n) ∙ first_layout ds objects orders n
+pub first_layout : (ds : SDefine) (objects : List Object) (n : ℕ) → (made_of_first ds objects n).progress.world.layout ≡ file_layout ds
+first_layout ds objects zero = refl
+first_layout ds objects (suc n) =
+    class_layout (has_object objects n) n (order_at ds n) (parts_at ds n) (made_of_first ds objects n) ∙ first_layout ds objects n
 
 taken_small : (sizes : List ℕ) (k : ℕ) → size_at (taken sizes) k ≤ 65536
 taken_small [] k = omega arith

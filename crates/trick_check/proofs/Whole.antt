@@ -32,8 +32,8 @@ cells_are ds t sizes cells e f unfolds told =
     of_file (all_groups (tables_of ds)) (unfolds, f)
 
 -- where the variables lie that the bodies see
-pub layout_is : (ds : SDefine) (orders : List (List ℕ)) (m : Made) → m ≡ all_made ds orders → m.progress.world.layout ≡ file_layout ds
-layout_is ds orders m is = ap (λ (q : Made). q.progress.world.layout) is ∙ first_layout ds (objects_of ds) orders (length ds)
+pub layout_is : (ds : SDefine) (m : Made) → m ≡ all_made ds → m.progress.world.layout ≡ file_layout ds
+layout_is ds m is = ap (λ (q : Made). q.progress.world.layout) is ∙ first_layout ds (objects_of ds) (length ds)
 
 -- the memory has the cells of the file
 layout_cells : (ds : SDefine) → CountsCells → JobsAreRight ds → (file_layout ds).cells ≡ cells_in ds
@@ -42,14 +42,14 @@ layout_cells ds law right =
     let low = right.0.1 in
     omega (arith, count, low)
 
-pub draft_whole : (ds : SDefine) (orders : List (List ℕ)) (d : Draft) → CountsCells → JobsAreRight ds → IsDraft ds orders d → AreWhole (made d.bodies) → IsTrue (are_short d.bodies.blocks.items d.bodies.methods d.jobs) → IsWhole d
-draft_whole ds orders d law right draft whole short =
+pub draft_whole : (ds : SDefine) (d : Draft) → CountsCells → JobsAreRight ds → IsDraft ds d → AreWhole (made d.bodies) → IsTrue (are_short d.bodies.blocks.items d.bodies.methods d.jobs) → IsWhole d
+draft_whole ds d law right draft whole short =
     let many : length d.cells ≡ cells_in ds = ap length draft.cells in
     let low : cells_in ds ≤ 65536 = right.0.1 in
     let count : names_count (sizes_of ds) (tables_of ds).names ≡ cells_in ds = count_is ds law right in
     let fit : objects_stand (cells_in ds) (taken (sizes_of ds)) (objects_of ds) ≡ true = objects_fit (sizes_of ds) (tables_of ds).names (cells_in ds) (omega (arith, count)) low in
     let sizes : d.bodies.world.layout.sizes ≡ taken (sizes_of ds) = ap (λ (q : Layout). q.sizes) draft.layout in
-    let jobs : length d.jobs ≤ 512 = subst (λ n. n ≤ 512) (sym (ap length draft.jobs ∙ jobs_many ds (all_made ds orders).numbers 0 (objects_of ds))) right.1 in
+    let jobs : length d.jobs ≤ 512 = subst (λ n. n ≤ 512) (sym (ap length draft.jobs ∙ jobs_many ds (all_made ds).numbers 0 (objects_of ds))) right.1 in
     record {
       bodies = whole;
       cells = ap (λ (q : Layout). q.cells) draft.layout ∙ (layout_cells ds law right ∙ sym many);
@@ -57,7 +57,7 @@ draft_whole ds orders d law right draft whole short =
       object_cells =
           ap (λ n. objects_stand n d.bodies.world.layout.sizes d.objects) many
           ∙ (ap (λ q. objects_stand (cells_in ds) q d.objects) sizes ∙ (ap (λ (q : List Object). objects_stand (cells_in ds) (taken (sizes_of ds)) q) draft.objects ∙ fit));
-      job_numbers = ap (are_apart of_one_number) draft.jobs ∙ numbers_apart ds (all_made ds orders).numbers 0 (objects_of ds);
+      job_numbers = ap (are_apart of_one_number) draft.jobs ∙ numbers_apart ds (all_made ds).numbers 0 (objects_of ds);
       job_limit = jobs;
       short = short;
     }

@@ -1,13 +1,11 @@
 -- The parts of a program, before they are joined.
 
-use Rattle.std.specs.Prelude.{◌≡◌, ℕ, ◌≤◌, IsTrue, List, length}
+use Rattle.std.specs.Prelude.{◌≡◌, ◌≤◌, IsTrue, length}
 use Rattle.trick_bodies.specs.Classes.{AreWhole, made}
 use Rattle.trick_cells.specs.Cells.{memory_cells}
 use Rattle.trick_cells.specs.Tables.{item_rows}
-use Rattle.trick_check.specs.Named.{jobs_named}
-use Rattle.trick_check.specs.Parts.{AreOrders}
-use Rattle.trick_check.specs.Refused.{NamesAreRight}
-use Rattle.trick_check.specs.Walk.{all_made, file_layout, objects_of}
+use Rattle.trick_check.specs.Refused.{StepsAreRight}
+use Rattle.trick_check.specs.Walk.{all_made, file_layout, jobs_named, objects_of}
 use Rattle.trick_check.specs.declared.draft.Draft.{Draft}
 use Rattle.trick_lang.specs.Names.{are_apart, are_short_names, of_one_instance, of_one_name, of_one_number}
 use Rattle.trick_lang.specs.SyntaxTree.{SDefine}
@@ -16,15 +14,14 @@ use Rattle.trick_lang.specs.declared.program.Program.{Program}
 use Rattle.trick_names.specs.Tables.{tables_of}
 
 -- these are the parts of what the file names
-pub record IsDraft (ds : SDefine) (orders : List (List ℕ)) (d : Draft) : Type 0 where
-  pub right : NamesAreRight ds
-  pub ordered : AreOrders ds orders
+pub record IsDraft (ds : SDefine) (d : Draft) : Type 0 where
+  pub right : StepsAreRight ds
   pub cells : d.cells ≡ memory_cells (tables_of ds)
   pub items : d.items ≡ item_rows (tables_of ds).names
   pub objects : d.objects ≡ objects_of ds
-  pub bodies : made d.bodies ≡ all_made ds orders
+  pub bodies : made d.bodies ≡ all_made ds
   pub layout : d.bodies.world.layout ≡ file_layout ds
-  pub jobs : d.jobs ≡ jobs_named ds orders
+  pub jobs : d.jobs ≡ jobs_named ds
 
 -- what the parts of each file keep
 pub record IsWhole (d : Draft) : Type 0 where

@@ -2,10 +2,10 @@
 pub mod Parts
 -- What is made of the classes of a file.
 pub mod Walk
--- Which program a file names.
-pub mod Named
 -- Which refusal a file has.
 pub mod Refused
+-- Which program a file names.
+pub mod Named
 -- What the tests of a program go by.
 pub mod Tests
 -- The parts of a program, before they are joined.

@@ -1,13 +1,13 @@
 -- The parts of the classes of a file, and which methods call which. A class has the number of its
 -- definition in the file, and a method that of its part in the class.
 
-use Rattle.std.specs.Prelude.{ℕ, zero, suc, ◌<◌, List, [], ◌∷◌, length, slice_get, slice_index_or, Option, Some}
+use Rattle.std.specs.Prelude.{◌≡◌, ℕ, zero, suc, ◌<◌, List, [], ◌∷◌, length, slice_get, slice_index_or, Option, Some}
 use Rattle.trick_lang.specs.SyntaxTree as tree
 use Rattle.trick_lang.specs.SyntaxTree.{Name, SDefine, ClassOf, HasMethod}
 use Rattle.trick_names.specs.Calls.{class_calls}
 use Rattle.trick_names.specs.Places.{members_at}
 use Rattle.trick_names.specs.Tables.{tables_of}
-use Rattle.trick_order.specs.Calls.{IsOrderOf, ReachesItself}
+use Rattle.trick_order.specs.Calls.{IsOrderOf, ReachesItself, order_of}
 
 -- the parts of a class; another definition has none
 abbrev pub parts_in : tree.Definition → List tree.Part
@@ -36,10 +36,14 @@ calls_at ds class = class_calls (parts_at ds class) (members_at (tables_of ds).g
 abbrev pub HaveNoLoop : SDefine → ℕ → Type 0
 HaveNoLoop ds n = (class : ℕ) → class < n → (part : ℕ) → ReachesItself (calls_at ds class) part → ⊥
 
--- the order of the parts of a class, where these are those of all
-abbrev pub order_at : List (List ℕ) → ℕ → List ℕ
-order_at orders class = slice_index_or orders class []
+-- the one order of the parts of the class of that number
+abbrev pub order_at : SDefine → ℕ → List ℕ
+order_at ds class = order_of (calls_at ds class)
 
--- for each class an order of its parts, in which each method stands behind those that it calls
+-- this is the one order, and in it each method stands behind those that it calls
+abbrev pub IsOneOrder : List (List ℕ) → List ℕ → Type 0
+IsOneOrder calls order = (order ≡ order_of calls) × IsOrderOf calls order
+
+-- these are the orders of all classes
 abbrev pub AreOrders : SDefine → List (List ℕ) → Type 0
-AreOrders ds orders = (class : ℕ) → class < length ds → IsOrderOf (calls_at ds class) (order_at orders class)
+AreOrders ds orders = (class : ℕ) → class < length ds → IsOneOrder (calls_at ds class) (slice_index_or orders class [])

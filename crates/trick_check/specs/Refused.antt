@@ -6,9 +6,8 @@ use Rattle.trick_blocks.specs.Kept.{codes_in}
 use Rattle.trick_bodies.specs.Classes.{Made}
 use Rattle.trick_cells.specs.Cells.{memory_cells}
 use Rattle.trick_cells.specs.Counts.{capped}
-use Rattle.trick_check.specs.Named.{jobs_named}
-use Rattle.trick_check.specs.Parts.{AreOrders, HaveNoLoop, calls_at, method_name_at}
-use Rattle.trick_check.specs.Walk.{all_made, objects_of}
+use Rattle.trick_check.specs.Parts.{HaveNoLoop, calls_at, method_name_at}
+use Rattle.trick_check.specs.Walk.{all_made, jobs_named, objects_of}
 use Rattle.trick_check.specs.declared.fault.CheckFault.{CheckFault}
 use Rattle.trick_check.specs.declared.fault.CheckFault.TheVariants.{Twice, Unknown, NotScalar, Recursive, TooManyCells, TooManyJobs, TooManySteps, OutOfMemory}
 use Rattle.trick_jobs.specs.Jobs.{job_count}
@@ -84,6 +83,14 @@ abbrev pub steps_by : List ℕ → Option Method → ℕ
 steps_by steps None = 0
 steps_by steps (Some method) = count_at steps method.block
 
+-- none of these jobs has more than 1,000,000 static steps
+abbrev pub AreShortJobs : Made → List Job → Type 0
+AreShortJobs m jobs = (k : ℕ) (job : Job) → slice_get jobs k ≡ Some job → steps_in m job ≤ 1000000
+
+-- and no job has too many steps
+abbrev pub StepsAreRight : SDefine → Type 0
+StepsAreRight ds = JobsAreRight ds × AreShortJobs (all_made ds) (jobs_named ds)
+
 -- the first of these jobs that has more than 1,000,000 static steps
 pub record IsFirstLong (m : Made) (jobs : List Job) (number : ℕ) (job : Job) : Type 0 where
   pub here : slice_get jobs number ≡ Some job
@@ -104,11 +111,9 @@ IsStepFault m objects jobs (TooManySteps job instance) = IsLongJob m objects job
 IsStepFault m objects jobs OutOfMemory = Unit {0}
 IsStepFault m objects jobs _ = ⊥
 
--- The steps of a job are those of the bodies that are made, by some order of the methods.
-pub record HasLongJob (ds : SDefine) (name : Name) (instance : ℕ) : Type 0 where
-  pub orders : List (List ℕ)
-  pub ordered : AreOrders ds orders
-  pub job : IsLongJob (all_made ds orders) (objects_of ds) (jobs_named ds orders) name instance
+-- the first job of the file that has too many steps
+abbrev pub HasLongJob : SDefine → Name → ℕ → Type 0
+HasLongJob ds name instance = IsLongJob (all_made ds) (objects_of ds) (jobs_named ds) name instance
 
 -- ---- all kinds
 

@@ -1,4 +1,5 @@
--- What is made of the classes of a file, one after another: blocks, methods, and their numbers.
+-- What is made of the classes of a file, one after another: blocks, methods, and their numbers; and
+-- the jobs.
 
 use Rattle.std.specs.Prelude.{ℕ, zero, suc, ◌==◌, ◌≤◌, Bool, true, false, ◌||◌, List, [], ◌∷◌, ◌++◌, length}
 use Rattle.trick_blocks.specs.Methods.{progress}
@@ -8,8 +9,10 @@ use Rattle.trick_cells.specs.Cells.{all_groups}
 use Rattle.trick_cells.specs.Counts.{counts}
 use Rattle.trick_cells.specs.Tables.{layout_of, object_rows}
 use Rattle.trick_check.specs.Parts.{order_at, parts_at}
+use Rattle.trick_jobs.specs.Jobs.{jobs_from}
 use Rattle.trick_lang.specs.SyntaxTree as tree
 use Rattle.trick_lang.specs.SyntaxTree.{SDefine}
+use Rattle.trick_lang.specs.declared.job.Job.{Job}
 use Rattle.trick_lang.specs.declared.object.Object.{Object}
 use Rattle.trick_layout.specs.Laid.{size_at}
 use Rattle.trick_layout.specs.declared.layout.Layout.{Layout}
@@ -49,13 +52,16 @@ first_world layout = record { layout = layout; class = 0; methods = []; slots = 
 abbrev pub nothing_made : Layout → Made
 nothing_made layout = record { progress = progress (first_world layout) []; methods = []; numbers = [] }
 
--- what is made of the first so many definitions of a file, where it has these objects, and these are
--- the orders of the parts of each class
-abbrev pub made_of_first : SDefine → List Object → List (List ℕ) → ℕ → Made
-made_of_first ds objects orders zero = nothing_made (file_layout ds)
-made_of_first ds objects orders (suc n) =
-    with_class_if (has_object objects n) n (order_at orders n) (parts_at ds n) (made_of_first ds objects orders n)
+-- what is made of the first so many definitions of a file, where it has these objects
+abbrev pub made_of_first : SDefine → List Object → ℕ → Made
+made_of_first ds objects zero = nothing_made (file_layout ds)
+made_of_first ds objects (suc n) =
+    with_class_if (has_object objects n) n (order_at ds n) (parts_at ds n) (made_of_first ds objects n)
 
 -- what is made of the whole file
-abbrev pub all_made : SDefine → List (List ℕ) → Made
-all_made ds orders = made_of_first ds (objects_of ds) orders (length ds)
+abbrev pub all_made : SDefine → Made
+all_made ds = made_of_first ds (objects_of ds) (length ds)
+
+-- the jobs: for each object in order, the lines of its class' constructor in order
+abbrev pub jobs_named : SDefine → List Job
+jobs_named ds = jobs_from ds (all_made ds).numbers 0 (objects_of ds)

@@ -6,6 +6,7 @@ mod class;
 mod count;
 mod draft;
 mod fault;
+pub mod laws;
 mod name;
 mod order;
 mod program;

@@ -1,12 +1,12 @@
-//! The methods of each class in an order in which each stands behind those that it calls.
+//! The methods of each class in the one order in which each stands behind those that it calls.
 
 ghost use Rattle.std.specs.Prelude.{◌≡◌, ℕ, ◌<◌, IfErr, IfOk, OnOk, length, Err};
-ghost use Rattle.trick_check.specs.Parts.{AreOrders, HaveNoLoop, calls_at};
+ghost use Rattle.trick_check.specs.Parts.{AreOrders, HaveNoLoop, IsOneOrder, calls_at};
 ghost use Rattle.trick_check.specs.Refused.{IsRefused, NamesAreRight};
 ghost use Rattle.trick_lang.specs.Syntax.{class_parts_of, definitions_of};
 ghost use Rattle.trick_names.specs.Calls.{class_calls};
 ghost use Rattle.trick_names.specs.Tables.{tables_of};
-ghost use Rattle.trick_order.specs.Calls.{AreCallees, IsFirst, IsOrderOf};
+ghost use Rattle.trick_order.specs.Calls.{AreCallees, IsFirst};
 ghost use Rattle.trick_order.specs.declared.search.OrderFault.TheVariants.{Recursive};
 
 use crate::CheckFault;
@@ -17,14 +17,14 @@ use trick_lang::syntax::{ClassPart, Definition};
 use trick_names::{Member, Names, Tables, calls_of_class};
 use trick_order::{OrderFault, laws, order};
 
-// An order of the parts of a class that has these members, or the first that reaches itself.
+// The order of the parts of a class that has these members, or the first that reaches itself.
 fn order_of(
     alloc: Memory,
     parts: &[ClassPart],
     own: &Names<Member>,
 ) -> Result<Vec<usize>, OrderFault>
     requires there { AreCallees (class_calls (class_parts_of parts.now) own.now) }
-    ensures ordered { IfOk result (λ order. IsOrderOf (class_calls (class_parts_of parts.now) own.now) order.items) }
+    ensures ordered { IfOk result (λ order. IsOneOrder (class_calls (class_parts_of parts.now) own.now) order.items) }
     ensures recursive { (k : ℕ) → result ≡ Err (Recursive k) →
         IsFirst (class_calls (class_parts_of parts.now) own.now) k }
 {
@@ -34,7 +34,7 @@ fn order_of(
     }
 }
 
-// An order of the parts of the class of that number, or the first that reaches itself.
+// The order of the parts of the class of that number, or the first that reaches itself.
 fn order_at(
     alloc: Memory,
     definitions: &[Definition],
@@ -43,7 +43,7 @@ fn order_at(
 ) -> Result<Vec<usize>, OrderFault>
     requires tables { tables.now ≡ tables_of (definitions_of definitions.now) }
     requires here { class < length definitions.now }
-    ensures ordered { IfOk result (λ order. IsOrderOf (calls_at (definitions_of definitions.now) class) order.items) }
+    ensures ordered { IfOk result (λ order. IsOneOrder (calls_at (definitions_of definitions.now) class) order.items) }
     ensures recursive { (k : ℕ) → result ≡ Err (Recursive k) →
         IsFirst (calls_at (definitions_of definitions.now) class) k }
 {
@@ -51,7 +51,7 @@ fn order_at(
     order_of(alloc, parts_at(definitions, class), &groups[class])
 }
 
-// An order of the parts of the class of that number, where those before it have one.
+// The order of the parts of the class of that number, where those before it have one.
 fn class_order(
     alloc: Memory,
     definitions: &[Definition],
@@ -62,7 +62,7 @@ fn class_order(
     requires here { class < length definitions.now }
     requires right { NamesAreRight (definitions_of definitions.now) }
     requires before { HaveNoLoop (definitions_of definitions.now) class }
-    ensures ordered { IfOk result (λ order. IsOrderOf (calls_at (definitions_of definitions.now) class) order) }
+    ensures ordered { IfOk result (λ order. IsOneOrder (calls_at (definitions_of definitions.now) class) order) }
     ensures refused { IfErr result (λ fault. IsRefused (definitions_of definitions.now) fault) }
 {
     match order_at(alloc, definitions, tables, class) {
@@ -75,7 +75,7 @@ fn class_order(
     }
 }
 
-/// For each definition an order of its parts, by their numbers, in which each method stands behind
+/// For each definition the one order of its parts, by their numbers, in which each method stands behind
 /// those that it calls. Only the methods of a class call one another.
 pub fn orders(
     alloc: Memory,

@@ -38,7 +38,7 @@ fn make_bodies(
     requires sizes { counted.now.sizes.items ≡ sizes_of (definitions_of definitions.now) }
     requires objects { counted.now.objects ≡ objects_of (definitions_of definitions.now) }
     requires right { JobsAreRight (definitions_of definitions.now) }
-    ensures made { IfOk result (λ bodies. made bodies ≡ all_made (definitions_of definitions.now) orders.now) }
+    ensures made { IfOk result (λ bodies. made bodies ≡ all_made (definitions_of definitions.now)) }
     ensures whole { IfOk result (λ bodies. AreWhole (made bodies)) }
 {
     cell_laws::declared_law();
@@ -69,7 +69,7 @@ fn make(
     requires sizes { counted.sizes.items ≡ sizes_of (definitions_of definitions.now) }
     requires objects { counted.objects ≡ objects_of (definitions_of definitions.now) }
     requires right { JobsAreRight (definitions_of definitions.now) }
-    ensures draft { IfOk result (λ draft. IsDraft (definitions_of definitions.now) orders.now draft) }
+    ensures draft { IfOk result (λ draft. IsDraft (definitions_of definitions.now) draft) }
     ensures whole { IfOk result (λ draft. IsWhole draft) }
     ensures refused { IfErr result (λ fault. IsRefused (definitions_of definitions.now) fault) }
 {

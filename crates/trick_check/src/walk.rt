@@ -17,7 +17,7 @@ use trick_lang::syntax::Definition;
 use trick_layout::Layout;
 use trick_names::Names;
 
-// What the classes of a file are made by: for each definition an order of its parts, and whether it is
+// What the classes of a file are made by: for each definition the order of its parts, and whether it is
 // a class that has objects.
 #[derive(Clone, Copy)]
 struct Classes<'a> {
@@ -102,7 +102,8 @@ fn add_used(
     requires laid { AreLaid bodies.old.world.layout }
     requires sizes { SizesFit bodies.old.world.layout }
     requires whole { AreWhole (made bodies.old) }
-    ensures made { OnOk result (made bodies.new ≡ with_class_if true class (order_at classes.entry.orders.now class)
+    ensures made { OnOk result (made bodies.new ≡ with_class_if true class
+        (order_at (definitions_of classes.entry.definitions.now) class)
         (parts_at (definitions_of classes.entry.definitions.now) class) (made bodies.old)) }
     ensures whole { OnOk result (AreWhole (made bodies.new)) }
 {
@@ -127,7 +128,8 @@ fn add_definition(
     requires sizes { SizesFit bodies.old.world.layout }
     requires whole { AreWhole (made bodies.old) }
     ensures made { OnOk result (made bodies.new ≡ with_class_if
-        (slice_index_or classes.entry.used.now class false) class (order_at classes.entry.orders.now class)
+        (slice_index_or classes.entry.used.now class false) class
+        (order_at (definitions_of classes.entry.definitions.now) class)
         (parts_at (definitions_of classes.entry.definitions.now) class) (made bodies.old)) }
     ensures whole { OnOk result (AreWhole (made bodies.new)) }
 {
@@ -152,7 +154,7 @@ pub fn make_classes(
     requires layout { layout ≡ file_layout (definitions_of definitions.now) }
     requires laid { AreLaid layout }
     ensures made { IfOk result (λ bodies. made bodies
-        ≡ made_of_first (definitions_of definitions.now) objects.now orders.now (length definitions.now)) }
+        ≡ made_of_first (definitions_of definitions.now) objects.now (length definitions.now)) }
     ensures whole { IfOk result (λ bodies. AreWhole (made bodies)) }
 {
     let marks = used_classes(alloc, definitions.len(), objects)?;

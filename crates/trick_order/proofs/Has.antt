@@ -1,6 +1,7 @@
 -- What lists of numbers have.
-use Rattle.std.proofs.Common.{◌≡◌, ◌≢◌, ℕ, zero, suc, ◌<◌, ◌==◌, Bool, true, false, ◌&&◌, ◌||◌, List, [], ◌∷◌, ◌++◌, length, get_or, ◌⊎◌, inl, inr, eq-eqb, refl, ap, subst, arith}
+use Rattle.std.proofs.Common.{◌≡◌, ◌≢◌, ℕ, zero, suc, ◌<◌, ◌==◌, Bool, true, false, ◌&&◌, ◌||◌, List, [], ◌∷◌, ◌++◌, All, length, get_or, ◌⊎◌, inl, inr, eq-eqb, refl, ap, subst, arith}
 use Rattle.std.proofs.lemmas.Bool.{eqb-true}
+use Rattle.std.proofs.lemmas.List.{get_or_default}
 use Rattle.trick_order.specs.Calls.{has, all_in, callees}
 
 pub both : (x y : Bool) → (x && y) ≡ true → (x ≡ true) × (y ≡ true)
@@ -51,6 +52,9 @@ pub has_at : (xs : List ℕ) (i : ℕ) → i < length xs → has xs (get_or xs i
 has_at [] i h = absurd (omega arith)
 has_at (x ∷ xs) zero h = or_left (x == x) _ (eq-eqb x x refl)
 has_at (x ∷ xs) (suc i) h = or_right _ _ (has_at xs i (omega arith))
+
+pub all_has : (P : ℕ → Type 0) (xs : List ℕ) → ((k : ℕ) → has xs k ≡ true → P k) → All P xs
+all_has P xs f k d low = f (get_or xs k d) (subst (λ j. has xs j ≡ true) (get_or_default xs k 0 d low) (has_at xs k low))
 
 pub place_of : (xs : List ℕ) (k : ℕ) → has xs k ≡ true → (i : ℕ) × (i < length xs) × (get_or xs i 0 ≡ k)
 place_of [] k h = absurd (cc h)

@@ -19,17 +19,17 @@ total_falls (suc n) f h k low same less = elim (cases_eq n k) [ inl e ↦ omega 
 
 -- ---- lists
 
-true_false : {A : Type 0} (b : Bool) → b ≡ true → b ≡ false → A
+pub true_false : {A : Type 0} (b : Bool) → b ≡ true → b ≡ false → A
 true_false b p q = absurd (cc (p, q))
 
-not_false : (b : Bool) → not b ≡ true → b ≡ false
+pub not_false : (b : Bool) → not b ≡ true → b ≡ false
 not_false true h = absurd (cc h)
 not_false false h = refl
 
 no_such : (xs : List ℕ) (k c : ℕ) → has xs c ≡ false → has xs k ≡ true → c ≢ k
 no_such xs k c out inside e = true_false (has xs k) inside (subst (λ j. has xs j ≡ false) e out)
 
-absent : (b : Bool) → (b ≡ true → ⊥) → b ≡ false
+pub absent : (b : Bool) → (b ≡ true → ⊥) → b ≡ false
 absent true h = absurd (h refl)
 absent false h = refl
 
@@ -282,7 +282,7 @@ closed_reach : (g : List (List ℕ)) (seen : List ℕ) → Closed g seen → (n 
 closed_reach g seen cl zero a b h r = cl a b h r
 closed_reach g seen cl (suc n) a b h r = closed_reach g seen cl n r.0 b (cl a r.0 h r.1) r.2
 
-closed_push : (g : List (List ℕ)) (seen : List ℕ) (m : ℕ) → Closed g seen → all_in (callees g m) seen ≡ true → Closed g (seen ++ m ∷ [])
+pub closed_push : (g : List (List ℕ)) (seen : List ℕ) (m : ℕ) → Closed g seen → all_in (callees g m) seen ≡ true → Closed g (seen ++ m ∷ [])
 closed_push g seen m cl all x y h call = elim (has_split seen m x h) [ inl p ↦ has_kept seen (m ∷ []) y (cl x y p call) | inr p ↦ has_kept seen (m ∷ []) y (all_in_has (callees g m) seen y all (subst (λ j. has (callees g j) y ≡ true) (sym p) call)) ]
 
 begins_in : (g : List (List ℕ)) (seen : List ℕ) (m : ℕ) → Closed g seen → all_in (callees g m) seen ≡ true → (n : ℕ) → Reaches g n m m → has seen m ≡ true
@@ -301,7 +301,7 @@ calls_below [] k c h = absurd (cc h)
 calls_below (x ∷ g) zero c h = omega arith
 calls_below (x ∷ g) (suc k) c h = omega (arith, calls_below g k c h)
 
-reaches_from : (g : List (List ℕ)) (n a b : ℕ) → Reaches g n a b → a < length g
+pub reaches_from : (g : List (List ℕ)) (n a b : ℕ) → Reaches g n a b → a < length g
 reaches_from g zero a b r = calls_below g a b r
 reaches_from g (suc n) a b r = calls_below g a r.0 r.1
 

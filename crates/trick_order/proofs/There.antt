@@ -1,5 +1,5 @@
 -- What is called is there, as a test and as a fact.
-use Rattle.std.proofs.Common.{◌≡◌, ℕ, zero, suc, ◌<◌, true, List, [], ◌∷◌, inl, inr, eq-eqb, refl, subst, sym}
+use Rattle.std.proofs.Common.{◌≡◌, ℕ, zero, suc, ◌<◌, true, List, [], ◌∷◌, inl, inr, eq-eqb, refl, subst}
 use Rattle.std.proofs.lemmas.Bool.{eqb-true, ltb-true, lt-ltb}
 use Rattle.trick_order.proofs.Has.{and_true, both, or_cases, or_left, or_right}
 use Rattle.trick_order.specs.Calls.{all_below, callees, each_below, has}

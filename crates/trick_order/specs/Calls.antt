@@ -1,5 +1,6 @@
 -- What methods call, and in which order they stand.
-use Rattle.std.specs.Prelude.{◌≡◌, ◌<◌, ℕ, zero, suc, Bool, true, false, ◌==◌, ◌&&◌, ◌||◌, not, nat_lt, List, [], ◌∷◌, ◌++◌, length}
+use Rattle.std.specs.List.{range_with_len}
+use Rattle.std.specs.Prelude.{◌≡◌, ◌<◌, ℕ, zero, suc, Bool, true, false, ◌==◌, ◌&&◌, ◌||◌, not, nat_lt, List, [], ◌∷◌, ◌++◌, filter, length}
 
 -- what a method calls, where this is what each calls, by number
 abbrev pub callees : List (List ℕ) → ℕ → List ℕ
@@ -54,6 +55,22 @@ abbrev pub IsOrderOf : List (List ℕ) → List ℕ → Type 0
 IsOrderOf g order =
     (stand_after g [] order ≡ true) × ((k : ℕ) → k < length g → has order k ≡ true)
     × ((k : ℕ) → has order k ≡ true → k < length g)
+
+-- the method may stand in the round behind these: it is none of them, and they have all that it calls
+abbrev pub is_next : List (List ℕ) → List ℕ → ℕ → Bool
+is_next g earlier m = not (has earlier m) && all_in (callees g m) earlier
+
+-- The methods of the first so many rounds. In the first round stand those that call none, and in each
+-- next one those that call none but methods of the rounds before it; in a round they stand in the order
+-- of the text.
+abbrev pub first_rounds : List (List ℕ) → ℕ → List ℕ
+first_rounds g zero = []
+first_rounds g (suc n) = first_rounds g n ++ filter (is_next g (first_rounds g n)) (range_with_len 0 (length g))
+
+-- The one order of methods. There are no more rounds than methods. A method that reaches itself stands in
+-- no round, and neither does one that calls it.
+abbrev pub order_of : List (List ℕ) → List ℕ
+order_of g = first_rounds g (length g)
 
 -- each of a list calls the next one
 abbrev pub is_linked : List (List ℕ) → List ℕ → Bool

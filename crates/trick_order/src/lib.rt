@@ -1,10 +1,11 @@
-//! Which methods call which: an order in which each stands behind those that it calls, and else the
-//! first one that reaches itself.
+//! Which methods call which: the one order in which each stands behind those that it calls, and else
+//! the first one that reaches itself.
 #![tactic(auto)]
 
 mod callees;
 pub mod laws;
 mod reach;
+mod rounds;
 mod search;
 #[cfg(test)]
 mod tests;

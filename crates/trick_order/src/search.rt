@@ -1,9 +1,10 @@
 ghost use Rattle.std.specs.Prelude.{◌≡◌, ◌+◌, ◌^◌, ◌<◌, ◌≤◌, ◌∷◌, ◌++◌, ℕ, [], false, true, length, slice_index_or, IfNone, IfOk, IfSome, OnOk, MatchBool, MatchOption, Err};
-ghost use Rattle.trick_order.specs.Calls.{AreCallees, EndsWith, IsFirst, IsOrderOf, ReachesItself, callees, has, is_linked};
+ghost use Rattle.trick_order.specs.Calls.{AreCallees, EndsWith, IsFirst, IsOrderOf, ReachesItself, callees, has, is_linked, order_of};
 ghost use Rattle.trick_order.specs.Searching.{Keeps, left};
 ghost use Rattle.trick_order.specs.declared.search.OrderFault.TheVariants.{Recursive};
 
 use crate::reach::{callees, first_recursive};
+use crate::rounds::by_rounds;
 use std::alloc::{AllocError, Global};
 use trick_base::Items;
 
@@ -204,16 +205,22 @@ fn searched(alloc: Global, calls: &[Items<usize>]) -> Result<Option<Vec<usize>>,
     Ok(Some(search.order))
 }
 
-/// All methods, each behind those that it calls, where none reaches itself; `calls` has for each
-/// method those that it calls, by number. An order takes time in the number of calls. A fault names
-/// the first method that reaches itself, which is searched for from each method before it.
+/// All methods in their one order, where none reaches itself: by rounds, first those that call none,
+/// then those that call none but methods of earlier rounds, and so on; in a round by their numbers. So
+/// each stands behind those that it calls. `calls` has for each method those that it calls, by number.
+/// An order takes time in the number of methods and calls. A fault names the first method that reaches
+/// itself, which is searched for from each method before it.
 pub fn order(alloc: Global, calls: &[Items<usize>]) -> Result<Vec<usize>, OrderFault>
     requires callees { AreCallees calls.now }
+    ensures order { IfOk result (λ order. order.items ≡ order_of calls.now) }
     ensures ordered { IfOk result (λ order. IsOrderOf calls.now order.items) }
     ensures recursive { (k : ℕ) → result ≡ Err (Recursive k) → IsFirst calls.now k }
 {
     match searched(alloc, calls) {
-        Ok(Some(order)) => Ok(order),
+        Ok(Some(found)) => match by_rounds(alloc, calls, &found) {
+            Ok(order) => Ok(order),
+            Err(_) => Err(OrderFault::OutOfMemory),
+        },
         Ok(None) => match first_recursive(alloc, calls) {
             Ok(Some(method)) => Err(OrderFault::Recursive(method)),
             Ok(None) => Err(OrderFault::OutOfMemory),

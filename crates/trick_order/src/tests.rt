@@ -22,6 +22,20 @@ fn callees_come_first(rt: HostRuntime) -> Result<(), Fail> {
     let order = order(alloc, calls)?;
     assert!(rt; order.as_slice() == [2, 1, 0].as_slice());
     laws::order_law();
+    laws::one_order_law();
+    laws::worked_orders();
+    Ok(())
+}
+
+#[test]
+fn methods_of_a_round_stand_as_in_the_text(rt: HostRuntime) -> Result<(), Fail> {
+    let alloc = rt.alloc();
+    let none = Items::new(alloc);
+    let calls = vec![in alloc; one(alloc, 3)?, one(alloc, 3)?, one(alloc, 0)?, none]?;
+    let calls = calls.as_slice();
+    assert!(rt; are_callees(calls));
+    let order = order(alloc, calls)?;
+    assert!(rt; order.as_slice() == [3, 0, 1, 2].as_slice());
     Ok(())
 }
 

@@ -2,7 +2,7 @@ use Rattle.std.proofs.Common.{◌≡◌, ◌<◌, IfOk, length, ap, sym, ◌∙�
 use Rattle.trick_check.proofs.Calls.{callees_there, groups_many}
 use Rattle.trick_check.proofs.Lists.{definitions_many, members_found}
 use Rattle.trick_check.proofs.order.order_at.Goals as goal
-use Rattle.trick_check.specs.Parts.{calls_at, parts_at}
+use Rattle.trick_check.specs.Parts.{IsOneOrder, calls_at, parts_at}
 use Rattle.trick_lang.specs.Syntax.{class_parts_of, definitions_of}
 use Rattle.trick_names.specs.Calls.{class_calls}
 use Rattle.trick_names.specs.Names.{Names}
@@ -10,7 +10,7 @@ use Rattle.trick_names.specs.Places.{members_at}
 use Rattle.trick_names.specs.Tables.{tables_of}
 use Rattle.trick_names.specs.declared.tables.Member.{Member}
 use Rattle.trick_names.specs.declared.tables.Tables.{Tables}
-use Rattle.trick_order.specs.Calls.{AreCallees, IsFirst, IsOrderOf}
+use Rattle.trick_order.specs.Calls.{AreCallees, IsFirst}
 
 pub bounds-groups-class : goal.bounds-groups-class
 bounds-groups-class c =
@@ -45,7 +45,7 @@ returns-clause-ordered c =
     ∙ ap (λ (gs : _). members_at gs class) (c.as_slice-groups.ensures ∙ ap (λ (t : Tables). t.groups) c.requires.tables) in
     let calls : class_calls (class_parts_of c.parts_at.result.now) c.index-groups-class.result ≡ calls_at ds class =
     ap (λ ps. class_calls ps c.index-groups-class.result) c.parts_at.ensures ∙ ap (λ (q : Names Member). class_calls (parts_at ds class) q) own in
-    subst (λ g. IfOk c.order_of.result (λ order. IsOrderOf g order.items)) calls c.order_of.ensures.ordered
+    subst (λ g. IfOk c.order_of.result (λ order. IsOneOrder g order.items)) calls c.order_of.ensures.ordered
 
 pub returns-clause-recursive : goal.returns-clause-recursive
 returns-clause-recursive c =

@@ -33,7 +33,6 @@ make_classes-requires-clause-laid c =
 pub returns-clause-made : goal.returns-clause-made
 returns-clause-made c =
     let ds = definitions_of c.args.definitions.now in
-    let orders = c.args.orders.now in
-    let of_objects = subst (λ q. IfOk c.make_classes.result (λ bodies. made bodies ≡ made_of_first ds q orders (length c.args.definitions.now)))
+    let of_objects = subst (λ q. IfOk c.make_classes.result (λ bodies. made bodies ≡ made_of_first ds q (length c.args.definitions.now)))
     (c.as_slice.ensures ∙ c.requires.objects) c.make_classes.ensures.made in
-    subst (λ n. IfOk c.make_classes.result (λ bodies. made bodies ≡ made_of_first ds (objects_of ds) orders n)) (sym (definitions_many c.args.definitions.now)) of_objects
+    subst (λ n. IfOk c.make_classes.result (λ bodies. made bodies ≡ made_of_first ds (objects_of ds) n)) (sym (definitions_many c.args.definitions.now)) of_objects

@@ -4,4 +4,4 @@ use Rattle.trick_lang.specs.Syntax.{definitions_of}
 
 pub returns-clause-named : goal.returns-clause-named
 returns-clause-named c =
-    named (definitions_of c.args.definitions.now) c.as_slice.result.now c.in_ok-draft.draft c.join.result c.in_ok-draft.ensures.draft c.join.ensures
+    named (definitions_of c.args.definitions.now) c.in_ok-draft.draft c.join.result c.in_ok-draft.ensures.draft c.join.ensures

@@ -10,10 +10,10 @@ pub returns-then-is_used-clause-made : goal.returns-then-is_used-clause-made
 returns-then-is_used-clause-made c =
     let ds = definitions_of c.args.classes.definitions.now in
     on_ok c.add_used.result
-    (λ h. h ∙ ap (λ q. with_class_if q c.args.class (order_at c.args.classes.orders.now c.args.class) (parts_at ds c.args.class) (made c.args.bodies.now)) (sym c.if-is_used.true)) c.add_used.ensures.made
+    (λ h. h ∙ ap (λ q. with_class_if q c.args.class (order_at ds c.args.class) (parts_at ds c.args.class) (made c.args.bodies.now)) (sym c.if-is_used.true)) c.add_used.ensures.made
 
 pub returns-clause-made : goal.returns-clause-made
 returns-clause-made c =
     let ds = definitions_of c.args.classes.definitions.now in
     on_ok c.pass.result
-    (λ h. h ∙ ap (λ q. with_class_if q c.args.class (order_at c.args.classes.orders.now c.args.class) (parts_at ds c.args.class) (made c.args.bodies.now)) (sym c.if-is_used.false)) c.pass.ensures.made
+    (λ h. h ∙ ap (λ q. with_class_if q c.args.class (order_at ds c.args.class) (parts_at ds c.args.class) (made c.args.bodies.now)) (sym c.if-is_used.false)) c.pass.ensures.made

@@ -16,22 +16,21 @@ loop-class-init c = record {
 pub add_definition-requires-clause-laid : goal.add_definition-requires-clause-laid
 add_definition-requires-clause-laid c =
     let ds = definitions_of c.args.definitions.now in
-    let layout = ap (λ (m : Made). m.progress.world.layout) c.loop-class.invariant.is_made ∙ first_layout ds c.args.objects.now c.args.orders.now c.loop-class.class in
+    let layout = ap (λ (m : Made). m.progress.world.layout) c.loop-class.invariant.is_made ∙ first_layout ds c.args.objects.now c.loop-class.class in
     subst AreLaid (sym (layout ∙ sym c.requires.layout)) c.requires.laid
 
 pub add_definition-requires-clause-sizes : goal.add_definition-requires-clause-sizes
 add_definition-requires-clause-sizes c =
     let ds = definitions_of c.args.definitions.now in
-    let layout = ap (λ (m : Made). m.progress.world.layout) c.loop-class.invariant.is_made ∙ first_layout ds c.args.objects.now c.args.orders.now c.loop-class.class in
+    let layout = ap (λ (m : Made). m.progress.world.layout) c.loop-class.invariant.is_made ∙ first_layout ds c.args.objects.now c.loop-class.class in
     subst SizesFit (sym layout) (sizes_fit ds)
 
 pub loop-class-preserved : goal.loop-class-preserved
 loop-class-preserved c =
     let ds = definitions_of c.args.definitions.now in
     let objects = c.args.objects.now in
-    let orders = c.args.orders.now in
     let class = c.loop-class.class in
-    let order = order_at orders class in
+    let order = order_at ds class in
     let parts = parts_at ds class in
     let used : get_or c.as_slice-used.result.now class false ≡ has_object objects class =
     ap (λ us. get_or us class false) c.as_slice-used.ensures.value ∙ c.in_ok-marks.ensures.used class (omega arith) in
@@ -40,7 +39,7 @@ loop-class-preserved c =
           c.in_ok-add_definition.ensures.made
           ∙ (ap (λ b. with_class_if b class order parts (made c.loop-class.bodies)) used
           ∙ (ap (λ (m : Made). with_class_if (has_object objects class) class order parts m) c.loop-class.invariant.is_made
-          ∙ ap (λ n. made_of_first ds objects orders n) (sym (add-one class))));
+          ∙ ap (λ n. made_of_first ds objects n) (sym (add-one class))));
       whole = c.in_ok-add_definition.ensures.whole;
     }
 
@@ -48,4 +47,4 @@ pub returns-clause-made : goal.returns-clause-made
 returns-clause-made c =
     let ds = definitions_of c.args.definitions.now in
     let all : c.loop-class.class ≡ length c.args.definitions.now = omega arith in
-    subst (λ n. made c.loop-class.bodies ≡ made_of_first ds c.args.objects.now c.args.orders.now n) all c.loop-class.invariant.is_made
+    subst (λ n. made c.loop-class.bodies ≡ made_of_first ds c.args.objects.now n) all c.loop-class.invariant.is_made

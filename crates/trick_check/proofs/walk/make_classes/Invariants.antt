@@ -7,6 +7,6 @@ use Rattle.trick_lang.specs.Syntax.{definitions_of}
 -- what is made of the definitions so far
 abbrev pub invariant-loop-class : goal.invariant-loop-class
 invariant-loop-class l = record {
-  is_made : made l.bodies ≡ made_of_first (definitions_of l.definitions) l.objects l.orders l.class;
+  is_made : made l.bodies ≡ made_of_first (definitions_of l.definitions) l.objects l.class;
   whole : AreWhole (made l.bodies);
 }
