@@ -1,2 +1,4 @@
 -- What a program and the lines of an input join to.
 pub mod Plan
+-- Laws of plans.
+pub mod Laws

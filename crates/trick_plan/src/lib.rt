@@ -2,6 +2,7 @@
 #![tactic(auto)]
 
 mod joined;
+pub mod laws;
 
 pub use joined::plan;
 pub use trick_lines::JoinFault;

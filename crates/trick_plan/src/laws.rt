@@ -1,0 +1,12 @@
+//! Laws of plans. A function that calls one of them may rest on what it says; the call itself does
+//! nothing.
+
+ghost use Rattle.trick_plan.specs.Laws.{AnswersAreOne};
+
+/// A program and the lines of an input have one answer, but for a want of memory: where they make a plan
+/// they are not refused, and they are refused in one way.
+pub fn answers_are_one()
+    ensures { AnswersAreOne }
+{
+    trick_lines::laws::lines_answer_one();
+}
