@@ -46,8 +46,8 @@ trick.add_event(e)
 
 #[test]
 fn each_refusal_comes_before_the_next_one(rt: HostRuntime) -> Result<(), Fail> {
-    let jobs = "(1.0, \"scheduled\") wz(); C1 (1.0, \"scheduled\") wz();
-C2 (1.0, \"scheduled\") wy(); (1.0, \"scheduled\") wx();";
+    let jobs = r#"(1.0, "scheduled") wz(); C1 (1.0, "scheduled") wz();
+C2 (1.0, "scheduled") wy(); (1.0, "scheduled") wx();"#;
     let shared = format!(in rt.alloc(); "{jobs} C2 (1.0, \"scheduled\") wx();")?;
     let child = format!(in rt.alloc(); "{shared} C1 (\"initialization\") wy();")?;
     let backwards = "trick.exec_add_depends_on_job('k.wz', 1, 'k.wz', 2)\n";
@@ -73,7 +73,7 @@ C2 (1.0, \"scheduled\") wy(); (1.0, \"scheduled\") wx();";
     }
     let s_define = of_jobs(
         rt.alloc(),
-        "(1.0, \"scheduled\") wz(); C2 (1.0, \"scheduled\") wy(); (1.0, \"scheduled\") wx();",
+        r#"(1.0, "scheduled") wz(); C2 (1.0, "scheduled") wy(); (1.0, "scheduled") wx();"#,
     )?;
     accepts(&rt, s_define.as_str(), ASYNC_2, "cells=6 jobs=3 threads=2")
 }
@@ -82,7 +82,7 @@ C2 (1.0, \"scheduled\") wy(); (1.0, \"scheduled\") wx();";
 fn threads_that_the_input_names(rt: HostRuntime) -> Result<(), Fail> {
     let s_define = of_jobs(
         rt.alloc(),
-        "(1.0, \"scheduled\") wx(); C2 (1.0, \"scheduled\") wy(); C15 (1.0, \"scheduled\") wz();",
+        r#"(1.0, "scheduled") wx(); C2 (1.0, "scheduled") wy(); C15 (1.0, "scheduled") wz();"#,
     )?;
     let s_define = s_define.as_str();
     let counts = "cells=6 jobs=3 threads=3";
@@ -155,8 +155,8 @@ fn classes_on_child_threads(rt: HostRuntime) -> Result<(), Fail> {
 fn pairs_against_the_order_of_keys(rt: HostRuntime) -> Result<(), Fail> {
     let s_define = of_jobs(
         rt.alloc(),
-        "(1.0, \"scheduled\") wx(); C1 (1.0, \"scheduled\") wy();
-C2 P9 (1.0, \"scheduled\") wz(); C2 P60001 (1.0, \"scheduled\") wz();",
+        r#"(1.0, "scheduled") wx(); C1 (1.0, "scheduled") wy();
+C2 P9 (1.0, "scheduled") wz(); C2 P60001 (1.0, "scheduled") wz();"#,
     )?;
     let s_define = s_define.as_str();
     // the target waits for the depended job
@@ -205,40 +205,41 @@ fn cells_with_two_writers(rt: HostRuntime) -> Result<(), Fail> {
     let both = format!(in rt.alloc(); "{AMF_2}{amf_3}")?;
     let cases = [
         (
-            "(1, \"scheduled\") wx(); C2 (1, \"scheduled\") wx();",
+            r#"(1, "scheduled") wx(); C2 (1, "scheduled") wx();"#,
             AMF_2,
             "k.x 0 2",
         ),
         (
-            "(1, \"scheduled\") wx(); C2 (1, \"scheduled\") wx();",
+            r#"(1, "scheduled") wx(); C2 (1, "scheduled") wx();"#,
             ASYNC_2,
             "k.x 0 2",
         ),
         // never due at one tic
         (
-            "C1 (2, \"scheduled\") wx(); C2 (2, 1, \"scheduled\") wx();",
+            r#"C1 (2, "scheduled") wx(); C2 (2, 1, "scheduled") wx();"#,
             AMF_2,
             "k.x 1 2",
         ),
         // the first cell, and of its threads the least two that may not write together
         (
-            "C3 (1, \"scheduled\") wx(); C2 (1, \"scheduled\") wx(); (1, \"scheduled\") wy(); C2 (1, \"scheduled\") xy();",
+            r#"C3 (1, "scheduled") wx(); C2 (1, "scheduled") wx(); (1, "scheduled") wy();
+C2 (1, "scheduled") xy();"#,
             both.as_str(),
             "k.x 2 3",
         ),
         (
-            "(1, \"scheduled\") wx(); C1 (1, \"scheduled\") wx(); C2 (1, \"scheduled\") wx();",
+            r#"(1, "scheduled") wx(); C1 (1, "scheduled") wx(); C2 (1, "scheduled") wx();"#,
             AMF_2,
             "k.x 0 2",
         ),
         (
-            "C1 (1, \"scheduled\") wx(); C3 (1, \"scheduled\") wx(); C4 (1, \"scheduled\") wx();",
+            r#"C1 (1, "scheduled") wx(); C3 (1, "scheduled") wx(); C4 (1, "scheduled") wx();"#,
             amf_3,
             "k.x 1 3",
         ),
         // an index that is computed may be each one
         (
-            "(1, \"scheduled\") w2(); C2 (1, \"scheduled\") wi();",
+            r#"(1, "scheduled") w2(); C2 (1, "scheduled") wi();"#,
             AMF_2,
             "k.a[2] 0 2",
         ),
@@ -250,10 +251,10 @@ fn cells_with_two_writers(rt: HostRuntime) -> Result<(), Fail> {
     }
     // one thread alone, another index, a reader, and a job that is not scheduled
     let accepted = [
-        "C2 (1, \"scheduled\") wx(); C2 (2, \"scheduled\") wx(); (1, \"scheduled\") nothing();",
-        "(1, \"scheduled\") w2(); C2 (1, \"scheduled\") w0(); C2 (1, \"scheduled\") w0();",
-        "(1, \"scheduled\") wx(); C2 (1, \"scheduled\") rx(); C2 (1, \"scheduled\") xy();",
-        "(\"top_of_frame\") wx(); (\"initialization\") wy(); C2 (1, \"scheduled\") wx();",
+        r#"C2 (1, "scheduled") wx(); C2 (2, "scheduled") wx(); (1, "scheduled") nothing();"#,
+        r#"(1, "scheduled") w2(); C2 (1, "scheduled") w0(); C2 (1, "scheduled") w0();"#,
+        r#"(1, "scheduled") wx(); C2 (1, "scheduled") rx(); C2 (1, "scheduled") xy();"#,
+        r#"("top_of_frame") wx(); ("initialization") wy(); C2 (1, "scheduled") wx();"#,
     ];
     for jobs in accepted {
         let s_define = of_jobs(rt.alloc(), jobs)?;
@@ -274,45 +275,45 @@ d = trick.new_event('d')\nd.condition(0, 'true || k.z')\ntrick.add_event(d)\ntri
     let cases = [
         // what it writes, and what others make of that, through each class
         (
-            "C2 (1, \"scheduled\") wz();",
+            r#"C2 (1, "scheduled") wz();"#,
             recorded,
             "AsyncRecorded i k.z",
         ),
         (
-            "C2 (1, \"scheduled\") wy(); (1, \"scheduled\") yz();",
+            r#"C2 (1, "scheduled") wy(); (1, "scheduled") yz();"#,
             recorded,
             "AsyncRecorded i k.z",
         ),
         (
-            "C2 (1, \"scheduled\") wy(); (\"shutdown\") yz();",
+            r#"C2 (1, "scheduled") wy(); ("shutdown") yz();"#,
             recorded,
             "AsyncRecorded i k.z",
         ),
         (
-            "C2 (1, \"scheduled\") xy();",
+            r#"C2 (1, "scheduled") xy();"#,
             recorded,
             "AsyncRecorded i k.y",
         ),
         (
-            "(1, \"scheduled\") yz(); C1 (1, \"scheduled\") xy(); C2 (1, \"scheduled\") wx();
-C1 (1, \"scheduled\") nothing();",
+            r#"(1, "scheduled") yz(); C1 (1, "scheduled") xy(); C2 (1, "scheduled") wx();
+C1 (1, "scheduled") nothing();"#,
             recorded,
             "AsyncRecorded i k.z",
         ),
         (
-            "C2 (1, \"scheduled\") wi();",
+            r#"C2 (1, "scheduled") wi();"#,
             recorded,
             "AsyncRecorded h k.a[1]",
         ),
-        ("C2 (1, \"scheduled\") wz();", asked, "AsyncEvent d"),
+        (r#"C2 (1, "scheduled") wz();"#, asked, "AsyncEvent d"),
         (
-            "C2 (1, \"scheduled\") wy(); (1, \"scheduled\") yz();",
+            r#"C2 (1, "scheduled") wy(); (1, "scheduled") yz();"#,
             asked,
             "AsyncEvent d",
         ),
-        ("C2 (1, \"scheduled\") wx();", asked, "AsyncEvent e"),
+        (r#"C2 (1, "scheduled") wx();"#, asked, "AsyncEvent e"),
         (
-            "C2 (1, \"scheduled\") wz();",
+            r#"C2 (1, "scheduled") wz();"#,
             both.as_str(),
             "AsyncRecorded i k.z",
         ),
@@ -322,7 +323,7 @@ C1 (1, \"scheduled\") nothing();",
         let input = format!(in rt.alloc(); "{ASYNC_2}{input}")?;
         refuses_plan(&rt, s_define.as_str(), input.as_str(), what)?;
     }
-    let jobs = "C2 (1, \"scheduled\") wx(); (1, \"scheduled\") rx();";
+    let jobs = r#"C2 (1, "scheduled") wx(); (1, "scheduled") rx();"#;
     let s_define = of_jobs(rt.alloc(), jobs)?;
     let counts = "cells=6 jobs=2 threads=2";
     // what is not in its reach, what is never added, and must-finish work

@@ -62,7 +62,9 @@ fn listings_byte_for_byte(rt: HostRuntime) -> Result<(), Fail> {
         // what the input declares comes last, in the order of the lines
         (
             COUNTER,
-            "trick.TMM_declare_var_s('unsigned spare[1][2]')\ncounter.n = 5\ntrick.TMM_declare_var_s('bool counter_on')",
+            "trick.TMM_declare_var_s('unsigned spare[1][2]')
+counter.n = 5
+trick.TMM_declare_var_s('bool counter_on')",
             "[{\"cell\":0,\"name\":\"counter.n\",\"type\":\"long\"},\
 {\"cell\":1,\"name\":\"spare[0][0]\",\"type\":\"unsigned int\"},\
 {\"cell\":2,\"name\":\"spare[0][1]\",\"type\":\"unsigned int\"},\

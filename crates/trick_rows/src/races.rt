@@ -170,24 +170,27 @@ fn the_least_pair_by_keys(rt: HostRuntime) -> Result<(), Fail> {
     let cases = [
         // the later tic decides nothing
         (
-            "(5, 5, \"scheduled\") wx(); C1 (5, 5, \"scheduled\") wx(); (1, \"scheduled\") wy(); C1 (1, \"scheduled\") wy();",
+            r#"(5, 5, "scheduled") wx(); C1 (5, 5, "scheduled") wx(); (1, "scheduled") wy();
+C1 (1, "scheduled") wy();"#,
             "Race k.wx 1 k.wx 2 5000000",
         ),
         (
-            "(1, \"scheduled\") wx(); (1, \"scheduled\") wy(); C1 (1, \"scheduled\") wy(); C2 (1, \"scheduled\") wx();",
+            r#"(1, "scheduled") wx(); (1, "scheduled") wy(); C1 (1, "scheduled") wy();
+C2 (1, "scheduled") wx();"#,
             "Race k.wx 1 k.wx 2 0",
         ),
         (
-            "P3 (1, \"scheduled\") wx(); P2 (1, \"scheduled\") wy(); C1 P9 (1, \"scheduled\") wy(); C2 P1 (1, \"scheduled\") wx();",
+            r#"P3 (1, "scheduled") wx(); P2 (1, "scheduled") wy(); C1 P9 (1, "scheduled") wy();
+C2 P1 (1, "scheduled") wx();"#,
             "Race k.wx 2 k.wx 1 0",
         ),
         (
-            "P3 (1, \"scheduled\") wx(); C1 P60001 (1, \"scheduled\") wx(); C2 (1, \"scheduled\") wx();",
+            r#"P3 (1, "scheduled") wx(); C1 P60001 (1, "scheduled") wx(); C2 (1, "scheduled") wx();"#,
             "Race k.wx 1 k.wx 3 0",
         ),
         // a flag is no excuse
         (
-            "(1, \"scheduled\") wx(); C1 (1, \"scheduled\") wx();",
+            r#"(1, "scheduled") wx(); C1 (1, "scheduled") wx();"#,
             "Race k.wx 1 k.wx 2 0",
         ),
     ];
@@ -205,33 +208,37 @@ fn pairs_that_are_an_order(rt: HostRuntime) -> Result<(), Fail> {
     let beside = "trick.exec_add_depends_on_job('k.w1', 1, 'k.w0', 1)";
     let accepted = [
         (
-            "(2, \"scheduled\") wx(); C1 (3, \"scheduled\") rx();",
+            r#"(2, "scheduled") wx(); C1 (3, "scheduled") rx();"#,
             direct,
             2,
         ),
         (
-            "C1 (2, 1, \"scheduled\") wx(); C2 P60001 (3, \"scheduled\") rx();",
+            r#"C1 (2, 1, "scheduled") wx(); C2 P60001 (3, "scheduled") rx();"#,
             direct,
             2,
         ),
         // the pair's first job is not before the one, and its second not behind the other
         (
-            "(1, \"scheduled\") wx(); (1, \"scheduled\") w0(); C1 (1, \"scheduled\") w1(); C1 (1, \"scheduled\") rx();",
+            r#"(1, "scheduled") wx(); (1, "scheduled") w0(); C1 (1, "scheduled") w1();
+C1 (1, "scheduled") rx();"#,
             beside,
             4,
         ),
         (
-            "(2, \"scheduled\") wx(); (1, \"scheduled\") w0(); C1 (1, \"scheduled\") w1(); C1 (4, \"scheduled\") rx();",
+            r#"(2, "scheduled") wx(); (1, "scheduled") w0(); C1 (1, "scheduled") w1();
+C1 (4, "scheduled") rx();"#,
             beside,
             4,
         ),
         (
-            "(2, \"scheduled\") wx(); (6, \"scheduled\") w0(); C1 (3, \"scheduled\") w1(); C1 (3, \"scheduled\") rx();",
+            r#"(2, "scheduled") wx(); (6, "scheduled") w0(); C1 (3, "scheduled") w1();
+C1 (3, "scheduled") rx();"#,
             beside,
             4,
         ),
         (
-            "(1, 2, 5, \"scheduled\") wx(); (1, 2, \"scheduled\") w0(); C1 (1, 0, 5, \"scheduled\") w1(); C1 (1, \"scheduled\") rx();",
+            r#"(1, 2, 5, "scheduled") wx(); (1, 2, "scheduled") w0(); C1 (1, 0, 5, "scheduled") w1();
+C1 (1, "scheduled") rx();"#,
             beside,
             4,
         ),
@@ -255,46 +262,55 @@ trick.exec_add_depends_on_job('k.rx', 1, 'k.wy', 1)\n";
     let cases = [
         // another cycle, start or stop
         (
-            "(1, \"scheduled\") wx(); (2, \"scheduled\") w0(); C1 (1, \"scheduled\") w1(); C1 (1, \"scheduled\") rx();",
+            r#"(1, "scheduled") wx(); (2, "scheduled") w0(); C1 (1, "scheduled") w1();
+C1 (1, "scheduled") rx();"#,
             beside,
         ),
         (
-            "(1, \"scheduled\") wx(); (1, \"scheduled\") w0(); C1 (2, \"scheduled\") w1(); C1 (1, \"scheduled\") rx();",
+            r#"(1, "scheduled") wx(); (1, "scheduled") w0(); C1 (2, "scheduled") w1();
+C1 (1, "scheduled") rx();"#,
             beside,
         ),
         (
-            "(1, \"scheduled\") wx(); (1, 1, \"scheduled\") w0(); C1 (1, \"scheduled\") w1(); C1 (1, \"scheduled\") rx();",
+            r#"(1, "scheduled") wx(); (1, 1, "scheduled") w0(); C1 (1, "scheduled") w1();
+C1 (1, "scheduled") rx();"#,
             beside,
         ),
         (
-            "(1, 0, 8, \"scheduled\") wx(); (1, \"scheduled\") w0(); C1 (1, 0, 7, \"scheduled\") w1(); C1 (1, \"scheduled\") rx();",
+            r#"(1, 0, 8, "scheduled") wx(); (1, "scheduled") w0(); C1 (1, 0, 7, "scheduled") w1();
+C1 (1, "scheduled") rx();"#,
             beside,
         ),
         // in front of the one, and behind the other
         (
-            "(1, \"scheduled\") w0(); (1, \"scheduled\") wx(); C1 (1, \"scheduled\") w1(); C1 (1, \"scheduled\") rx();",
+            r#"(1, "scheduled") w0(); (1, "scheduled") wx(); C1 (1, "scheduled") w1();
+C1 (1, "scheduled") rx();"#,
             beside,
         ),
         (
-            "(1, \"scheduled\") wx(); (1, \"scheduled\") w0(); C1 (1, \"scheduled\") rx(); C1 (1, \"scheduled\") w1();",
+            r#"(1, "scheduled") wx(); (1, "scheduled") w0(); C1 (1, "scheduled") rx();
+C1 (1, "scheduled") w1();"#,
             beside,
         ),
         (
-            "(1, \"scheduled\") wx(); P60001 (1, \"scheduled\") w0(); C1 P60002 (1, \"scheduled\") w1(); C1 (1, \"scheduled\") rx();",
+            r#"(1, "scheduled") wx(); P60001 (1, "scheduled") w0(); C1 P60002 (1, "scheduled") w1();
+C1 (1, "scheduled") rx();"#,
             beside,
         ),
         // on another thread
         (
-            "(1, \"scheduled\") wx(); C2 (1, \"scheduled\") w0(); C1 (1, \"scheduled\") w1(); C1 (1, \"scheduled\") rx();",
+            r#"(1, "scheduled") wx(); C2 (1, "scheduled") w0(); C1 (1, "scheduled") w1();
+C1 (1, "scheduled") rx();"#,
             beside,
         ),
         (
-            "(1, \"scheduled\") wx(); C1 (1, \"scheduled\") wy(); C2 (1, \"scheduled\") rx();",
+            r#"(1, "scheduled") wx(); C1 (1, "scheduled") wy(); C2 (1, "scheduled") rx();"#,
             through,
         ),
         // one pair for the even tics, and one for the odd ones
         (
-            "(1, \"scheduled\") wx(); (2, \"scheduled\") w0(); (2, 1, \"scheduled\") w0(); C1 (2, \"scheduled\") w1(); C1 (2, 1, \"scheduled\") w1(); C1 (1, \"scheduled\") rx();",
+            r#"(1, "scheduled") wx(); (2, "scheduled") w0(); (2, 1, "scheduled") w0();
+C1 (2, "scheduled") w1(); C1 (2, 1, "scheduled") w1(); C1 (1, "scheduled") rx();"#,
             both.as_str(),
         ),
     ];
