@@ -1,5 +1,6 @@
 -- A program and the lines of an input have one answer.
-use Rattle.std.proofs.Common.{◌≡◌, List, Result, Ok, Err, refl}
+use Rattle.std.proofs.Common.{◌≡◌, ◌∙◌, List, Result, Ok, Err, refl, ap}
+use Rattle.trick_draft.specs.Kept.{IsMirrored, Mirrors}
 use Rattle.trick_draft.specs.declared.draft.Draft.{Draft}
 use Rattle.trick_input.specs.declared.call.Call.{Call}
 use Rattle.trick_lang.specs.declared.program.Program.{Program}
@@ -9,7 +10,10 @@ use Rattle.trick_lines.specs.Laws.{AnswersOne}
 use Rattle.trick_lines.specs.declared.fault.JoinFault.{JoinFault}
 use Rattle.trick_lines.specs.declared.fault.JoinFault.TheVariants as fault
 use Rattle.trick_model.specs.declared.plan.Plan.{Plan}
+use Rattle.trick_model.specs.PlanOf.{plan_of}
+use Rattle.trick_plan.proofs.Meaning.{meaning}
 use Rattle.trick_plan.specs.Laws.{HaveOneAnswer}
+use Rattle.trick_plan.specs.Meaning.{plan_said}
 use Rattle.trick_plan.specs.Plan.{AreAnswered, IsPlan}
 use Rattle.trick_settings.specs.Settings.{settings_in}
 
@@ -50,3 +54,13 @@ module _ (one : AnswersOne) (p : Program) (calls : List Call) where
     refused = λ first second x y some other.
         let e = same (Err first) (Err second) (said p calls first x some) (said p calls second y other) in cc e;
   }
+
+  -- a plan means what the draft says that the lines answer
+  pub plan_is_said : ((q : Program) (d : Draft) → Mirrors q d → IsMirrored q d) → (plan : Plan) (d : Draft)
+      → AreAnswered p calls (Ok d)
+      → IsPlan p calls (Ok plan)
+      → plan_of plan ≡ plan_said p (settings_in p.jobs calls) d
+  plan_is_said mirrored plan d drafted has =
+      let same_draft : has.0 ≡ d = let e = same (Ok has.0) (Ok d) has.1 drafted in cc e in
+      meaning mirrored p calls plan has.0 has.2
+      ∙ ap (λ (draft : Draft). plan_said p (settings_in p.jobs calls) draft) same_draft

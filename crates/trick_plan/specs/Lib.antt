@@ -2,3 +2,5 @@
 pub mod Plan
 -- Laws of plans.
 pub mod Laws
+-- What a plan means, by what the lines have said.
+pub mod Meaning

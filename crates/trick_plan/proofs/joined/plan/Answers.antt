@@ -32,7 +32,8 @@ returns c =
     let same = c.in_ok-settings.ensures.settings in
     let ending = c.in_ok-end.ensures in (
       d,
-      subst (λ (settings : Settings). Drafted (jobs_of p) settings calls (begun p) (Ok d)) same c.in_ok-draft.ensures.draft,
+      subst (λ (settings : Settings). Drafted (jobs_of p) settings calls (begun p) (Ok d)) same
+          c.in_ok-draft.ensures.draft,
       record {
         rest = subst (KeepsRest p) (sym ending.program) c.in_ok-draft.ensures.rest;
         cells = subst (λ (q : Program). Mirrors q d) (sym ending.program) c.in_ok-draft.ensures.mirrors;
