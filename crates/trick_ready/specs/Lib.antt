@@ -2,3 +2,7 @@
 pub mod Texts
 -- What `ready` answers.
 pub mod Answers
+-- What the reader of a text answers is one thing.
+pub mod Readings
+-- What two texts say is one thing.
+pub mod Meaning

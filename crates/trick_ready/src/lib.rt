@@ -4,6 +4,7 @@
 #![tactic(auto)]
 
 mod input;
+pub mod laws;
 mod plan;
 mod s_define;
 #[cfg(test)]
