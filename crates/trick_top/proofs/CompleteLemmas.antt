@@ -6,12 +6,15 @@ use Rattle.trick_base.specs.Files.{Files}
 use Rattle.trick_model.specs.declared.plan.Plan.{Plan}
 use Rattle.trick_outside.proofs.CallLemmas.{fails-late}
 use Rattle.trick_outside.specs.Calls.{AllLeave, Call, fails}
+use Rattle.trick_ready.specs.Laws.{HaveOneMeaning}
+use Rattle.trick_ready.specs.Texts.{IsPlanRefused, IsReady, IsTextRefused}
 use Rattle.trick_top.proofs.FoundLemmas.{in_the_midst, lacks_none, leave_reads, reads_quiet, same_texts}
 use Rattle.trick_top.proofs.OutcomeLemmas.{faults}
-use Rattle.trick_top.specs.Acts.{Acts, IsBuilt, IsUnbuilt, checked, last_state, listed, no_memory, no_memory_to_write, not_built, not_written, ran}
+use Rattle.trick_top.specs.Acts as acting
+use Rattle.trick_top.specs.Acts.{Acts, IsBuilt, IsUnbuilt, checked, last_state, listed, no_memory, no_memory_to_write, not_written, ran}
 use Rattle.trick_top.specs.Found.{names, reads, texts}
 use Rattle.trick_top.specs.Outcome.{Goes, GoesOn, Outcome, Performed, acted, gone_on, missing, no_memory_to_keep, no_memory_to_read, not_read, not_understood, plan_refused, text_refused, unread}
-use Rattle.trick_top.specs.Status.{AreAccepted, HaveBadPlan, HaveNoPlan}
+use Rattle.trick_top.specs.Status.{AreAccepted, AreRefusedTexts, by_text, not_built}
 use Rattle.trick_top.specs.Verdict.{Verdict, ended_status, status_of}
 use Rattle.trick_top.specs.Words.{AreRefused, Asked, Asks, IsWanted, Nothing, Unknown, Wanted, command_of, names_of}
 use Rattle.trick_top.specs.declared.words.Command.{Command}
@@ -94,37 +97,52 @@ acted_ends : {t : Task} {plan : Plan} {calls : List Call} {verdict : Verdict} �
 acted_ends never built checked = inl refl
 acted_ends never built listed = inl refl
 acted_ends never built no_memory = inr (inr refl)
-acted_ends {t = t} {plan = plan} never built (not_built unbuilt) = absurd (not_unbuilt t plan built unbuilt)
+acted_ends {t = t} {plan = plan} never built (acting.not_built unbuilt) = absurd (not_unbuilt t plan built unbuilt)
 acted_ends {plan = plan} never built (ran lists in_tics whole) = ended_is_end ((last_state plan lists).faults).count
 acted_ends never built (not_written lists in_tics under_way part fault) = absurd (never fault)
 acted_ends never built (no_memory_to_write lists in_tics under_way part none) = inr (inr refl)
 
--- nothing refuses the texts, so it comes to its end
-pub accepted_ends : {t : Task} {s_define input : List ℕ} {calls : List Call} {verdict : Verdict} → (fails calls ≡ true → ⊥) → AreAccepted t s_define input
-    → Performed t s_define input calls verdict → IsEnd t (status_of verdict)
-accepted_ends never good (text_refused is) = absurd (good.texts _ is)
-accepted_ends never good (plan_refused is) = absurd (good.plans _ is)
-accepted_ends never good not_understood = inr (inr refl)
-accepted_ends never good (acted ready acts) = acted_ends never (good.built _ ready) acts
+-- what is asked for is not built
+acted_unbuilt : {t : Task} {plan : Plan} {calls : List Call} {verdict : Verdict} → (fails calls ≡ true → ⊥) → IsUnbuilt t plan → Acts plan t calls verdict → (status_of verdict ≡ 2) ⊎ (status_of verdict ≡ 6)
+acted_unbuilt never unbuilt checked = absurd unbuilt
+acted_unbuilt never unbuilt listed = absurd unbuilt
+acted_unbuilt never unbuilt no_memory = inr refl
+acted_unbuilt never unbuilt (acting.not_built is) = inl refl
+acted_unbuilt {plan = plan} never unbuilt (ran lists in_tics whole) = absurd (not_unbuilt Serial plan in_tics unbuilt)
+acted_unbuilt never unbuilt (not_written lists in_tics under_way part fault) = absurd (never fault)
+acted_unbuilt never unbuilt (no_memory_to_write lists in_tics under_way part quiet) = inr refl
 
--- no plan is accepted or refused, so a text is refused
-pub no_plan_ends : {t : Task} {s_define input : List ℕ} {calls : List Call} {verdict : Verdict} → (fails calls ≡ true → ⊥) → HaveNoPlan t s_define input
-    → Performed t s_define input calls verdict → (status_of verdict ≡ 2) ⊎ (status_of verdict ≡ 6)
-no_plan_ends never none (text_refused is) = inl refl
-no_plan_ends never none (plan_refused is) = absurd (none.plans _ is)
-no_plan_ends never none not_understood = inr refl
-no_plan_ends never none (acted ready checked) = absurd (none.unbuilt _ ready)
-no_plan_ends never none (acted ready listed) = absurd (none.unbuilt _ ready)
-no_plan_ends never none (acted ready no_memory) = inr refl
-no_plan_ends never none (acted ready (not_built unbuilt)) = inl refl
-no_plan_ends never none (acted {plan = plan} ready (ran lists in_tics whole)) = absurd (not_unbuilt Serial plan in_tics (none.unbuilt plan ready))
-no_plan_ends never none (acted ready (not_written lists in_tics under_way part fault)) = absurd (never fault)
-no_plan_ends never none (acted ready (no_memory_to_write lists in_tics under_way part quiet)) = inr refl
+-- what texts say is one thing
+module _ (one : (s_define input : List ℕ) → HaveOneMeaning s_define input) {t : Task} {s_define input : List ℕ} where
+  -- the texts have an accepted plan, so it comes to its end
+  pub accepted_ends : {calls : List Call} {verdict : Verdict} → (fails calls ≡ true → ⊥) → AreAccepted t s_define input → Performed t s_define input calls verdict → IsEnd t (status_of verdict)
+  accepted_ends never good (text_refused is) = absurd ((one s_define input).planned good.plan _ good.ready.planned is)
+  accepted_ends never good (plan_refused is) = absurd ((one s_define input).accepted good.plan _ good.ready is)
+  accepted_ends never good not_understood = inr (inr refl)
+  accepted_ends never good (acted ready acts) = acted_ends never (good.built _ ready) acts
 
--- no text is refused and no plan is accepted, so the plan is refused
-pub bad_plan_ends : {t : Task} {s_define input : List ℕ} {calls : List Call} {verdict : Verdict} → HaveBadPlan s_define input
-    → Performed t s_define input calls verdict → (status_of verdict ≡ 3) ⊎ (status_of verdict ≡ 6)
-bad_plan_ends bad (text_refused is) = absurd (bad.texts _ is)
-bad_plan_ends bad (plan_refused is) = inl refl
-bad_plan_ends bad not_understood = inr refl
-bad_plan_ends bad (acted ready acts) = absurd (bad.ready _ ready)
+  -- a text is refused for what it says
+  text_ends : {calls : List Call} {verdict : Verdict} → (line : List ℕ) → IsTextRefused s_define input line → Performed t s_define input calls verdict → (status_of verdict ≡ 2) ⊎ (status_of verdict ≡ 6)
+  text_ends line refused (text_refused is) = inl refl
+  text_ends line refused (plan_refused is) = absurd ((one s_define input).planned is.plan line is.planned refused)
+  text_ends line refused not_understood = inr refl
+  text_ends line refused (acted {plan = plan} ready acts) = absurd ((one s_define input).planned plan line ready.planned refused)
+
+  -- what is asked for is not built
+  unbuilt_ends : {calls : List Call} {verdict : Verdict} → (fails calls ≡ true → ⊥) → (plan : Plan) → IsReady s_define input plan → ((other : Plan) → IsReady s_define input other → IsUnbuilt t other)
+      → Performed t s_define input calls verdict → (status_of verdict ≡ 2) ⊎ (status_of verdict ≡ 6)
+  unbuilt_ends never plan ready unbuilt (text_refused is) = inl refl
+  unbuilt_ends never plan ready unbuilt (plan_refused is) = absurd ((one s_define input).accepted plan _ ready is)
+  unbuilt_ends never plan ready unbuilt not_understood = inr refl
+  unbuilt_ends never plan ready unbuilt (acted {plan = other} now acts) = acted_unbuilt never (unbuilt other now) acts
+
+  pub refused_ends : {calls : List Call} {verdict : Verdict} → (fails calls ≡ true → ⊥) → AreRefusedTexts t s_define input → Performed t s_define input calls verdict → (status_of verdict ≡ 2) ⊎ (status_of verdict ≡ 6)
+  refused_ends never (by_text line refused) performed = text_ends line refused performed
+  refused_ends never (not_built plan ready unbuilt) performed = unbuilt_ends never plan ready unbuilt performed
+
+  -- the plan is refused
+  pub bad_plan_ends : {calls : List Call} {verdict : Verdict} → (line : List ℕ) → IsPlanRefused s_define input line → Performed t s_define input calls verdict → (status_of verdict ≡ 3) ⊎ (status_of verdict ≡ 6)
+  bad_plan_ends line refused (text_refused is) = absurd ((one s_define input).planned refused.plan _ refused.planned is)
+  bad_plan_ends line refused (plan_refused is) = inl refl
+  bad_plan_ends line refused not_understood = inr refl
+  bad_plan_ends line refused (acted {plan = plan} ready acts) = absurd ((one s_define input).accepted plan line ready refused)

@@ -8,8 +8,10 @@ use Rattle.trick_outside.specs.Causes.{Rose}
 use Rattle.trick_outside.specs.Does.{Went}
 use Rattle.trick_outside.specs.declared.shelf.Shelf.{Ghosts}
 use Rattle.trick_outside.specs.declared.sink.Sink as sink
+use Rattle.trick_ready.specs.Laws.{HaveOneMeaning}
+use Rattle.trick_ready.specs.Texts.{IsPlanRefused}
 use Rattle.trick_top.proofs.CompleteLemmas.{AreOneLine, IsEnd, accepted_ends, asked_goes, bad_plan_ends, found_goes, missing_ends}
-use Rattle.trick_top.proofs.CompleteLemmas.{no_plan_ends, refused_usage}
+use Rattle.trick_top.proofs.CompleteLemmas.{refused_ends, refused_usage}
 use Rattle.trick_top.proofs.OutcomeLemmas.{faults}
 use Rattle.trick_top.proofs.PrintLemmas.{Given, decided, ends_with, given}
 use Rattle.trick_top.proofs.SaysLemmas as says_row
@@ -18,7 +20,7 @@ use Rattle.trick_top.specs.Acts.{ended_verdict, last_state}
 use Rattle.trick_top.specs.Answered.{HasAnswered}
 use Rattle.trick_top.specs.Called.{HasCalled}
 use Rattle.trick_top.specs.Outcome.{Goes, GoesOn, Performed}
-use Rattle.trick_top.specs.Status.{AreAccepted, EndsWith, Finds, HaveBadPlan, HaveNoPlan, HoldsSame, IsDone, IsRefusal, MissesFile, RefusesPlan}
+use Rattle.trick_top.specs.Status.{AreAccepted, AreRefusedTexts, EndsWith, Finds, HoldsSame, IsDone, IsRefusal, MissesFile, RefusesPlan}
 use Rattle.trick_top.specs.Status.{RefusesText, RunsToEnd, Says, Stands, TookLine, accepted, listed, ran}
 use Rattle.trick_top.specs.Verdict.{Accepted, Ended, Listed, NoFile, OutOfMemory, PlanRefused, ShelfFault, TextRefused, Usage, Verdict, line_of, status_of}
 use Rattle.trick_top.specs.Words.{AreRefused, Asks}
@@ -147,7 +149,7 @@ ends {t = t} so is never = elim so.result [
 ]
 
 module _ {S O : Type 0} {shelf : Ghosts S} {sink : sink.Ghosts O} {old new : S} {before now : O}
-    {words : List (List ℕ)} {status : ℕ} (once : AreOneLine)
+    {words : List (List ℕ)} {status : ℕ} (once : AreOneLine) (one : (s_define input : List ℕ) → HaveOneMeaning s_define input)
     (row : HasAnswered shelf sink old new before now words status) where
   abbrev verdict : Verdict
   verdict = row.verdict
@@ -274,21 +276,21 @@ module _ {S O : Type 0} {shelf : Ghosts S} {sink : sink.Ghosts O} {old new : S} 
         | inr short ↦ inr short
       ]
 
-  pub text_refused_all : (t : Task) (s_define input : List ℕ) → Finds shelf old words t (Some s_define ∷ Some input ∷ []) → HaveNoPlan t s_define input
+  pub text_refused_all : (t : Task) (s_define input : List ℕ) → Finds shelf old words t (Some s_define ∷ Some input ∷ []) → AreRefusedTexts t s_define input
       → (Rose (shelf.failures old) (shelf.failures new) → ⊥) → EndsWith status 2
-  text_refused_all t s_define input finds none never =
+  text_refused_all t s_define input finds refused never =
       ends_with so 2
       (elim (both_found t s_define input finds never) [
-        | inl on ↦ no_plan_ends on.2 none on.1
+        | inl on ↦ refused_ends one on.2 refused on.1
         | inr short ↦ inr short
       ])
 
-  pub plan_refused_all : (t : Task) (s_define input : List ℕ) → Finds shelf old words t (Some s_define ∷ Some input ∷ []) → HaveBadPlan s_define input
+  pub plan_refused_all : (t : Task) (s_define input line : List ℕ) → Finds shelf old words t (Some s_define ∷ Some input ∷ []) → IsPlanRefused s_define input line
       → (Rose (shelf.failures old) (shelf.failures new) → ⊥) → EndsWith status 3
-  plan_refused_all t s_define input finds bad never =
+  plan_refused_all t s_define input line finds refused never =
       ends_with so 3
       (elim (both_found t s_define input finds never) [
-        | inl on ↦ bad_plan_ends bad on.1
+        | inl on ↦ bad_plan_ends one line refused on.1
         | inr short ↦ inr short
       ])
 
@@ -297,7 +299,7 @@ module _ {S O : Type 0} {shelf : Ghosts S} {sink : sink.Ghosts O} {old new : S} 
   complete t s_define input finds good never sink_never =
       ends so
       (elim (both_found t s_define input finds never) [
-        | inl on ↦ accepted_ends on.2 good on.1
+        | inl on ↦ accepted_ends one on.2 good on.1
         | inr short ↦ inr (inr short)
       ])
       (λ is. sink_never (sink_fault is))

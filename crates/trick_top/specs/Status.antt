@@ -142,21 +142,17 @@ pub record Finds {S : Type 0} (shelf : Ghosts S) (old : S) (words : List (List �
   pub told : shelf.holds old ≡ Some files
   pub held : map (get files) (s_define ∷ input ∷ []) ≡ given
 
--- Nothing refuses the texts: neither one of them nor their plan, and what is asked for is built.
+-- The texts have an accepted plan, and what is asked for is built for what they have.
 pub record AreAccepted (t : Task) (s_define input : List ℕ) : Type 0 where
-  pub texts : (line : List ℕ) → IsTextRefused s_define input line → ⊥
-  pub plans : (line : List ℕ) → IsPlanRefused s_define input line → ⊥
-  pub built : (plan : Plan) → IsReady s_define input plan → IsBuilt t plan
+  pub plan : Plan
+  pub ready : IsReady s_define input plan
+  pub built : (other : Plan) → IsReady s_define input other → IsBuilt t other
 
--- Only a text can be what is refused: no plan of the texts is, and what is asked for is built for none.
-pub record HaveNoPlan (t : Task) (s_define input : List ℕ) : Type 0 where
-  pub plans : (line : List ℕ) → IsPlanRefused s_define input line → ⊥
-  pub unbuilt : (plan : Plan) → IsReady s_define input plan → IsUnbuilt t plan
-
--- Only a plan can be what is refused: no text is, and no plan of the texts is accepted.
-pub record HaveBadPlan (s_define input : List ℕ) : Type 0 where
-  pub texts : (line : List ℕ) → IsTextRefused s_define input line → ⊥
-  pub ready : (plan : Plan) → IsReady s_define input plan → ⊥
+-- A text is refused for what it says, or what is asked for is not built for what the texts have.
+pub data AreRefusedTexts (t : Task) (s_define input : List ℕ) : Type 0 where
+  by_text : (line : List ℕ) → IsTextRefused s_define input line → AreRefusedTexts t s_define input
+  not_built : (plan : Plan) → IsReady s_define input plan
+      → ((other : Plan) → IsReady s_define input other → IsUnbuilt t other) → AreRefusedTexts t s_define input
 
 -- What a command may have written: nothing, or a front of what the run writes that the named files
 -- describe.

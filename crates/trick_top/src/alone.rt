@@ -3,12 +3,13 @@ ghost use Rattle.trick_model.specs.declared.entry.Entry.{Entry};
 ghost use Rattle.trick_model.specs.declared.plan.Plan.{Plan};
 ghost use Rattle.trick_outside.specs.Causes.{Rose};
 ghost use Rattle.trick_outside.specs.Does.{Went};
+ghost use Rattle.trick_ready.specs.Texts.{IsPlanRefused};
 ghost use Rattle.trick_top.specs.Acts.{ended_verdict, last_state};
 ghost use Rattle.trick_top.specs.Answered.{HasAnswered};
 ghost use Rattle.trick_top.specs.Called.{HasCalled};
 ghost use Rattle.trick_top.specs.Outcome.{HasGone, HasGoneOn, HasPerformed};
 ghost use Rattle.trick_top.specs.Printed.{Prints};
-ghost use Rattle.trick_top.specs.Status.{AreAccepted, EndsWith, Finds, HaveBadPlan, HaveNoPlan, HoldsSame, IsDone};
+ghost use Rattle.trick_top.specs.Status.{AreAccepted, AreRefusedTexts, EndsWith, Finds, HoldsSame, IsDone};
 ghost use Rattle.trick_top.specs.Status.{IsRefusal, MissesFile, RefusesPlan, RefusesText, RunsToEnd, Stands, TookLine};
 ghost use Rattle.trick_top.specs.Verdict.{NoFile, OutOfMemory, Usage, line_of, unready_verdict, verdict_of};
 ghost use Rattle.trick_top.specs.Verdict.{Verdict as VerdictOf};
@@ -23,6 +24,7 @@ use crate::words::{Command, Task, read_words};
 use std::alloc::Global;
 use trick_base::{Items, Word};
 use trick_outside::{Printed, Shelf, Sink, put};
+use trick_ready::laws::texts_have_one_meaning;
 use trick_ready::{Unready, ready};
 use trick_words::laws;
 
@@ -175,11 +177,11 @@ pub fn tricks_alone<F: Shelf, O: Sink>(
         → Contains given None → ¬ Rose (F.failures shelf.old) (F.failures shelf.new) → EndsWith result 9 }
     ensures text_refused_all { (task : Task) (s_define input : _)
         → Finds F.Shelf shelf.old words.now task (Some s_define ∷ Some input ∷ [])
-        → HaveNoPlan task s_define input
+        → AreRefusedTexts task s_define input
         → ¬ Rose (F.failures shelf.old) (F.failures shelf.new) → EndsWith result 2 }
-    ensures plan_refused_all { (task : Task) (s_define input : _)
+    ensures plan_refused_all { (task : Task) (s_define input line : _)
         → Finds F.Shelf shelf.old words.now task (Some s_define ∷ Some input ∷ [])
-        → HaveBadPlan s_define input
+        → IsPlanRefused s_define input line
         → ¬ Rose (F.failures shelf.old) (F.failures shelf.new) → EndsWith result 3 }
     ensures complete { (task : Task) (s_define input : _)
         → Finds F.Shelf shelf.old words.now task (Some s_define ∷ Some input ∷ [])
@@ -188,5 +190,6 @@ pub fn tricks_alone<F: Shelf, O: Sink>(
         → (result ≡ 0) ⊎ (((result ≡ 4) × (task ≡ tasks.Serial)) ⊎ (result ≡ 6)) }
 {
     laws::one_command();
+    texts_have_one_meaning();
     answer(alloc, words, shelf, out)
 }
