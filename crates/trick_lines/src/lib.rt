@@ -6,8 +6,6 @@ mod fault;
 pub mod laws;
 mod lines;
 mod said;
-#[cfg(test)]
-mod tests;
 mod texts;
 mod times;
 
