@@ -1,0 +1,15 @@
+//! Work beside the tics, over whoever does it: what must-finish threads publish and take where their
+//! cycles end, which rounds of asynchronous threads are published, and which start. `docs/RULES.md` has
+//! the rules.
+#![tactic(auto)]
+
+mod ended;
+mod frames;
+mod records;
+mod rounds;
+mod seat;
+mod station;
+
+pub use ended::must_finish;
+pub use rounds::{publish_all, start_rounds};
+pub use station::{Station, stations};
