@@ -2,6 +2,7 @@
 
 use crate::told::{accepts, refuses_plan};
 use std::alloc::{AllocError, Global};
+use std::process::Abort;
 use std::test::Fail;
 
 /// An S_define of one object `k` with jobs; `x`, `y`, `z` and `a` are its cells.
@@ -263,6 +264,19 @@ C2 (1, "scheduled") xy();"#,
     Ok(())
 }
 
+/// Whether each of these lists of jobs is refused, with C2 as an asynchronous thread.
+fn refuse_beside(
+    rt: &(impl Abort + AllocGlobal),
+    cases: &[(&str, &str, &str)],
+) -> Result<(), Fail> {
+    for (jobs, input, what) in cases {
+        let s_define = of_jobs(rt.alloc(), jobs)?;
+        let input = format!(in rt.alloc(); "{ASYNC_2}{input}")?;
+        refuses_plan(rt, s_define.as_str(), input.as_str(), what)?;
+    }
+    Ok(())
+}
+
 #[test]
 fn what_depends_on_asynchronous_work(rt: HostRuntime) -> Result<(), Fail> {
     let recorded = "h = trick.DRAscii('h')\nh.add_variable('k.a[1]')\ntrick.add_data_record_group(h)
@@ -318,11 +332,7 @@ C1 (1, "scheduled") nothing();"#,
             "AsyncRecorded i k.z",
         ),
     ];
-    for (jobs, input, what) in cases {
-        let s_define = of_jobs(rt.alloc(), jobs)?;
-        let input = format!(in rt.alloc(); "{ASYNC_2}{input}")?;
-        refuses_plan(&rt, s_define.as_str(), input.as_str(), what)?;
-    }
+    refuse_beside(&rt, &cases)?;
     let jobs = r#"C2 (1, "scheduled") wx(); (1, "scheduled") rx();"#;
     let s_define = of_jobs(rt.alloc(), jobs)?;
     let counts = "cells=6 jobs=2 threads=2";

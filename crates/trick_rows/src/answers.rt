@@ -3,6 +3,7 @@
 use crate::models::{COUNTER, PLANT};
 use crate::runs::{READS, RECORDED, TANK, TANK_RUN};
 use crate::told::{accepts, answers, tells, with_texts, words};
+use std::process::Abort;
 use std::test::Fail;
 use trick_outside::{MemoryShelf, MemorySink, Shelf};
 use trick_top::tricks_alone;
@@ -23,6 +24,19 @@ B b;
 "#;
 
 const USAGE: &str = "usage: tricks serial|run|replay|check|list|gen";
+
+/// Whether the three commands answer alike for each of these texts.
+fn answer_alike(
+    rt: &(impl Abort + AllocGlobal),
+    cases: &[(&str, &str, u8, &str)],
+) -> Result<(), Fail> {
+    for (s_define, input, status, line) in cases {
+        for command in ["check", "list", "serial"] {
+            answers(rt, command, (*s_define, *input), *status, line)?;
+        }
+    }
+    Ok(())
+}
 
 #[test]
 fn each_text_is_refused_in_its_turn(rt: HostRuntime) -> Result<(), Fail> {
@@ -91,12 +105,7 @@ fn each_text_is_refused_in_its_turn(rt: HostRuntime) -> Result<(), Fail> {
             "refused Backwards a.w 1 b.w 1",
         ),
     ];
-    for (s_define, input, status, line) in cases {
-        for command in ["check", "list", "serial"] {
-            answers(&rt, command, (s_define, input), status, line)?;
-        }
-    }
-    Ok(())
+    answer_alike(&rt, &cases)
 }
 
 #[test]

@@ -1,7 +1,8 @@
 //! Lines of an input that are taken.
 
 use crate::models::{PLANT, PLANT_COUNTS};
-use crate::told::accepts;
+use crate::told::{accepts, accepts_each};
+use std::process::Abort;
 use std::test::Fail;
 
 #[test]
@@ -36,8 +37,15 @@ fn lines_of_cells_and_of_the_run(rt: HostRuntime) -> Result<(), Fail> {
         "trick.exec_set_job_onoff('plant.begin', 1, True)\ntrick.exec_set_job_onoff('plant.fill', 2, -1)",
         "trick.exec_set_job_onoff('plant.fill', 2, False)\ntrick.exec_set_job_onoff('plant.fill', 2, 0x0)",
     ];
-    for input in inputs {
-        accepts(&rt, PLANT, input, PLANT_COUNTS)?;
+    accepts_each(&rt, PLANT, "", &inputs, PLANT_COUNTS)
+}
+
+/// Whether each variable may be declared, with a line behind, so that there are so many cells.
+fn declare(rt: &(impl Abort + AllocGlobal), cases: &[(&str, &str, u32)]) -> Result<(), Fail> {
+    for (declaration, line, cells) in cases {
+        let input = format!(in rt.alloc(); "trick.TMM_declare_var_s('{declaration}')\n{line}")?;
+        let counts = format!(in rt.alloc(); "cells={cells} jobs=4 threads=2")?;
+        accepts(rt, PLANT, input.as_str(), counts.as_str())?;
     }
     Ok(())
 }
@@ -63,12 +71,7 @@ fn declared_variables(rt: HostRuntime) -> Result<(), Fail> {
         ("int thisown", "thisown = 1", 12),
         ("int tank", "tank = 1\nplant.tank.level = 2", 12),
     ];
-    for (declaration, line, cells) in cases {
-        let input = format!(in rt.alloc(); "trick.TMM_declare_var_s('{declaration}')\n{line}")?;
-        let counts = format!(in rt.alloc(); "cells={cells} jobs=4 threads=2")?;
-        accepts(&rt, PLANT, input.as_str(), counts.as_str())?;
-    }
-    Ok(())
+    declare(&rt, &cases)
 }
 
 #[test]
@@ -90,11 +93,13 @@ fn lines_of_groups(rt: HostRuntime) -> Result<(), Fail> {
         "trick.add_data_record_group(v)\nw = trick.DRAscii('w')\ntrick.add_data_record_group(w)",
         "w = trick.new_event('log')",
     ];
-    for line in lines {
-        let input = format!(in rt.alloc(); "v = trick.DRAscii(\"log\")\n{line}")?;
-        accepts(&rt, PLANT, input.as_str(), PLANT_COUNTS)?;
-    }
-    Ok(())
+    accepts_each(
+        &rt,
+        PLANT,
+        "v = trick.DRAscii(\"log\")\n",
+        &lines,
+        PLANT_COUNTS,
+    )
 }
 
 #[test]
@@ -117,11 +122,13 @@ fn lines_of_events(rt: HostRuntime) -> Result<(), Fail> {
         "e.condition(0, 'plant . grid [ 1 ] [ (0x2) ] > plant.grid[true][false]')",
         "e.condition(0, '9223372036854775808 < 0')",
     ];
-    for line in lines {
-        let input = format!(in rt.alloc(); "e = trick.new_event('watch')\n{line}")?;
-        accepts(&rt, PLANT, input.as_str(), PLANT_COUNTS)?;
-    }
-    Ok(())
+    accepts_each(
+        &rt,
+        PLANT,
+        "e = trick.new_event('watch')\n",
+        &lines,
+        PLANT_COUNTS,
+    )
 }
 
 #[test]
@@ -131,9 +138,22 @@ fn what_earlier_lines_declare(rt: HostRuntime) -> Result<(), Fail> {
         "g = trick.DRAscii('g')\ng.add_variable('spare[0]')",
         "trick.add_read(1.0, 'spare[1] = 7; trick.var_set(\"spare[0]\", 3)')",
     ];
-    for line in lines {
-        let input = format!(in rt.alloc(); "trick.TMM_declare_var_s('int spare[2]')\n{line}")?;
-        accepts(&rt, PLANT, input.as_str(), "cells=13 jobs=4 threads=2")?;
+    let front = "trick.TMM_declare_var_s('int spare[2]')\n";
+    accepts_each(&rt, PLANT, front, &lines, "cells=13 jobs=4 threads=2")
+}
+
+/// Whether each list of actions is taken by a read and by an event.
+fn take(rt: &(impl Abort + AllocGlobal), lists: &[&str]) -> Result<(), Fail> {
+    for list in lists {
+        let input = format!(in rt.alloc();
+            "g = trick.DRAscii('g')
+trick.add_data_record_group(g)
+e = trick.new_event('e')
+trick.add_event(e)
+trick.add_read(1.5, \"{list}\")
+e.action(3, \"{list}\")"
+        )?;
+        accepts(rt, PLANT, input.as_str(), PLANT_COUNTS)?;
     }
     Ok(())
 }
@@ -154,16 +174,5 @@ fn actions_that_are_taken(rt: HostRuntime) -> Result<(), Fail> {
         "trick.dr_enable_group('g'); trick.dr_disable_group('g')",
         "trick.activate_event('e'); trick.deactivate_event('e')",
     ];
-    for list in lists {
-        let input = format!(in rt.alloc();
-            "g = trick.DRAscii('g')
-trick.add_data_record_group(g)
-e = trick.new_event('e')
-trick.add_event(e)
-trick.add_read(1.5, \"{list}\")
-e.action(3, \"{list}\")"
-        )?;
-        accepts(&rt, PLANT, input.as_str(), PLANT_COUNTS)?;
-    }
-    Ok(())
+    take(&rt, &lists)
 }

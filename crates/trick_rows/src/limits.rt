@@ -84,6 +84,19 @@ fn actions_of_an_event(rt: HostRuntime) -> Result<(), Fail> {
     refuses_text(&rt, PLANT, input.as_str(), "OutOfRange input 18")
 }
 
+/// Whether there are too many cells with each of these, behind 2,000 others.
+fn are_too_many(rt: &(impl Abort + AllocGlobal), last: &[&str]) -> Result<(), Fail> {
+    for declaration in last {
+        let input = format!(in rt.alloc();
+            "trick.TMM_declare_var_s('int a[1000]')
+trick.TMM_declare_var_s('int b[2][500]')
+trick.TMM_declare_var_s('{declaration}')"
+        )?;
+        refuses_text(rt, PLANT, input.as_str(), "TooMany input 3 65536")?;
+    }
+    Ok(())
+}
+
 #[test]
 fn cells_that_are_declared(rt: HostRuntime) -> Result<(), Fail> {
     // 11 cells are there, and in the third line they become too many
@@ -96,15 +109,7 @@ fn cells_that_are_declared(rt: HostRuntime) -> Result<(), Fail> {
         "int x[9223372036854775808]",
         "int x[9223372036854775808][9223372036854775808]",
     ];
-    for declaration in last {
-        let input = format!(in rt.alloc();
-            "trick.TMM_declare_var_s('int a[1000]')
-trick.TMM_declare_var_s('int b[2][500]')
-trick.TMM_declare_var_s('{declaration}')"
-        )?;
-        refuses_text(&rt, PLANT, input.as_str(), "TooMany input 3 65536")?;
-    }
-    Ok(())
+    are_too_many(&rt, &last)
 }
 
 #[test]

@@ -2,6 +2,7 @@
 
 use crate::told::{accepts, refuses_plan};
 use std::alloc::{AllocError, Global};
+use std::process::Abort;
 use std::test::Fail;
 
 /// Two objects whose jobs `w` write the cell `a.x`, on C1 and C2, with these times.
@@ -22,6 +23,25 @@ A a;
 B b;
 "
     )
+}
+
+/// Whether the two jobs with each of these times race, at this tic.
+fn race_at(rt: &(impl Abort + AllocGlobal), races: &[(&str, &str, &str)]) -> Result<(), Fail> {
+    for (first, second, tic) in races {
+        let s_define = of_two(rt.alloc(), first, second)?;
+        let what = format!(in rt.alloc(); "Race a.w 1 b.w 1 {tic}")?;
+        refuses_plan(rt, s_define.as_str(), "", what.as_str())?;
+    }
+    Ok(())
+}
+
+/// Whether the two jobs with each of these times are never due at one tic.
+fn never_meet(rt: &(impl Abort + AllocGlobal), accepted: &[(&str, &str)]) -> Result<(), Fail> {
+    for (first, second) in accepted {
+        let s_define = of_two(rt.alloc(), first, second)?;
+        accepts(rt, s_define.as_str(), "", "cells=1 jobs=2 threads=3")?;
+    }
+    Ok(())
 }
 
 #[test]
@@ -51,11 +71,7 @@ fn the_first_tic_that_two_jobs_share(rt: HostRuntime) -> Result<(), Fail> {
             "999999961946180",
         ),
     ];
-    for (first, second, tic) in races {
-        let s_define = of_two(rt.alloc(), first, second)?;
-        let what = format!(in rt.alloc(); "Race a.w 1 b.w 1 {tic}")?;
-        refuses_plan(&rt, s_define.as_str(), "", what.as_str())?;
-    }
+    race_at(&rt, &races)?;
     let accepted = [
         ("0.000002, 0.000001, 0.000002", "0.000003"),
         ("0.000004", "0.000006, 0.000001"),
@@ -64,11 +80,7 @@ fn the_first_tic_that_two_jobs_share(rt: HostRuntime) -> Result<(), Fail> {
         ("0.000001, 0, 0.000005", "0.000001, 0.000006"),
         ("0.000003, 0.000001, 999999999.999999", "1000000000"),
     ];
-    for (first, second) in accepted {
-        let s_define = of_two(rt.alloc(), first, second)?;
-        accepts(&rt, s_define.as_str(), "", "cells=1 jobs=2 threads=3")?;
-    }
-    Ok(())
+    never_meet(&rt, &accepted)
 }
 
 #[test]
@@ -118,6 +130,30 @@ K k;
     )
 }
 
+/// Whether two jobs that run these methods race on two threads, where they do, and never on one thread.
+fn use_as_told(rt: &(impl Abort + AllocGlobal), pairs: &[(&str, &str, bool)]) -> Result<(), Fail> {
+    for (first, second, race) in pairs {
+        let jobs = format!(in rt.alloc();
+            "(1, \"scheduled\") {first}(); C1 (1, \"scheduled\") {second}();"
+        )?;
+        let s_define = of_jobs(rt.alloc(), jobs.as_str())?;
+        let instance = if *first == *second { 2 } else { 1 };
+        if *race {
+            let what = format!(in rt.alloc(); "Race k.{first} 1 k.{second} {instance} 0")?;
+            refuses_plan(rt, s_define.as_str(), "", what.as_str())?;
+        } else {
+            accepts(rt, s_define.as_str(), "", "cells=7 jobs=2 threads=2")?;
+        }
+        // one thread, and another class
+        let jobs = format!(in rt.alloc();
+            "C1 (1, \"scheduled\") {first}(); C1 (1, \"scheduled\") {second}(); (\"freeze\") {first}();"
+        )?;
+        let s_define = of_jobs(rt.alloc(), jobs.as_str())?;
+        accepts(rt, s_define.as_str(), "", "cells=7 jobs=3 threads=2")?;
+    }
+    Ok(())
+}
+
 #[test]
 fn what_two_jobs_may_use(rt: HostRuntime) -> Result<(), Fail> {
     // two methods, and whether one may write what the other may use
@@ -143,24 +179,18 @@ fn what_two_jobs_may_use(rt: HostRuntime) -> Result<(), Fail> {
         ("wm", "wn", false),
         ("wn", "wn", true),
     ];
-    for (first, second, race) in pairs {
-        let jobs = format!(in rt.alloc();
-            "(1, \"scheduled\") {first}(); C1 (1, \"scheduled\") {second}();"
-        )?;
-        let s_define = of_jobs(rt.alloc(), jobs.as_str())?;
-        let instance = if first == second { 2 } else { 1 };
-        if race {
-            let what = format!(in rt.alloc(); "Race k.{first} 1 k.{second} {instance} 0")?;
-            refuses_plan(&rt, s_define.as_str(), "", what.as_str())?;
-        } else {
-            accepts(&rt, s_define.as_str(), "", "cells=7 jobs=2 threads=2")?;
-        }
-        // one thread, and another class
-        let jobs = format!(in rt.alloc();
-            "C1 (1, \"scheduled\") {first}(); C1 (1, \"scheduled\") {second}(); (\"freeze\") {first}();"
-        )?;
-        let s_define = of_jobs(rt.alloc(), jobs.as_str())?;
-        accepts(&rt, s_define.as_str(), "", "cells=7 jobs=3 threads=2")?;
+    use_as_told(&rt, &pairs)
+}
+
+/// Whether each of these lists of jobs is refused.
+fn refuse_each(
+    rt: &(impl Abort + AllocGlobal),
+    input: &str,
+    cases: &[(&str, &str)],
+) -> Result<(), Fail> {
+    for (jobs, what) in cases {
+        let s_define = of_jobs(rt.alloc(), jobs)?;
+        refuses_plan(rt, s_define.as_str(), input, what)?;
     }
     Ok(())
 }
@@ -194,12 +224,8 @@ C2 P1 (1, "scheduled") wx();"#,
             "Race k.wx 1 k.wx 2 0",
         ),
     ];
-    for (jobs, what) in cases {
-        let s_define = of_jobs(rt.alloc(), jobs)?;
-        let input = "trick.exec_set_job_onoff('k.wx', 1, False)";
-        refuses_plan(&rt, s_define.as_str(), input, what)?;
-    }
-    Ok(())
+    let input = "trick.exec_set_job_onoff('k.wx', 1, False)";
+    refuse_each(&rt, input, &cases)
 }
 
 #[test]
@@ -248,6 +274,15 @@ C1 (1, "scheduled") rx();"#,
         let threads = if jobs.starts_with("C1") { 3 } else { 2 };
         let counts = format!(in rt.alloc(); "cells=7 jobs={count} threads={threads}")?;
         accepts(&rt, s_define.as_str(), input, counts.as_str())?;
+    }
+    Ok(())
+}
+
+/// Whether `wx` and `rx` race at tic 0, with each of these lists of jobs and inputs.
+fn race_at_once(rt: &(impl Abort + AllocGlobal), cases: &[(&str, &str)]) -> Result<(), Fail> {
+    for (jobs, input) in cases {
+        let s_define = of_jobs(rt.alloc(), jobs)?;
+        refuses_plan(rt, s_define.as_str(), input, "Race k.wx 1 k.rx 1 0")?;
     }
     Ok(())
 }
@@ -314,9 +349,5 @@ C1 (2, "scheduled") w1(); C1 (2, 1, "scheduled") w1(); C1 (1, "scheduled") rx();
             both.as_str(),
         ),
     ];
-    for (jobs, input) in cases {
-        let s_define = of_jobs(rt.alloc(), jobs)?;
-        refuses_plan(&rt, s_define.as_str(), input, "Race k.wx 1 k.rx 1 0")?;
-    }
-    Ok(())
+    race_at_once(&rt, &cases)
 }

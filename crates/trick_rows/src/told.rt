@@ -94,3 +94,18 @@ pub(crate) fn refuses_plan(
     let line = format!(in rt.alloc(); "refused {what}")?;
     answers(rt, "check", (s_define, input), 3, line.as_str())
 }
+
+/// Whether `check` accepts each of these lines behind others, with these counts.
+pub(crate) fn accepts_each(
+    rt: &(impl Abort + AllocGlobal),
+    s_define: &str,
+    front: &str,
+    lines: &[&str],
+    counts: &str,
+) -> Result<(), Fail> {
+    for line in lines {
+        let input = format!(in rt.alloc(); "{front}{line}")?;
+        accepts(rt, s_define, input.as_str(), counts)?;
+    }
+    Ok(())
+}

@@ -26,6 +26,21 @@ fn refuse_lines(rt: &(impl Abort + AllocGlobal), code: &str, lines: &[&str]) -> 
     Ok(())
 }
 
+/// The same for each of these pieces of a line, between what stands before and after it.
+fn refuse_pieces(
+    rt: &(impl Abort + AllocGlobal),
+    code: &str,
+    around: (&str, &str),
+    pieces: &[&str],
+) -> Result<(), Fail> {
+    let (front, back) = around;
+    for piece in pieces {
+        let line = format!(in rt.alloc(); "{front}{piece}{back}")?;
+        refuse_lines(rt, code, &[line.as_str()])?;
+    }
+    Ok(())
+}
+
 #[test]
 fn times(rt: HostRuntime) -> Result<(), Fail> {
     let inexact = [
@@ -172,19 +187,12 @@ fn conditions(rt: HostRuntime) -> Result<(), Fail> {
         "plant.grid[-1][0]",
         "plant.tank.count[plant.open]",
     ];
-    for condition in unknown {
-        let line = format!(in rt.alloc(); "f.condition(0, '{condition}')")?;
-        refuse_lines(&rt, "UnknownName", &[line.as_str()])?;
-        let line = format!(in rt.alloc(); "e.condition(0, '{condition}')")?;
-        refuse_lines(&rt, "UnknownName", &[line.as_str()])?;
-    }
-    for condition in bad {
-        let line = format!(in rt.alloc(); "f.condition(0, '{condition}')")?;
-        refuse_lines(&rt, "BadAction", &[line.as_str()])?;
-        let line = format!(in rt.alloc(); "e.condition(0, '{condition}')")?;
-        refuse_lines(&rt, "TwiceNamed", &[line.as_str()])?;
-    }
-    Ok(())
+    // of an event without a condition, and of one that has one
+    let (first, second) = (("f.condition(0, '", "')"), ("e.condition(0, '", "')"));
+    refuse_pieces(&rt, "UnknownName", first, &unknown)?;
+    refuse_pieces(&rt, "UnknownName", second, &unknown)?;
+    refuse_pieces(&rt, "BadAction", first, &bad)?;
+    refuse_pieces(&rt, "TwiceNamed", second, &bad)
 }
 
 #[test]
@@ -333,11 +341,8 @@ fn declarations_that_do_not_read(rt: HostRuntime) -> Result<(), Fail> {
         "int plant[0]",
         "double spare",
     ];
-    for declaration in declarations {
-        let line = format!(in rt.alloc(); "trick.TMM_declare_var_s('{declaration}')")?;
-        refuse_lines(&rt, "BadAction", &[line.as_str()])?;
-    }
-    Ok(())
+    let around = ("trick.TMM_declare_var_s('", "')");
+    refuse_pieces(&rt, "BadAction", around, &declarations)
 }
 
 #[test]
@@ -397,12 +402,8 @@ fn actions_that_cannot_be_done(rt: HostRuntime) -> Result<(), Fail> {
         "trick.stop(1000000001)",
         "trick.stop(1.0); trick.stop(1000000000.000001)",
     ];
-    for list in lists {
-        let line = format!(in rt.alloc(); "trick.add_read(1.0, '{list}')")?;
-        refuse_lines(&rt, "BadAction", &[line.as_str()])?;
-        let line = format!(in rt.alloc(); "e.action(4, '{list}')")?;
-        refuse_lines(&rt, "BadAction", &[line.as_str()])?;
-    }
+    refuse_pieces(&rt, "BadAction", ("trick.add_read(1.0, '", "')"), &lists)?;
+    refuse_pieces(&rt, "BadAction", ("e.action(4, '", "')"), &lists)?;
     // the group is there from its line on
     let later = "trick.add_read(1.0, 'trick.dr_enable_group(\"later\")')
 h = trick.DRAscii('later')
