@@ -6,7 +6,7 @@ use Rattle.trick_base.specs.Files.{Files}
 use Rattle.trick_model.specs.declared.plan.Plan.{Plan}
 use Rattle.trick_outside.proofs.CallLemmas.{fails-late}
 use Rattle.trick_outside.specs.Calls.{AllLeave, Call, fails}
-use Rattle.trick_ready.specs.Laws.{HaveOneMeaning}
+use Rattle.trick_ready.specs.Meaning.{HaveOneMeaning}
 use Rattle.trick_ready.specs.Texts.{IsPlanRefused, IsReady, IsTextRefused}
 use Rattle.trick_top.proofs.FoundLemmas.{in_the_midst, lacks_none, leave_reads, reads_quiet, same_texts}
 use Rattle.trick_top.proofs.OutcomeLemmas.{faults}

@@ -8,7 +8,7 @@ use Rattle.trick_outside.specs.Causes.{Rose}
 use Rattle.trick_outside.specs.Does.{Went}
 use Rattle.trick_outside.specs.declared.shelf.Shelf.{Ghosts}
 use Rattle.trick_outside.specs.declared.sink.Sink as sink
-use Rattle.trick_ready.specs.Laws.{HaveOneMeaning}
+use Rattle.trick_ready.specs.Meaning.{HaveOneMeaning}
 use Rattle.trick_ready.specs.Texts.{IsPlanRefused}
 use Rattle.trick_top.proofs.CompleteLemmas.{AreOneLine, IsEnd, accepted_ends, asked_goes, bad_plan_ends, found_goes, missing_ends}
 use Rattle.trick_top.proofs.CompleteLemmas.{refused_ends, refused_usage}
