@@ -7,8 +7,6 @@ mod input;
 pub mod laws;
 mod plan;
 mod s_define;
-#[cfg(test)]
-mod tests;
 mod texts;
 mod unready;
 
