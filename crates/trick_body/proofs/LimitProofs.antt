@@ -260,13 +260,17 @@ module _ (text : List ℕ) (limit more : ℕ) (lt : limit < more) (some : 1 ≤ 
 
   -- ---- methods
 
-  void_grows : (n m : ℕ) → n < m → Grows (void_rest text limit n) (void_rest text more m)
+  pub void_grows : (n m : ℕ) → n < m → Grows (void_rest text limit n) (void_rest text more m)
   unfolding void_body void_inside_body
   void_grows n m deep = in_rule (in_act (in_sequence (same refl) (in_rule (in_act (in_sequence (same refl) (in_sequence (same refl) (in_sequence (statements_from n m deep (λ k. level_grows k n m deep)) (same refl))))))))
 
-  int_grows : (n m : ℕ) → n < m → Grows (int_rest text limit n) (int_rest text more m)
-  unfolding int_body int_inside_body return_body
-  int_grows n m deep = in_rule (in_act (in_sequence (same refl) (in_rule (in_act (in_sequence (same refl) (in_sequence (same refl) (in_sequence (statements_from n m deep (λ k. level_grows k n m deep)) (in_sequence (same refl) (same refl)))))))))
+  pub int_inside_grows : (n m : ℕ) → n < m → Grows (int_inside text limit n) (int_inside text more m)
+  unfolding int_inside_body return_body
+  int_inside_grows n m deep = in_rule (in_act (in_sequence (same refl) (in_sequence (same refl) (in_sequence (statements_from n m deep (λ k. level_grows k n m deep)) (in_sequence (same refl) (same refl))))))
+
+  pub int_grows : (n m : ℕ) → n < m → Grows (int_rest text limit n) (int_rest text more m)
+  unfolding int_body
+  int_grows n m deep = in_rule (in_act (in_sequence (same refl) (int_inside_grows n m deep)))
 
   method_grows : (n m : ℕ) → n < m → Grows (method text limit n) (method text more m)
   unfolding method_body

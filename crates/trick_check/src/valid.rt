@@ -1,6 +1,6 @@
 //! Tests of what every program keeps and a tree of any kind may lack: names of a text have at most 64
 //! bytes and no dot or bracket, times and threads are in their ranges. A tree that was read from a text
-//! should pass them all, which is not proved yet.
+//! should pass them all; that no two cells and no two jobs share a name is not proved yet.
 
 ghost use Rattle.std.specs.List.{list_all};
 ghost use Rattle.std.specs.Prelude.{◌≡◌, IfOk, IsTrue, Some, slice_get, true};
@@ -13,9 +13,7 @@ use std::alloc::{AllocError, Global as Memory};
 use trick_base::Word;
 use trick_lang::{Class, EnumItem, Job, Method, Object, Variable};
 use trick_names::Names;
-
-/// The latest tic that a time can be.
-const LAST_TIC: u64 = 1_000_000_000_000_000;
+use trick_text::TIC_LIMIT;
 
 // ---- names
 
@@ -111,7 +109,7 @@ pub fn jobs_are_apart(
 fn is_scheduled_right(job: &Job) -> bool
     ensures { result ≡ is_scheduled_right job.now }
 {
-    1 <= job.cycle && job.cycle <= LAST_TIC && job.start <= LAST_TIC && job.stop <= LAST_TIC
+    1 <= job.cycle && job.cycle <= TIC_LIMIT && job.start <= TIC_LIMIT && job.stop <= TIC_LIMIT
 }
 
 fn has_no_times(job: &Job) -> bool

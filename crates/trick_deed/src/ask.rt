@@ -14,9 +14,7 @@ use crate::find::{find_cell, find_job};
 use crate::named::place_of;
 use trick_lang::{Cell, Program, Scalar, wrap};
 use trick_model::{Action, Event, Group, Plan};
-
-// The last tic that a time can be.
-const LAST_TIME: u64 = 1_000_000_000_000_000;
+use trick_text::TIC_LIMIT;
 
 fn scalar_at(program: &Program, cell: Cell) -> Scalar
     requires { cell.0 < length program.now.cells }
@@ -54,7 +52,7 @@ fn stop(at: Option<u64>) -> Option<Deed>
     ensures { option_map deed_as result ≡ stop_after at }
 {
     match at {
-        Some(at) if at > LAST_TIME => None,
+        Some(at) if at > TIC_LIMIT => None,
         _ => Some(Deed::Stop { at }),
     }
 }

@@ -13,9 +13,7 @@ use trick_base::Word;
 use trick_lang::Program;
 use trick_model::Action;
 use trick_names::Names;
-
-// The last tic that a time can be.
-const LAST_TIME: u64 = 1_000_000_000_000_000;
+use trick_text::TIC_LIMIT;
 
 impl KnownCells {
     // Whether a cell of this name can get a number.
@@ -43,7 +41,7 @@ fn can_stop(at: Option<u64>) -> bool
     ensures { result ≡ is_some (stop_after at) }
 {
     match at {
-        Some(tic) => tic <= LAST_TIME,
+        Some(tic) => tic <= TIC_LIMIT,
         None => true,
     }
 }

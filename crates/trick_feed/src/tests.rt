@@ -47,3 +47,32 @@ fn lines_of_4096_bytes_are_taken(rt: HostRuntime) -> Result<(), Fail> {
     }
     Ok(())
 }
+
+#[test]
+fn lines_come_byte_by_byte(rt: HostRuntime) -> Result<(), Fail> {
+    let alloc = rt.alloc();
+    // the line feed ends a line that has 4,096 bytes with its carriage return
+    let mut bytes = Vec::new(alloc);
+    bytes.extend_from_slice(b"\r\n\r\r\n\0\xff\n")?;
+    let long = vec![in alloc; b'x'; 4095]?;
+    bytes.extend_from_slice(&long)?;
+    bytes.extend_from_slice(b"\r\nend\n")?;
+    let mut feed = Feed::new(alloc);
+    for byte in &bytes {
+        assert!(rt; feed.push(&[*byte]).is_ok());
+    }
+    for line in [b"".as_slice(), b"\r", b"\0\xff", long.as_slice(), b"end"] {
+        assert!(rt; gives(&mut feed, line));
+    }
+    // one byte more is too many, whatever comes behind it, and the lines before it stay
+    assert!(rt; feed.push(b"last\n").is_ok());
+    for _byte in 0..4096 {
+        assert!(rt; feed.push(b"x").is_ok());
+    }
+    for byte in [b'\r', b'\n', b'x'] {
+        assert_eq!(rt; feed.push(&[byte]), Err(FeedFault::LongLine));
+    }
+    assert!(rt; gives(&mut feed, b"last"));
+    assert!(rt; feed.pull().is_none());
+    Ok(())
+}

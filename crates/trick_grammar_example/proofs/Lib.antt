@@ -1,1 +1,6 @@
+-- the next token decides each step of the grammar
 pub mod Tests
+-- the trees of chains are what the grammar makes
+pub mod Chains
+-- the tokens before the rest
+pub mod Fronts

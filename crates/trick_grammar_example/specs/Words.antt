@@ -5,7 +5,7 @@ use Rattle.std.specs.Str.{bytes_eq}
 use Rattle.trick_grammar.specs.declared.lexeme.Lexeme.{Lexeme}
 use Rattle.trick_grammar_example.specs.contracts.word.Word.{the_type}
 use Rattle.trick_grammar_example.specs.declared.word.Word.{Word}
-use Rattle.trick_grammar_example.specs.declared.word.Word.TheVariants.{If, Else, Enum, Name, Whole, OpenBrace, CloseBrace, OpenParen, CloseParen, Semicolon, Comma, Assign, Increment, Plus, Minus, Times}
+use Rattle.trick_grammar_example.specs.declared.word.Word.TheVariants.{If, Else, Enum, For, Name, Whole, OpenBrace, CloseBrace, OpenParen, CloseParen, Semicolon, Comma, Assign, Increment, Less, Plus, Minus, Times}
 use denote.Enum.Declared.{tag_of}
 
 -- the place of a class in its enum
@@ -17,6 +17,7 @@ abbrev pub spelling_of : Word → List ℕ
 spelling_of If = codes "if"
 spelling_of Else = codes "else"
 spelling_of Enum = codes "enum"
+spelling_of For = codes "for"
 spelling_of Name = codes "n"
 spelling_of Whole = codes "0"
 spelling_of OpenBrace = codes "{"
@@ -27,6 +28,7 @@ spelling_of Semicolon = codes ";"
 spelling_of Comma = codes ","
 spelling_of Assign = codes "="
 spelling_of Increment = codes "++"
+spelling_of Less = codes "<"
 spelling_of Plus = codes "+"
 spelling_of Minus = codes "-"
 spelling_of Times = codes "*"
@@ -47,6 +49,7 @@ mark_or_other bytes =
     else if bytes_eq bytes (codes ",") then Comma
     else if bytes_eq bytes (codes "=") then Assign
     else if bytes_eq bytes (codes "++") then Increment
+    else if bytes_eq bytes (codes "<") then Less
     else if bytes_eq bytes (codes "+") then Plus
     else if bytes_eq bytes (codes "-") then Minus
     else if bytes_eq bytes (codes "*") then Times
@@ -58,12 +61,14 @@ class_of_bytes bytes =
     if bytes_eq bytes (codes "if") then If
     else if bytes_eq bytes (codes "else") then Else
     else if bytes_eq bytes (codes "enum") then Enum
+    else if bytes_eq bytes (codes "for") then For
     else mark_or_other bytes
 
 pub each_is_spelled : (word : Word) → class_of_bytes (spelling_of word) ≡ word
 each_is_spelled If = refl
 each_is_spelled Else = refl
 each_is_spelled Enum = refl
+each_is_spelled For = refl
 each_is_spelled Name = refl
 each_is_spelled Whole = refl
 each_is_spelled OpenBrace = refl
@@ -74,6 +79,7 @@ each_is_spelled Semicolon = refl
 each_is_spelled Comma = refl
 each_is_spelled Assign = refl
 each_is_spelled Increment = refl
+each_is_spelled Less = refl
 each_is_spelled Plus = refl
 each_is_spelled Minus = refl
 each_is_spelled Times = refl

@@ -1,145 +1,66 @@
-//! Statements: one function for each production, with its line of the grammar.
+//! Statements that hold others: one function for each production, with its line of the grammar.
 
-ghost use Rattle.std.specs.Prelude.{◌<◌, ◌≤◌, ◌^◌, ◌-◌, ◌∷◌, [], suc, map, option_map};
+ghost use Rattle.std.specs.Prelude.{◌≡◌, suc, map, option_map};
 ghost use Rattle.trick_grammar.specs.Gives.{Gives, class_of};
 ghost use Rattle.trick_grammar.specs.Grammar.{repetition, nearest};
-ghost use Rattle.trick_grammar.specs.Reading.{prefixed, read};
-ghost use Rattle.trick_grammar_example.specs.Statements.{simple, items, items_behind, list_statement, block_with, when_with, choice_with, link, other_with, statement};
-ghost use Rattle.trick_grammar_example.specs.Trees.{statement_of, statements_of, link_of};
+ghost use Rattle.trick_grammar.specs.Reading.{read};
+ghost use Rattle.trick_grammar_example.specs.Statements.{block_with, choice_with, header, link, loop_with, other_with, plain_header, scoped_with, statement, turns_with, when_with};
+ghost use Rattle.trick_grammar_example.specs.Trees.{link_of, statement_of, statements_of};
 ghost use Rattle.trick_grammar_example.specs.Words.{number_of};
 
+use crate::lists::read_list;
+use crate::simple::read_simple;
+use crate::source::{Source, within};
 use crate::sums::read_sum;
 use crate::tree::{Link, Stmt};
 use crate::word::{Token, Word};
 use std::alloc::Global;
-use trick_grammar::{Refusal, Stop, next_is, next_is_one_of, take};
+use trick_grammar::{
+    Refusal, Stop, hinted, next_is, next_is_one_of, take, take_again, take_hinted,
+};
 
-/// simple = NAME ( "=" sum | "++" ) ";"
-#[tactic(auto, unfolding(crate::specs::Statements::simple_body))]
-fn read_simple(
-    alloc: Global,
-    limit: usize,
-    depth: usize,
-    rest: &[Token],
-) -> Result<(Stmt, &[Token]), Stop<Word>>
-    ensures { Gives (λ x. (statement_of x.0, x.1.now)) result
-        (read number_of class_of [] (simple limit depth) rest.now) }
-{
-    let (name, rest) = take(rest, Word::Name)?;
-    if next_is(rest, Word::Assign) {
-        let (_, rest) = take(rest, Word::Assign)?;
-        let (value, rest) = read_sum(alloc, limit, depth, rest)?;
-        let (_, rest) = take(rest, Word::Semicolon)?;
-        return Ok((Stmt::Set(*name, value), rest));
-    }
-    let (_, rest) = take(rest, Word::Increment)?;
-    let (_, rest) = take(rest, Word::Semicolon)?;
-    Ok((Stmt::Increment(*name), rest))
-}
-
-/// list = "enum" NAME "{" NAME { "," NAME } [ "," ] "}" ";"
-#[tactic(auto, unfolding(crate::specs::Statements::list_body))]
-fn read_list(alloc: Global, limit: usize, rest: &[Token]) -> Result<(Stmt, &[Token]), Stop<Word>>
-    requires low { 1 ≤ limit }
-    requires high { limit < 2 ^ 32 }
-    ensures { Gives (λ x. (statement_of x.0, x.1.now)) result
-        (read number_of class_of [] (list_statement limit) rest.now) }
-{
-    let (_, rest) = take(rest, Word::Enum)?;
-    let (name, rest) = take(rest, Word::Name)?;
-    let (_, rest) = take(rest, Word::OpenBrace)?;
-    let (items, rest) = read_items(alloc, limit, rest)?;
-    let (_, rest) = take(rest, Word::CloseBrace)?;
-    let (_, rest) = take(rest, Word::Semicolon)?;
-    Ok((Stmt::List(*name, items), rest))
-}
-
-/// items = NAME { "," NAME } [ "," ]
-#[tactic(auto, unfolding(trick_grammar::specs::Separated::separated_body))]
-fn read_items(
-    alloc: Global,
-    limit: usize,
-    rest: &[Token],
-) -> Result<(Vec<Token>, &[Token]), Stop<Word>>
-    requires low { 1 ≤ limit }
-    requires high { limit < 2 ^ 32 }
-    ensures { Gives (λ x. (x.0.items, x.1.now)) result
-        (read number_of class_of [] (items limit) rest.now) }
-{
-    let (first, rest) = take(rest, Word::Name)?;
-    read_more_items(alloc, limit, *first, rest)
-}
-
-/// { "," NAME } [ "," ], behind the first item
-fn read_more_items(
-    alloc: Global,
-    limit: usize,
-    first: Token,
-    rest: &[Token],
-) -> Result<(Vec<Token>, &[Token]), Stop<Word>>
-    requires low { 1 ≤ limit }
-    requires high { limit < 2 ^ 32 }
-    ensures { Gives (λ x. (x.0.items, x.1.now)) result
-        (prefixed (first ∷ []) (read number_of class_of [] (items_behind (limit - 1)) rest.now)) }
-{
-    let mut found = Vec::new(alloc);
-    found.push(first)?;
-    let mut rest = rest;
-    while next_is(rest, Word::Comma) {
-        let (_, after) = take(rest, Word::Comma)?;
-        if !next_is(after, Word::Name) {
-            return Ok((found, after));
-        }
-        if found.len() == limit {
-            return Err(Stop::At(Refusal::TooLong, after));
-        }
-        let (item, after) = take(after, Word::Name)?;
-        found.push(*item)?;
-        rest = after;
-    }
-    Ok((found, rest))
-}
+// What a statement begins with.
+const STATEMENTS: [Word; 5] = [Word::If, Word::OpenBrace, Word::For, Word::Enum, Word::Name];
 
 /// block = "{" { statement } "}"
 #[cycle(statements)]
 #[tactic(auto, unfolding(crate::specs::Statements::block_body))]
-fn read_block(
+fn read_block<'a>(
     alloc: Global,
-    limit: usize,
+    source: Source,
     depth: usize,
-    rest: &[Token],
-) -> Result<(Vec<Stmt>, &[Token]), Stop<Word>>
-    requires low { 1 ≤ limit }
-    requires high { limit < 2 ^ 32 }
+    rest: &'a [Token],
+) -> Result<(Vec<Stmt>, &'a [Token]), Stop<'a, Word>>
     ensures { Gives (λ x. (statements_of (map statement_of x.0.items), x.1.now)) result
-        (read number_of class_of [] (block_with limit (statement limit depth)) rest.now) }
+        (read number_of class_of source.entry.scope.now
+        (block_with source.entry.text.now source.entry.limit
+        (statement source.entry.text.now source.entry.limit depth)) rest.now) }
 {
     let (_, rest) = take(rest, Word::OpenBrace)?;
-    let (statements, rest) = read_statements(alloc, limit, depth, rest)?;
+    let (statements, rest) = read_statements(alloc, source, depth, rest)?;
     let (_, rest) = take(rest, Word::CloseBrace)?;
     Ok((statements, rest))
 }
 
 /// { statement }
 #[cycle(statements)]
-pub fn read_statements(
+pub fn read_statements<'a>(
     alloc: Global,
-    limit: usize,
+    source: Source,
     depth: usize,
-    rest: &[Token],
-) -> Result<(Vec<Stmt>, &[Token]), Stop<Word>>
-    requires low { 1 ≤ limit }
-    requires high { limit < 2 ^ 32 }
+    rest: &'a [Token],
+) -> Result<(Vec<Stmt>, &'a [Token]), Stop<'a, Word>>
     ensures { Gives (λ x. (map statement_of x.0.items, x.1.now)) result
-        (read number_of class_of [] (repetition limit (statement limit depth)) rest.now) }
+        (read number_of class_of source.entry.scope.now
+        (repetition source.entry.limit (statement source.entry.text.now source.entry.limit depth)) rest.now) }
 {
     let mut found = Vec::new(alloc);
     let mut rest = rest;
-    while next_is_one_of(rest, &[Word::If, Word::OpenBrace, Word::Enum, Word::Name]) {
-        if found.len() >= limit {
+    while next_is_one_of(rest, &STATEMENTS) {
+        if found.len() >= source.limit {
             return Err(Stop::At(Refusal::TooLong, rest));
         }
-        let (statement, after) = read_statement(alloc, limit, depth, rest)?;
+        let (statement, after) = read_statement(alloc, source, depth, rest)?;
         found.push(statement)?;
         rest = after;
     }
@@ -149,43 +70,43 @@ pub fn read_statements(
 /// when = "if" "(" sum ")" statement
 #[cycle(statements)]
 #[tactic(auto, unfolding(crate::specs::Statements::when_body))]
-fn read_when(
+fn read_when<'a>(
     alloc: Global,
-    limit: usize,
+    source: Source,
     depth: usize,
-    rest: &[Token],
-) -> Result<(Stmt, &[Token]), Stop<Word>>
-    requires low { 1 ≤ limit }
-    requires high { limit < 2 ^ 32 }
+    rest: &'a [Token],
+) -> Result<(Stmt, &'a [Token]), Stop<'a, Word>>
     ensures { Gives (λ x. (statement_of x.0, x.1.now)) result
-        (read number_of class_of [] (when_with limit depth (statement limit depth)) rest.now) }
+        (read number_of class_of source.entry.scope.now
+        (when_with source.entry.text.now source.entry.limit depth
+        (statement source.entry.text.now source.entry.limit depth)) rest.now) }
 {
     let (_, rest) = take(rest, Word::If)?;
     let (_, rest) = take(rest, Word::OpenParen)?;
-    let (test, rest) = read_sum(alloc, limit, depth, rest)?;
+    let (test, rest) = read_sum(alloc, depth, rest)?;
     let (_, rest) = take(rest, Word::CloseParen)?;
-    let (then, rest) = read_statement(alloc, limit, depth, rest)?;
+    let (then, rest) = read_statement(alloc, source, depth, rest)?;
     Ok((Stmt::When(test, Box::new(alloc, then)?), rest))
 }
 
 /// choice = when { "else" when } [ "else" other ]
 #[cycle(statements)]
 #[tactic(auto, unfolding(crate::specs::Statements::choice_body))]
-fn read_choice(
+fn read_choice<'a>(
     alloc: Global,
-    limit: usize,
+    source: Source,
     depth: usize,
-    rest: &[Token],
-) -> Result<(Stmt, &[Token]), Stop<Word>>
-    requires low { 1 ≤ limit }
-    requires high { limit < 2 ^ 32 }
+    rest: &'a [Token],
+) -> Result<(Stmt, &'a [Token]), Stop<'a, Word>>
     ensures { Gives (λ x. (statement_of x.0, x.1.now)) result
-        (read number_of class_of []
-        (choice_with limit depth (statement limit depth)
-        (other_with limit depth (statement limit depth))) rest.now) }
+        (read number_of class_of source.entry.scope.now
+        (choice_with source.entry.text.now source.entry.limit depth
+        (statement source.entry.text.now source.entry.limit depth)
+        (other_with source.entry.text.now source.entry.limit depth
+        (statement source.entry.text.now source.entry.limit depth))) rest.now) }
 {
-    let (first, rest) = read_when(alloc, limit, depth, rest)?;
-    let ((branches, otherwise), rest) = read_links(alloc, limit, depth, rest)?;
+    let (first, rest) = read_when(alloc, source, depth, rest)?;
+    let ((branches, otherwise), rest) = read_links(alloc, source, depth, rest)?;
     let first = Box::new(alloc, first)?;
     match otherwise {
         None => Ok((Stmt::Choose(first, branches), rest)),
@@ -198,21 +119,20 @@ fn read_choice(
 
 /// { "else" when } [ "else" other ]
 #[cycle(statements)]
-fn read_links(
+fn read_links<'a>(
     alloc: Global,
-    limit: usize,
+    source: Source,
     depth: usize,
-    rest: &[Token],
-) -> Result<((Vec<Stmt>, Option<Stmt>), &[Token]), Stop<Word>>
-    requires low { 1 ≤ limit }
-    requires high { limit < 2 ^ 32 }
-    ensures { Gives (λ x. ((map statement_of x.0.0.items, option_map statement_of x.0.1), x.1.now))
-        result (read number_of class_of [] (nearest (link limit depth)) rest.now) }
+    rest: &'a [Token],
+) -> Result<((Vec<Stmt>, Option<Stmt>), &'a [Token]), Stop<'a, Word>>
+    ensures { Gives (λ x. ((map statement_of x.0.0.items, option_map statement_of x.0.1), x.1.now)) result
+        (read number_of class_of source.entry.scope.now
+        (nearest (link source.entry.text.now source.entry.limit depth)) rest.now) }
 {
     let mut found = Vec::new(alloc);
     let mut rest = rest;
     while next_is(rest, Word::Else) {
-        let (link, after) = read_link(alloc, limit, depth, rest)?;
+        let (link, after) = read_link(alloc, source, depth, rest)?;
         rest = after;
         match link {
             Link::Onward(branch) => found.push(branch)?,
@@ -225,100 +145,201 @@ fn read_links(
 /// link = "else" ( when | other )
 #[cycle(statements)]
 #[tactic(auto, unfolding(crate::specs::Statements::link_body))]
-fn read_link(
+fn read_link<'a>(
     alloc: Global,
-    limit: usize,
+    source: Source,
     depth: usize,
-    rest: &[Token],
-) -> Result<(Link, &[Token]), Stop<Word>>
-    requires low { 1 ≤ limit }
-    requires high { limit < 2 ^ 32 }
+    rest: &'a [Token],
+) -> Result<(Link, &'a [Token]), Stop<'a, Word>>
     ensures { Gives (λ x. (link_of x.0, x.1.now)) result
-        (read number_of class_of [] (link limit depth) rest.now) }
+        (read number_of class_of source.entry.scope.now
+        (link source.entry.text.now source.entry.limit depth) rest.now) }
 {
     let (_, rest) = take(rest, Word::Else)?;
     if next_is(rest, Word::If) {
-        let (branch, rest) = read_when(alloc, limit, depth, rest)?;
+        let (branch, rest) = read_when(alloc, source, depth, rest)?;
         return Ok((Link::Onward(branch), rest));
     }
-    let (last, rest) = read_other(alloc, limit, depth, rest)?;
+    let (last, rest) = read_other(alloc, source, depth, rest)?;
     Ok((Link::Last(last), rest))
 }
 
-/// other = block | list | simple
+/// loop = "for" "(" v header statement, with v in scope
+#[cycle(statements)]
+#[tactic(auto, unfolding(crate::specs::Statements::loop_body))]
+fn read_loop<'a>(
+    alloc: Global,
+    source: Source,
+    depth: usize,
+    rest: &'a [Token],
+) -> Result<(Stmt, &'a [Token]), Stop<'a, Word>>
+    ensures { Gives (λ x. (statement_of x.0, x.1.now)) result
+        (read number_of class_of source.entry.scope.now
+        (loop_with source.entry.text.now (statement source.entry.text.now source.entry.limit depth)) rest.now) }
+{
+    let (_, rest) = take(rest, Word::For)?;
+    let (_, rest) = take_hinted(rest, Word::OpenParen, Refusal::BadHeader)?;
+    let ((name, (from, to), body), rest) = read_scoped(alloc, source, depth, rest)?;
+    Ok((Stmt::Loop(*name, *from, *to, Box::new(alloc, body)?), rest))
+}
+
+/// v header statement, with v in scope
+#[cycle(statements)]
+fn read_scoped<'a>(
+    alloc: Global,
+    source: Source,
+    depth: usize,
+    rest: &'a [Token],
+) -> Result<((&'a Token, (&'a Token, &'a Token), Stmt), &'a [Token]), Stop<'a, Word>>
+    ensures { Gives (λ x. ((x.0.0.now, ((x.0.1.0.now, x.0.1.1.now), statement_of x.0.2)), x.1.now)) result
+        (read number_of class_of source.entry.scope.now
+        (scoped_with source.entry.text.now (statement source.entry.text.now source.entry.limit depth))
+        rest.now) }
+{
+    let (name, rest) = take_hinted(rest, Word::Name, Refusal::BadHeader)?;
+    let scope = within(alloc, name, source.scope)?;
+    let inner = Source {
+        text: source.text,
+        limit: source.limit,
+        scope: scope.as_slice(),
+    };
+    let ((header, body), rest) = read_turns(alloc, inner, depth, rest)?;
+    Ok(((name, header, body), rest))
+}
+
+/// header statement, in the scope of v
+#[cycle(statements)]
+fn read_turns<'a>(
+    alloc: Global,
+    source: Source,
+    depth: usize,
+    rest: &'a [Token],
+) -> Result<(((&'a Token, &'a Token), Stmt), &'a [Token]), Stop<'a, Word>>
+    ensures { Gives (λ x. (((x.0.0.0.now, x.0.0.1.now), statement_of x.0.1), x.1.now)) result
+        (read number_of class_of source.entry.scope.now
+        (turns_with source.entry.text.now (statement source.entry.text.now source.entry.limit depth))
+        rest.now) }
+{
+    let (header, rest) = read_header(source, rest)?;
+    let (body, rest) = read_statement(alloc, source, depth, rest)?;
+    Ok(((header, body), rest))
+}
+
+/// header = "=" WHOLE ";" v "<" WHOLE ";" v "++" ")", where a token that is not expected is refused
+/// for a bad header: its two numbers.
+fn read_header<'a>(
+    source: Source,
+    rest: &'a [Token],
+) -> Result<((&'a Token, &'a Token), &'a [Token]), Stop<'a, Word>>
+    ensures { Gives (λ x. ((x.0.0.now, x.0.1.now), x.1.now)) result
+        (read number_of class_of source.entry.scope.now (header source.entry.text.now) rest.now) }
+{
+    match read_plain_header(source, rest) {
+        Ok(read) => Ok(read),
+        Err(Stop::Memory) => Err(Stop::Memory),
+        Err(Stop::At(kind, at)) => Err(Stop::At(hinted(Refusal::BadHeader, kind), at)),
+    }
+}
+
+#[tactic(auto, unfolding(crate::specs::Statements::header_body))]
+fn read_plain_header<'a>(
+    source: Source,
+    rest: &'a [Token],
+) -> Result<((&'a Token, &'a Token), &'a [Token]), Stop<'a, Word>>
+    ensures { Gives (λ x. ((x.0.0.now, x.0.1.now), x.1.now)) result
+        (read number_of class_of source.entry.scope.now (plain_header source.entry.text.now) rest.now) }
+{
+    let (_, rest) = take(rest, Word::Assign)?;
+    let (from, rest) = take(rest, Word::Whole)?;
+    let (_, rest) = take(rest, Word::Semicolon)?;
+    let (_, rest) = take_again(source.text, &[Word::Name], source.scope, rest)?;
+    let (_, rest) = take(rest, Word::Less)?;
+    let (to, rest) = take(rest, Word::Whole)?;
+    let (_, rest) = take(rest, Word::Semicolon)?;
+    let (_, rest) = take_again(source.text, &[Word::Name], source.scope, rest)?;
+    let (_, rest) = take(rest, Word::Increment)?;
+    let (_, rest) = take(rest, Word::CloseParen)?;
+    Ok(((from, to), rest))
+}
+
+/// other = block | loop | list | simple
 #[cycle(statements)]
 #[tactic(auto, unfolding(crate::specs::Statements::other_body))]
-fn read_other(
+fn read_other<'a>(
     alloc: Global,
-    limit: usize,
+    source: Source,
     depth: usize,
-    rest: &[Token],
-) -> Result<(Stmt, &[Token]), Stop<Word>>
-    requires low { 1 ≤ limit }
-    requires high { limit < 2 ^ 32 }
+    rest: &'a [Token],
+) -> Result<(Stmt, &'a [Token]), Stop<'a, Word>>
     ensures { Gives (λ x. (statement_of x.0, x.1.now)) result
-        (read number_of class_of [] (other_with limit depth (statement limit depth)) rest.now) }
+        (read number_of class_of source.entry.scope.now
+        (other_with source.entry.text.now source.entry.limit depth
+        (statement source.entry.text.now source.entry.limit depth)) rest.now) }
 {
     if next_is(rest, Word::OpenBrace) {
-        let (statements, rest) = read_block(alloc, limit, depth, rest)?;
+        let (statements, rest) = read_block(alloc, source, depth, rest)?;
         return Ok((Stmt::Block(statements), rest));
     }
-    if next_is(rest, Word::Enum) {
-        return read_list(alloc, limit, rest);
+    if next_is(rest, Word::For) {
+        return read_loop(alloc, source, depth, rest);
     }
-    read_simple(alloc, limit, depth, rest)
+    if next_is(rest, Word::Enum) {
+        return read_list(alloc, source.limit, rest);
+    }
+    read_simple(alloc, source, depth, rest)
 }
 
 /// statement = choice | other
 #[cycle(statements)]
-pub fn read_statement(
+fn read_statement<'a>(
     alloc: Global,
-    limit: usize,
+    source: Source,
     depth: usize,
-    rest: &[Token],
-) -> Result<(Stmt, &[Token]), Stop<Word>>
-    requires low { 1 ≤ limit }
-    requires high { limit < 2 ^ 32 }
+    rest: &'a [Token],
+) -> Result<(Stmt, &'a [Token]), Stop<'a, Word>>
     ensures { Gives (λ x. (statement_of x.0, x.1.now)) result
-        (read number_of class_of [] (statement limit depth) rest.now) }
+        (read number_of class_of source.entry.scope.now
+        (statement source.entry.text.now source.entry.limit depth) rest.now) }
 {
     if depth == 0 {
-        return read_flat(alloc, limit, rest);
+        return read_flat(alloc, source, rest);
     }
-    read_nested(alloc, limit, depth - 1, rest)
+    read_nested(alloc, source, depth - 1, rest)
 }
 
 #[cycle(statements)]
 #[tactic(auto, unfolding(crate::specs::Statements::statement_body))]
-fn read_nested(
+fn read_nested<'a>(
     alloc: Global,
-    limit: usize,
+    source: Source,
     depth: usize,
-    rest: &[Token],
-) -> Result<(Stmt, &[Token]), Stop<Word>>
-    requires low { 1 ≤ limit }
-    requires high { limit < 2 ^ 32 }
+    rest: &'a [Token],
+) -> Result<(Stmt, &'a [Token]), Stop<'a, Word>>
     ensures { Gives (λ x. (statement_of x.0, x.1.now)) result
-        (read number_of class_of [] (statement limit (suc depth)) rest.now) }
+        (read number_of class_of source.entry.scope.now
+        (statement source.entry.text.now source.entry.limit (suc depth)) rest.now) }
 {
     if next_is(rest, Word::If) {
-        return read_choice(alloc, limit, depth, rest);
+        return read_choice(alloc, source, depth, rest);
     }
-    read_other(alloc, limit, depth, rest)
+    read_other(alloc, source, depth, rest)
 }
 
 #[tactic(auto, unfolding(crate::specs::Statements::statement_body))]
-fn read_flat(alloc: Global, limit: usize, rest: &[Token]) -> Result<(Stmt, &[Token]), Stop<Word>>
-    requires low { 1 ≤ limit }
-    requires high { limit < 2 ^ 32 }
+fn read_flat<'a>(
+    alloc: Global,
+    source: Source,
+    rest: &'a [Token],
+) -> Result<(Stmt, &'a [Token]), Stop<'a, Word>>
     ensures { Gives (λ x. (statement_of x.0, x.1.now)) result
-        (read number_of class_of [] (statement limit 0) rest.now) }
+        (read number_of class_of source.entry.scope.now
+        (statement source.entry.text.now source.entry.limit 0) rest.now) }
 {
-    if next_is_one_of(rest, &[Word::OpenBrace, Word::If]) {
+    if next_is_one_of(rest, &[Word::OpenBrace, Word::If, Word::For]) {
         return Err(Stop::At(Refusal::TooDeep, rest));
     }
     if next_is(rest, Word::Enum) {
-        return read_list(alloc, limit, rest);
+        return read_list(alloc, source.limit, rest);
     }
-    read_simple(alloc, limit, 0, rest)
+    read_simple(alloc, source, 0, rest)
 }

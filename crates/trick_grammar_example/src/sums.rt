@@ -1,90 +1,117 @@
-//! Sums: one function for each production, with its line of the grammar.
+//! Sums: one function for all levels of operators, and one for each other production.
 
-ghost use Rattle.std.specs.Prelude.{[], ℕ, suc};
+ghost use Rattle.std.specs.Prelude.{◌≡◌, [], suc, map};
 ghost use Rattle.trick_grammar.specs.Gives.{Gives, class_of};
+ghost use Rattle.trick_grammar.specs.Grammar.{any_number};
 ghost use Rattle.trick_grammar.specs.Reading.{read};
-ghost use Rattle.trick_grammar_example.specs.Statements.{primary, product, sum, inner};
+ghost use Rattle.trick_grammar_example.specs.Statements.{binary, inner, link_at, marks_of, operand, sum};
 ghost use Rattle.trick_grammar_example.specs.Trees.{expression_of};
 ghost use Rattle.trick_grammar_example.specs.Words.{number_of};
 
 use crate::tree::Expr;
 use crate::word::{Token, Word};
 use std::alloc::Global;
-use trick_grammar::{Refusal, Stop, next_is, next_is_one_of, take, take_one_of};
+use trick_grammar::{Refusal, Stop, next_is, next_is_one_of, reason_at, take, take_one_of};
 
-/// sum = product { ( "+" | "-" ) product }
-#[cycle(sums)]
-#[tactic(auto, unfolding(crate::specs::Statements::sum_body))]
-pub fn read_sum(
-    alloc: Global,
-    limit: usize,
-    depth: usize,
-    rest: &[Token],
-) -> Result<(Expr, &[Token]), Stop<Word>>
-    ensures { Gives (λ x. (expression_of x.0, x.1.now)) result
-        (read number_of class_of [] (sum limit depth) rest.now) }
+/// The operators of a level of precedence, from the tightest.
+fn marks(level: usize) -> &'static [Word]
+    ensures { result.now ≡ marks_of level }
 {
-    let (mut left, mut rest) = read_product(alloc, limit, depth, rest)?;
-    let mut count: usize = 0;
-    while next_is_one_of(rest, &[Word::Plus, Word::Minus]) {
-        if count == limit {
-            return Err(Stop::At(Refusal::TooLong, rest));
-        }
-        let (operator, after) = take_one_of(rest, &[Word::Plus, Word::Minus])?;
-        let (right, after) = read_product(alloc, limit, depth, after)?;
-        left = Expr::Binary(
-            operator.class,
-            Box::new(alloc, left)?,
-            Box::new(alloc, right)?,
-        );
-        rest = after;
-        count += 1;
+    match level {
+        0 => &[Word::Times],
+        1 => &[Word::Plus, Word::Minus],
+        _ => &[],
     }
-    Ok((left, rest))
 }
 
-/// product = primary { "*" primary }
-#[cycle(sums)]
-#[tactic(auto, unfolding(crate::specs::Statements::product_body))]
-fn read_product(
-    alloc: Global,
-    limit: usize,
-    depth: usize,
-    rest: &[Token],
-) -> Result<(Expr, &[Token]), Stop<Word>>
+/// sum: all levels
+pub fn read_sum(alloc: Global, depth: usize, rest: &[Token]) -> Result<(Expr, &[Token]), Stop<Word>>
     ensures { Gives (λ x. (expression_of x.0, x.1.now)) result
-        (read number_of class_of [] (product limit depth) rest.now) }
+        (read number_of class_of [] (sum depth) rest.now) }
 {
-    let (mut left, mut rest) = read_primary(alloc, limit, depth, rest)?;
-    let mut count: usize = 0;
-    while next_is(rest, Word::Times) {
-        if count == limit {
-            return Err(Stop::At(Refusal::TooLong, rest));
-        }
-        let (operator, after) = take(rest, Word::Times)?;
-        let (right, after) = read_primary(alloc, limit, depth, after)?;
-        left = Expr::Binary(
-            operator.class,
-            Box::new(alloc, left)?,
-            Box::new(alloc, right)?,
-        );
-        rest = after;
-        count += 1;
-    }
-    Ok((left, rest))
+    read_binary(alloc, depth, 2, rest)
 }
 
-/// primary = NAME | WHOLE | "(" sum ")"
+/// The operand, or a level above it.
 #[cycle(sums)]
-#[tactic(auto, unfolding(crate::specs::Statements::primary_body))]
-fn read_primary(
+fn read_binary(
     alloc: Global,
-    limit: usize,
     depth: usize,
+    level: usize,
     rest: &[Token],
 ) -> Result<(Expr, &[Token]), Stop<Word>>
     ensures { Gives (λ x. (expression_of x.0, x.1.now)) result
-        (read number_of class_of [] (primary limit depth) rest.now) }
+        (read number_of class_of [] (binary level (operand depth)) rest.now) }
+{
+    if level == 0 {
+        return read_operand(alloc, depth, rest);
+    }
+    read_level(alloc, depth, level - 1, rest)
+}
+
+/// level = next { mark next }
+#[cycle(sums)]
+fn read_level(
+    alloc: Global,
+    depth: usize,
+    level: usize,
+    rest: &[Token],
+) -> Result<(Expr, &[Token]), Stop<Word>>
+    ensures { Gives (λ x. (expression_of x.0, x.1.now)) result
+        (read number_of class_of [] (binary (suc level) (operand depth)) rest.now) }
+{
+    let (first, rest) = read_binary(alloc, depth, level, rest)?;
+    let (links, rest) = read_links(alloc, depth, level, rest)?;
+    if links.is_empty() {
+        return Ok((first, rest));
+    }
+    Ok((Expr::Chain(Box::new(alloc, first)?, links), rest))
+}
+
+/// { mark next }, any number of times
+#[cycle(sums)]
+fn read_links(
+    alloc: Global,
+    depth: usize,
+    level: usize,
+    rest: &[Token],
+) -> Result<(Vec<Expr>, &[Token]), Stop<Word>>
+    ensures { Gives (λ x. (map expression_of x.0.items, x.1.now)) result
+        (read number_of class_of [] (any_number (link_at level (binary level (operand depth))))
+        rest.now) }
+{
+    let mut found = Vec::new(alloc);
+    let mut rest = rest;
+    while next_is_one_of(rest, marks(level)) {
+        let (link, after) = read_link(alloc, depth, level, rest)?;
+        found.push(link)?;
+        rest = after;
+    }
+    Ok((found, rest))
+}
+
+/// mark next
+#[cycle(sums)]
+fn read_link(
+    alloc: Global,
+    depth: usize,
+    level: usize,
+    rest: &[Token],
+) -> Result<(Expr, &[Token]), Stop<Word>>
+    ensures { Gives (λ x. (expression_of x.0, x.1.now)) result
+        (read number_of class_of [] (link_at level (binary level (operand depth))) rest.now) }
+{
+    let (mark, rest) = take_one_of(rest, marks(level))?;
+    let (operand, rest) = read_binary(alloc, depth, level, rest)?;
+    Ok((Expr::Linked(mark.class, Box::new(alloc, operand)?), rest))
+}
+
+/// operand = NAME | WHOLE | "(" sum ")"
+#[cycle(sums)]
+#[tactic(auto, unfolding(crate::specs::Statements::operand_body))]
+fn read_operand(alloc: Global, depth: usize, rest: &[Token]) -> Result<(Expr, &[Token]), Stop<Word>>
+    ensures { Gives (λ x. (expression_of x.0, x.1.now)) result
+        (read number_of class_of [] (operand depth) rest.now) }
 {
     if next_is(rest, Word::Name) {
         let (name, rest) = take(rest, Word::Name)?;
@@ -97,35 +124,26 @@ fn read_primary(
     if depth == 0 {
         return read_no_inner(rest);
     }
-    read_inner(alloc, limit, depth - 1, rest)
+    read_inner(alloc, depth - 1, rest)
 }
 
 /// inner = "(" sum ")"
 #[cycle(sums)]
 #[tactic(auto, unfolding(crate::specs::Statements::inner_body))]
-fn read_inner(
-    alloc: Global,
-    limit: usize,
-    depth: usize,
-    rest: &[Token],
-) -> Result<(Expr, &[Token]), Stop<Word>>
+fn read_inner(alloc: Global, depth: usize, rest: &[Token]) -> Result<(Expr, &[Token]), Stop<Word>>
     ensures { Gives (λ x. (expression_of x.0, x.1.now)) result
-        (read number_of class_of [] (inner limit (suc depth)) rest.now) }
+        (read number_of class_of [] (inner (suc depth)) rest.now) }
 {
     let (_, rest) = take(rest, Word::OpenParen)?;
-    let (value, rest) = read_sum(alloc, limit, depth, rest)?;
+    let (value, rest) = read_binary(alloc, depth, 2, rest)?;
     let (_, rest) = take(rest, Word::CloseParen)?;
     Ok((value, rest))
 }
 
 #[tactic(auto, unfolding(crate::specs::Statements::inner_body))]
 fn read_no_inner(rest: &[Token]) -> Result<(Expr, &[Token]), Stop<Word>>
-    ensures { (limit : ℕ) → Gives (λ x. (expression_of x.0, x.1.now)) result
-        (read number_of class_of [] (inner limit 0) rest.now) }
+    ensures { Gives (λ x. (expression_of x.0, x.1.now)) result
+        (read number_of class_of [] (inner 0) rest.now) }
 {
-    if next_is(rest, Word::OpenParen) {
-        Err(Stop::At(Refusal::TooDeep, rest))
-    } else {
-        Err(Stop::At(Refusal::Expected, rest))
-    }
+    Err(Stop::At(reason_at(rest, Refusal::TooDeep, &[Word::OpenParen]), rest))
 }

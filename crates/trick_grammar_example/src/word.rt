@@ -10,6 +10,7 @@ pub enum Word {
     If,
     Else,
     Enum,
+    For,
     Name,
     Whole,
     OpenBrace,
@@ -20,6 +21,7 @@ pub enum Word {
     Comma,
     Assign,
     Increment,
+    Less,
     Plus,
     Minus,
     Times,
@@ -55,6 +57,8 @@ impl Word {
             Word::Else
         } else if is(bytes, b"enum") {
             Word::Enum
+        } else if is(bytes, b"for") {
+            Word::For
         } else {
             mark_or_other(bytes)
         }
@@ -86,6 +90,8 @@ fn mark_or_other(bytes: &[u8]) -> Word
         Word::Assign
     } else if is(bytes, b"++") {
         Word::Increment
+    } else if is(bytes, b"<") {
+        Word::Less
     } else if is(bytes, b"+") {
         Word::Plus
     } else if is(bytes, b"-") {

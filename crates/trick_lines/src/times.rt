@@ -4,10 +4,7 @@ ghost use Rattle.std.specs.Prelude.{◌≡◌};
 ghost use Rattle.trick_lines.specs.Times.{fault_of_time, tics_of, time_fault, time_in};
 
 use trick_input::{Call, Form, Time};
-use trick_text::TimeFault;
-
-// The last tic that a time can be.
-const LAST_TIME: u64 = 1_000_000_000_000_000;
+use trick_text::{TIC_LIMIT, TimeFault};
 
 // The time of a line, where it has one.
 fn time_in(form: &Form) -> Option<Time>
@@ -28,7 +25,7 @@ fn fault_of_time(line: u32, time: Option<Time>) -> Option<TimeFault>
     ensures { result ≡ fault_of_time line time }
 {
     match time {
-        Some(Ok(tics)) if tics <= LAST_TIME => None,
+        Some(Ok(tics)) if tics <= TIC_LIMIT => None,
         Some(Ok(_)) => Some(TimeFault::TimeTooLarge { line }),
         Some(Err(fault)) => Some(fault),
         None => None,

@@ -105,6 +105,34 @@ long_time_text : refusal (the.Class ∷ the.Name ∷ the.Colon ∷ the.Public �
 unfolding expression_body step_body place_body operand_body expressions_nested basic_body loop_step_body loop_test_body header_body value_body call_body operation_body free_change_body bound_change_body named_body by_name_body free_steps_body bound_steps_body counted_body declaration_body simple_body block_body test_body else_body choice_body loop_body unbranched_body unblocked_body statement_body branch_body statements_nested return_body void_inside_body int_inside_body void_body int_body method_body free_name_body item_value_body item_body enum_body length_body lengths_body declarator_body more_declarators_body declarators_body member_body struct_body time_body cycle_body scheduled_class_body other_class_body times_body timed_body every_body called_body thread_body phase_body job_body include_body constructor_body other_type_body after_int_body int_part_body after_name_body part_body class_head_body class_body object_body definition_body file_body separated_body behind_item
 long_time_text = refl
 
+length_pointer_text : refusal (the.Struct ∷ the.Name ∷ the.OpenBrace ∷ the.Long ∷ the.Name ∷ the.OpenBracket ∷ the.Times ∷ []) ≡ Some (NotInProfile, (Some 6))
+unfolding expression_body step_body place_body operand_body expressions_nested basic_body loop_step_body loop_test_body header_body value_body call_body operation_body free_change_body bound_change_body named_body by_name_body free_steps_body bound_steps_body counted_body declaration_body simple_body block_body test_body else_body choice_body loop_body unbranched_body unblocked_body statement_body branch_body statements_nested return_body void_inside_body int_inside_body void_body int_body method_body free_name_body item_value_body item_body enum_body length_body lengths_body declarator_body more_declarators_body declarators_body member_body struct_body time_body cycle_body scheduled_class_body other_class_body times_body timed_body every_body called_body thread_body phase_body job_body include_body constructor_body other_type_body after_int_body int_part_body after_name_body part_body class_head_body class_body object_body definition_body file_body separated_body behind_item
+length_pointer_text = refl
+
+pointer_behind_a_length_text : refusal (the.Struct ∷ the.Name ∷ the.OpenBrace ∷ the.Long ∷ the.Name ∷ the.OpenBracket ∷ the.Small ∷ the.BitAnd ∷ []) ≡ Some (NotInProfile, (Some 7))
+unfolding expression_body step_body place_body operand_body expressions_nested basic_body loop_step_body loop_test_body header_body value_body call_body operation_body free_change_body bound_change_body named_body by_name_body free_steps_body bound_steps_body counted_body declaration_body simple_body block_body test_body else_body choice_body loop_body unbranched_body unblocked_body statement_body branch_body statements_nested return_body void_inside_body int_inside_body void_body int_body method_body free_name_body item_value_body item_body enum_body length_body lengths_body declarator_body more_declarators_body declarators_body member_body struct_body time_body cycle_body scheduled_class_body other_class_body times_body timed_body every_body called_body thread_body phase_body job_body include_body constructor_body other_type_body after_int_body int_part_body after_name_body part_body class_head_body class_body object_body definition_body file_body separated_body behind_item
+pointer_behind_a_length_text = refl
+
+phase_of_0_text : refusal (the.Class ∷ the.Name ∷ the.Colon ∷ the.Public ∷ the.UpperTrick ∷ the.DoubleColon ∷ the.SimObject ∷ the.OpenBrace ∷ the.Name ∷ the.OpenParen ∷ the.CloseParen ∷ the.OpenBrace ∷ the.OtherPhase ∷ the.OpenParen ∷ []) ≡ Some (NotInProfile, (Some 12))
+unfolding expression_body step_body place_body operand_body expressions_nested basic_body loop_step_body loop_test_body header_body value_body call_body operation_body free_change_body bound_change_body named_body by_name_body free_steps_body bound_steps_body counted_body declaration_body simple_body block_body test_body else_body choice_body loop_body unbranched_body unblocked_body statement_body branch_body statements_nested return_body void_inside_body int_inside_body void_body int_body method_body free_name_body item_value_body item_body enum_body length_body lengths_body declarator_body more_declarators_body declarators_body member_body struct_body time_body cycle_body scheduled_class_body other_class_body times_body timed_body every_body called_body thread_body phase_body job_body include_body constructor_body other_type_body after_int_body int_part_body after_name_body part_body class_head_body class_body object_body definition_body file_body separated_body behind_item
+phase_of_0_text = refl
+
+long_start_text : refusal (the.Class ∷ the.Name ∷ the.Colon ∷ the.Public ∷ the.UpperTrick ∷ the.DoubleColon ∷ the.SimObject ∷ the.OpenBrace ∷ the.Name ∷ the.OpenParen ∷ the.CloseParen ∷ the.OpenBrace ∷ the.OpenParen ∷ the.One ∷ the.Comma ∷ the.Huge ∷ []) ≡ Some (BadTime, (Some 15))
+unfolding expression_body step_body place_body operand_body expressions_nested basic_body loop_step_body loop_test_body header_body value_body call_body operation_body free_change_body bound_change_body named_body by_name_body free_steps_body bound_steps_body counted_body declaration_body simple_body block_body test_body else_body choice_body loop_body unbranched_body unblocked_body statement_body branch_body statements_nested return_body void_inside_body int_inside_body void_body int_body method_body free_name_body item_value_body item_body enum_body length_body lengths_body declarator_body more_declarators_body declarators_body member_body struct_body time_body cycle_body scheduled_class_body other_class_body times_body timed_body every_body called_body thread_body phase_body job_body include_body constructor_body other_type_body after_int_body int_part_body after_name_body part_body class_head_body class_body object_body definition_body file_body separated_body behind_item
+long_start_text = refl
+
+long_enum_text : refusal (the.Enum ∷ the.Name ∷ the.OpenBrace ∷ the.Name ∷ the.Comma ∷ the.Name ∷ the.Comma ∷ the.Name ∷ the.Comma ∷ the.Name ∷ the.Comma ∷ the.Name ∷ []) ≡ Some (TooLong, (Some 11))
+unfolding expression_body step_body place_body operand_body expressions_nested basic_body loop_step_body loop_test_body header_body value_body call_body operation_body free_change_body bound_change_body named_body by_name_body free_steps_body bound_steps_body counted_body declaration_body simple_body block_body test_body else_body choice_body loop_body unbranched_body unblocked_body statement_body branch_body statements_nested return_body void_inside_body int_inside_body void_body int_body method_body free_name_body item_value_body item_body enum_body length_body lengths_body declarator_body more_declarators_body declarators_body member_body struct_body time_body cycle_body scheduled_class_body other_class_body times_body timed_body every_body called_body thread_body phase_body job_body include_body constructor_body other_type_body after_int_body int_part_body after_name_body part_body class_head_body class_body object_body definition_body file_body separated_body behind_item
+long_enum_text = refl
+
+long_line_text : refusal (the.Struct ∷ the.Name ∷ the.OpenBrace ∷ the.Long ∷ the.Name ∷ the.Comma ∷ the.Name ∷ the.Comma ∷ the.Name ∷ the.Comma ∷ the.Name ∷ the.Comma ∷ []) ≡ Some (TooLong, (Some 11))
+unfolding expression_body step_body place_body operand_body expressions_nested basic_body loop_step_body loop_test_body header_body value_body call_body operation_body free_change_body bound_change_body named_body by_name_body free_steps_body bound_steps_body counted_body declaration_body simple_body block_body test_body else_body choice_body loop_body unbranched_body unblocked_body statement_body branch_body statements_nested return_body void_inside_body int_inside_body void_body int_body method_body free_name_body item_value_body item_body enum_body length_body lengths_body declarator_body more_declarators_body declarators_body member_body struct_body time_body cycle_body scheduled_class_body other_class_body times_body timed_body every_body called_body thread_body phase_body job_body include_body constructor_body other_type_body after_int_body int_part_body after_name_body part_body class_head_body class_body object_body definition_body file_body separated_body behind_item
+long_line_text = refl
+
+long_constructor_text : refusal (the.Class ∷ the.Name ∷ the.Colon ∷ the.Public ∷ the.UpperTrick ∷ the.DoubleColon ∷ the.SimObject ∷ the.OpenBrace ∷ the.Name ∷ the.OpenParen ∷ the.CloseParen ∷ the.OpenBrace ∷ the.OpenParen ∷ the.Freeze ∷ the.CloseParen ∷ the.Name ∷ the.OpenParen ∷ the.CloseParen ∷ the.Semicolon ∷ the.OpenParen ∷ the.Freeze ∷ the.CloseParen ∷ the.Name ∷ the.OpenParen ∷ the.CloseParen ∷ the.Semicolon ∷ the.OpenParen ∷ the.Freeze ∷ the.CloseParen ∷ the.Name ∷ the.OpenParen ∷ the.CloseParen ∷ the.Semicolon ∷ the.OpenParen ∷ the.Freeze ∷ the.CloseParen ∷ the.Name ∷ the.OpenParen ∷ the.CloseParen ∷ the.Semicolon ∷ the.OtherThread ∷ []) ≡ Some (TooLong, (Some 40))
+unfolding expression_body step_body place_body operand_body expressions_nested basic_body loop_step_body loop_test_body header_body value_body call_body operation_body free_change_body bound_change_body named_body by_name_body free_steps_body bound_steps_body counted_body declaration_body simple_body block_body test_body else_body choice_body loop_body unbranched_body unblocked_body statement_body branch_body statements_nested return_body void_inside_body int_inside_body void_body int_body method_body free_name_body item_value_body item_body enum_body length_body lengths_body declarator_body more_declarators_body declarators_body member_body struct_body time_body cycle_body scheduled_class_body other_class_body times_body timed_body every_body called_body thread_body phase_body job_body include_body constructor_body other_type_body after_int_body int_part_body after_name_body part_body class_head_body class_body object_body definition_body file_body separated_body behind_item
+long_constructor_text = refl
+
 protected_text : refusal (the.Class ∷ the.Name ∷ the.Colon ∷ the.Outside ∷ []) ≡ Some (NotInProfile, (Some 3))
 unfolding expression_body step_body place_body operand_body expressions_nested basic_body loop_step_body loop_test_body header_body value_body call_body operation_body free_change_body bound_change_body named_body by_name_body free_steps_body bound_steps_body counted_body declaration_body simple_body block_body test_body else_body choice_body loop_body unbranched_body unblocked_body statement_body branch_body statements_nested return_body void_inside_body int_inside_body void_body int_body method_body free_name_body item_value_body item_body enum_body length_body lengths_body declarator_body more_declarators_body declarators_body member_body struct_body time_body cycle_body scheduled_class_body other_class_body times_body timed_body every_body called_body thread_body phase_body job_body include_body constructor_body other_type_body after_int_body int_part_body after_name_body part_body class_head_body class_body object_body definition_body file_body separated_body behind_item
 protected_text = refl
@@ -136,6 +164,13 @@ refused_texts = record {
   times_of_another_class = times_of_another_class_text;
   no_class = no_class_text;
   long_time = long_time_text;
+  length_pointer = length_pointer_text;
+  pointer_behind_a_length = pointer_behind_a_length_text;
+  phase_of_0 = phase_of_0_text;
+  long_start = long_start_text;
+  long_enum = long_enum_text;
+  long_line = long_line_text;
+  long_constructor = long_constructor_text;
   protected = protected_text;
   stray_mark = stray_mark_text;
   long_file = long_file_text;

@@ -5,9 +5,7 @@ ghost use Rattle.trick_settings.specs.Settings.{cycle_said, frame_said, frozen_s
 
 use trick_input::Form;
 use trick_model::Process;
-
-/// The last tic that a time can be.
-pub(crate) const LAST_TIME: u64 = 1_000_000_000_000_000;
+use trick_text::TIC_LIMIT;
 
 // The frame that a line names.
 pub(crate) fn frame_said(form: &Form) -> Option<u64>
@@ -26,7 +24,7 @@ pub(crate) fn limit_said(form: &Form) -> Option<u64>
     ensures { result ≡ limit_said form.now }
 {
     match form {
-        Form::Stop { time: Ok(tics) } if *tics <= LAST_TIME => Some(*tics + 1),
+        Form::Stop { time: Ok(tics) } if *tics <= TIC_LIMIT => Some(*tics + 1),
         _ => None,
     }
 }
@@ -59,7 +57,7 @@ pub(crate) fn cycle_said(number: u64, form: &Form) -> Option<u64>
         Form::AmfCycle {
             thread,
             time: Ok(tics),
-        } if *thread == number && 0 < *tics && *tics <= LAST_TIME => Some(*tics),
+        } if *thread == number && 0 < *tics && *tics <= TIC_LIMIT => Some(*tics),
         _ => None,
     }
 }

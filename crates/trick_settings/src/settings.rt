@@ -6,14 +6,13 @@ ghost use Rattle.trick_model.specs.Valid.{IsFrame};
 ghost use Rattle.trick_settings.specs.Settings.{frame_of, frozen_of, limit_of, setting_of, settings_by_number, settings_in};
 ghost use Rattle.trick_threads.specs.Threads.{AreThreads};
 
-use crate::said::{
-    LAST_TIME, cycle_said, frame_said, frozen_said, later, limit_said, process_said,
-};
+use crate::said::{cycle_said, frame_said, frozen_said, later, limit_said, process_said};
 use std::alloc::{AllocError, Global};
 use trick_base::Items;
 use trick_input::Call;
 use trick_lang::Program;
 use trick_model::Thread;
+use trick_text::TIC_LIMIT;
 use trick_threads::{Setting, threads};
 
 /// What an input says of the run and of its threads. Of two lines that say one thing the last counts,
@@ -47,7 +46,7 @@ fn limit_of(calls: &[Call]) -> u64
     for call in calls {
         limit = later(limit_said(&call.form), limit);
     }
-    limit.unwrap_or(LAST_TIME + 1)
+    limit.unwrap_or(TIC_LIMIT + 1)
 }
 
 fn frozen_of(calls: &[Call]) -> bool

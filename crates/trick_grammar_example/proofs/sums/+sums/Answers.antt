@@ -1,55 +1,22 @@
-use Rattle.std.proofs.Common.{rules, ◌≡◌, [], ◌∷◌, sym, arith, ◌∙◌, ap₂}
-use Rattle.std.proofs.lemmas.Result.{err_from_is_err_and}
-use Rattle.trick_grammar.proofs.Loops.{fold_next, fold_stops, sequence_reads, sequence_stops}
+use Rattle.std.proofs.Common.{arith, ◌≡◌, length, [], ◌∷◌, Ok, List, sym, ◌∙◌, ap}
+use Rattle.trick_grammar.proofs.Loops.{many_next}
 use Rattle.trick_grammar.specs.Gives.{class_of}
-use Rattle.trick_grammar.specs.Grammar.{token, one, ◌⨾◌}
-use Rattle.trick_grammar.specs.Reading.{read}
-use Rattle.trick_grammar_example.specs.Statements.{joined, primary, product}
-use Rattle.trick_grammar_example.specs.Trees.{expression_of, binary}
+use Rattle.trick_grammar.specs.StartsWith.{next_in}
+use Rattle.trick_grammar_example.specs.Statements.{binary, link_at, operand}
+use Rattle.trick_grammar_example.specs.Trees.{Expression, expression_of}
 use Rattle.trick_grammar_example.specs.Words.{number_of}
-use Rattle.trick_grammar_example.specs.declared.tree.Expr.{the_lemmas}
-use Rattle.trick_grammar_example.specs.declared.tree.Expr.TheViews.{Binary}
-use Rattle.trick_grammar_example.specs.declared.word.Word.TheVariants.{Plus, Minus, Times}
+use Rattle.trick_grammar_example.proofs.Chains.{chain_made, link_begins, link_shrinks, some_items}
 use Rattle.trick_grammar_example.proofs.sums.+sums.Goals as goal
 
-pub read_product-loop-alloc-preserved : goal.read_product-loop-alloc-preserved
-read_product-loop-alloc-preserved t c =
-    let l = c.loop-alloc in
-    let operator = c.in_ok-operator.operator.now in
-    let right = primary c.args.limit c.args.depth in
-    let seen : expression_of (Binary operator.class c.in_ok-new.field-0 c.in_ok-new-2.field-0) ≡ binary operator.class (expression_of c.in_ok-new.field-0.value) (expression_of c.in_ok-new-2.field-0.value) = search (rules, the_lemmas) in
-    let made = seen ∙ ap₂ (λ a b. binary operator.class (expression_of a) (expression_of b)) c.in_ok-new.ensures.ok c.in_ok-new-2.ensures.ok in
-    record {
-      few = omega arith;
-      going = fold_next number_of joined (Times ∷ []) (read number_of class_of [] (one Times ⨾ right)) c.args.limit l.count (expression_of l.left) _ _ l.rest.now c.in_ok-right.after.now _ (omega arith) (sym c.loop-alloc-test.ensures)
-          (sequence_reads number_of [] (one Times) right l.rest.now operator c.in_ok-operator.after.now (expression_of c.in_ok-right.right) c.in_ok-right.after.now c.in_ok-operator.ensures c.in_ok-right.ensures) made l.invariant.going;
-    }
+pub read_level-returns : goal.read_level-returns
+read_level-returns t c =
+    rw (c.in_ok-first.ensures, c.in_ok-links.ensures) (ap (λ (x : Expression). Ok (x, c.in_ok-links.rest.now)) (sym (chain_made c.in_ok-new.field-0 c.in_ok-links.links c.in_ok-first.first c.in_ok-new.ensures.ok (λ h. some_items _ (sym c.if-is_empty.ensures) (omega (arith, ap length h, c.in_ok-links.links.ok))))))
 
-pub read_product-returns-in_err-right : goal.read_product-returns-in_err-right
-read_product-returns-in_err-right t c =
-    let l = c.loop-alloc in
-    let right = primary c.args.limit c.args.depth in
-    let p = err_from_is_err_and c.from_residual-in_err-right.result c.from_residual-in_err-right.ensures.1 in
-    rw (p.1, p.2) (fold_stops number_of joined (Times ∷ []) (read number_of class_of [] (one Times ⨾ right)) c.args.limit l.count (expression_of l.left) c.in_err-right.field-0.0 l.rest.now _ (omega arith) (sym c.loop-alloc-test.ensures)
-    (sequence_stops number_of [] (one Times) right l.rest.now c.in_ok-operator.operator.now c.in_ok-operator.after.now c.in_err-right.field-0.0 c.in_ok-operator.ensures c.in_err-right.ensures) l.invariant.going)
+pub read_links-loop-alloc-smaller : goal.read_links-loop-alloc-smaller
+read_links-loop-alloc-smaller t c = link_shrinks c.args.level (binary c.args.level (operand c.args.depth)) c.loop-alloc.rest.now _ c.in_ok-link.after.now c.in_ok-link.ensures
 
-pub read_sum-loop-alloc-preserved : goal.read_sum-loop-alloc-preserved
-read_sum-loop-alloc-preserved t c =
+pub read_links-loop-alloc-preserved : goal.read_links-loop-alloc-preserved
+read_links-loop-alloc-preserved t c =
     let l = c.loop-alloc in
-    let operator = c.in_ok-operator.operator.now in
-    let right = product c.args.limit c.args.depth in
-    let seen : expression_of (Binary operator.class c.in_ok-new.field-0 c.in_ok-new-2.field-0) ≡ binary operator.class (expression_of c.in_ok-new.field-0.value) (expression_of c.in_ok-new-2.field-0.value) = search (rules, the_lemmas) in
-    let made = seen ∙ ap₂ (λ a b. binary operator.class (expression_of a) (expression_of b)) c.in_ok-new.ensures.ok c.in_ok-new-2.ensures.ok in
-    record {
-      few = omega arith;
-      going = fold_next number_of joined (Plus ∷ Minus ∷ []) (read number_of class_of [] (token (Plus ∷ Minus ∷ []) ⨾ right)) c.args.limit l.count (expression_of l.left) _ _ l.rest.now c.in_ok-right.after.now _ (omega arith) (sym c.loop-alloc-test.ensures)
-          (sequence_reads number_of [] (token (Plus ∷ Minus ∷ [])) right l.rest.now operator c.in_ok-operator.after.now (expression_of c.in_ok-right.right) c.in_ok-right.after.now c.in_ok-operator.ensures c.in_ok-right.ensures) made l.invariant.going;
-    }
-
-pub read_sum-returns-in_err-right : goal.read_sum-returns-in_err-right
-read_sum-returns-in_err-right t c =
-    let l = c.loop-alloc in
-    let right = product c.args.limit c.args.depth in
-    let p = err_from_is_err_and c.from_residual-in_err-right.result c.from_residual-in_err-right.ensures.1 in
-    rw (p.1, p.2) (fold_stops number_of joined (Plus ∷ Minus ∷ []) (read number_of class_of [] (token (Plus ∷ Minus ∷ []) ⨾ right)) c.args.limit l.count (expression_of l.left) c.in_err-right.field-0.0 l.rest.now _ (omega arith) (sym c.loop-alloc-test.ensures)
-    (sequence_stops number_of [] (token (Plus ∷ Minus ∷ [])) right l.rest.now c.in_ok-operator.operator.now c.in_ok-operator.after.now c.in_err-right.field-0.0 c.in_ok-operator.ensures c.in_err-right.ensures) l.invariant.going)
+    let b = binary c.args.level (operand c.args.depth) in
+    many_next number_of expression_of [] (link_at c.args.level b) (link_shrinks c.args.level b) l.found.items c.push.new.self.items c.in_ok-link.link l.rest.now c.in_ok-link.after.now _ (sym (link_begins c.args.level b l.rest.now) ∙ sym (ap (λ cs. next_in number_of class_of cs l.rest.now) c.marks.ensures) ∙ sym c.loop-alloc-test.ensures) c.in_ok-link.ensures c.in_ok-push.ensures.items l.invariant

@@ -1,40 +1,36 @@
-use Rattle.std.proofs.Common.{◌≡◌, ◌+◌, ◌*◌, ◌≤◌, ◌-◌, [], ◌∷◌}
-use Rattle.trick_grammar.proofs.Loops.{fold_left}
+use Rattle.std.proofs.Common.{◌≡◌, ◌+◌, ◌*◌, [], length}
+use Rattle.trick_grammar.proofs.Loops.{many_left}
 use Rattle.trick_grammar.specs.Gives.{class_of}
-use Rattle.trick_grammar.specs.Grammar.{token, one, ◌⨾◌}
+use Rattle.trick_grammar.specs.Grammar.{any_number}
 use Rattle.trick_grammar.specs.Reading.{read}
-use Rattle.trick_grammar_example.specs.Statements.{joined, primary, product, sum}
+use Rattle.trick_grammar_example.specs.Statements.{binary, link_at, operand}
 use Rattle.trick_grammar_example.specs.Trees.{expression_of}
 use Rattle.trick_grammar_example.specs.Words.{number_of}
-use Rattle.trick_grammar_example.specs.declared.word.Word.TheVariants.{Plus, Minus, Times}
+use Rattle.trick_grammar_example.proofs.Chains.{link_shrinks}
 use Rattle.trick_grammar_example.proofs.sums.+sums.Given as goal
 
-abbrev pub decreases-read_sum : goal.decreases-read_sum
-decreases-read_sum l = 4 * l.depth + 3
+abbrev pub decreases-read_binary : goal.decreases-read_binary
+decreases-read_binary l = 12 * l.depth + 4 * l.level + 1
 
-abbrev pub decreases-read_product : goal.decreases-read_product
-decreases-read_product l = 4 * l.depth + 2
+abbrev pub decreases-read_level : goal.decreases-read_level
+decreases-read_level l = 12 * l.depth + 4 * l.level + 4
 
-abbrev pub decreases-read_primary : goal.decreases-read_primary
-decreases-read_primary l = 4 * l.depth + 1
+abbrev pub decreases-read_links : goal.decreases-read_links
+decreases-read_links l = 12 * l.depth + 4 * l.level + 3
+
+abbrev pub decreases-read_link : goal.decreases-read_link
+decreases-read_link l = 12 * l.depth + 4 * l.level + 2
+
+abbrev pub decreases-read_operand : goal.decreases-read_operand
+decreases-read_operand l = 12 * l.depth
 
 abbrev pub decreases-read_inner : goal.decreases-read_inner
-decreases-read_inner l = 4 * l.depth + 4
+decreases-read_inner l = 12 * l.depth + 11
 
-abbrev pub invariant-read_sum-loop-alloc : goal.invariant-read_sum-loop-alloc
-invariant-read_sum-loop-alloc l = record {
-  few : l.count ≤ l.limit;
-  going : fold_left number_of joined (Plus ∷ Minus ∷ []) (read number_of class_of [] (token (Plus ∷ Minus ∷ []) ⨾ product l.limit l.depth)) (l.limit - l.count) (expression_of l.left) l.rest ≡ read number_of class_of [] (sum l.limit l.depth) l.fn.rest;
-}
+abbrev pub invariant-read_links-loop-alloc : goal.invariant-read_links-loop-alloc
+invariant-read_links-loop-alloc l =
+    let b = binary l.level (operand l.depth) in
+    many_left number_of expression_of [] (link_at l.level b) (link_shrinks l.level b) l.found.items l.rest ≡ read number_of class_of [] (any_number (link_at l.level b)) l.fn.rest
 
-abbrev pub decreases-read_sum-loop-alloc : goal.decreases-read_sum-loop-alloc
-decreases-read_sum-loop-alloc l = l.limit - l.count
-
-abbrev pub invariant-read_product-loop-alloc : goal.invariant-read_product-loop-alloc
-invariant-read_product-loop-alloc l = record {
-  few : l.count ≤ l.limit;
-  going : fold_left number_of joined (Times ∷ []) (read number_of class_of [] (one Times ⨾ primary l.limit l.depth)) (l.limit - l.count) (expression_of l.left) l.rest ≡ read number_of class_of [] (product l.limit l.depth) l.fn.rest;
-}
-
-abbrev pub decreases-read_product-loop-alloc : goal.decreases-read_product-loop-alloc
-decreases-read_product-loop-alloc l = l.limit - l.count
+abbrev pub decreases-read_links-loop-alloc : goal.decreases-read_links-loop-alloc
+decreases-read_links-loop-alloc l = length l.rest

@@ -6,7 +6,7 @@ use Rattle.trick_grammar.specs.Gives.{class_of}
 use Rattle.trick_grammar_example.specs.Statements.{item, items_behind}
 use Rattle.trick_grammar_example.specs.Words.{number_of, Token}
 use Rattle.trick_grammar_example.specs.declared.word.Word.TheVariants.{Name, Comma}
-use Rattle.trick_grammar_example.proofs.statements.read_more_items.Goals as goal
+use Rattle.trick_grammar_example.proofs.lists.read_more_items.Goals as goal
 
 pub returns-then-not-next_is : goal.returns-then-not-next_is
 returns-then-not-next_is c =

@@ -1,0 +1,15 @@
+use Rattle.trick_body.proofs.ExpressionTests.{expression_test}
+use Rattle.trick_body.proofs.MethodTests.{method_test}
+use Rattle.trick_body.specs.Methods.{condition, method}
+use Rattle.trick_body.specs.Symbols.{number_of}
+use Rattle.trick_conflicts.proofs.Conflicts.{no_conflict}
+use Rattle.trick_conflicts.proofs.laws.readers_have_no_conflict.Goals as goal
+use Rattle.trick_sdef.proofs.Files.{file_test}
+use Rattle.trick_sdef.specs.Files.{file}
+
+pub returns : goal.returns
+returns c = record {
+  conditions = λ text limit depth. no_conflict number_of (condition text limit depth) (expression_test text limit depth);
+  methods = λ text limit depth. no_conflict number_of (method text limit depth) (method_test text limit depth);
+  files = λ text limit depth. no_conflict number_of (file text limit depth) (file_test text limit depth);
+}

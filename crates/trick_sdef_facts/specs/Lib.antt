@@ -1,0 +1,6 @@
+-- tests of the parts of a tree
+pub mod Leaves
+-- what holds of each tree of a text, as tests
+pub mod Facts
+-- worked trees that pass the tests, and such that fail
+pub mod Worked

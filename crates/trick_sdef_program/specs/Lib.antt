@@ -1,0 +1,2 @@
+-- tests of what a tree names
+pub mod Tests

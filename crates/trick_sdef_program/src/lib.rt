@@ -1,0 +1,6 @@
+//! Tests that the program of a simulation definition passes: where the definition was read from a text, names are
+//! short, and times and threads are in their ranges; and where its names are right, the parts of its jobs are there.
+//! `trick_check::resolve` makes these tests when it runs, for trees of any kind.
+#![tactic(auto)]
+
+pub mod laws;
