@@ -12,3 +12,7 @@ pub mod Seats
 pub mod Loops
 -- Rounds that are published and that start.
 pub mod RoundLemmas
+-- What a state holds is started, one thread after another.
+pub mod HeldLemmas
+-- The publications of all rounds in flight, one thread after another.
+pub mod PublicationLemmas

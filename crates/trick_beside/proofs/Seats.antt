@@ -96,6 +96,16 @@ start_right plan place tic station s seat good =
     (can_start p (beside_found plan) place tic taken seat.there (beside_here plan place no_thread seat.there) refl
     (subst (λ (t : Thread). IsRecord p t taken) seat.thread (taken_right p place station s seat good)))
 
+-- what a valid state holds may be started again
+pub held_right : (plan : PlanValue) (place tic : ℕ) (station : Station) (s : State) → IsSeat (plan_of plan) place station → IsStateOf (plan_of plan) s
+    → (taken_at s place).held ≡ true → CanStart (plan_of plan) station.thread.number (taken_at s place) (work_at station.thread tic)
+held_right plan place tic station s seat good held =
+    let p = plan_of plan in
+    let taken = taken_at s place in
+    subst (λ (t : Thread). CanStart p t.number taken (work_at t tic)) (sym seat.thread)
+    (can_start p (beside_found plan) place tic taken seat.there (beside_here plan place no_thread seat.there) held
+    (subst (λ (t : Thread). IsRecord p t taken) seat.thread (record_at p place station.thread s (at_place p place station seat) good)))
+
 -- ---- what goes on
 
 pub publish_goes : {plan : PlanValue} {old : ℕ → Option Started} {tic place : ℕ} {s : State} {scalars : List Scalar} (station : Station)

@@ -60,6 +60,10 @@ IsInFlight p in_flight tic taken =
     (place : ℕ) → place < length (threads_beside p)
     → in_flight (thread_in p place).number ≡ flight (thread_in p place) tic (slice_index_or taken place nothing_taken)
 
+-- Of no thread beside the tics anything is in flight.
+abbrev pub IsFree : Plan → (ℕ → Option Started) → Type 0
+IsFree p in_flight = (place : ℕ) → place < length (threads_beside p) → in_flight (thread_in p place).number ≡ None
+
 -- What is in flight goes with a state before a tic: it is a state of the plan, its memory has the plan's
 -- cells, and in flight is what its records tell.
 pub record GoesWith (plan : PlanValue) (in_flight : ℕ → Option Started) (tic : ℕ) (s : State)

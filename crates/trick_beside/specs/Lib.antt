@@ -2,3 +2,5 @@
 pub mod Stations
 -- What is in flight of the threads beside the tics.
 pub mod Flight
+-- The entries that publish rounds.
+pub mod Rounds

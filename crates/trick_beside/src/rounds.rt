@@ -27,8 +27,8 @@ fn find(stations: &[Station], number: u8) -> Option<usize>
         .position(|station| station.thread.number == number)
 }
 
-// Whether a thread is asynchronous.
-fn is_async(process: Process) -> bool
+/// Whether a thread is asynchronous.
+pub(crate) fn is_async(process: Process) -> bool
     ensures { result ≡ is_async_of process }
 {
     match process {

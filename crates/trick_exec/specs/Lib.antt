@@ -1,6 +1,10 @@
--- Who gives turns their entries: what it answers, and what it promises.
-pub mod Turns
--- A turn behind its entries.
-pub mod Pass
--- A run without clients, of a plan whose work is all in tics.
+-- A run without clients.
 pub mod Alone
+-- The sessions of a world are those that its source knows.
+pub mod Known
+-- Worlds, as values of the code hold them.
+pub mod Worlds
+-- What a turn of the code came to.
+pub mod CameTo
+-- How the turns of a run, and a run, end.
+pub mod Ended

@@ -1,14 +1,19 @@
-//! The executive: a turn behind its entries, the run of a plan without clients, and who gives each turn
-//! its entries. `docs/RULES.md` has the rules of a turn and of a run.
+//! The executive: the run of a plan over a shelf, workers and a source of entries, and the run without
+//! clients. `docs/RULES.md` has the rules of a run.
 #![tactic(auto)]
 
 mod alone;
-mod equipment;
-mod no_turns;
-mod pass;
-mod turns;
+mod ended;
+mod going;
+mod lines;
+mod publish;
+mod rest;
+mod sending;
+mod turn;
+mod whole;
+mod world;
 
 pub use alone::run_alone;
-pub use equipment::Equipment;
-pub use no_turns::NoTurns;
-pub use turns::{Next, Turns};
+pub use ended::Ended;
+pub use whole::run;
+pub use world::World;

@@ -1,6 +1,6 @@
 //! The jobs of a class.
 
-ghost use Rattle.std.specs.Prelude.{◌≡◌};
+ghost use Rattle.std.specs.Prelude.{◌≡◌, [], false};
 ghost use Rattle.trick_eval.specs.Bench.{IsFor};
 ghost use Rattle.trick_job.specs.Belongs.{IsMemoryOf};
 ghost use Rattle.trick_model.specs.Order.{jobs_in, rank as rank_of};
@@ -29,6 +29,13 @@ fn class_jobs(plan: &Plan, class: Class) -> &[JobId]
         Some(jobs) => jobs.as_slice(),
         None => &[],
     }
+}
+
+/// Whether a plan has a job of a class.
+pub fn has_jobs(plan: &Plan, class: Class) -> bool
+    ensures { result ≡ false → jobs_in plan.now.program.jobs class ≡ [] }
+{
+    !class_jobs(plan, class).is_empty()
 }
 
 /// Runs the jobs of a class that are on, one after another in key order. Their faults have the state's

@@ -8,6 +8,6 @@ mod ends;
 mod freeze;
 
 pub use begin::start;
-pub use class_jobs::run_class;
+pub use class_jobs::{has_jobs, run_class};
 pub use ends::{checkpoint_jobs, shut};
 pub use freeze::{enter_freeze, freeze_if_asked, leave_freeze};

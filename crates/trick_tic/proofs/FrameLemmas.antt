@@ -1,23 +1,25 @@
 -- The tics of a frame, one after the other: what was done, and what is left.
 use Rattle.std.proofs.Common.{◌≡◌, ◌∙◌, ℕ, suc, ◌+◌, ◌-◌, ◌<◌, ◌≤◌, ℤ, List, [], ◌++◌, true, ap, arith, inl, inr, refl, sym}
-use Rattle.std.specs.Prelude.{◌⊎◌, min, nat_lt}
+use Rattle.std.specs.Prelude.{◌⊎◌, Option, min, nat_lt}
 use Rattle.trick_base.specs.Files.{Write}
 use Rattle.trick_event.specs.Asking.{asking}
 use Rattle.trick_event.specs.declared.asked.Asked.{Asked}
 use Rattle.trick_lang.specs.declared.scalar.Scalar.{Scalar}
 use Rattle.trick_model.proofs.Idle.{below}
-use Rattle.trick_model.proofs.States.{with_tic}
 use Rattle.trick_model.specs.Events.{Asking}
 use Rattle.trick_model.specs.Laws.{IdleTicsPass, IsIdle, LimitStops}
 use Rattle.trick_model.specs.Plan.{Plan}
 use Rattle.trick_model.specs.PlanOf.{plan_of}
 use Rattle.trick_model.specs.State.{State}
-use Rattle.trick_model.specs.Tic.{Ticked, tic, tic_below_limit, tics}
-use Rattle.trick_model.specs.Time.{last_time}
+use Rattle.trick_model.specs.Tic.{Ticked, frame, tic, tic_below_limit, tics}
+use Rattle.trick_model.specs.Time.{frame_end, last_time}
 use Rattle.trick_model.specs.declared.plan.Plan.{Plan as PlanValue}
 use Rattle.trick_model.specs.declared.state.State.{State as StateValue}
+use Rattle.trick_post.specs.Work.{Started}
 use Rattle.trick_outside.specs.declared.shelf.Shelf.{Ghosts}
 use Rattle.trick_tic.proofs.Doing.{Doing, doing_idles, doing_starts}
+use Rattle.trick_tic.proofs.Flights.{goes_far}
+use Rattle.trick_tic.proofs.NoneBefore.{ends_later}
 use Rattle.trick_tic.specs.Course.{IsUnderWay}
 use Rattle.trick_tic.specs.Current.{asking_of}
 use Rattle.trick_tic.specs.declared.course.Course.{Course}
@@ -50,15 +52,16 @@ jumped {M = M} numbers to old new asked state =
     ap (λ (t : StateValue M). asking numbers t new.asked) state ∙ ap (λ (k : Asked). asking numbers (record s { tic = to }) k) asked
 
 -- A run stays under way where idle tics are left out.
-pub jump_under_way : (plan : PlanValue) (course : Course) (s : State) (scalars : List Scalar) (to : ℕ) → s.tic ≤ to → to ≤ last_time + 1
-    → IsUnderWay plan course s scalars → IsUnderWay plan course (record s { tic = to }) scalars
-jump_under_way plan course s scalars to later_tic fits way =
+pub jump_under_way : {plan : PlanValue} {course : Course} {in_flight : ℕ → Option Started} {s : State} {scalars : List Scalar} (to : ℕ)
+    → s.tic ≤ to → to ≤ last_time + 1
+    → ((t : ℕ) → s.tic ≤ t → t < to → IsIdle (plan_of plan) (record s { tic = t }))
+    → IsUnderWay plan course in_flight s scalars → IsUnderWay plan course in_flight (record s { tic = to }) scalars
+jump_under_way {plan = plan} {course = course} to later_tic fits idle way =
     let stirs = way.ready.stirs in
     let jobs = way.ready.jobs in
     let rows = way.ready.rows in
     record {
-      valid = with_tic (plan_of plan) s to fits way.valid;
-      memory = way.memory;
+      goes = goes_far to later_tic fits (λ t low high. (idle t low high).threads) way.goes;
       ready = record {
         stirs = record {
           own = stirs.own;
@@ -70,8 +73,8 @@ jump_under_way plan course s scalars to later_tic fits way =
           logs = rows.logs;
           none_before = λ r t same low high range. rows.none_before r t same (omega arith) high range;
         };
+        ends = ends_later plan course.ends _ to later_tic way.ready.ends;
       };
-      in_tics = way.in_tics;
     }
 
 -- tics at which nothing is due are left out
@@ -110,3 +113,19 @@ nothing_left p left a stops (inr over) = stops p a left over
 
 pub out_of : (tic end limit : ℕ) → min end limit ≤ tic → (end - tic ≡ 0) ⊎ (limit ≤ tic)
 out_of tic end limit over = grind arith
+
+-- A frame at whose tics nothing is due passes at once.
+pub skipped : (p : Plan) (a : Asking) (to : ℕ) → IdleTicsPass → LimitStops
+    → ((t : ℕ) → a.state.tic ≤ t → t < to → (let s = a.state in IsIdle p (record s { tic = t })))
+    → a.state.tic ≤ to → to ≡ min (frame_end p a.state.tic) a.state.limit → frame p a ≡ record { asking = moved_to to a; writes = [] }
+skipped p a to pass stops idle later_tic is =
+    let k = to - a.state.tic in
+    let rest = frame_end p a.state.tic - to in
+    let there : a.state.tic + k ≡ to = omega (arith, later_tic) in
+    let high : to ≤ frame_end p a.state.tic = grind arith in
+    let within : to ≤ a.state.limit = grind arith in
+    let all : frame_end p a.state.tic - a.state.tic ≡ k + rest = omega (arith, later_tic, high) in
+    ap (λ (n : ℕ). tics p n a) all
+    ∙ pass p a k rest (omega (arith, there, within)) (λ i less. idle (a.state.tic + i) (omega arith) (omega (arith, less)))
+    ∙ ap (λ (t : ℕ). tics p rest (moved_to t a)) there
+    ∙ nothing_left p rest (moved_to to a) stops (out_of to (frame_end p a.state.tic) a.state.limit (omega (arith, is)))

@@ -1,21 +1,23 @@
 -- What is known of the tics to come: before some tic nothing of a kind is due.
-use Rattle.std.specs.List.{list_any}
-use Rattle.std.specs.Prelude.{◌≡◌, ℕ, ◌<◌, ◌≤◌, ◌%◌, ◌==◌, Bool, true, false, ◌&&◌, ◌||◌, List, map}
+use Rattle.std.specs.List.{list_any, slice_index_or}
+use Rattle.std.specs.Prelude.{◌≡◌, ℕ, ◌<◌, ◌≤◌, ◌%◌, ◌==◌, Bool, false, ◌&&◌, ◌||◌, All, List, map}
+use Rattle.trick_beside.specs.Stations.{AreStations}
+use Rattle.trick_beside.specs.declared.station.Station.{Station}
 use Rattle.trick_event.specs.Due.{IsFor as IsAgendaOf, read_is_due}
+use Rattle.trick_model.specs.Beside.{ends_at}
 use Rattle.trick_model.specs.Laws.{event_is_due, group_is_due}
-use Rattle.trick_model.specs.Plan.{is_on}
+use Rattle.trick_model.specs.Plan.{is_on, threads_beside}
 use Rattle.trick_model.specs.PlanOf.{plan_of}
 use Rattle.trick_model.specs.Records.{log_name}
 use Rattle.trick_model.specs.State.{State}
 use Rattle.trick_model.specs.Time.{last_time}
+use Rattle.trick_model.specs.Valid.{IsCycle}
 use Rattle.trick_model.specs.declared.flags.Flags.{Flags}
 use Rattle.trick_model.specs.declared.group.Group.{Group}
 use Rattle.trick_model.specs.declared.plan.Plan.{Plan}
-use Rattle.trick_model.specs.declared.thread.Process.TheVariants as process
-use Rattle.trick_model.specs.declared.thread.Process.{Process}
-use Rattle.trick_model.specs.declared.thread.Thread.{Thread}
 use Rattle.trick_queue.specs.Queue.{IsFor as AreQueuesOf, QueuesView}
 use Rattle.trick_record.specs.Added.{group_at}
+use Rattle.trick_tic.specs.declared.ends.Ends.{Ends}
 use Rattle.trick_tic.specs.declared.rows.Rows.{Rows}
 use Rattle.trick_tic.specs.declared.stirs.Stirs.{Stirs}
 
@@ -61,12 +63,19 @@ pub record AreRowsFor (plan : Plan) (rows : Rows) (groups : Flags) (from : ℕ) 
 
 -- ---- must-finish threads
 
--- whether the process type is must-finish
-abbrev pub is_must_finish : Process → Bool
-is_must_finish process.Scheduled = false
-is_must_finish process.Async = false
-is_must_finish process.MustFinish = true
+-- The threads of these stations have cycles.
+abbrev pub HaveCycles : List Station → Type 0
+HaveCycles stations = All (λ (station : Station). IsCycle station.thread.cycle) stations
 
--- some thread is must-finish
-abbrev pub has_must_finish : List Thread → Bool
-has_must_finish threads = list_any (λ (thread : Thread). is_must_finish thread.process) threads
+-- Of the first stations no cycle of a must-finish thread ends from a tic on and before another.
+abbrev pub NoneEnds : List Station → (from end next : ℕ) → Type 0
+NoneEnds stations from end next =
+    (k t : ℕ) (d : Station) → k < end → from ≤ t → t < next → t ≤ last_time
+    → ends_at t (slice_index_or stations k d).thread ≡ false
+
+-- The threads beside the tics of a plan from a tic on: the stations are the plan's, and before `next` no
+-- cycle of a must-finish thread ends.
+pub record AreEndsFor (plan : Plan) (ends : Ends) (from : ℕ) : Type 0 where
+  pub stations : AreStations (plan_of plan) ends.stations
+  pub none_before : (t : ℕ) → from ≤ t → t < ends.next → t ≤ last_time
+      → list_any (ends_at t) (threads_beside (plan_of plan)) ≡ false

@@ -1,6 +1,7 @@
 //! One tic.
 
 ghost use Rattle.std.specs.Prelude.{◌≡◌, ◌+◌, ◌<◌, ◌≤◌, IfOk, OnOk};
+ghost use Rattle.trick_beside.specs.Flight.{AsksNothing};
 ghost use Rattle.trick_job.specs.Belongs.{IsMemoryOf};
 ghost use Rattle.trick_model.specs.PlanOf.{plan_of};
 ghost use Rattle.trick_model.specs.State.{seen};
@@ -12,12 +13,13 @@ ghost use Rattle.trick_tic.specs.Current.{asking_of};
 ghost use Rattle.trick_tic.specs.Due.{AreJobsFor};
 ghost use Rattle.trick_tic.specs.Steps.{steps_of};
 
-use crate::{Course, Current};
+use crate::{Course, Current, Workers};
 use std::alloc::Global;
 use trick_lang::Cells;
 use trick_model::{Accepted, State, laws};
 use trick_outside::{Shelf, Stop};
 use trick_phase::Phases;
+use trick_post::Posts;
 use trick_queue::Queues;
 
 // Runs the due jobs of a tic.
@@ -70,28 +72,31 @@ fn run_due<M: Cells, H: Phases<M>>(
     }
 }
 
-/// The next tic of a state: its reads, its events, its due jobs, and its rows, each in one append. It is
-/// for a tic below the limit. It costs what is due at the tic. It stops where the shelf failed, or where
-/// there was no memory for a row; the state is gone then.
-pub fn tic<M: Cells + Drop, F: Shelf, H: Phases<M>>(
+/// The next tic of a state: its reads, its events, the must-finish work of the threads whose cycle ends
+/// at it, its due jobs, and its rows, each in one append. It is for a tic below the limit. It costs what is
+/// due at the tic. It stops where the shelf failed, or where there was no memory for a row or for the
+/// record of a thread that takes for the first time; the state is gone then.
+pub fn tic<M: Cells + Drop, F: Shelf, H: Phases<M>, P: Posts>(
     alloc: Global,
     accepted: &Accepted,
     current: Current<M>,
     course: &mut Course,
     shelf: &mut F,
-    phases: &mut H,
+    workers: &mut Workers<H, P>,
 ) -> Result<Current<M>, Stop>
-    requires own { H.is_for phases.old accepted.now.plan }
-    requires under_way { IsUnderWay accepted.now.plan course.old (seen M.numbers current.state)
-        (M.scalars current.state.memory) }
+    requires own { H.is_for workers.old.phases accepted.now.plan }
+    requires posts { P.plan workers.old.posts ≡ accepted.now.plan }
+    requires under_way { IsUnderWay accepted.now.plan course.old (P.in_flight workers.old.posts)
+        (seen M.numbers current.state) (M.scalars current.state.memory) }
     requires below { current.state.tic < current.state.limit }
     ensures state { IfOk result (λ after. asking_of M.numbers after
         ≡ (tic_of (plan_of accepted.now.plan) (asking_of M.numbers current)).asking) }
     ensures does { Does F.Shelf shelf.old shelf.new result
         (steps_of (tic_of (plan_of accepted.now.plan) (asking_of M.numbers current)).writes) }
-    ensures under_way { IfOk result (λ after. IsUnderWay accepted.now.plan course.new (seen M.numbers after.state)
-        (M.scalars after.state.memory)) }
-    ensures own { H.is_for phases.new accepted.now.plan }
+    ensures under_way { IfOk result (λ after. IsUnderWay accepted.now.plan course.new (P.in_flight workers.new.posts)
+        (seen M.numbers after.state) (M.scalars after.state.memory)) }
+    ensures own { H.is_for workers.new.phases accepted.now.plan }
+    ensures asks { AsksNothing P.Posts workers.old.posts workers.new.posts }
 {
     laws::plans_are_sound();
     let Current {
@@ -100,7 +105,19 @@ pub fn tic<M: Cells + Drop, F: Shelf, H: Phases<M>>(
     } = current;
     let tic = state.tic;
     course.fire(accepted.plan(), tic, &mut state, &mut asked);
-    let mut state = run_due(accepted, tic, state, &mut course.queues, phases);
+    let Ok(()) = course
+        .ends
+        .finish(alloc, tic, &mut state, &mut workers.posts)
+    else {
+        return Err(Stop::Memory);
+    };
+    let mut state = run_due(
+        accepted,
+        tic,
+        state,
+        &mut course.queues,
+        &mut workers.phases,
+    );
     course
         .rows
         .write(alloc, accepted.plan(), tic, &mut state, shelf)?;

@@ -1,7 +1,9 @@
 use Rattle.std.proofs.Common.{◌≡◌, ◌∙◌, ℕ, suc, ◌+◌, ◌-◌, ◌<◌, ◌≤◌, ap, arith, refl, subst, sym}
 use Rattle.std.specs.Prelude.{min}
 use Rattle.std.proofs.lemmas.Result.{err_from_is_err_and}
+use Rattle.trick_beside.proofs.Loops.{asks_none, asks_then}
 use Rattle.trick_model.specs.Events.{Asking}
+use Rattle.trick_model.specs.Laws.{IsIdle}
 use Rattle.trick_model.specs.PlanOf.{plan_of}
 use Rattle.trick_model.specs.State.{State, seen}
 use Rattle.trick_model.specs.Tic.{Ticked, tic, tics}
@@ -26,6 +28,8 @@ tics-init g c =
       within = omega (arith, c.frame_end-end.ensures.later);
       under_way = c.requires.under_way;
       own = c.requires.own;
+      posts = c.requires.posts;
+      asks = asks_none g.P.Posts c.args.workers.now.posts (g.met.P.Posts.asked_none c.args.workers.now.posts);
     }
 
 -- the bounds of a jump
@@ -62,19 +66,22 @@ tics-preserved-then-current-next g c =
     let high : to ≤ end = below_end end now.state.limit c.next-next.result c.min-then-current-next.result to c.min-then-current-next.ensures c.min-to.ensures in
     let within : to ≤ now.state.limit = below_limit end now.state.limit c.next-next.result c.min-then-current-next.result to c.min-then-current-next.ensures c.min-to.ensures in
     let next : to ≤ c.next-next.result = below_next c.next-next.result c.min-then-current-next.result to c.min-to.ensures in
-    let limit : now.state.limit ≤ last_time + 1 = way.valid.limit in
+    let limit : now.state.limit ≤ last_time + 1 = way.goes.valid.limit in
+    let idle : (t : ℕ) → now.state.tic ≤ t → t < to → IsIdle p (record s { tic = t }) =
+    λ t least most. c.next-next.ensures plan s way.ready t least (omega (arith, most, next)) (omega (arith, most, within, limit)) in
     let there : c.jump-current.result.state.tic ≡ to = ap (λ (t : StateValue g.row.M.Denot). t.tic) c.jump-current.ensures.state in
     record {
       frame = frame_jumps to (end - c.jump-current.result.state.tic) (asking_of g.M.Cells.numbers c.jump-current.result)
           c.idle_tics_pass.ensures c.tics.invariant.frame
-          (λ t least most. c.next-next.ensures plan s way.ready way.in_tics t least (omega arith) (omega arith))
-          low within (omega arith)
+          idle low within (omega arith)
           (jumped g.M.Cells.numbers to now c.jump-current.result c.jump-current.ensures.asked c.jump-current.ensures.state);
       within = omega arith;
-      under_way = subst (λ (t : StateValue g.row.M.Denot). IsUnderWay plan c.tics.course (seen g.M.Cells.numbers t) (g.M.Cells.scalars t.memory))
-          (sym c.jump-current.ensures.state)
-          (jump_under_way plan c.tics.course s (g.M.Cells.scalars now.state.memory) to low (omega arith) way);
+      under_way = subst (λ (t : StateValue g.row.M.Denot). IsUnderWay plan c.tics.course (g.P.Posts.in_flight c.tics.workers.posts)
+          (seen g.M.Cells.numbers t) (g.M.Cells.scalars t.memory)) (sym c.jump-current.ensures.state)
+          (jump_under_way to low (omega (arith, within, limit)) idle way);
       own = c.tics.invariant.own;
+      posts = c.tics.invariant.posts;
+      asks = c.tics.invariant.asks;
     }
 
 pub returns-in_err-current-clause-does : goal.returns-in_err-current-clause-does
@@ -114,4 +121,9 @@ tics-preserved g c =
       within = omega arith;
       under_way = c.in_ok-current.ensures.under_way;
       own = c.tic.ensures.own;
+      posts = c.tic.ensures.asks.plan ∙ c.tics.invariant.posts;
+      asks = asks_then g.met.P.Posts.asked_join c.tics.invariant.asks c.tic.ensures.asks;
     }
+
+pub returns-in_err-current-clause-asks : goal.returns-in_err-current-clause-asks
+returns-in_err-current-clause-asks g c = asks_then g.met.P.Posts.asked_join c.tics.invariant.asks c.tic.ensures.asks

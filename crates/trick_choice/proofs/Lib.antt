@@ -1,0 +1,2 @@
+-- What the rounds of threads add to a choice, and how long they wait.
+pub mod ChoiceLemmas

@@ -1,0 +1,94 @@
+-- The turns of a run, as the code does them.
+use Rattle.std.proofs.Common.{◌≡◌, ◌∙◌, ℕ, ℤ, ◌<◌, ◌≤◌, List, [], ◌∷◌, ◌++◌, Bool, true, false, Err, Ok, IsOk, Some, None, ap, arith, length, refl, subst, sym}
+use Rattle.std.proofs.lemmas.Bool.Decides.{nat_tests}
+use Rattle.std.proofs.lemmas.List.Elements.{All-nil}
+use Rattle.std.specs.Prelude.{◌||◌, IsTrue, Option, Result, nat_le}
+use Rattle.trick_exec.specs.CameTo.{CameTo, HasGiven}
+use Rattle.trick_exec.specs.Known.{AreKnown}
+use Rattle.trick_exec.specs.Worlds.{world_of}
+use Rattle.trick_exec.specs.declared.ended.Ended.{Ended as EndedValue}
+use Rattle.trick_exec.specs.declared.world.World.{World as WorldValue}
+use Rattle.trick_model.specs.Plan.{Plan}
+use Rattle.trick_model.specs.Run.{is_shut, next_of, opened}
+use Rattle.trick_model.specs.State.{State, World}
+use Rattle.trick_model.specs.Turn.{turn}
+use Rattle.trick_model.specs.declared.entry.Entry.{Entry}
+use Rattle.trick_model.specs.declared.session.Session.{Session}
+use Rattle.trick_outside.specs.declared.stop.Stop.{Stop}
+use Rattle.trick_post.specs.Polls.{Poll}
+use Rattle.trick_post.specs.declared.posts.Posts.{Ghosts as PostsGhosts}
+use Rattle.trick_runs.proofs.Ending.{stops_in}
+use Rattle.trick_runs.proofs.Going.{Gave, IsGoing, Laws, going_more}
+use Rattle.trick_runs.specs.Answers.{given}
+use Rattle.trick_runs.specs.Hosts.{Hosts, Place, at}
+use Rattle.trick_runs.specs.Over.{AreStopped}
+use Rattle.trick_runs.specs.Rounds.{IsChosen, heard_state, publications, waited}
+use Rattle.trick_runs.specs.Turned.{Asks}
+use Rattle.trick_session.specs.Kept.{IsSession}
+use Rattle.trick_turns.specs.Turns.{GoesOn, Gives, Sessions, Told, no_sessions, owes_after}
+use Rattle.trick_turns.specs.declared.turns.Turns.{Ghosts as TurnsGhosts}
+
+-- So many turns were done, with the waits that the code keeps.
+pub record IsUnder {S U M Q : Type 0} (h : Hosts S U M Q) (p : Plan) (start : State) (old now : Place S U Q) (w : World) (kept : List ℕ) : Type 0 where
+  pub lists : List (List Entry)
+  pub waits : List ℕ
+  pub going : IsGoing h p start old now w waits lists
+  pub same : h.turns.decided old.turns ≡ false → kept ≡ waits
+
+asks_in : {Q : Type 0} (posts : PostsGhosts Q) (d : Bool) (p : Plan) (s : State) (kept waits : List ℕ) (published : List Entry) (old new : Q)
+    → (d ≡ false → kept ≡ waits) → Asks d posts.asked (IsChosen p s kept published) old new → Asks d posts.asked (IsChosen p s waits published) old new
+asks_in posts true p s kept waits published old new same asks = asks
+asks_in posts false p s kept waits published old new same asks =
+    subst (λ (l : List ℕ). Asks false posts.asked (IsChosen p s l published) old new) (same refl) asks
+
+pub gave_as : {U M : Type 0} {turns : TurnsGhosts U M} {w : World} {list other : List Entry} {old now : U} → list ≡ other → Gave turns w list old now → Gave turns w other old now
+gave_as {turns = turns} {w = w} {old = old} {now = now} same gave = subst (λ (l : List Entry). Gave turns w l old now) same gave
+
+module _ {S U M Q D : Type 0} (h : Hosts S U M Q) (laws : Laws h) (numbers : D → List ℤ) (p : Plan) (start : State) where
+  pub under_more : {old mid new : Place S U Q} {w : World} {kept now : List ℕ} {decides : Bool} {list : List Entry} {gave : U} (after : WorldValue D)
+      → IsUnder h p start old mid w kept → decides ≡ h.turns.decided old.turns
+      → is_shut w.state.mode ≡ false → nat_le w.state.limit w.state.tic ≡ false → Gave h.turns w list mid.turns gave
+      → CameTo h numbers p decides w list kept now (at mid.shelf gave mid.posts) new (Ok after)
+      → IsUnder h p start old new (world_of numbers after) now
+  under_more {old = old} {mid = mid} {new = new} {w = w} {kept = kept} {now = now} {decides = decides} {list = list} {gave = gave} after so is alive below gives came =
+      let d = h.turns.decided old.turns in
+      let entries = came.entries in
+      let hs = heard_state p w entries in
+      let given_is : list ≡ given d entries = sym came.gave ∙ ap (λ (b : Bool). given b entries) is in
+      record {
+        lists = so.lists ++ entries ∷ [];
+        waits = waited p hs so.waits (publications entries);
+        going = going_more h laws p start w (world_of numbers after) so.waits (waited p hs so.waits (publications entries)) so.lists entries gave so.going alive below
+            (less w.state.limit w.state.tic below) (gave_as given_is gives) came.turned refl
+            (asks_in h.posts d p hs kept so.waits (publications entries) mid.posts new.posts so.same
+            (subst (λ (b : Bool). Asks b h.posts.asked (IsChosen p hs kept (publications entries)) mid.posts new.posts) is (came.asks refl)))
+            came.world refl;
+        same = λ none. came.waited_so refl (is ∙ none) ∙ ap (λ (l : List ℕ). waited p hs l (publications entries)) (so.same none);
+      }
+    where
+      less : (limit tic : ℕ) → nat_le limit tic ≡ false → tic < limit
+      less limit tic e = grind (arith, nat_tests)
+
+  pub under_stops : {V : Type 0} {old mid new : Place S U Q} {w : World} {kept now : List ℕ} {decides : Bool} {list : List Entry} {gave : U} {first : Result (WorldValue D) Stop}
+      (result : Result V Stop) (e f : Stop)
+      → IsUnder h p start old mid w kept → decides ≡ h.turns.decided old.turns
+      → is_shut w.state.mode ≡ false → nat_le w.state.limit w.state.tic ≡ false → Gave h.turns w list mid.turns gave
+      → CameTo h numbers p decides w list kept now (at mid.shelf gave mid.posts) new first → first ≡ Err e → result ≡ Err f → f ≡ e
+      → (lists : List (List Entry)) × AreStopped h p start lists old new result
+  under_stops {old = old} {list = list} {gave = gave} result e f so is alive below gives came at_first fails same =
+      let d = h.turns.decided old.turns in
+      let entries = came.entries in
+      let given_is : list ≡ given d entries = sym came.gave ∙ ap (λ (b : Bool). given b entries) is in
+      (so.lists ++ entries ∷ [], stops_in h laws p start result e f entries gave so.going alive below (gave_as given_is gives) came.turned at_first fails same)
+
+-- no session is there yet
+pub none_known : (p : Plan) (ss : List Session) (known : Sessions) → ss ≡ [] → known ≡ no_sessions → AreKnown p known ss
+none_known p ss known none is =
+    subst (λ (l : List Session). AreKnown p known l) (sym none)
+    (subst (λ (s : Sessions). AreKnown p s []) (sym is)
+    (record { live = refl; rising = refl; below = tt; right = All-nil (IsSession (length p.names)); awake = All-nil (λ (s : Session). s.leaving ≡ false) }))
+
+-- neither over nor shut
+pub both_false : (a b : Bool) → (a || b) ≡ false → (a ≡ false) × (b ≡ false)
+both_false true b e = cc e
+both_false false b e = (refl, e)

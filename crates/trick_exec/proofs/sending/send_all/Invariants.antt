@@ -1,0 +1,9 @@
+use Rattle.std.proofs.Common.{drop}
+use Rattle.trick_exec.proofs.sending.send_all.Given as goal
+use Rattle.trick_hear.specs.Hearing.{said_of}
+use Rattle.trick_runs.proofs.SayLemmas.{Saying}
+
+-- the messages so far were handed over, and these are left
+abbrev pub invariant-loop-message : goal.invariant-loop-message
+invariant-loop-message g l =
+    Saying g.T.Turns l.fn.turns l.turns (said_of l.messages) (said_of (drop l.message-index l.messages))

@@ -1,0 +1,37 @@
+-- What a turn of the code came to.
+use Rattle.std.specs.Prelude.{◌≡◌, ℕ, ℤ, Bool, false, not, IfOk, IsOk, IsTrue, List, Result}
+use Rattle.std.specs.List.{list_any}
+use Rattle.trick_exec.specs.Known.{AreKnown}
+use Rattle.trick_exec.specs.Worlds.{world_of}
+use Rattle.trick_exec.specs.declared.world.World.{World as WorldValue}
+use Rattle.trick_model.specs.Journal.{is_of_session}
+use Rattle.trick_model.specs.Plan.{Plan}
+use Rattle.trick_model.specs.State.{World}
+use Rattle.trick_model.specs.Turn.{turn}
+use Rattle.trick_model.specs.declared.entry.Entry.{Entry}
+use Rattle.trick_outside.specs.declared.stop.Stop.{Stop}
+use Rattle.trick_runs.specs.Answers.{given}
+use Rattle.trick_runs.specs.Hosts.{Hosts, Place}
+use Rattle.trick_runs.specs.Rounds.{IsChosen, heard_state, publications, waited}
+use Rattle.trick_runs.specs.Turned.{Asks, Turned}
+use Rattle.trick_turns.specs.Turns.{Sessions, after_entries, in_next, may_all_come}
+
+-- A source whose sessions are those of a world has given this list.
+pub record HasGiven (p : Plan) (decides : Bool) (w : World) (list : List Entry) (now : Sessions) : Type 0 where
+  pub known : Sessions
+  pub are : AreKnown p known w.sessions
+  pub may : IsTrue (may_all_come list (in_next known))
+  pub after : now ≡ after_entries list (in_next known)
+  pub silent : decides ≡ false → list_any (λ entry. not (is_of_session entry)) list ≡ false
+
+-- A world's turn that was given a list came to this: the turn with these entries, of which the source gave
+-- the list. At `Ok` the world is that after it, and the publications were chosen.
+pub record CameTo {S U M Q D : Type 0} (h : Hosts S U M Q) (numbers : D → List ℤ) (p : Plan) (decides : Bool) (w : World)
+    (list : List Entry) (waits now : List ℕ) (old new : Place S U Q) (result : Result (WorldValue D) Stop) : Type 0 where
+  pub entries : List Entry
+  pub gave : given decides entries ≡ list
+  pub turned : Turned h p w entries old new result
+  pub world : IfOk result (λ after. world_of numbers after ≡ (turn p w entries).world)
+  pub asks : IsOk result
+      → Asks decides h.posts.asked (IsChosen p (heard_state p w entries) waits (publications entries)) old.posts new.posts
+  pub waited_so : IsOk result → decides ≡ false → now ≡ waited p (heard_state p w entries) waits (publications entries)

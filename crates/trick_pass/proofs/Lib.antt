@@ -1,0 +1,6 @@
+-- What a turn leaves as it is, so that a run is under way behind each of its parts.
+pub mod CourseLemmas
+-- The parts of a turn whose entries were heard make it.
+pub mod PassLemmas
+-- A turn without entries at whose tics nothing is due.
+pub mod IdleLemmas

@@ -1,0 +1,2 @@
+-- A turn after its entries were heard.
+pub mod Pass

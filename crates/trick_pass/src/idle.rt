@@ -1,0 +1,48 @@
+//! Turns in which nothing is done but that time passes.
+
+ghost use Rattle.std.specs.Prelude.{◌≡◌, [], false, true};
+ghost use Rattle.trick_model.specs.Plan.{threads_beside};
+ghost use Rattle.trick_model.specs.PlanOf.{plan_of};
+ghost use Rattle.trick_model.specs.State.{seen};
+ghost use Rattle.trick_pass.specs.Pass.{IsEquipped, passed, unasked};
+
+use crate::Equipment;
+use crate::rest::{count, runs};
+use trick_lang::{Cells, Class};
+use trick_model::{Accepted, State, laws};
+use trick_moments::{has_jobs, run_class};
+use trick_post::Posts;
+use trick_tic::skip;
+
+/// Passes a turn without entries in place, where nothing is due at its tics, the plan has no jobs at the top
+/// of a frame, and no thread works beside the tics; and tells whether it was such a turn. Else it changes
+/// nothing. It costs next to nothing, and takes no memory.
+pub fn pass_idle<M: Cells, P: Posts>(
+    accepted: &Accepted,
+    state: &mut State<M>,
+    equipment: &mut Equipment,
+    posts: &P,
+) -> bool
+    requires equipped { IsEquipped accepted.now.plan equipment.old (P.in_flight posts.now) (seen M.numbers state.old)
+        (M.scalars state.old.memory) }
+    ensures state { result ≡ true → seen M.numbers state.new
+        ≡ (passed (plan_of accepted.now.plan) [] (unasked (seen M.numbers state.old))).state }
+    ensures writes { result ≡ true → (passed (plan_of accepted.now.plan) [] (unasked (seen M.numbers state.old))).writes
+        ≡ [] }
+    ensures alone { result ≡ true → threads_beside (plan_of accepted.now.plan) ≡ [] }
+    ensures unchanged { result ≡ false → state.new ≡ state.old }
+    ensures equipped { IsEquipped accepted.now.plan equipment.new (P.in_flight posts.now) (seen M.numbers state.new)
+        (M.scalars state.new.memory) }
+{
+    laws::plans_are_sound();
+    let plan = accepted.plan();
+    if !equipment.course.stations().is_empty() || has_jobs(plan, Class::TopOfFrame) {
+        return false;
+    }
+    if !runs(state) || !skip(plan, &equipment.course, state) {
+        return false;
+    }
+    run_class(plan, Class::EndOfFrame, state, &mut equipment.bench);
+    count(state);
+    true
+}

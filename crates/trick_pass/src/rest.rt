@@ -1,0 +1,208 @@
+//! A turn after its entries were heard.
+
+ghost use Rattle.std.specs.Prelude.{◌≡◌, IfOk, OnOk};
+ghost use Rattle.trick_beside.specs.Flight.{AsksNothing, GoesWith};
+ghost use Rattle.trick_beside.specs.Stations.{AreStations};
+ghost use Rattle.trick_model.specs.PlanOf.{plan_of};
+ghost use Rattle.trick_model.specs.State.{seen};
+ghost use Rattle.trick_model.specs.Turn.{counted, framed, rounds as rounds_of, run_frame, runs as runs_of};
+ghost use Rattle.trick_outside.specs.Does.{Does};
+ghost use Rattle.trick_pass.specs.Pass.{IsEquipped, passed};
+ghost use Rattle.trick_tic.specs.Current.{asking_of};
+ghost use Rattle.trick_tic.specs.Steps.{steps_of};
+
+use crate::Equipment;
+use std::alloc::{AllocError, Global};
+use trick_beside::{Station, publish_all, start_rounds};
+use trick_files::write_checkpoint;
+use trick_lang::{Cells, Class};
+use trick_model::{Accepted, Entry, Mode, State, laws};
+use trick_moments::{checkpoint_jobs, freeze_if_asked, run_class};
+use trick_outside::{Shelf, Stop};
+use trick_phase::Phases;
+use trick_post::Posts;
+use trick_tic::{Current, Workers, frame};
+
+// The turns stand still at 2^63 - 1.
+const LAST_TURN: u64 = 9_223_372_036_854_775_807;
+
+// A run frame: the publications, the top_of_frame jobs, the tics, the end_of_frame jobs, and Freeze
+// where it was asked for.
+fn run_frame<M: Cells + Drop, F: Shelf, H: Phases<M>, P: Posts>(
+    alloc: Global,
+    accepted: &Accepted,
+    entries: &[Entry],
+    current: Current<M>,
+    equipment: &mut Equipment,
+    shelf: &mut F,
+    workers: &mut Workers<H, P>,
+) -> Result<Current<M>, Stop>
+    requires own { H.is_for workers.old.phases accepted.now.plan }
+    requires posts { P.plan workers.old.posts ≡ accepted.now.plan }
+    requires equipped { IsEquipped accepted.now.plan equipment.old (P.in_flight workers.old.posts)
+        (seen M.numbers current.state) (M.scalars current.state.memory) }
+    ensures state { IfOk result (λ after. asking_of M.numbers after
+        ≡ (run_frame (plan_of accepted.now.plan) entries.now (asking_of M.numbers current)).asking) }
+    ensures does { Does F.Shelf shelf.old shelf.new result
+        (steps_of (run_frame (plan_of accepted.now.plan) entries.now (asking_of M.numbers current)).writes) }
+    ensures equipped { IfOk result (λ after. IsEquipped accepted.now.plan equipment.new (P.in_flight workers.new.posts)
+        (seen M.numbers after.state) (M.scalars after.state.memory)) }
+    ensures own { H.is_for workers.new.phases accepted.now.plan }
+    ensures asks { AsksNothing P.Posts workers.old.posts workers.new.posts }
+{
+    laws::plans_are_sound();
+    let plan = accepted.plan();
+    let mut current = current;
+    publish_all(
+        alloc,
+        equipment.course.stations(),
+        entries,
+        &mut current.state,
+        &mut workers.posts,
+    );
+    run_class(
+        plan,
+        Class::TopOfFrame,
+        &mut current.state,
+        &mut equipment.bench,
+    );
+    let mut current = frame(
+        alloc,
+        accepted,
+        current,
+        &mut equipment.course,
+        shelf,
+        workers,
+    )?;
+    run_class(
+        plan,
+        Class::EndOfFrame,
+        &mut current.state,
+        &mut equipment.bench,
+    );
+    freeze_if_asked(
+        plan,
+        current.asked.freeze,
+        &mut current.state,
+        &mut equipment.bench,
+    );
+    Ok(current)
+}
+
+/// Whether a turn is a run frame: the mode is not Freeze, and the next tic is below the limit.
+pub(crate) fn runs<M: Cells>(state: &State<M>) -> bool
+    ensures { result ≡ runs_of (seen M.numbers state.now) }
+{
+    match state.mode {
+        Mode::Freeze => false,
+        Mode::Run | Mode::Shutdown => state.tic < state.limit,
+    }
+}
+
+// The frame of a turn: a run frame, or in a freeze frame nothing.
+fn framed<M: Cells + Drop, F: Shelf, H: Phases<M>, P: Posts>(
+    alloc: Global,
+    accepted: &Accepted,
+    entries: &[Entry],
+    current: Current<M>,
+    equipment: &mut Equipment,
+    shelf: &mut F,
+    workers: &mut Workers<H, P>,
+) -> Result<Current<M>, Stop>
+    requires own { H.is_for workers.old.phases accepted.now.plan }
+    requires posts { P.plan workers.old.posts ≡ accepted.now.plan }
+    requires equipped { IsEquipped accepted.now.plan equipment.old (P.in_flight workers.old.posts)
+        (seen M.numbers current.state) (M.scalars current.state.memory) }
+    ensures state { IfOk result (λ after. asking_of M.numbers after
+        ≡ (framed (plan_of accepted.now.plan) (runs_of (seen M.numbers current.state))
+        entries.now (asking_of M.numbers current)).asking) }
+    ensures does { Does F.Shelf shelf.old shelf.new result
+        (steps_of (framed (plan_of accepted.now.plan) (runs_of (seen M.numbers current.state))
+        entries.now (asking_of M.numbers current)).writes) }
+    ensures equipped { IfOk result (λ after. IsEquipped accepted.now.plan equipment.new (P.in_flight workers.new.posts)
+        (seen M.numbers after.state) (M.scalars after.state.memory)) }
+    ensures own { H.is_for workers.new.phases accepted.now.plan }
+    ensures asks { AsksNothing P.Posts workers.old.posts workers.new.posts }
+{
+    if !runs(&current.state) {
+        return Ok(current);
+    }
+    let current = run_frame(alloc, accepted, entries, current, equipment, shelf, workers)?;
+    Ok(current)
+}
+
+// After a run frame each asynchronous thread that has nothing in flight starts a round.
+fn rounds<M: Cells, P: Posts>(
+    alloc: Global,
+    ran: bool,
+    stations: &[Station],
+    state: &mut State<M>,
+    posts: &mut P,
+) -> Result<(), AllocError>
+    requires stations { AreStations (plan_of (P.plan posts.old)) stations.now }
+    requires goes { GoesWith (P.plan posts.old) (P.in_flight posts.old) state.old.tic (seen M.numbers state.old)
+        (M.scalars state.old.memory) }
+    ensures state { OnOk result (seen M.numbers state.new
+        ≡ rounds_of (plan_of (P.plan posts.old)) ran (seen M.numbers state.old)) }
+    ensures goes { OnOk result (GoesWith (P.plan posts.new) (P.in_flight posts.new) state.new.tic
+        (seen M.numbers state.new) (M.scalars state.new.memory)) }
+    ensures asks { AsksNothing P.Posts posts.old posts.new }
+{
+    if !ran {
+        return Ok(());
+    }
+    start_rounds(alloc, stations, state, posts)
+}
+
+/// Counts the turn.
+pub(crate) fn count<M: Cells>(state: &mut State<M>)
+    ensures counted { seen M.numbers state.new ≡ counted (seen M.numbers state.old) }
+    ensures memory { state.new.memory ≡ state.old.memory }
+{
+    if state.turn < LAST_TURN {
+        state.turn += 1;
+    } else {
+        state.turn = LAST_TURN;
+    }
+}
+
+/// The rest of a turn whose entries were heard: its frame, in which the rounds that the entries publish
+/// come first, the checkpoint jobs, the rounds that start, its count, and the checkpoint that was asked
+/// for. It stops where the shelf failed, or where there was no memory for what is written or for a record
+/// that was never filled; the state is gone then.
+pub fn pass<M: Cells + Drop, F: Shelf, H: Phases<M>, P: Posts>(
+    alloc: Global,
+    accepted: &Accepted,
+    entries: &[Entry],
+    current: Current<M>,
+    equipment: &mut Equipment,
+    shelf: &mut F,
+    workers: &mut Workers<H, P>,
+) -> Result<State<M>, Stop>
+    requires own { H.is_for workers.old.phases accepted.now.plan }
+    requires posts { P.plan workers.old.posts ≡ accepted.now.plan }
+    requires equipped { IsEquipped accepted.now.plan equipment.old (P.in_flight workers.old.posts)
+        (seen M.numbers current.state) (M.scalars current.state.memory) }
+    ensures state { IfOk result (λ after. seen M.numbers after
+        ≡ (passed (plan_of accepted.now.plan) entries.now (asking_of M.numbers current)).state) }
+    ensures does { Does F.Shelf shelf.old shelf.new result
+        (steps_of (passed (plan_of accepted.now.plan) entries.now (asking_of M.numbers current)).writes) }
+    ensures equipped { IfOk result (λ after. IsEquipped accepted.now.plan equipment.new (P.in_flight workers.new.posts)
+        (seen M.numbers after) (M.scalars after.memory)) }
+    ensures own { H.is_for workers.new.phases accepted.now.plan }
+    ensures asks { AsksNothing P.Posts workers.old.posts workers.new.posts }
+{
+    laws::plans_are_sound();
+    let plan = accepted.plan();
+    let ran = runs(&current.state);
+    let current = framed(alloc, accepted, entries, current, equipment, shelf, workers)?;
+    let Current { mut state, asked } = current;
+    checkpoint_jobs(plan, asked.checkpoint, &mut state, &mut equipment.bench);
+    let stations = equipment.course.stations();
+    let Ok(()) = rounds(alloc, ran, stations, &mut state, &mut workers.posts) else {
+        return Err(Stop::Memory);
+    };
+    count(&mut state);
+    write_checkpoint(alloc, plan, asked.checkpoint, &state, shelf)?;
+    Ok(state)
+}

@@ -1,0 +1,123 @@
+-- What a turn did, by its parts.
+use Rattle.std.proofs.Common.{◌≡◌, ◌∙◌, List, [], ◌++◌, false, not, Err, Ok, IsOk, ap, append_assoc, inl, inr, subst, sym}
+use Rattle.std.specs.Prelude.{filter, Result, IsErrOf}
+use Rattle.trick_base.specs.Files.{Write}
+use Rattle.trick_model.specs.Files.{note, turn_writes}
+use Rattle.trick_model.specs.Journal.{is_of_session}
+use Rattle.trick_model.specs.Plan.{Plan}
+use Rattle.trick_model.specs.Session.{samples}
+use Rattle.trick_model.specs.State.{World}
+use Rattle.trick_model.specs.Turn.{Hearing, begun, replies, turn}
+use Rattle.trick_model.specs.declared.entry.Entry.{Entry}
+use Rattle.trick_outside.proofs.CallLemmas.{ends-append, fails-late, part_of_late, true_or_false}
+use Rattle.trick_outside.proofs.DoesLemmas.{Joins, does_err, does_then, went_then}
+use Rattle.trick_outside.specs.Calls.{Call, fails}
+use Rattle.trick_outside.specs.Does.{Does, IsPartOf}
+use Rattle.trick_outside.specs.declared.shelf.Shelf.{Ghosts}
+use Rattle.trick_outside.specs.declared.stop.Stop.TheVariants.{Shelf}
+use Rattle.trick_outside.specs.declared.stop.Stop.{Stop}
+use Rattle.trick_runs.proofs.Going.{Laws}
+use Rattle.trick_runs.proofs.PartLemmas.{IsMade}
+use Rattle.trick_runs.proofs.SayLemmas.{says_as, says_none}
+use Rattle.trick_tic.proofs.StepLemmas.{steps_of-append}
+use Rattle.trick_runs.specs.Answers.{Says}
+use Rattle.trick_runs.specs.Hosts.{Hosts, Place, at}
+use Rattle.trick_runs.specs.Parts.{counting, state_after, writes_after}
+use Rattle.trick_tic.specs.Steps.{steps_of}
+use Rattle.trick_runs.specs.Turned.{Turned, notes}
+
+ok_no_fault : {T : Type 0} (result : Result T Stop) → IsOk result → IsErrOf result Shelf → ⊥
+ok_no_fault (Ok x) ok is = cc
+ok_no_fault (Err f) ok is = cc
+
+-- the first steps were taken, and the others after them; the calls begin with the first
+does_behind : {S T U : Type 0} {shelf : Ghosts S} {old mid new : S} {first : Result T Stop} {result : Result U Stop} (early late steps : List Call)
+    → Joins shelf → Does shelf old mid first early → IsOk first → Does shelf mid new result late → steps ≡ early ++ late
+    → (does : Does shelf old new result steps) × (later : List Call) × (does.calls ≡ early ++ later)
+does_behind {first = first} {result = result} early late steps join did ok more is =
+    let quiet : fails did.calls ≡ false = true_or_false (fails did.calls) (λ e. ok_no_fault first ok (did.fault e)) in
+    let same : fails (did.calls ++ more.calls) ≡ fails more.calls = fails-late did.calls more.calls quiet in
+    let begins : did.calls ++ more.calls ≡ early ++ more.calls = ap (λ c. c ++ more.calls) (did.whole ok) in (
+      record {
+        calls = did.calls ++ more.calls;
+        went = went_then join did.went more.went;
+        part = subst (λ c. IsPartOf c steps) (sym begins) (subst (λ w. IsPartOf (early ++ more.calls) w) (sym is) (part_of_late early more.calls late more.part));
+        whole = λ d. begins ∙ ap (λ c. early ++ c) (more.whole d) ∙ sym is;
+        failed = λ f. same ∙ more.failed f;
+        fault = λ e. more.fault (sym same ∙ e);
+        ends = ends-append did.calls more.calls quiet more.ends;
+      },
+      more.calls,
+      begins,
+    )
+
+module _ {S U M Q : Type 0} (h : Hosts S U M Q) (laws : Laws h) (p : Plan) (w : World) (entries lines publications : List Entry) (heard : Hearing)
+    (made : IsMade p w entries lines publications heard) where
+  notes_are : steps_of (notes w.state.turn (turn p w entries)) ≡ steps_of (note w.state.turn lines) ++ steps_of (note w.state.turn (counting p heard.asking.state publications))
+  notes_are =
+      steps_of-append (note w.state.turn (filter is_of_session (turn p w entries).noted)) (note w.state.turn (filter (λ (entry : Entry). not (is_of_session entry)) (turn p w entries).noted))
+      ∙ ap (λ (es : List Entry). steps_of (note w.state.turn es) ++ steps_of (note w.state.turn (filter (λ (entry : Entry). not (is_of_session entry)) (turn p w entries).noted))) made.noted_lines
+      ∙ ap (λ (es : List Entry). steps_of (note w.state.turn lines) ++ steps_of (note w.state.turn es)) made.noted_publications
+
+  steps_are : steps_of (turn_writes w.state.turn (turn p w entries))
+      ≡ steps_of (notes w.state.turn (turn p w entries)) ++ steps_of (writes_after p publications heard.asking)
+  steps_are =
+      steps_of-append (notes w.state.turn (turn p w entries)) (turn p w entries).writes
+      ∙ ap (λ (ws : List Write). steps_of (notes w.state.turn (turn p w entries)) ++ steps_of ws) made.writes
+
+  -- all of its notes were made, and then the rest was done or not
+  pub turned : {A B T : Type 0} {old : Place S U Q} {mid bottom : S} {new : Place S U Q} {first : Result A Stop} {second : Result B Stop} {result : Result T Stop}
+      → Does h.shelf old.shelf mid first (steps_of (note w.state.turn lines)) → IsOk first
+      → Does h.shelf mid bottom second (steps_of (note w.state.turn (counting p heard.asking.state publications))) → IsOk second
+      → Does h.shelf bottom new.shelf result (steps_of (writes_after p publications heard.asking))
+      → Says h.turns old.turns new.turns result (replies p lines (begun w) ++ samples w.state.tic (state_after p publications heard.asking) heard.sessions)
+      → Turned h p w entries old new result
+  turned {old = old} {bottom = bottom} {new = new} {second = second} {result = result} one ok two fine rest says =
+      let noted : Does h.shelf old.shelf bottom second (steps_of (notes w.state.turn (turn p w entries))) =
+      subst (λ c. Does h.shelf old.shelf bottom second c) (sym notes_are) (does_then laws.shelf one ok two) in
+      let all = does_behind (steps_of (notes w.state.turn (turn p w entries))) (steps_of (writes_after p publications heard.asking))
+      (steps_of (turn_writes w.state.turn (turn p w entries))) laws.shelf noted fine rest steps_are in
+      record {
+        does = all.0;
+        says = says_as result (turn p w entries).said made.said says (λ d. d);
+        prompt = inr (all.1, all.2);
+      }
+
+  -- it stopped before its notes were made
+  unsaid : {T : Type 0} (old new : Place S U Q) (result : Result T Stop) → h.turns.went old.turns [] [] old.turns → (IsOk result → ⊥)
+      → Does h.shelf old.shelf new.shelf result (steps_of (turn_writes w.state.turn (turn p w entries)))
+      → Turned h p w entries old (at new.shelf old.turns new.posts) result
+  unsaid old new result none never did =
+      let says = says_none h.turns old.turns result (turn p w entries).said none never in
+      record { does = did; says = says.0; prompt = inl says.1 }
+
+  first_stops : {A T : Type 0} {old new : S} {first : Result A Stop} (result : Result T Stop) (e f : Stop)
+      → Does h.shelf old new first (steps_of (note w.state.turn lines)) → first ≡ Err e → result ≡ Err f → f ≡ e
+      → Does h.shelf old new result (steps_of (turn_writes w.state.turn (turn p w entries)))
+  first_stops {old = old} {new = new} result e f did at_first is same =
+      let counts = steps_of (note w.state.turn (counting p heard.asking.state publications)) in
+      let rest = steps_of (writes_after p publications heard.asking) in
+      subst (λ c. Does h.shelf old new result c)
+      (sym (steps_are ∙ ap (λ c. c ++ rest) notes_are ∙ append_assoc (steps_of (note w.state.turn lines)) counts rest))
+      (does_err result e f (counts ++ rest) did at_first is same)
+
+  -- its lines were not noted, or not heard
+  pub turned_first : {A T : Type 0} {old : Place S U Q} {new : S} {posts : Q} {first : Result A Stop} (result : Result T Stop) (e f : Stop)
+      → h.turns.went old.turns [] [] old.turns → (IsOk result → ⊥)
+      → Does h.shelf old.shelf new first (steps_of (note w.state.turn lines)) → first ≡ Err e → result ≡ Err f → f ≡ e
+      → Turned h p w entries old (at new old.turns posts) result
+  turned_first {old = old} {new = new} {posts = posts} result e f none never did at_first is same =
+      unsaid old (at new old.turns posts) result none never (first_stops result e f did at_first is same)
+
+  -- its publications were not noted
+  pub turned_second : {A B T : Type 0} {old : Place S U Q} {mid new : S} {posts : Q} {first : Result A Stop} {second : Result B Stop} (result : Result T Stop) (e f : Stop)
+      → h.turns.went old.turns [] [] old.turns → (IsOk result → ⊥)
+      → Does h.shelf old.shelf mid first (steps_of (note w.state.turn lines)) → IsOk first
+      → Does h.shelf mid new second (steps_of (note w.state.turn (counting p heard.asking.state publications))) → second ≡ Err e → result ≡ Err f → f ≡ e
+      → Turned h p w entries old (at new old.turns posts) result
+  turned_second {old = old} {new = new} {posts = posts} {second = second} result e f none never one ok two at_second is same =
+      let noted : Does h.shelf old.shelf new second (steps_of (notes w.state.turn (turn p w entries))) =
+      subst (λ c. Does h.shelf old.shelf new second c) (sym notes_are) (does_then laws.shelf one ok two) in
+      unsaid old (at new old.turns posts) result none never
+      (subst (λ c. Does h.shelf old.shelf new result c) (sym steps_are)
+      (does_err result e f (steps_of (writes_after p publications heard.asking)) noted at_second is same))
