@@ -1,0 +1,12 @@
+-- entries by their turns
+pub mod Turns
+-- the lists of turns
+pub mod Lists
+-- how many sessions join in them
+pub mod Joins
+-- sessions one by one
+pub mod Joining
+-- a list may come after those before it
+pub mod Coming
+-- from one turn of a replay to the next
+pub mod Replaying

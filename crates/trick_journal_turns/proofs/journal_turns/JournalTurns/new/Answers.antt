@@ -1,0 +1,31 @@
+use Rattle.std.proofs.Common.{ℕ, ◌≡◌, List, [], Bool, true, false, refl, sym, ap, subst, ◌∙◌}
+use Rattle.trick_journal_turns.proofs.Joining.{IsJournal}
+use Rattle.trick_journal_turns.proofs.Replaying.{Stands, lists_first, stands_first, told_same}
+use Rattle.trick_journal_turns.specs.Due.{resumed}
+use Rattle.trick_model.specs.Journal.{Noted}
+use Rattle.trick_journal_turns.proofs.journal_turns.JournalTurns.new.Goals as goal
+
+pub invariant_of-result : goal.invariant_of-result
+invariant_of-result c =
+    let j = c.args.journal in
+    let journal : IsJournal j.from j.end j.entries =
+    record { in_range = j.in_range; rising = j.rising; within = j.within; joined = j.joined } in
+    let is : c.in_ok-due.due ≡ resumed c.args.start j.end j.entries =
+    c.in_ok-due.ensures ∙ ap (resumed c.args.start j.end) c.into_vec.ensures in
+    let stands : Stands false c.args.start c.args.start j.end c.of-whole.result.value c.in_ok-due.due =
+    stands_first c.args.start j.from j.end j.entries c.in_ok-due.due c.of-whole.result.value journal j.end_right is c.of-whole.ensures in
+    record {
+      forward = stands.forward;
+      end_right = j.end_right;
+      left = stands.left;
+      rules = stands.rules;
+      behind_end = refl;
+      owes_one = refl;
+    }
+
+pub returns-clause-told : goal.returns-clause-told
+returns-clause-told c =
+    let j = c.args.journal in
+    told_same j.end _ _
+    (lists_first c.args.start j.end j.entries c.in_ok-due.due
+    (c.in_ok-due.ensures ∙ ap (resumed c.args.start j.end) c.into_vec.ensures))

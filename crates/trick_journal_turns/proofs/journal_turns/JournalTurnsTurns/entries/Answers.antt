@@ -1,0 +1,45 @@
+use Rattle.std.proofs.Common.{◌≡◌, Some, ap, refl, rules, false, sym, ◌∙◌}
+use Rattle.std.specs.List.{list_any}
+use Rattle.trick_journal_turns.proofs.Replaying.{done_else, done_then, lines_left}
+use Rattle.trick_journal_turns.specs.Due.{is_line, sessions_so_far}
+use Rattle.trick_journal_turns.proofs.journal_turns.JournalTurnsTurns.entries.Goals as goal
+use Rattle.trick_turns.specs.Turns.{Told}
+
+pub returns-then-is_done-clause-step : goal.returns-then-is_done-clause-step
+returns-then-is_done-clause-step g c =
+    let s = c.args.self.now in
+    let done = done_then c.is_frozen-frozen.result (list_any is_line s.due) (sym c.is_done.ensures ∙ c.if-is_done.true) in
+    let none = lines_left s.at s.end (sessions_so_far s.over s.start s.at s.whole.value) s.due s.rules ∙ done.1 in
+    ((sym c.is_frozen-frozen.ensures ∙ done.0, none), refl)
+
+pub returns-then-is_done-clause-gives : goal.returns-then-is_done-clause-gives
+returns-then-is_done-clause-gives g c =
+    let s = c.args.self.now in
+    let done = done_then c.is_frozen-frozen.result (list_any is_line s.due) (sym c.is_done.ensures ∙ c.if-is_done.true) in
+    (lines_left s.at s.end (sessions_so_far s.over s.start s.at s.whole.value) s.due s.rules ∙ done.1, refl)
+
+pub returns-then-self-state-clause-gives : goal.returns-then-self-state-clause-gives
+returns-then-self-state-clause-gives g c =
+    let s = c.args.self.now in (
+      refl,
+      search rules,
+      c.if-self-state.true,
+      λ frozen.
+          lines_left s.at s.end (sessions_so_far s.over s.start s.at s.whole.value) s.due s.rules
+          ∙ done_else c.is_frozen-frozen.result (list_any is_line s.due) (sym c.is_done.ensures ∙ c.if-is_done.false) (c.is_frozen-frozen.ensures ∙ frozen),
+    )
+
+pub next-requires : goal.next-requires
+next-requires g c =
+    done_else c.is_frozen-frozen.result (list_any is_line c.args.self.now.due) (sym c.is_done.ensures ∙ c.if-is_done.false)
+
+pub returns-in-Ok-clause-gives : goal.returns-in-Ok-clause-gives
+returns-in-Ok-clause-gives g c =
+    let s = c.args.self.now in (
+      c.in-Ok.ensures.list,
+      c.if-self-state.false,
+      λ frozen.
+          lines_left s.at s.end (sessions_so_far s.over s.start s.at s.whole.value) s.due s.rules
+          ∙ done_else c.is_frozen-frozen.result (list_any is_line s.due) (sym c.is_done.ensures ∙ c.if-is_done.false) (c.is_frozen-frozen.ensures ∙ frozen),
+      ap (λ (told : Told). Some told) (c.in-Ok.ensures.told),
+    )

@@ -1,0 +1,177 @@
+//! A journal as a source of entries.
+
+ghost use Rattle.std.specs.Coded.{Coded-set};
+ghost use Rattle.std.specs.List.{list_any};
+ghost use Rattle.std.specs.Prelude.{◌≡◌, ◌≤◌, ◌&&◌, ◌||◌, not, nat_le, cond, true, false, IsTrue};
+ghost use Rattle.trick_journal_turns.specs.Due.{is_line, may_go_on, sessions_so_far, since};
+ghost use Rattle.trick_model.specs.Time.{last_turn};
+ghost use Rattle.trick_model.specs.Turn.{is_frozen as is_frozen_of};
+
+use crate::due::{Due, has_line};
+use crate::sessions::resume;
+use std::alloc::{AllocError, Global};
+use std::snapshot::Snapshot;
+use trick_lang::Cells;
+use trick_model::{Entry, Journal, Mode, State};
+use trick_turns::{Next, Turns};
+
+/// What a journal gives a run from a turn on: a list of entries for each turn, and the journal's end.
+///
+/// Entries of earlier turns are skipped. The sessions that joined and did not leave in them join first
+/// at the first turn, in rising number. Making it goes through the entries once; each is then moved
+/// out at its turn.
+#[derive(Drop)]
+pub struct JournalTurns {
+    // What is left, and what was left at first: only proofs read that.
+    due: Due,
+    whole: Snapshot<Due>,
+    // The first turn, and the one that comes next.
+    start: u64,
+    at: u64,
+    end: u64,
+    // A list behind the end was given.
+    over: bool,
+    owes: bool,
+    ghost forward: { start ≤ at },
+    ghost end_right: { end ≤ last_turn },
+    ghost left: { due ≡ since at whole.value } by { Coded-set due-code due (since at whole.value) },
+    ghost rules: { IsTrue (may_go_on at end (sessions_so_far over start at whole.value) due) },
+    ghost behind_end: { IsTrue (not over || nat_le end at) },
+    ghost owes_one: { IsTrue (not owes || list_any is_line due) },
+}
+
+// Whether no time passes in a mode.
+fn is_frozen(mode: Mode) -> bool
+    ensures { result ≡ is_frozen_of mode }
+{
+    matches!(mode, Mode::Freeze)
+}
+
+// Whether a join, a line or a leave is owed after a list, in Freeze or not, that has one or not.
+fn owes_after(frozen: bool, said: bool, owed: bool) -> bool
+    ensures { result ≡ cond said false (cond frozen true owed) }
+{
+    !said && (frozen || owed)
+}
+
+impl JournalTurns {
+    ghost use Rattle.std.specs.Prelude.{IfOk, OnErr, OnOk};
+    ghost use Rattle.trick_journal_turns.specs.Replay.{sessions_of, told_of};
+    ghost use Rattle.trick_model.specs.Journal.{is_of_session, lists_of};
+    ghost use Rattle.trick_model.specs.Run.{next_of};
+    ghost use Rattle.trick_turns.specs.Joins.{joins_of};
+    ghost use Rattle.trick_turns.specs.Turns.{after_entries, behind, in_next, may_all_come, no_sessions};
+
+    /// What a journal gives a run that starts at this turn.
+    pub fn new(alloc: Global, journal: Journal, start: u64) -> Result<Self, AllocError>
+        ensures told { IfOk result (λ turns. told_of turns
+            ≡ record { lists = lists_of journal.entries journal.end start; end = journal.end }) }
+        ensures owes { IfOk result (λ turns. turns.owes ≡ false) }
+        ensures sessions { IfOk result (λ turns. sessions_of turns ≡ no_sessions) }
+    {
+        let Journal { entries, end, .. } = journal;
+        let due = resume(alloc, entries.into_vec(), start, end)?;
+        let whole = Snapshot::of(&due);
+        Ok(JournalTurns {
+            due,
+            whole,
+            start,
+            at: start,
+            end,
+            over: false,
+            owes: false,
+        })
+    }
+
+    /// How many sessions join in the lists that it has still to give. It goes through what is left once.
+    pub fn joins(&self) -> u64
+        ensures { result ≡ joins_of (told_of self.now).lists }
+    {
+        self.due.joins()
+    }
+
+    // Whether, in Freeze or not, no line comes any more.
+    fn is_done(&self, frozen: bool) -> bool
+        ensures { result ≡ (frozen && not (list_any is_line self.now.due)) }
+    {
+        frozen && !self.due.has_line()
+    }
+
+    // The entries of the turn that comes next, in Freeze or not. Where memory runs out nothing changes.
+    fn next(&mut self, alloc: Global, frozen: bool) -> Result<Vec<Entry>, AllocError>
+        requires { frozen ≡ true → list_any is_line self.old.due ≡ true }
+        ensures list { IfOk result (λ list. list.items ≡ next_of (told_of self.old).lists) }
+        ensures told { OnOk result (told_of self.new ≡ behind (told_of self.old)) }
+        ensures rules { IfOk result (λ list. IsTrue (may_all_come list.items (in_next (sessions_of self.old)))) }
+        ensures sessions { IfOk result (λ list. sessions_of self.new
+            ≡ after_entries list.items (in_next (sessions_of self.old))) }
+        ensures owes { IfOk result (λ list. self.new.owes
+            ≡ cond (list_any is_of_session list.items) false (cond frozen true self.old.owes)) }
+        ensures err { OnErr result (told_of self.new ≡ told_of self.old) }
+    {
+        if self.end <= self.at {
+            self.over = true;
+            return Ok(Vec::new(alloc));
+        }
+        let next = self.at + 1;
+        let list = self.due.take_before(alloc, next)?;
+        self.at = next;
+        self.owes = owes_after(frozen, has_line(&list), self.owes);
+        Ok(list)
+    }
+}
+
+impl<M: Cells> Turns<M> for JournalTurns {
+    ghost use Rattle.std.specs.Prelude.{refl, Some, true};
+    ghost use Rattle.trick_journal_turns.specs.Replay.{AreTold, sessions_of, told_join, told_of};
+
+    ghost went = { λ old answers messages new. AreTold (told_of old) answers (told_of new) };
+
+    ghost owes = { λ turns. turns.owes };
+
+    ghost journal = { λ turns. Some (told_of turns) };
+
+    ghost decided = { λ turns. true };
+
+    ghost sessions = { λ turns. sessions_of turns };
+
+    ghost takes = { λ turns session. Unit {0} };
+
+    fn entries(&mut self, alloc: Global, state: &State<M>) -> Next {
+        let frozen = is_frozen(state.mode);
+        if self.is_done(frozen) {
+            return Next::NoMore;
+        }
+        if self.end <= state.turn {
+            return Next::Length {
+                kept: self.end,
+                given: (self.end + 1).max(state.turn),
+            };
+        }
+        match self.next(alloc, frozen) {
+            Ok(list) => Next::Entries(list),
+            Err(_) => Next::OutOfMemory,
+        }
+    }
+
+    fn ends(&mut self, turn: u64) -> Option<(u64, u64)> {
+        if turn == self.end {
+            return None;
+        }
+        Some((self.end, turn))
+    }
+
+    fn decides(&self) -> bool {
+        true
+    }
+
+    fn send(&mut self, _session: u32, _bytes: &[u8]) -> Result<(), AllocError> {
+        Ok(())
+    }
+
+    ghost reaches = { λ turns session there. tt };
+
+    ghost went_none = { λ turns. refl };
+
+    ghost went_join = { λ first second third early late some more one two. told_join _ _ _ early late one two };
+}

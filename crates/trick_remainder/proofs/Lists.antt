@@ -1,0 +1,53 @@
+-- The lists of a journal, cut in two at a turn.
+use Rattle.std.proofs.Common.{◌≡◌, ◌∙◌, ℕ, zero, suc, ◌+◌, ◌-◌, ◌<◌, ◌≤◌, List, [], ◌∷◌, ◌++◌, ap, arith, refl, subst, sym}
+use Rattle.trick_model.specs.Journal.{Noted, entries_at, lists_from, lists_of, live_before, with_joins}
+use Rattle.trick_model.specs.declared.entry.Entry.{Entry}
+use Rattle.trick_remainder.specs.Remainder.{early_lists, late_lists}
+
+next_turn : (turn a : ℕ) → turn + suc a ≡ (turn + 1) + a
+next_turn turn a = omega arith
+
+none_more : (b : ℕ) → 0 + b ≡ b
+none_more b = omega arith
+
+one_more : (a b : ℕ) → suc a + b ≡ suc (a + b)
+one_more a b = omega arith
+
+no_turn : (turn : ℕ) → turn + 0 ≡ turn
+no_turn turn = omega arith
+
+lists_join : (turn a b : ℕ) (entries : List Noted)
+    → lists_from turn (a + b) entries ≡ lists_from turn a entries ++ lists_from (turn + a) b entries
+lists_join turn zero b entries =
+    ap (λ n. lists_from turn n entries) (none_more b) ∙ ap (λ t. lists_from t b entries) (sym (no_turn turn))
+lists_join turn (suc a) b entries =
+    ap (λ n. lists_from turn n entries) (one_more a b)
+    ∙ ap (λ (more : List (List Entry)). entries_at turn entries ∷ more)
+    (lists_join (turn + 1) a b entries
+    ∙ ap (λ t. lists_from (turn + 1) a entries ++ lists_from t b entries) (sym (next_turn turn a)))
+
+joins_append : (live : List ℕ) (a turn : ℕ) (entries : List Noted) (more : List (List Entry)) → 0 < a
+    → with_joins live (lists_from turn a entries ++ more) ≡ with_joins live (lists_from turn a entries) ++ more
+joins_append live zero turn entries more some = absurd (none some)
+  where
+    none : 0 < 0 → ⊥
+    none some = omega (arith, some)
+joins_append live (suc a) turn entries more some = refl
+
+parts : (start turn end : ℕ) → start < turn → turn ≤ end → end - start ≡ (turn - start) + (end - turn)
+parts start turn end one other = omega arith
+
+there : (start turn : ℕ) → start < turn → start + (turn - start) ≡ turn
+there start turn one = omega arith
+
+some_turns : (start turn : ℕ) → start < turn → 0 < turn - start
+some_turns start turn one = omega arith
+
+pub cut : (entries : List Noted) (start turn end : ℕ) → start < turn → turn ≤ end
+    → lists_of entries end start ≡ early_lists entries start turn ++ late_lists entries end turn
+cut entries start turn end one other =
+    let live = live_before start entries [] in
+    ap (λ count. with_joins live (lists_from start count entries)) (parts start turn end one other)
+    ∙ ap (with_joins live) (lists_join start (turn - start) (end - turn) entries)
+    ∙ ap (λ t. with_joins live (lists_from start (turn - start) entries ++ lists_from t (end - turn) entries)) (there start turn one)
+    ∙ joins_append live (turn - start) start entries (lists_from turn (end - turn) entries) (some_turns start turn one)

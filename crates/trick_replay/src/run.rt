@@ -1,0 +1,78 @@
+//! The run under a journal.
+
+ghost use Rattle.trick_job.specs.Belongs.{IsMemoryOf};
+ghost use Rattle.trick_model.specs.PlanOf.{plan_of};
+ghost use Rattle.trick_model.specs.Run.{start as start_of};
+ghost use Rattle.trick_model.specs.State.{seen};
+ghost use Rattle.trick_model.specs.ValidState.{IsStateOf};
+ghost use Rattle.trick_replay.specs.Replay.{RunsReplay};
+
+use crate::Replayed;
+use std::alloc::Global;
+use std::sync::Arc;
+use trick_exec::{Ended, run};
+use trick_journal_turns::JournalTurns;
+use trick_lang::Cells;
+use trick_model::{Accepted, Journal, State, laws};
+use trick_outside::{Shelf, Stop};
+use trick_runs::laws::journals_show;
+use trick_serial::{ended_by, first_state, one_thread};
+
+/// Runs an accepted plan from a state under a journal, on the caller's thread, until the run is over: so a
+/// replay goes on from a checkpoint. Entries of turns before the state's are skipped, and the sessions that
+/// are there then join first at its turn. It writes the files of the run, and where it stops a part of them:
+/// at `Stop::Shelf` the shelf failed, and at `Stop::Memory` there was no memory. Where the run is over at
+/// another turn than the journal's end, or would go on there, the journal does not fit: what was written so
+/// far stays, and nothing is written behind it.
+pub fn replay_from<M: Cells + Drop, F: Shelf>(
+    alloc: Global,
+    accepted: Accepted,
+    journal: Journal,
+    state: State<M>,
+    shelf: &mut F,
+) -> Result<Replayed, Stop>
+    requires valid { IsStateOf (plan_of accepted.plan) (seen M.numbers state) }
+    requires memory { IsMemoryOf accepted.plan.program (M.numbers state.memory) (M.scalars state.memory) }
+    ensures run { RunsReplay F.Shelf (plan_of accepted.plan) (seen M.numbers state) journal
+        shelf.old shelf.new result }
+{
+    journals_show();
+    let Ok(accepted) = Arc::new(alloc, accepted) else {
+        return Err(Stop::Memory);
+    };
+    let Ok(mut workers) = one_thread(alloc, &accepted) else {
+        return Err(Stop::Memory);
+    };
+    let Ok(mut turns) = JournalTurns::new(alloc, journal, state.turn) else {
+        return Err(Stop::Memory);
+    };
+    let joins = turns.joins();
+    match run(alloc, &accepted, state, shelf, &mut workers, &mut turns)? {
+        Ended::Done(world) => Ok(Replayed::Ended {
+            ended: ended_by(&world.state),
+            joins,
+        }),
+        Ended::Length { kept, given } => Ok(Replayed::Length { kept, given }),
+    }
+}
+
+/// Runs an accepted plan from its start under a journal, on the caller's thread, until the run is over. It
+/// writes the files of the run, and where it stops a part of them: at `Stop::Shelf` the shelf failed, and at
+/// `Stop::Memory` there was no memory. Where the journal does not fit, what was written so far stays, and
+/// nothing is written behind it.
+pub fn replay<F: Shelf>(
+    alloc: Global,
+    accepted: Accepted,
+    journal: Journal,
+    shelf: &mut F,
+) -> Result<Replayed, Stop>
+    ensures run { RunsReplay F.Shelf (plan_of accepted.plan) (start_of (plan_of accepted.plan)) journal
+        shelf.old shelf.new result }
+{
+    laws::plans_are_sound();
+    laws::runs_start_valid();
+    let Ok(state) = first_state(alloc, &accepted) else {
+        return Err(Stop::Memory);
+    };
+    replay_from(alloc, accepted, journal, state, shelf)
+}
