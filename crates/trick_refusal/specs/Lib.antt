@@ -12,6 +12,10 @@ pub mod Input
 pub mod Join
 -- The lines of what a plan is refused for.
 pub mod Plan
+-- The lines of what a checkpoint is refused for.
+pub mod Checkpoint
+-- The lines of what a journal is refused for.
+pub mod Journal
 -- Of the code alone: what a field of a line holds.
 pub mod Seen
 -- Worked lines.

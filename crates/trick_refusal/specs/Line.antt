@@ -17,6 +17,12 @@ s_define = codes "S_define"
 abbrev pub input : List ℕ
 input = codes "input"
 
+abbrev pub checkpoint : List ℕ
+checkpoint = codes "checkpoint"
+
+abbrev pub journal : List ℕ
+journal = codes "journal"
+
 -- a text is refused at a line or a place, or for a count
 abbrev pub refused_at : List ℕ → List ℕ → ℕ → List ℕ
 refused_at code source number = refused code (source ∷ decimal number ∷ [])

@@ -1,15 +1,19 @@
 -- Worked lines: one for each code.
 use Rattle.std.specs.Prelude.{◌≡◌, ℕ, ◌^◌, ◌-◌, true, List, [], ◌∷◌, None, codes}
 use Rattle.trick_check.specs.declared.fault.CheckFault.TheVariants as check
+use Rattle.trick_codes.specs.declared.load_fault.LoadFault.TheVariants as load
 use Rattle.trick_input.specs.declared.fault.InputFault.TheVariants as input
+use Rattle.trick_journal.specs.declared.journal_fault.JournalFault.TheVariants as journal
 use Rattle.trick_lang.specs.declared.job.Job.{Job}
 use Rattle.trick_lines.specs.declared.fault.JoinFault.TheVariants as join
 use Rattle.trick_model.specs.Plan.{Event, Plan, no_job}
 use Rattle.trick_model.specs.declared.group.Group.{Group}
 use Rattle.trick_race.specs.declared.fault.PlanFault.TheVariants as plan
 use Rattle.trick_refusal.specs.Check.{check_line}
+use Rattle.trick_refusal.specs.Checkpoint.{checkpoint_line}
 use Rattle.trick_refusal.specs.Input.{input_line}
 use Rattle.trick_refusal.specs.Join.{join_line}
+use Rattle.trick_refusal.specs.Journal.{journal_line, length_line}
 use Rattle.trick_refusal.specs.Plan.{plan_line}
 use Rattle.trick_refusal.specs.SDefine.{s_define_line}
 use Rattle.trick_sdef.specs.declared.fault.SdefFault.TheVariants as sdef
@@ -56,6 +60,23 @@ pub record HaveJoinLines : Type 0 where
   pub bad_action : join_line (join.BadAction 9) ≡ codes "refused BadAction input 9\n"
   pub too_many : join_line (join.TooMany 70 64) ≡ codes "refused TooMany input 70 64\n"
   pub no_memory : join_line join.OutOfMemory ≡ codes "refused OutOfMemory\n"
+
+pub record HaveCheckpointLines : Type 0 where
+  pub bad_line : checkpoint_line (load.BadLine 6) ≡ codes "refused BadLine checkpoint 6\n"
+  pub wrong_plan : checkpoint_line (load.WrongPlan 3) ≡ codes "refused WrongPlan checkpoint 3\n"
+  pub out_of_range : checkpoint_line (load.OutOfRange 1) ≡ codes "refused OutOfRange checkpoint 1\n"
+  pub truncated : checkpoint_line (load.Truncated 301) ≡ codes "refused Truncated checkpoint 301\n"
+  pub trailing : checkpoint_line (load.Trailing 302) ≡ codes "refused Trailing checkpoint 302\n"
+  pub no_memory : checkpoint_line load.OutOfMemory ≡ codes "refused OutOfMemory\n"
+
+pub record HaveJournalLines : Type 0 where
+  pub bad_line : journal_line (journal.BadLine 2) ≡ codes "refused BadLine journal 2\n"
+  pub not_rising : journal_line (journal.NotRising 4) ≡ codes "refused NotRising journal 4\n"
+  pub not_joined : journal_line (journal.NotJoined 3) ≡ codes "refused NotJoined journal 3\n"
+  pub not_async : journal_line (journal.NotAsync 5) ≡ codes "refused NotAsync journal 5\n"
+  pub no_end : journal_line (journal.NoEnd 12) ≡ codes "refused NoEnd journal 12\n"
+  pub no_memory : journal_line journal.OutOfMemory ≡ codes "refused OutOfMemory\n"
+  pub length : length_line 7 (2 ^ 63 - 1) ≡ codes "refused JournalLength 7 9223372036854775807\n"
 
 -- a job of which this is the instance
 abbrev pub instance : ℕ → Job

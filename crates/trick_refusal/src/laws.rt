@@ -1,7 +1,7 @@
 //! Worked lines. Each function is a promise, and does nothing.
 
 ghost use Rattle.trick_model.specs.Plan.{Plan};
-ghost use Rattle.trick_refusal.specs.Worked.{HaveCheckLines, HaveInputLines, HaveJoinLines, HavePlanLines, HaveSDefineLines};
+ghost use Rattle.trick_refusal.specs.Worked.{HaveCheckLines, HaveCheckpointLines, HaveInputLines, HaveJoinLines, HaveJournalLines, HavePlanLines, HaveSDefineLines};
 
 /// The lines of what an S_define is refused for.
 pub fn s_define_lines()
@@ -26,4 +26,14 @@ pub fn join_lines()
 /// The lines of what a plan is refused for.
 pub fn plan_lines()
     ensures { (p : Plan) → HavePlanLines p }
+{}
+
+/// The lines of what a checkpoint is refused for.
+pub fn checkpoint_lines()
+    ensures { HaveCheckpointLines }
+{}
+
+/// The lines of what a journal is refused for.
+pub fn journal_lines()
+    ensures { HaveJournalLines }
 {}

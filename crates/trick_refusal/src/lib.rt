@@ -3,9 +3,11 @@
 #![tactic(auto)]
 
 mod check;
+mod checkpoint;
 mod field;
 mod input;
 mod join;
+mod journal;
 pub mod laws;
 mod line;
 mod name;
@@ -16,7 +18,9 @@ mod tests;
 mod text;
 
 pub use check::check_line;
+pub use checkpoint::checkpoint_line;
 pub use input::input_line;
 pub use join::join_line;
+pub use journal::{journal_line, length_line};
 pub use plan::plan_line;
 pub use s_define::s_define_line;

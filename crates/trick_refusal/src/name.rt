@@ -13,10 +13,14 @@ use std::alloc::{AllocError, Global};
 use trick_lang::{Cell, Job, JobId, Method, Object, Program};
 use trick_model::Plan;
 
-/// The two texts that describe a simulation.
+/// The two texts that describe a simulation, and the two that a run may go by besides.
 pub(crate) const S_DEFINE: &[u8] = b"S_define";
 
 pub(crate) const INPUT: &[u8] = b"input";
+
+pub(crate) const CHECKPOINT: &[u8] = b"checkpoint";
+
+pub(crate) const JOURNAL: &[u8] = b"journal";
 
 /// The full name of a cell; nothing, where it is not there.
 pub(crate) fn cell(plan: &Plan, cell: Cell) -> &[u8]

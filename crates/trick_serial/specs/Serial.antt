@@ -1,23 +1,19 @@
 -- A run on one thread, without clients, and what it says at its end.
-use Rattle.std.specs.List.{list_any}
-use Rattle.std.specs.Prelude.{◌≡◌, Bool, List, Result, IfOk}
+use Rattle.std.specs.Prelude.{◌≡◌, List, Result, IfOk}
 use Rattle.trick_exec.specs.Alone.{RunsAlone}
-use Rattle.trick_model.specs.Plan.{Plan, is_beside}
+use Rattle.trick_model.specs.Plan.{Plan}
 use Rattle.trick_model.specs.Run.{final}
 use Rattle.trick_model.specs.State.{State}
 use Rattle.trick_model.specs.declared.entry.Entry.{Entry}
-use Rattle.trick_model.specs.declared.thread.Thread.{Thread}
 use Rattle.trick_outside.specs.declared.shelf.Shelf.{Ghosts}
 use Rattle.trick_outside.specs.declared.stop.Stop.{Stop}
+use Rattle.trick_serial.specs.Sum.{wrapped_sum}
 use Rattle.trick_serial.specs.declared.ended.Ended.{Ended}
 
--- whether some thread works beside the tics
-abbrev pub has_beside : List Thread → Bool
-has_beside threads = list_any (λ (thread : Thread). is_beside thread.process) threads
-
--- what is said of the last state of a run: its turn, its next tic, and how many faults it counts
+-- what is said of the last state of a run: its turn, its next tic, how many faults it counts, and the
+-- sum of its cells
 abbrev pub ended_by : State → Ended
-ended_by s = record { turns = s.turn; tic = s.tic; faults = s.faults.count }
+ended_by s = record { turns = s.turn; tic = s.tic; faults = s.faults.count; sum = wrapped_sum s.memory }
 
 -- A run from a state, under the entries of a run without clients: what it did to the shelf, and, where
 -- it came to its end, what it says of the last state.

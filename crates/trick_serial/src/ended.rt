@@ -2,6 +2,7 @@ ghost use Rattle.std.specs.Prelude.{◌≡◌};
 ghost use Rattle.trick_model.specs.State.{seen};
 ghost use Rattle.trick_serial.specs.Serial.{ended_by};
 
+use crate::sum::sum_of;
 use trick_lang::Cells;
 use trick_model::State;
 
@@ -14,15 +15,18 @@ pub struct Ended {
     pub tic: u64,
     /// How many faults there were; the count stands still at 2^64 - 1.
     pub faults: u64,
+    /// The sum of all cells, wrapped to 64 bits.
+    pub sum: i64,
 }
 
-// What is said of a state that is the last.
-pub(crate) fn ended_by<M: Cells>(state: &State<M>) -> Ended
+/// What is said of a state that is the last.
+pub fn ended_by<M: Cells>(state: &State<M>) -> Ended
     ensures { result ≡ ended_by (seen M.numbers state.now) }
 {
     Ended {
         turns: state.turn,
         tic: state.tic,
         faults: state.faults.count(),
+        sum: sum_of(&state.memory),
     }
 }

@@ -2,10 +2,13 @@
 //! `docs/RULES.md` has the rules of a run and `docs/FORMATS.md` its files.
 #![tactic(auto)]
 
-mod beside;
 mod ended;
+mod first;
 mod run;
+mod sum;
+mod workers;
 
-pub use beside::has_beside;
-pub use ended::Ended;
+pub use ended::{Ended, ended_by};
+pub use first::first_state;
 pub use run::{serial, serial_from};
+pub use workers::one_thread;

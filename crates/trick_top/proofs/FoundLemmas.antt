@@ -5,8 +5,9 @@ use Rattle.std.proofs.lemmas.List.Elements.{Contains-append_cases, Contains-appe
 use Rattle.std.proofs.lemmas.List.{map-append}
 use Rattle.std.specs.FinMap.{get}
 use Rattle.std.specs.Prelude.{Option}
-use Rattle.trick_base.specs.Files.{Files}
+use Rattle.trick_base.specs.Files.{Files, Write, all_written, written}
 use Rattle.trick_outside.specs.Calls.{AllLeave, Call, Read, fails}
+use Rattle.trick_tic.specs.Steps.{steps_of}
 use Rattle.trick_top.specs.Found.{Found, names, reads, texts}
 
 pub names-append : (early late : List Found) → names (early ++ late) ≡ names early ++ names late
@@ -33,6 +34,11 @@ leave_reads [] calls held now left = (refl, left)
 leave_reads (file ∷ files) calls held now (mid, (is, same), left) =
     let later = leave_reads files calls held now (subst (λ f. AllLeave (reads files ++ calls) f now) same left) in
     (ap (λ t. t ∷ map (get held) (names files)) is ∙ ap (λ t. Some file.text ∷ t) later.0, later.1)
+
+-- what is held after writes that are all done
+pub leave_steps : (writes : List Write) (calls : List Call) (held now : Files) → AllLeave (steps_of writes ++ calls) held now → AllLeave calls (all_written writes held) now
+leave_steps [] calls held now left = left
+leave_steps (write ∷ writes) calls held now (mid, is, left) = leave_steps writes calls (written write held) now (subst (λ f. AllLeave (steps_of writes ++ calls) f now) is left)
 
 -- a list of texts that are all there lacks none
 pub lacks_none : (given : List (List ℕ)) → Contains (map Some given) None → ⊥

@@ -14,9 +14,11 @@ use Rattle.trick_top.specs.Found.{Found, names, reads, texts}
 use Rattle.trick_top.specs.Acts.{HasActed}
 use Rattle.trick_top.specs.Outcome.{GoesOn, HasFound, HasGone, HasGoneOn, HasNotFound, HasPerformed, Performed, Unread, acted, gone_on, no_memory_to_keep, not_understood, plan_refused, text_refused}
 use Rattle.trick_top.specs.Outcome as outcome
+use Rattle.trick_top.specs.Sources.{AreNamed, Sources, texts_of}
 use Rattle.trick_top.specs.Verdict.{OutOfMemory, Usage, Verdict, unready_verdict}
 use Rattle.trick_top.specs.Words.{Asked, Nothing, Unknown, names_of}
 use Rattle.trick_top.specs.declared.words.Command.{Command}
+use Rattle.trick_top.specs.declared.words.Request.TheVariants.{Texts}
 use Rattle.trick_top.specs.declared.words.Task.{Task}
 
 -- the words ask for nothing
@@ -28,48 +30,65 @@ pub gone_unknown : {S : Type 0} {shelf : Ghosts S} (s : S) → shelf.called s []
     → HasGone shelf s s Unknown OutOfMemory
 gone_unknown s none = record { calls = []; went = went_none s none; outcome = (refl, refl) }
 
--- the two texts decide without a call of the shelf
-pub performed_quiet : {S : Type 0} {shelf : Ghosts S} (s : S) (t : Task) (s_define input : List ℕ) (verdict : Verdict) → shelf.called s [] s
-    → Performed t s_define input [] verdict → HasPerformed shelf s s t s_define input verdict
-performed_quiet s t s_define input verdict none is = record { calls = []; went = went_none s none; performed = is }
+-- the texts decide without a call of the shelf
+pub performed_quiet : {S : Type 0} {shelf : Ghosts S} (s : S) (t : Task) (given : Sources) (verdict : Verdict) → shelf.called s [] s
+    → Performed t given [] verdict → HasPerformed shelf s s t given verdict
+performed_quiet s t given verdict none is = record { calls = []; went = went_none s none; performed = is }
 
 -- the texts have a plan, and it went on with it
-pub performed_acted : {S : Type 0} {shelf : Ghosts S} {old new : S} {plan : Plan} (t : Task) (s_define input : List ℕ) (verdict : Verdict) → IsReady s_define input plan
-    → HasActed shelf old new plan t verdict → HasPerformed shelf old new t s_define input verdict
-performed_acted t s_define input verdict ready on = record { calls = on.calls; went = on.went; performed = acted ready on.acts }
+pub performed_acted : {S : Type 0} {shelf : Ghosts S} {old new : S} {plan : Plan} (t : Task) (given : Sources) (verdict : Verdict) → IsReady given.s_define given.input plan
+    → HasActed shelf old new plan given.from given.journal t verdict → HasPerformed shelf old new t given verdict
+performed_acted t given verdict ready on = record { calls = on.calls; went = on.went; performed = acted ready on.acts }
 
 -- the texts have no plan to go on with
-pub unready_performed : (t : Task) (s_define input : List ℕ) (refused : Unready) → IsUnready s_define input refused → Performed t s_define input [] (unready_verdict refused)
-unready_performed t s_define input (unready.TextRefused line) is = text_refused is
-unready_performed t s_define input (unready.PlanRefused line) is = plan_refused is
-unready_performed t s_define input unready.OutOfMemory is = not_understood
+pub unready_performed : (t : Task) (given : Sources) (refused : Unready) → IsUnready given.s_define given.input refused → Performed t given [] (unready_verdict refused)
+unready_performed t given (unready.TextRefused line) is = text_refused is
+unready_performed t given (unready.PlanRefused line) is = plan_refused is
+unready_performed t given unready.OutOfMemory is = not_understood
 
-pub performed_unready : {S : Type 0} {shelf : Ghosts S} (s : S) (t : Task) (s_define input : List ℕ) (verdict : Verdict) (refused : Unready) → shelf.called s [] s
-    → verdict ≡ unready_verdict refused → IsUnready s_define input refused → HasPerformed shelf s s t s_define input verdict
-performed_unready s t s_define input verdict refused none is unready =
-    performed_quiet s t s_define input verdict none (subst (Performed t s_define input []) (sym is) (unready_performed t s_define input refused unready))
+pub performed_unready : {S : Type 0} {shelf : Ghosts S} (s : S) (t : Task) (given : Sources) (verdict : Verdict) (refused : Unready) → shelf.called s [] s
+    → verdict ≡ unready_verdict refused → IsUnready given.s_define given.input refused → HasPerformed shelf s s t given verdict
+performed_unready s t given verdict refused none is unready =
+    performed_quiet s t given verdict none (subst (Performed t given []) (sym is) (unready_performed t given refused unready))
 
--- two texts are found
-pub gone_on_two : {S : Type 0} {shelf : Ghosts S} {old new : S} (command : Command) (given : List (List ℕ)) (s_define input : List ℕ) (verdict : Verdict) → given ≡ s_define ∷ input ∷ []
-    → HasPerformed shelf old new command.task s_define input verdict → HasGoneOn shelf old new command given verdict
-gone_on_two command given s_define input verdict is on =
-    record { calls = on.calls; went = on.went; goes = subst (λ given. GoesOn command given on.calls verdict) (sym is) on.performed }
+-- the texts are found
+pub gone_on_with : {S : Type 0} {shelf : Ghosts S} {old new : S} (command : Command) (texts : List (List ℕ)) (given : Sources) (verdict : Verdict) → AreNamed command given
+    → texts ≡ texts_of given → HasPerformed shelf old new command.task given verdict → HasGoneOn shelf old new command texts verdict
+gone_on_with command texts given verdict named are on =
+    record { calls = on.calls; went = on.went; goes = record { given = given; named = named; are = are; performed = on.performed } }
 
--- a list of two
-pub two_items : (given : List (List ℕ)) → length given ≡ 2 → given ≡ slice_index_or given 0 [] ∷ slice_index_or given 1 [] ∷ []
-two_items (s_define ∷ input ∷ []) is = refl
-two_items [] is = absurd (omega (arith, is))
-two_items (s_define ∷ []) is = absurd (omega (arith, is))
-two_items (s_define ∷ input ∷ more ∷ given) is = absurd (omega (arith, is))
+-- lists of two, three and four texts
+pub two_texts : (texts : List (List ℕ)) (one two : List ℕ) → length texts ≡ 2 → one ≡ slice_index_or texts 0 one → two ≡ slice_index_or texts 1 two → texts ≡ one ∷ two ∷ []
+two_texts [] one two many first second = absurd (omega (arith, many))
+two_texts (a ∷ []) one two many first second = absurd (omega (arith, many))
+two_texts (a ∷ b ∷ []) one two many first second = rw (first, second) refl
+two_texts (a ∷ b ∷ c ∷ texts) one two many first second = absurd (omega (arith, many))
+
+pub three_texts : (texts : List (List ℕ)) (one two three : List ℕ) → length texts ≡ 3 → one ≡ slice_index_or texts 0 one → two ≡ slice_index_or texts 1 two
+    → three ≡ slice_index_or texts 2 three → texts ≡ one ∷ two ∷ three ∷ []
+three_texts [] one two three many first second third = absurd (omega (arith, many))
+three_texts (a ∷ []) one two three many first second third = absurd (omega (arith, many))
+three_texts (a ∷ b ∷ []) one two three many first second third = absurd (omega (arith, many))
+three_texts (a ∷ b ∷ c ∷ []) one two three many first second third = rw (first, second, third) refl
+three_texts (a ∷ b ∷ c ∷ d ∷ texts) one two three many first second third = absurd (omega (arith, many))
+
+pub four_texts : (texts : List (List ℕ)) (one two three four : List ℕ) → length texts ≡ 4 → one ≡ slice_index_or texts 0 one → two ≡ slice_index_or texts 1 two
+    → three ≡ slice_index_or texts 2 three → four ≡ slice_index_or texts 3 four → texts ≡ one ∷ two ∷ three ∷ four ∷ []
+four_texts [] one two three four many first second third fourth = absurd (omega (arith, many))
+four_texts (a ∷ []) one two three four many first second third fourth = absurd (omega (arith, many))
+four_texts (a ∷ b ∷ []) one two three four many first second third fourth = absurd (omega (arith, many))
+four_texts (a ∷ b ∷ c ∷ []) one two three four many first second third fourth = absurd (omega (arith, many))
+four_texts (a ∷ b ∷ c ∷ d ∷ []) one two three four many first second third fourth = rw (first, second, third, fourth) refl
+four_texts (a ∷ b ∷ c ∷ d ∷ e ∷ texts) one two three four many first second third fourth = absurd (omega (arith, many))
 
 -- a file was not read
 pub gone_unread : {S : Type 0} {shelf : Ghosts S} {old new : S} {wanted : List (List ℕ)} (command : Command) (verdict : Verdict) → wanted ≡ names_of command
-    → HasNotFound shelf old new wanted verdict → HasGone shelf old new (Asked command) verdict
+    → HasNotFound shelf old new wanted verdict → HasGone shelf old new (Asked (Texts command)) verdict
 gone_unread command verdict same is = record { calls = is.calls; went = is.went; outcome = outcome.unread (subst (λ names. Unread names is.calls verdict) same is.unread) }
 
 -- all files were found, and it went on with their texts
 pub gone_further : {S : Type 0} {shelf : Ghosts S} {old mid new : S} {wanted given : List (List ℕ)} (command : Command) (kept : List (List ℕ)) (verdict : Verdict) → Joins shelf
-    → wanted ≡ names_of command → kept ≡ given → HasFound shelf old mid wanted given → HasGoneOn shelf mid new command kept verdict → HasGone shelf old new (Asked command) verdict
+    → wanted ≡ names_of command → kept ≡ given → HasFound shelf old mid wanted given → HasGoneOn shelf mid new command kept verdict → HasGone shelf old new (Asked (Texts command)) verdict
 gone_further command kept verdict join same held found on = record {
   calls = reads found.files ++ on.calls;
   went = went_then join found.went on.went;

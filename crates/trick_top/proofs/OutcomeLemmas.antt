@@ -1,17 +1,21 @@
 -- What the rows say of the calls: where one failed, and what they leave.
 use Rattle.std.proofs.Common.{◌≡◌, ◌≢◌, ℕ, List, [], ◌∷◌, ◌++◌, refl, sym, ◌∙◌, ap, Bool, true, false, ◌||◌}
+use Rattle.std.specs.Prelude.{Option}
 use Rattle.trick_base.specs.Files.{Write}
 use Rattle.trick_model.specs.declared.plan.Plan.{Plan}
 use Rattle.trick_outside.proofs.CallLemmas.{ends-append, fails-late, not_both, part_ends, part_of_all}
 use Rattle.trick_outside.specs.Calls.{Call, EndAtFault, fails, is_fault}
 use Rattle.trick_tic.specs.Steps.{steps_of}
 use Rattle.trick_top.proofs.FoundLemmas.{reads_quiet}
-use Rattle.trick_top.specs.Acts.{Acts, all_writes, checked, listed, no_memory, no_memory_to_write, not_built, not_written, ran, run_steps}
-use Rattle.trick_top.specs.Found.{Found, reads, texts}
-use Rattle.trick_top.specs.Outcome.{GoesOn, Outcome, Performed, Unread, acted, gone_on, missing, no_memory_to_keep, no_memory_to_read, not_read, not_understood, plan_refused, text_refused, unread}
-use Rattle.trick_top.specs.Verdict.{OutOfMemory, ShelfFault, Usage, Verdict}
+use Rattle.trick_top.specs.Acts.{Acts, all_writes, checked, listed, misfits, no_journal, no_memory, no_memory_to_write, not_written, ran, run_steps, unloaded}
+use Rattle.trick_top.specs.Found.{Found, reads}
+use Rattle.trick_top.specs.Outcome.{Generates, Outcome, Performed, Unread, acted, gone_on, missing, no_memory_for_texts, no_memory_to_keep, no_memory_to_read, not_read, not_understood, plan_refused, text_refused, texts_not_written, texts_run, unread}
+use Rattle.trick_top.specs.Generated.{text_steps, text_writes}
+use Rattle.trick_top.specs.Runs.{short_steps, short_writes}
+use Rattle.trick_top.specs.Sources.{Sources}
+use Rattle.trick_top.specs.Verdict.{Accepted, Ended, Generated as GeneratedBy, JournalLength, Listed, NoFile, OutOfMemory, PlanRefused, ShelfFault, TextRefused, Usage, Verdict, with_objects}
 use Rattle.trick_top.specs.Words.{Asked, Nothing, Unknown, Wanted}
-use Rattle.trick_top.specs.declared.words.Command.{Command}
+use Rattle.trick_top.specs.declared.words.Request.TheVariants.{Generated, Texts}
 use Rattle.trick_top.specs.declared.words.Task.{Task}
 
 -- the verdict is `ShelfFault` exactly where a call failed, and that call was the last
@@ -41,28 +45,33 @@ one call verdict there back = record { there = λ e. there (parts (is_fault call
     parts false e = cc
 
 -- no write that is done failed
-steps_quiet : (writes : List Write) → fails (steps_of writes) ≡ false
+pub steps_quiet : (writes : List Write) → fails (steps_of writes) ≡ false
 steps_quiet [] = refl
 steps_quiet (write ∷ writes) = steps_quiet writes
 
-acted_faults : {plan : Plan} {t : Task} {calls : List Call} {verdict : Verdict} → Acts plan t calls verdict → Faults calls verdict
+acted_faults : {plan : Plan} {from journal : Option (List ℕ)} {t : Task} {calls : List Call} {verdict : Verdict} → Acts plan from journal t calls verdict → Faults calls verdict
 acted_faults checked = quiet _ _ refl tt (λ e. cc)
 acted_faults listed = quiet _ _ refl tt (λ e. cc)
 acted_faults no_memory = quiet _ _ refl tt (λ e. cc)
-acted_faults (not_built unbuilt) = quiet _ _ refl tt (λ e. cc)
-acted_faults {plan = plan} (ran lists in_tics whole) =
-    let steps = run_steps plan lists in
-    let none = steps_quiet (all_writes plan lists) in
+acted_faults (unloaded is why) = quiet _ _ refl tt (λ e. cc)
+acted_faults (no_journal first starts is why) = quiet _ _ refl tt (λ e. cc)
+acted_faults {plan = plan} (misfits first told starts is misfit) =
+    let steps = short_steps plan first told in
+    let none = steps_quiet (short_writes plan first told) in
     quiet steps _ none (part_ends steps steps (part_of_all steps) none) (λ e. cc)
-acted_faults {plan = plan} (not_written lists in_tics under_way part fault) = record {
+acted_faults {plan = plan} (ran first lists starts whole) =
+    let steps = run_steps plan first lists in
+    let none = steps_quiet (all_writes plan first lists) in
+    quiet steps _ none (part_ends steps steps (part_of_all steps) none) (λ e. cc)
+acted_faults {plan = plan} (not_written first lists starts under_way part fault) = record {
   there = λ e. refl;
   back = λ e. fault;
-  ends = part_ends _ (run_steps plan lists) part (steps_quiet (all_writes plan lists));
+  ends = part_ends _ (run_steps plan first lists) part (steps_quiet (all_writes plan first lists));
 }
-acted_faults {plan = plan} (no_memory_to_write lists in_tics under_way part none) =
-    quiet _ _ none (part_ends _ (run_steps plan lists) part (steps_quiet (all_writes plan lists))) (λ e. cc)
+acted_faults {plan = plan} (no_memory_to_write first lists starts under_way part none) =
+    quiet _ _ none (part_ends _ (run_steps plan first lists) part (steps_quiet (all_writes plan first lists))) (λ e. cc)
 
-performed_faults : {t : Task} {s_define input : List ℕ} {calls : List Call} {verdict : Verdict} → Performed t s_define input calls verdict → Faults calls verdict
+performed_faults : {t : Task} {given : Sources} {calls : List Call} {verdict : Verdict} → Performed t given calls verdict → Faults calls verdict
 performed_faults (text_refused is) = quiet _ _ refl tt (λ e. cc)
 performed_faults (plan_refused is) = quiet _ _ refl tt (λ e. cc)
 performed_faults not_understood = quiet _ _ refl tt (λ e. cc)
@@ -78,16 +87,37 @@ unread_faults (no_memory_to_keep files others named) = quiet (reads files) _ (re
     reads_end [] = tt
     reads_end (file ∷ files) = (λ e. cc, reads_end files)
 
-on_faults : (command : Command) (given : List (List ℕ)) {calls : List Call} {verdict : Verdict} → GoesOn command given calls verdict → Faults calls verdict
-on_faults command [] goes = absurd goes
-on_faults command (s_define ∷ []) goes = absurd goes
-on_faults command (s_define ∷ input ∷ []) goes = performed_faults goes
-on_faults command (s_define ∷ input ∷ more ∷ given) goes = absurd goes
+-- the run of a generated simulation failed where that of its texts did
+same_fault : (objects : ℕ) (verdict : Verdict) → with_objects objects verdict ≡ ShelfFault → verdict ≡ ShelfFault
+same_fault objects Usage is = cc
+same_fault objects (NoFile name) is = cc
+same_fault objects (TextRefused line) is = cc
+same_fault objects (PlanRefused line) is = cc
+same_fault objects (Accepted cells jobs threads) is = cc
+same_fault objects (Listed line) is = cc
+same_fault objects (Ended ended sessions) is = cc
+same_fault objects (GeneratedBy others ended sessions) is = cc
+same_fault objects (JournalLength kept given) is = cc
+same_fault objects ShelfFault is = refl
+same_fault objects OutOfMemory is = cc
+
+generated_faults : (objects : ℕ) {calls : List Call} {verdict : Verdict} → Generates objects calls verdict → Faults calls verdict
+generated_faults objects (texts_not_written part fault) = record {
+  there = λ e. refl;
+  back = λ e. fault;
+  ends = part_ends _ (text_steps objects) part (steps_quiet (text_writes objects));
+}
+generated_faults objects (no_memory_for_texts part none) = quiet _ _ none (part_ends _ (text_steps objects) part (steps_quiet (text_writes objects))) (λ e. cc)
+generated_faults objects (texts_run calls {verdict = verdict} performed) =
+    let is = performed_faults performed in
+    later (text_steps objects) calls _ (steps_quiet (text_writes objects))
+    (record { there = λ e. ap (with_objects objects) (is.there e); back = λ e. is.back (same_fault objects verdict e); ends = is.ends })
 
 pub faults : (wanted : Wanted) (calls : List Call) (verdict : Verdict) → Outcome wanted calls verdict
     → Faults calls verdict
 faults Unknown calls verdict (none, is) = rw (none, is) (quiet [] OutOfMemory refl tt (λ e. cc))
 faults Nothing calls verdict (none, is) = rw (none, is) (quiet [] Usage refl tt (λ e. cc))
-faults (Asked command) calls verdict (unread is) = unread_faults is
-faults (Asked command) all verdict (gone_on files calls named goes) =
-    later (reads files) _ _ (reads_quiet files) (on_faults command (texts files) goes)
+faults (Asked (Texts command)) calls verdict (unread is) = unread_faults is
+faults (Asked (Texts command)) all verdict (gone_on files calls named goes) =
+    later (reads files) _ _ (reads_quiet files) (performed_faults goes.performed)
+faults (Asked (Generated objects)) calls verdict generates = generated_faults objects generates

@@ -1,104 +1,149 @@
 -- What the verdict of a row says.
-use Rattle.std.proofs.Common.{◌≡◌, ℕ, List, [], ◌∷◌, ◌++◌, Some, refl, sym, ◌∙◌, ap, subst}
+use Rattle.std.proofs.Common.{◌≡◌, ℕ, List, ◌++◌, None, Option, Some, refl, sym, ◌∙◌, ap, subst}
 use Rattle.std.specs.FinMap.{get}
 use Rattle.trick_base.proofs.ContentLemmas.{get-all_written}
+use Rattle.trick_base.specs.Content.{content}
 use Rattle.trick_base.specs.Files.{Files, Write, all_written}
-use Rattle.trick_model.specs.Files.{file}
-use Rattle.trick_model.specs.PlanOf.{plan_of}
+use Rattle.trick_model.specs.State.{State}
 use Rattle.trick_model.specs.declared.entry.Entry.{Entry}
+use Rattle.trick_model.specs.declared.journal.Journal.{Journal}
 use Rattle.trick_model.specs.declared.plan.Plan.{Plan}
 use Rattle.trick_outside.proofs.WriteLemmas.{all_done}
-use Rattle.trick_outside.specs.Calls.{AllLeave, Call, Read}
+use Rattle.trick_outside.specs.Calls.{AllLeave, Call}
 use Rattle.trick_outside.specs.Does.{Went}
 use Rattle.trick_outside.specs.declared.shelf.Shelf.{Ghosts}
 use Rattle.trick_ready.specs.Texts.{IsReady}
 use Rattle.trick_tic.proofs.StepLemmas as steps
-use Rattle.trick_top.proofs.FoundLemmas.{leave_reads}
+use Rattle.trick_tic.specs.Steps.{steps_of}
+use Rattle.trick_top.proofs.CompleteLemmas.{not_check, not_list}
+use Rattle.trick_top.proofs.FoundLemmas.{leave_reads, leave_steps}
 use Rattle.trick_top.proofs.OutcomeLemmas.{faults}
-use Rattle.trick_top.specs.Acts.{Acts, all_writes, checked, first_state, listed, no_memory, no_memory_to_write, not_built, not_written, ran, run_steps}
-use Rattle.trick_top.specs.Found.{Found, names, reads, texts}
-use Rattle.trick_top.specs.Outcome.{GoesOn, Outcome, Performed, Unread, acted, gone_on, missing, no_memory_to_keep, no_memory_to_read, not_read, not_understood, plan_refused, text_refused, unread}
-use Rattle.trick_top.specs.Status as status
-use Rattle.trick_top.specs.Status.{Reads, Says, by_text}
-use Rattle.trick_top.specs.Verdict.{ShelfFault, Verdict}
-use Rattle.trick_top.specs.Words.{Asked, Asks, IsWanted, Nothing, Unknown, Wanted, names_of}
+use Rattle.trick_top.specs.Acts.{Acts, all_writes, checked, listed, misfits, no_journal, no_memory, no_memory_to_write, not_written, ran, run_steps, unloaded}
+use Rattle.trick_top.specs.First.{IsFirst}
+use Rattle.trick_top.specs.Found.{reads}
+use Rattle.trick_top.specs.Generated.{text_steps, text_writes}
+use Rattle.trick_top.specs.Outcome.{Generates, Outcome, Performed, Unread, acted, gone_on, missing, no_memory_for_texts, no_memory_to_keep, no_memory_to_read, not_read, not_understood, plan_refused, text_refused, texts_not_written, texts_run, unread}
+use Rattle.trick_top.specs.Runs.{IsMisfit, IsWholeRun, short_steps, short_writes}
+use Rattle.trick_top.specs.Sources.{Sources}
+use Rattle.trick_top.specs.Status.{Come, Misfits, Reads, RunsToEnd, Says, earlier_writes, files_found, of_checkpoint, of_journal, of_text, texts_made}
+use Rattle.trick_top.specs.Verdict.{ShelfFault, Verdict, with_objects}
+use Rattle.trick_top.specs.Words.{Asked, Asks, IsWanted, Nothing, Unknown, Wanted, names_of, task_of}
 use Rattle.trick_top.specs.declared.words.Command.{Command}
+use Rattle.trick_top.specs.declared.words.Request.TheVariants.{Generated, Texts}
+use Rattle.trick_top.specs.declared.words.Request.{Request}
+use Rattle.trick_top.specs.declared.words.Task.TheVariants as task
 use Rattle.trick_top.specs.declared.words.Task.{Task}
 
--- two files that were found, and what is done with their texts
-pub record Two (command : Command) (files : List Found) (calls : List Call) (verdict : Verdict) : Type 0 where
-  pub s_define : List ℕ
-  pub input : List ℕ
-  pub are : reads files ≡ Read command.s_define (Some s_define) ∷ Read command.input (Some input) ∷ []
-  pub performed : Performed command.task s_define input calls verdict
+-- what is held after writes that are all done
+pub written_by : (writes : List Write) (before now : Files) → AllLeave (steps_of writes) before now → now ≡ all_written writes before
+written_by writes before now left = all_done (steps_of writes) before now (steps.all_done writes) left ∙ ap (λ (w : List Write). all_written w before) (steps.writes_of-steps_of writes)
 
-pub two_files : (command : Command) (files : List Found) {calls : List Call} {verdict : Verdict} → names_of command ≡ names files → GoesOn command (texts files) calls verdict
-    → Two command files calls verdict
-two_files command [] named goes = absurd goes
-two_files command (first ∷ []) named goes = absurd goes
-two_files command (first ∷ second ∷ []) named goes =
-    let one : command.s_define ≡ first.name = cc in
-    let two : command.input ≡ second.name = cc in
-    record {
-      s_define = first.text;
-      input = second.text;
-      are = ap (λ n. Read n (Some first.text) ∷ Read second.name (Some second.text) ∷ []) (sym one) ∙ ap (λ n. Read command.s_define (Some first.text) ∷ Read n (Some second.text) ∷ []) (sym two);
-      performed = goes;
-    }
-two_files command (first ∷ second ∷ third ∷ files) named goes = absurd goes
+-- what they make of each file
+files_of : (writes : List Write) (before now : Files) → AllLeave (steps_of writes) before now → (name : List ℕ) → get now name ≡ content name writes (get before name)
+files_of writes before now left name = ap (λ (f : Files). get f name) (written_by writes before now left) ∙ get-all_written name writes before
 
--- two files as a list
-abbrev pub both : (name other s_define input : List ℕ) → List Found
-both name other s_define input = record { name = name; text = s_define } ∷ record { name = other; text = input } ∷ []
+-- what the calls left by which the texts came, and what later calls left of that
+pub leave_earlier : (request : Request) {given : Sources} {earlier : List Call} (calls : List Call) (held now : Files) → Come request given earlier
+    → AllLeave (earlier ++ calls) held now → AllLeave calls (all_written (earlier_writes request) held) now
+leave_earlier (Texts command) calls held now (files_found files named kinds are) left = (leave_reads files calls held now left).1
+leave_earlier (Generated objects) calls held now texts_made left = leave_steps (text_writes objects) calls held now left
 
--- what a run that is done makes of each file
-files_of_run : (plan : Plan) (lists : List (List Entry)) (before now : Files) → AllLeave (run_steps plan lists) before now
-    → (name : List ℕ) → get now name ≡ file name (plan_of plan) (first_state plan) lists (get before name)
-files_of_run plan lists before now left name =
-    let writes = all_writes plan lists in
-    let is : now ≡ all_written writes before = all_done (run_steps plan lists) before now (steps.all_done writes) left ∙ ap (λ (w : List Write). all_written w before) (steps.writes_of-steps_of writes) in
-    ap (λ (f : Files). get f name) is ∙ get-all_written name writes before
+-- a generated simulation has no journal
+no_journal_made : (objects : ℕ) {given : Sources} {calls : List Call} → Come (Generated objects) given calls → given.journal ≡ None
+no_journal_made objects texts_made = refl
+
+no_text : {journal : Option (List ℕ)} {text : List ℕ} → journal ≡ None → journal ≡ Some text → ⊥
+no_text none some = let clash = sym none ∙ some in cc
 
 module _ {S : Type 0} (shelf : Ghosts S) (old new : S) (words : List (List ℕ)) where
-  acted_says : {t : Task} {s_define input : List ℕ} {plan : Plan} {calls : List Call} {verdict : Verdict} → Acts plan t calls verdict → IsReady s_define input plan
-      → Reads shelf old new words t s_define input calls → (verdict ≡ ShelfFault → Says shelf old new words ShelfFault) → Says shelf old new words verdict
-  acted_says {s_define = s_define} {input = input} {plan = plan} checked ready reads fault =
-      (plan, record { s_define_text = s_define; input_text = input; reads = reads; ready = ready }, refl)
-  acted_says {s_define = s_define} {input = input} {plan = plan} listed ready reads fault =
-      (plan, record { s_define_text = s_define; input_text = input; reads = reads; ready = ready }, refl)
-  acted_says no_memory ready reads fault = tt
-  acted_says {t = t} {s_define = s_define} {input = input} (not_built unbuilt) ready reads fault =
-      record { command = t; s_define_text = s_define; input_text = input; reads = reads; refuses = status.not_built ready unbuilt }
-  acted_says {s_define = s_define} {input = input} {plan = plan} (ran lists in_tics whole) ready reads fault = (
-    plan,
-    lists,
-    record {
-      s_define_text = s_define;
-      input_text = input;
-      reads = reads;
-      ready = ready;
-      in_tics = in_tics;
-      whole = whole;
-      files = λ before told.
-          let left = reads.went.went.left before told in
-          let after = leave_reads (both reads.s_define reads.input s_define input) (run_steps plan lists) before left.0 left.2 in
-          (left.0, left.1, files_of_run plan lists before left.0 after.1);
-    },
-    refl,
-  )
-  acted_says (not_written lists in_tics under_way part failed) ready reads fault = fault refl
-  acted_says (no_memory_to_write lists in_tics under_way part none) ready reads fault = tt
+  -- a run that is done
+  ran_says : (request : Request) {given : Sources} {plan : Plan} (first : State) (lists : List (List Entry)) → task_of request ≡ task.Run → IsFirst plan given.from first → IsWholeRun plan given.journal first lists
+      → IsReady given.s_define given.input plan → Reads shelf old new words request given (run_steps plan first lists) → RunsToEnd shelf old new words request plan first lists
+  ran_says request {given = given} {plan = plan} first lists is_run starts whole ready reads = record {
+    is_run = is_run;
+    given = given;
+    reads = reads;
+    ready = ready;
+    starts = starts;
+    whole = whole;
+    files = λ before told.
+        let left = reads.went.went.left before told in
+        let after = leave_earlier request (run_steps plan first lists) before left.0 reads.come left.2 in
+        (left.0, left.1, files_of (all_writes plan first lists) (all_written (earlier_writes request) before) left.0 after);
+  }
 
-  performed_says : {t : Task} {s_define input : List ℕ} {calls : List Call} {verdict : Verdict} → Performed t s_define input calls verdict
-      → Reads shelf old new words t s_define input calls → (verdict ≡ ShelfFault → Says shelf old new words ShelfFault) → Says shelf old new words verdict
-  performed_says {t = t} {s_define = s_define} {input = input} (text_refused is) reads fault =
-      record { command = t; s_define_text = s_define; input_text = input; reads = reads; refuses = by_text is }
-  performed_says {t = t} {s_define = s_define} {input = input} (plan_refused is) reads fault =
-      record { command = t; s_define_text = s_define; input_text = input; reads = reads; refuses = is }
-  performed_says not_understood reads fault = tt
-  performed_says (acted ready acts) reads fault = acted_says acts ready reads fault
+  -- a journal that does not fit
+  misfit_says : (command : Command) {given : Sources} {plan : Plan} (first : State) (journal : Journal) (text : List ℕ) → command.task ≡ task.Run → IsFirst plan given.from first → given.journal ≡ Some text
+      → IsMisfit plan text first journal → IsReady given.s_define given.input plan → Reads shelf old new words (Texts command) given (short_steps plan first journal) → Misfits shelf old new words plan first journal
+  misfit_says command {given = given} {plan = plan} first journal text is_run starts replays misfit ready reads = record {
+    command = command;
+    is_run = is_run;
+    given = given;
+    reads = reads;
+    ready = ready;
+    starts = starts;
+    text = text;
+    replays = replays;
+    misfit = misfit;
+    files = λ before told.
+        let left = reads.went.went.left before told in
+        let after = leave_earlier (Texts command) (short_steps plan first journal) before left.0 reads.come left.2 in
+        (left.0, left.1, files_of (short_writes plan first journal) before left.0 after);
+  }
 
-  unread_says : (command : Command) {calls : List Call} {verdict : Verdict} → Unread (names_of command) calls verdict → Asks words command → Went shelf old new calls
+  -- what is done with the texts in named files
+  acted_says : (command : Command) {t : Task} {given : Sources} {plan : Plan} {calls : List Call} {verdict : Verdict} → command.task ≡ t → Acts plan given.from given.journal t calls verdict → IsReady given.s_define given.input plan
+      → Reads shelf old new words (Texts command) given calls → (verdict ≡ ShelfFault → Says shelf old new words ShelfFault) → Says shelf old new words verdict
+  acted_says command {given = given} {plan = plan} is checked ready reads fault = (plan, record { command = command; is_look = is; given = given; reads = reads; ready = ready }, refl)
+  acted_says command {given = given} {plan = plan} is listed ready reads fault = (plan, record { command = command; is_look = is; given = given; reads = reads; ready = ready }, refl)
+  acted_says command is no_memory ready reads fault = tt
+  acted_says command {given = given} is (unloaded same why) ready reads fault = record { request = Texts command; given = given; reads = reads; refuses = of_checkpoint is ready same why }
+  acted_says command {given = given} is (no_journal first starts same why) ready reads fault =
+      record { request = Texts command; given = given; reads = reads; refuses = of_journal is ready starts same why }
+  acted_says command {plan = plan} is (misfits first told {text = text} starts same misfit) ready reads fault =
+      (plan, first, told, misfit_says command first told text is starts same misfit ready reads, refl)
+  acted_says command {plan = plan} is (ran first lists starts whole) ready reads fault = (Texts command, plan, first, lists, ran_says (Texts command) first lists is starts whole ready reads, refl)
+  acted_says command is (not_written first lists starts under_way part failed) ready reads fault = fault refl
+  acted_says command is (no_memory_to_write first lists starts under_way part none) ready reads fault = tt
+
+  performed_says : (command : Command) {given : Sources} {calls : List Call} {verdict : Verdict} → Performed command.task given calls verdict
+      → Reads shelf old new words (Texts command) given calls → (verdict ≡ ShelfFault → Says shelf old new words ShelfFault) → Says shelf old new words verdict
+  performed_says command {given = given} (text_refused is) reads fault = record { request = Texts command; given = given; reads = reads; refuses = of_text is }
+  performed_says command {given = given} (plan_refused is) reads fault = record { request = Texts command; given = given; reads = reads; refuses = is }
+  performed_says command not_understood reads fault = tt
+  performed_says command (acted ready acts) reads fault = acted_says command refl acts ready reads fault
+
+  -- what is done with the texts of a generated simulation
+  acted_generated_says : (objects : ℕ) {t : Task} {given : Sources} {plan : Plan} {calls : List Call} {verdict : Verdict} → t ≡ task.Run → Acts plan given.from given.journal t calls verdict → IsReady given.s_define given.input plan
+      → Reads shelf old new words (Generated objects) given calls → (verdict ≡ ShelfFault → Says shelf old new words ShelfFault) → Says shelf old new words (with_objects objects verdict)
+  acted_generated_says objects is checked ready reads fault = absurd (not_check is)
+  acted_generated_says objects is listed ready reads fault = absurd (not_list is)
+  acted_generated_says objects is no_memory ready reads fault = tt
+  acted_generated_says objects {given = given} is (unloaded same why) ready reads fault = record { request = Generated objects; given = given; reads = reads; refuses = of_checkpoint refl ready same why }
+  acted_generated_says objects {given = given} is (no_journal first starts same why) ready reads fault =
+      record { request = Generated objects; given = given; reads = reads; refuses = of_journal refl ready starts same why }
+  acted_generated_says objects is (misfits first told starts same misfit) ready reads fault =
+      let none = no_journal_made objects reads.come in absurd (no_text none same)
+  acted_generated_says objects {plan = plan} is (ran first lists starts whole) ready reads fault =
+      (Generated objects, plan, first, lists, ran_says (Generated objects) first lists refl starts whole ready reads, refl)
+  acted_generated_says objects is (not_written first lists starts under_way part failed) ready reads fault = fault refl
+  acted_generated_says objects is (no_memory_to_write first lists starts under_way part none) ready reads fault = tt
+
+  performed_generated_says : (objects : ℕ) {given : Sources} {calls : List Call} {verdict : Verdict} → Performed task.Run given calls verdict
+      → Reads shelf old new words (Generated objects) given calls → (verdict ≡ ShelfFault → Says shelf old new words ShelfFault) → Says shelf old new words (with_objects objects verdict)
+  performed_generated_says objects {given = given} (text_refused is) reads fault = record { request = Generated objects; given = given; reads = reads; refuses = of_text is }
+  performed_generated_says objects {given = given} (plan_refused is) reads fault = record { request = Generated objects; given = given; reads = reads; refuses = is }
+  performed_generated_says objects not_understood reads fault = tt
+  performed_generated_says objects (acted ready acts) reads fault = acted_generated_says objects refl acts ready reads fault
+
+  generated_says : (objects : ℕ) {calls : List Call} {verdict : Verdict} → Generates objects calls verdict → Asks words (Generated objects) → Went shelf old new calls
+      → (verdict ≡ ShelfFault → Says shelf old new words ShelfFault) → Says shelf old new words verdict
+  generated_says objects (texts_not_written part failed) asks went fault = fault refl
+  generated_says objects (no_memory_for_texts part none) asks went fault = tt
+  generated_says objects (texts_run calls performed) asks went fault =
+      performed_generated_says objects performed (record { asks = asks; earlier = text_steps objects; come = texts_made; went = went }) (λ is. fault (ap (with_objects objects) is))
+
+  unread_says : (command : Command) {calls : List Call} {verdict : Verdict} → Unread (names_of command) calls verdict → Asks words (Texts command) → Went shelf old new calls
       → (verdict ≡ ShelfFault → Says shelf old new words ShelfFault) → Says shelf old new words verdict
   unread_says command (missing files name others named) asks went fault =
       record { command = command; asks = asks; files = files; others = others; named = named; went = went }
@@ -111,11 +156,13 @@ module _ {S : Type 0} (shelf : Ghosts S) (old new : S) (words : List (List ℕ))
       → IsWanted words wanted → Went shelf old new calls → Says shelf old new words verdict
   says verdict Unknown (none, is) wanted went = rw is tt
   says verdict Nothing (none, is) wanted went = rw is (wanted, subst (λ c. Went shelf old new c) none went)
-  says verdict (Asked command) (unread is) wanted went =
+  says verdict (Asked (Texts command)) (unread is) wanted went =
       unread_says command is wanted went
-      (λ fault. went.went.cause.failed ((faults (Asked command) _ _ (unread is)).back fault))
-  says verdict (Asked command) (gone_on files calls named goes) wanted went =
-      let two = two_files command files named goes in
-      performed_says two.performed
-      (record { s_define = command.s_define; input = command.input; asks = wanted; went = subst (λ c. Went shelf old new (c ++ calls)) two.are went })
-      (λ fault. went.went.cause.failed ((faults (Asked command) _ _ (gone_on files calls named goes)).back fault))
+      (λ fault. went.went.cause.failed ((faults (Asked (Texts command)) _ _ (unread is)).back fault))
+  says verdict (Asked (Texts command)) (gone_on files calls named goes) wanted went =
+      performed_says command goes.performed
+      (record { asks = wanted; earlier = reads files; come = files_found files named goes.named goes.are; went = went })
+      (λ fault. went.went.cause.failed ((faults (Asked (Texts command)) _ _ (gone_on files calls named goes)).back fault))
+  says verdict (Asked (Generated objects)) generates wanted went =
+      generated_says objects generates wanted went
+      (λ fault. went.went.cause.failed ((faults (Asked (Generated objects)) _ _ generates).back fault))

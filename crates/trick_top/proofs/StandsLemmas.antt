@@ -1,26 +1,34 @@
 -- What stands of the writes, whatever the status is.
-use Rattle.std.proofs.Common.{◌≡◌, ℕ, List, [], ◌∷◌, ◌++◌, Some, sym, ◌∙◌, ap, subst, append-nil}
+use Rattle.std.proofs.Common.{◌≡◌, ℕ, List, [], ◌∷◌, ◌++◌, Some, refl, sym, ◌∙◌, ap, subst, append-nil, map}
+use Rattle.std.specs.FinMap.{get}
+use Rattle.trick_base.proofs.WriteLemmas.{all_written-append, front_of_all, front_of_late}
 use Rattle.trick_base.specs.Files.{Files, Write, all_written}
 use Rattle.trick_base.specs.Fronts.{IsFrontOf}
-use Rattle.trick_exec.specs.Alone.{AreInTics}
+use Rattle.trick_model.specs.State.{State}
 use Rattle.trick_model.specs.declared.entry.Entry.{Entry}
 use Rattle.trick_model.specs.declared.plan.Plan.{Plan}
-use Rattle.trick_outside.proofs.CallLemmas.{part_of_all}
 use Rattle.trick_outside.proofs.WriteLemmas.{front_of}
 use Rattle.trick_outside.specs.Calls.{AllLeave, Call}
 use Rattle.trick_outside.specs.Does.{IsPartOf, Went}
 use Rattle.trick_outside.specs.declared.shelf.Shelf.{Ghosts}
 use Rattle.trick_ready.specs.Texts.{IsReady}
 use Rattle.trick_tic.proofs.StepLemmas as steps
-use Rattle.trick_top.proofs.FoundLemmas.{leave_reads}
-use Rattle.trick_top.proofs.SaysLemmas.{both, two_files}
-use Rattle.trick_top.specs.Acts.{Acts, IsUnderWay, all_writes, checked, listed, no_memory, no_memory_to_write, not_built, not_written, ran, run_steps}
+use Rattle.trick_tic.specs.Steps.{steps_of}
+use Rattle.trick_top.proofs.FoundLemmas.{leave_reads, leave_steps}
+use Rattle.trick_top.proofs.SaysLemmas.{leave_earlier, written_by}
+use Rattle.trick_top.specs.Acts.{Acts, all_writes, checked, listed, misfits, no_journal, no_memory, no_memory_to_write, not_written, ran, run_steps, unloaded}
+use Rattle.trick_top.specs.First.{IsFirst}
 use Rattle.trick_top.specs.Found.{reads}
-use Rattle.trick_top.specs.Outcome.{Outcome, Performed, Unread, acted, gone_on, missing, no_memory_to_keep, no_memory_to_read, not_read, not_understood, plan_refused, text_refused, unread}
-use Rattle.trick_top.specs.Status.{Finds, HoldsSame, MayWrite, Reads, Says, Stands, a_front, nothing}
+use Rattle.trick_top.specs.Generated.{text_steps, text_writes}
+use Rattle.trick_top.specs.Outcome.{Generates, Outcome, Performed, Unread, acted, gone_on, missing, no_memory_for_texts, no_memory_to_keep, no_memory_to_read, not_read, not_understood, plan_refused, text_refused, texts_not_written, texts_run, unread}
+use Rattle.trick_top.specs.Runs.{IsUnderWay, short_writes}
+use Rattle.trick_top.specs.Sources.{Sources, texts_of}
+use Rattle.trick_top.specs.Status.{AskForFiles, Finds, Gives, HoldsSame, HoldsTexts, MayWrite, Reads, Says, Stands, a_front, earlier_writes, files_held, nothing, of_misfit, of_texts, of_whole, texts_generated}
 use Rattle.trick_top.specs.Verdict.{NoFile, PlanRefused, TextRefused, Usage, Verdict}
-use Rattle.trick_top.specs.Words.{Asked, IsWanted, Nothing, Unknown, Wanted}
-use Rattle.trick_top.specs.declared.words.Task.TheVariants.{Serial}
+use Rattle.trick_top.specs.Words.{Asked, Asks, IsWanted, Nothing, Unknown, Wanted, names_of, task_of}
+use Rattle.trick_top.specs.declared.words.Request.TheVariants.{Generated, Texts}
+use Rattle.trick_top.specs.declared.words.Request.{Request}
+use Rattle.trick_top.specs.declared.words.Task.TheVariants.{Run}
 use Rattle.trick_top.specs.declared.words.Task.{Task}
 
 -- a file that was not read leaves all as it was
@@ -40,36 +48,78 @@ module _ {S : Type 0} (shelf : Ghosts S) (old new : S) (words : List (List ℕ))
   none_written : (held now : Files) → now ≡ held → HasWritten held now
   none_written held now same = record { writes = []; may = nothing; is = same }
 
-  -- a part of a run
-  part_written : {s_define input : List ℕ} {plan : Plan} (held now : Files) (lists : List (List Entry)) (part : List Call)
-      → Finds shelf old words Serial (Some s_define ∷ Some input ∷ []) → IsReady s_define input plan → AreInTics plan.threads → IsUnderWay plan lists
-      → IsPartOf part (run_steps plan lists) → AllLeave part held now → HasWritten held now
-  part_written {plan = plan} held now lists part finds ready in_tics under_way is left =
-      let writes = all_writes plan lists in
-      let front = front_of part (run_steps plan lists) held now (steps.all_done writes) is left in
+  -- a part of the texts of a generated simulation
+  texts_part : (objects : ℕ) (held now : Files) (part : List Call) → Asks words (Generated objects) → IsPartOf part (text_steps objects) → AllLeave part held now → HasWritten held now
+  texts_part objects held now part asks is left =
+      let writes = text_writes objects in
+      let front = front_of part (text_steps objects) held now (steps.all_done writes) is left in
       record {
         writes = front.writes;
-        may = a_front finds ready in_tics under_way (subst (λ (w : List Write). IsFrontOf front.writes w) (steps.writes_of-steps_of writes) front.front);
+        may = of_texts asks (subst (λ (w : List Write). IsFrontOf front.writes w) (steps.writes_of-steps_of writes) front.front);
         is = front.is;
       }
 
-  acted_written : {t : Task} {s_define input : List ℕ} {plan : Plan} {calls : List Call} {verdict : Verdict} (held now : Files) → Acts plan t calls verdict → IsReady s_define input plan
-      → Finds shelf old words t (Some s_define ∷ Some input ∷ []) → AllLeave calls held now → HasWritten held now
-  acted_written held now checked ready finds left = none_written held now left
-  acted_written held now listed ready finds left = none_written held now left
-  acted_written held now no_memory ready finds left = none_written held now left
-  acted_written held now (not_built unbuilt) ready finds left = none_written held now left
-  acted_written {plan = plan} held now (ran lists in_tics whole) ready finds left =
-      part_written held now lists (run_steps plan lists) finds ready in_tics (record { goes = whole.fits.goes; published = whole.published }) (part_of_all (run_steps plan lists)) left
-  acted_written held now (not_written lists in_tics under_way part failed) ready finds left = part_written held now lists _ finds ready in_tics under_way part left
-  acted_written held now (no_memory_to_write lists in_tics under_way part none) ready finds left = part_written held now lists _ finds ready in_tics under_way part left
+  -- a front of what is written before the two texts are there
+  early_written : (request : Request) {given : Sources} (held now : Files) (writes : List Write) → Gives shelf old words request given
+      → IsFrontOf writes (earlier_writes request) → now ≡ all_written writes held → HasWritten held now
+  early_written (Texts command) held now [] gives front is = none_written held now is
+  early_written (Texts command) held now (write ∷ writes) gives front is = absurd front
+  early_written (Generated objects) held now writes (texts_generated asks) front is = record { writes = writes; may = of_texts asks front; is = is }
 
-  performed_written : {t : Task} {s_define input : List ℕ} {calls : List Call} {verdict : Verdict} (held now : Files) → Performed t s_define input calls verdict
-      → Finds shelf old words t (Some s_define ∷ Some input ∷ []) → AllLeave calls held now → HasWritten held now
-  performed_written held now (text_refused is) finds left = none_written held now left
-  performed_written held now (plan_refused is) finds left = none_written held now left
-  performed_written held now not_understood finds left = none_written held now left
-  performed_written held now (acted ready acts) finds left = acted_written held now acts ready finds left
+  -- after the two texts are there
+  module _ (request : Request) {given : Sources} (gives : Gives shelf old words request given) (held now : Files) where
+    -- what was held when the run began
+    abbrev begun : Files
+    begun = all_written (earlier_writes request) held
+
+    -- no call, or none that wrote
+    texts_written : now ≡ begun → HasWritten held now
+    texts_written is = early_written request held now (earlier_writes request) gives (front_of_all (earlier_writes request)) is
+
+    -- all of these writes
+    whole_written : (writes : List Write) → MayWrite shelf old words (earlier_writes request ++ writes) → AllLeave (steps_of writes) begun now → HasWritten held now
+    whole_written writes may left = record {
+      writes = earlier_writes request ++ writes;
+      may = may;
+      is = written_by writes begun now left ∙ sym (all_written-append (earlier_writes request) writes held);
+    }
+
+    -- a part of a run
+    part_written : {plan : Plan} (first : State) (lists : List (List Entry)) (part : List Call) → task_of request ≡ Run → IsReady given.s_define given.input plan → IsFirst plan given.from first
+        → IsUnderWay plan given.journal first lists → IsPartOf part (run_steps plan first lists) → AllLeave part begun now → HasWritten held now
+    part_written {plan = plan} first lists part is_run ready starts under_way is left =
+        let writes = all_writes plan first lists in
+        let front = front_of part (run_steps plan first lists) begun now (steps.all_done writes) is left in
+        let of_run : IsFrontOf front.writes writes = subst (λ (w : List Write). IsFrontOf front.writes w) (steps.writes_of-steps_of writes) front.front in
+        record {
+          writes = earlier_writes request ++ front.writes;
+          may = a_front first lists gives is_run ready starts under_way (front_of_late (earlier_writes request) front.writes writes of_run);
+          is = front.is ∙ sym (all_written-append (earlier_writes request) front.writes held);
+        }
+
+    acted_written : {t : Task} {plan : Plan} {calls : List Call} {verdict : Verdict} → task_of request ≡ t → Acts plan given.from given.journal t calls verdict → IsReady given.s_define given.input plan → AllLeave calls begun now → HasWritten held now
+    acted_written is checked ready left = texts_written left
+    acted_written is listed ready left = texts_written left
+    acted_written is no_memory ready left = texts_written left
+    acted_written is (unloaded same why) ready left = texts_written left
+    acted_written is (no_journal first starts same why) ready left = texts_written left
+    acted_written {plan = plan} is (ran first lists starts whole) ready left = whole_written (all_writes plan first lists) (of_whole first lists gives is ready starts whole) left
+    acted_written {plan = plan} is (misfits first told starts same misfit) ready left = whole_written (short_writes plan first told) (of_misfit gives is ready starts same misfit) left
+    acted_written is (not_written first lists starts under_way part failed) ready left = part_written first lists _ is ready starts under_way part left
+    acted_written is (no_memory_to_write first lists starts under_way part none) ready left = part_written first lists _ is ready starts under_way part left
+
+    performed_written : {t : Task} {calls : List Call} {verdict : Verdict} → task_of request ≡ t → Performed t given calls verdict → AllLeave calls begun now → HasWritten held now
+    performed_written is (text_refused refused) left = texts_written left
+    performed_written is (plan_refused refused) left = texts_written left
+    performed_written is not_understood left = texts_written left
+    performed_written is (acted ready acts) left = acted_written is acts ready left
+
+  -- a generated simulation
+  generated_written : (objects : ℕ) {calls : List Call} {verdict : Verdict} (held now : Files) → Generates objects calls verdict → Asks words (Generated objects) → AllLeave calls held now → HasWritten held now
+  generated_written objects held now (texts_not_written part failed) asks left = texts_part objects held now _ asks part left
+  generated_written objects held now (no_memory_for_texts part none) asks left = texts_part objects held now _ asks part left
+  generated_written objects held now (texts_run calls performed) asks left =
+      performed_written (Generated objects) (texts_generated asks) held now refl performed (leave_steps (text_writes objects) calls held now left)
 
   pub stands : (verdict : Verdict) (wanted : Wanted) {calls : List Call} → Outcome wanted calls verdict
       → IsWanted words wanted → Went shelf old new calls → Stands shelf old new words
@@ -79,14 +129,19 @@ module _ {S : Type 0} (shelf : Ghosts S) (old new : S) (words : List (List ℕ))
   stands verdict Nothing (none, is) wanted went files told =
       let left = went.went.left files told in
       ([], nothing, left.1 ∙ ap Some (subst (λ c. AllLeave c files left.0) none left.2))
-  stands verdict (Asked command) (unread is) wanted went files told =
+  stands verdict (Asked (Texts command)) (unread is) wanted went files told =
       let left = went.went.left files told in
       ([], nothing, left.1 ∙ ap Some (unread_same files left.0 is left.2))
-  stands verdict (Asked command) (gone_on found calls named goes) wanted went files told =
-      let two = two_files command found named goes in
+  stands verdict (Asked (Texts command)) (gone_on found calls named goes) wanted went files told =
       let left = went.went.left files told in
-      let after = leave_reads (both command.s_define command.input two.s_define two.input) calls files left.0 (subst (λ c. AllLeave (c ++ calls) files left.0) two.are left.2) in
-      let done = performed_written files left.0 two.performed (record { s_define = command.s_define; input = command.input; asks = wanted; files = files; told = told; held = after.0 }) after.1 in
+      let after = leave_reads found calls files left.0 left.2 in
+      let held : map (get files) (names_of command) ≡ map Some (texts_of goes.given) = ap (map (get files)) named ∙ after.0 ∙ ap (map Some) goes.are in
+      let finds : Finds shelf old words command (map Some (texts_of goes.given)) = record { asks = wanted; files = files; told = told; held = held } in
+      let done = performed_written (Texts command) (files_held goes.named finds) files left.0 refl goes.performed after.1 in
+      (done.writes, done.may, left.1 ∙ ap Some done.is)
+  stands verdict (Asked (Generated objects)) generates wanted went files told =
+      let left = went.went.left files told in
+      let done = generated_written objects files left.0 generates wanted left.2 in
       (done.writes, done.may, left.1 ∙ ap Some done.is)
 
   -- a refusal leaves all as it was
@@ -99,15 +154,32 @@ module _ {S : Type 0} (shelf : Ghosts S) (old new : S) (words : List (List ℕ))
       let after = (leave_reads says.files _ files left.0 left.2).1 in
       left.1 ∙ ap Some (after.2 ∙ after.1.1)
 
-  -- after the two files nothing was called
-  reads_same : {t : Task} (s_define input : List ℕ) → Reads shelf old new words t s_define input [] → HoldsSame (shelf.holds old) (shelf.holds new)
-  reads_same s_define input reads files told =
+  -- after the texts were there nothing was called
+  reads_same : (request : Request) (given : Sources) → Reads shelf old new words request given [] → (files : Files) → shelf.holds old ≡ Some files
+      → shelf.holds new ≡ Some (all_written (earlier_writes request) files)
+  reads_same request given reads files told =
       let left = reads.went.went.left files told in
-      let after = (leave_reads (both reads.s_define reads.input s_define input) [] files left.0 left.2).1 in
-      left.1 ∙ ap Some after
+      left.1 ∙ ap Some (leave_earlier request [] files left.0 reads.come left.2)
 
-  pub text_same : (line : List ℕ) → Says shelf old new words (TextRefused line) → HoldsSame (shelf.holds old) (shelf.holds new)
-  text_same line says = reads_same says.s_define_text says.input_text says.reads
+  -- the texts were those of two files
+  files_same : (request : Request) (given : Sources) → AskForFiles words → Reads shelf old new words request given [] → HoldsSame (shelf.holds old) (shelf.holds new)
+  files_same (Texts command) given never reads = reads_same (Texts command) given reads
+  files_same (Generated objects) given never reads = absurd (never objects reads.asks)
 
-  pub plan_same : (line : List ℕ) → Says shelf old new words (PlanRefused line) → HoldsSame (shelf.holds old) (shelf.holds new)
-  plan_same line says = reads_same says.s_define_text says.input_text says.reads
+  -- the texts were those of a generated simulation
+  made_texts : (objects : ℕ) (request : Request) (given : Sources) → request ≡ Generated objects → Reads shelf old new words request given [] → HoldsTexts objects (shelf.holds old) (shelf.holds new)
+  made_texts objects request given is reads files told =
+      reads_same request given reads files told ∙ ap (λ (r : Request). Some (all_written (earlier_writes r) files)) is
+
+  pub text_same : (line : List ℕ) → AskForFiles words → Says shelf old new words (TextRefused line) → HoldsSame (shelf.holds old) (shelf.holds new)
+  text_same line never says = files_same says.request says.given never says.reads
+
+  pub plan_same : (line : List ℕ) → AskForFiles words → Says shelf old new words (PlanRefused line) → HoldsSame (shelf.holds old) (shelf.holds new)
+  plan_same line never says = files_same says.request says.given never says.reads
+
+  module _ (objects : ℕ) (alone : (request : Request) → Asks words request → request ≡ Generated objects) (line : List ℕ) where
+    pub text_made : Says shelf old new words (TextRefused line) → HoldsTexts objects (shelf.holds old) (shelf.holds new)
+    text_made says = made_texts objects says.request says.given (alone says.request says.reads.asks) says.reads
+
+    pub plan_made : Says shelf old new words (PlanRefused line) → HoldsTexts objects (shelf.holds old) (shelf.holds new)
+    plan_made says = made_texts objects says.request says.given (alone says.request says.reads.asks) says.reads

@@ -1,7 +1,9 @@
 -- The clauses of the top call, from its row of the table.
-use Rattle.std.proofs.Common.{◌≡◌, ◌≢◌, ℕ, zero, suc, List, [], ◌∷◌, None, Some, inl, inr, refl, sym, subst, ap, arith, Contains, true}
-use Rattle.std.specs.Prelude.{Option, ◌⊎◌}
+use Rattle.std.proofs.Common.{◌≡◌, ◌≢◌, ℕ, zero, suc, List, [], ◌++◌, None, Some, inl, inr, map, option_to_list, refl, sym, ◌∙◌, subst, ap, arith, Contains, true}
+use Rattle.std.specs.Prelude.{Option, is_some, ◌⊎◌}
+use Rattle.trick_model.specs.State.{State}
 use Rattle.trick_model.specs.declared.entry.Entry.{Entry}
+use Rattle.trick_model.specs.declared.journal.Journal.{Journal}
 use Rattle.trick_model.specs.declared.plan.Plan.{Plan}
 use Rattle.trick_outside.specs.Calls.{Call, fails}
 use Rattle.trick_outside.specs.Causes.{Rose}
@@ -10,21 +12,25 @@ use Rattle.trick_outside.specs.declared.shelf.Shelf.{Ghosts}
 use Rattle.trick_outside.specs.declared.sink.Sink as sink
 use Rattle.trick_ready.specs.Meaning.{HaveOneMeaning}
 use Rattle.trick_ready.specs.Texts.{IsPlanRefused}
-use Rattle.trick_top.proofs.CompleteLemmas.{AreOneLine, IsEnd, accepted_ends, asked_goes, bad_plan_ends, found_goes, missing_ends}
-use Rattle.trick_top.proofs.CompleteLemmas.{refused_ends, refused_usage}
+use Rattle.trick_top.proofs.CompleteLemmas.{AreOneLine, Done, IsEnd, accepted_ends, asked_goes, bad_plan_ends, found_goes, generated_goes}
+use Rattle.trick_top.proofs.CompleteLemmas.{misfit_ends, missing_ends, refused_ends, refused_usage, same_asked}
 use Rattle.trick_top.proofs.OutcomeLemmas.{faults}
-use Rattle.trick_top.proofs.PrintLemmas.{Given, decided, ends_with, given}
+use Rattle.trick_top.proofs.PrintLemmas.{Given, decided, ends_with, given, not_ended}
 use Rattle.trick_top.proofs.SaysLemmas as says_row
 use Rattle.trick_top.proofs.StandsLemmas as stands_row
-use Rattle.trick_top.specs.Acts.{ended_verdict, last_state}
+use Rattle.trick_top.specs.Acts.{last_state, length_verdict}
 use Rattle.trick_top.specs.Answered.{HasAnswered}
 use Rattle.trick_top.specs.Called.{HasCalled}
-use Rattle.trick_top.specs.Outcome.{Goes, GoesOn, Performed}
-use Rattle.trick_top.specs.Status.{AreAccepted, AreRefusedTexts, EndsWith, Finds, HoldsSame, IsDone, IsRefusal, MissesFile, RefusesPlan}
-use Rattle.trick_top.specs.Status.{RefusesText, RunsToEnd, Says, Stands, TookLine, accepted, listed, ran}
-use Rattle.trick_top.specs.Verdict.{Accepted, Ended, Listed, NoFile, OutOfMemory, PlanRefused, ShelfFault, TextRefused, Usage, Verdict, line_of, status_of}
-use Rattle.trick_top.specs.Words.{AreRefused, Asks}
+use Rattle.trick_top.specs.Outcome.{GoesOn, Outcome, Performed}
+use Rattle.trick_top.specs.Sources.{AreNamed, Sources, texts_of}
+use Rattle.trick_top.specs.Status.{AreAccepted, AreRefusedTexts, EndsWith, Finds, Gives, HoldsSame, HoldsTexts, IsDone, IsFittingIn, IsMisfitIn, IsRefusal, Misfits, MissesFile, RefusesPlan}
+use Rattle.trick_top.specs.Status.{RefusesText, RunsToEnd, Says, Stands, TellsEnd, TookLine, accepted, end_verdict, files_held, listed, ran, texts_generated}
+use Rattle.trick_top.specs.Verdict.{Accepted, Ended, Generated, JournalLength, Listed, NoFile, OutOfMemory, PlanRefused, ShelfFault, TextRefused, Usage, Verdict, ended_status, line_of, status_of}
+use Rattle.trick_top.specs.Words.{AreRefused, Asked, Asks, task_of}
 use Rattle.trick_top.specs.declared.words.Command.{Command}
+use Rattle.trick_top.specs.declared.words.Request.TheVariants.{Generated as Generating, Texts}
+use Rattle.trick_top.specs.declared.words.Request.{Request}
+use Rattle.trick_top.specs.declared.words.Task.TheVariants as task
 use Rattle.trick_top.specs.declared.words.Task.{Task}
 
 -- which verdict a status is of
@@ -35,8 +41,9 @@ is_usage (TextRefused line) e = absurd (omega (arith, e))
 is_usage (PlanRefused line) e = absurd (omega (arith, e))
 is_usage (Accepted cells jobs threads) e = absurd (omega (arith, e))
 is_usage (Listed line) e = absurd (omega (arith, e))
-is_usage (Ended turns tic zero sessions) e = absurd (omega (arith, e))
-is_usage (Ended turns tic (suc count) sessions) e = absurd (omega (arith, e))
+is_usage (Ended ended sessions) e = absurd (not_ended ended.faults 1 (λ e. omega (arith, e)) (λ e. omega (arith, e)) e)
+is_usage (Generated objects ended sessions) e = absurd (not_ended ended.faults 1 (λ e. omega (arith, e)) (λ e. omega (arith, e)) e)
+is_usage (JournalLength kept given) e = absurd (omega (arith, e))
 is_usage ShelfFault e = absurd (omega (arith, e))
 is_usage OutOfMemory e = absurd (omega (arith, e))
 
@@ -47,8 +54,9 @@ is_no_file (TextRefused line) e = absurd (omega (arith, e))
 is_no_file (PlanRefused line) e = absurd (omega (arith, e))
 is_no_file (Accepted cells jobs threads) e = absurd (omega (arith, e))
 is_no_file (Listed line) e = absurd (omega (arith, e))
-is_no_file (Ended turns tic zero sessions) e = absurd (omega (arith, e))
-is_no_file (Ended turns tic (suc count) sessions) e = absurd (omega (arith, e))
+is_no_file (Ended ended sessions) e = absurd (not_ended ended.faults 9 (λ e. omega (arith, e)) (λ e. omega (arith, e)) e)
+is_no_file (Generated objects ended sessions) e = absurd (not_ended ended.faults 9 (λ e. omega (arith, e)) (λ e. omega (arith, e)) e)
+is_no_file (JournalLength kept given) e = absurd (omega (arith, e))
 is_no_file ShelfFault e = absurd (omega (arith, e))
 is_no_file OutOfMemory e = absurd (omega (arith, e))
 
@@ -59,8 +67,9 @@ is_text_refused (TextRefused line) e = (line, refl)
 is_text_refused (PlanRefused line) e = absurd (omega (arith, e))
 is_text_refused (Accepted cells jobs threads) e = absurd (omega (arith, e))
 is_text_refused (Listed line) e = absurd (omega (arith, e))
-is_text_refused (Ended turns tic zero sessions) e = absurd (omega (arith, e))
-is_text_refused (Ended turns tic (suc count) sessions) e = absurd (omega (arith, e))
+is_text_refused (Ended ended sessions) e = absurd (not_ended ended.faults 2 (λ e. omega (arith, e)) (λ e. omega (arith, e)) e)
+is_text_refused (Generated objects ended sessions) e = absurd (not_ended ended.faults 2 (λ e. omega (arith, e)) (λ e. omega (arith, e)) e)
+is_text_refused (JournalLength kept given) e = absurd (omega (arith, e))
 is_text_refused ShelfFault e = absurd (omega (arith, e))
 is_text_refused OutOfMemory e = absurd (omega (arith, e))
 
@@ -71,8 +80,9 @@ is_plan_refused (TextRefused line) e = absurd (omega (arith, e))
 is_plan_refused (PlanRefused line) e = (line, refl)
 is_plan_refused (Accepted cells jobs threads) e = absurd (omega (arith, e))
 is_plan_refused (Listed line) e = absurd (omega (arith, e))
-is_plan_refused (Ended turns tic zero sessions) e = absurd (omega (arith, e))
-is_plan_refused (Ended turns tic (suc count) sessions) e = absurd (omega (arith, e))
+is_plan_refused (Ended ended sessions) e = absurd (not_ended ended.faults 3 (λ e. omega (arith, e)) (λ e. omega (arith, e)) e)
+is_plan_refused (Generated objects ended sessions) e = absurd (not_ended ended.faults 3 (λ e. omega (arith, e)) (λ e. omega (arith, e)) e)
+is_plan_refused (JournalLength kept given) e = absurd (omega (arith, e))
 is_plan_refused ShelfFault e = absurd (omega (arith, e))
 is_plan_refused OutOfMemory e = absurd (omega (arith, e))
 
@@ -83,14 +93,58 @@ is_shelf_fault (TextRefused line) e = absurd (omega (arith, e))
 is_shelf_fault (PlanRefused line) e = absurd (omega (arith, e))
 is_shelf_fault (Accepted cells jobs threads) e = absurd (omega (arith, e))
 is_shelf_fault (Listed line) e = absurd (omega (arith, e))
-is_shelf_fault (Ended turns tic zero sessions) e = absurd (omega (arith, e))
-is_shelf_fault (Ended turns tic (suc count) sessions) e = absurd (omega (arith, e))
+is_shelf_fault (Ended ended sessions) e = absurd (not_ended ended.faults 5 (λ e. omega (arith, e)) (λ e. omega (arith, e)) e)
+is_shelf_fault (Generated objects ended sessions) e = absurd (not_ended ended.faults 5 (λ e. omega (arith, e)) (λ e. omega (arith, e)) e)
+is_shelf_fault (JournalLength kept given) e = absurd (omega (arith, e))
 is_shelf_fault ShelfFault e = refl
 is_shelf_fault OutOfMemory e = absurd (omega (arith, e))
 
--- what a command does with two texts
-performed_of : (command : Command) (s_define input : List ℕ) {calls : List Call} {verdict : Verdict} → GoesOn command (s_define ∷ input ∷ []) calls verdict → Performed command.task s_define input calls verdict
-performed_of command s_define input goes = goes
+is_journal_length : (verdict : Verdict) → status_of verdict ≡ 7 → (kept : ℕ) × (given : ℕ) × (verdict ≡ JournalLength kept given)
+is_journal_length Usage e = absurd (omega (arith, e))
+is_journal_length (NoFile name) e = absurd (omega (arith, e))
+is_journal_length (TextRefused line) e = absurd (omega (arith, e))
+is_journal_length (PlanRefused line) e = absurd (omega (arith, e))
+is_journal_length (Accepted cells jobs threads) e = absurd (omega (arith, e))
+is_journal_length (Listed line) e = absurd (omega (arith, e))
+is_journal_length (Ended ended sessions) e = absurd (not_ended ended.faults 7 (λ e. omega (arith, e)) (λ e. omega (arith, e)) e)
+is_journal_length (Generated objects ended sessions) e = absurd (not_ended ended.faults 7 (λ e. omega (arith, e)) (λ e. omega (arith, e)) e)
+is_journal_length (JournalLength kept given) e = (kept, given, refl)
+is_journal_length ShelfFault e = absurd (omega (arith, e))
+is_journal_length OutOfMemory e = absurd (omega (arith, e))
+
+-- the same options are the same lists
+same_option : (one other : Option (List ℕ)) → option_to_list one ≡ option_to_list other → one ≡ other
+same_option None None is = refl
+same_option None (Some text) is = cc
+same_option (Some text) None is = cc
+same_option (Some text) (Some other) is = cc
+
+-- two of them, one behind the other
+same_options : (a b c d : Option (List ℕ)) → is_some a ≡ is_some c → option_to_list a ++ option_to_list b ≡ option_to_list c ++ option_to_list d → (a ≡ c) × (b ≡ d)
+same_options None b None d kind is = (refl, same_option b d is)
+same_options None b (Some y) d kind is = absurd cc
+same_options (Some x) b None d kind is = absurd cc
+same_options (Some x) b (Some y) d kind is =
+    let first : x ≡ y = cc in
+    let rest : option_to_list b ≡ option_to_list d = cc in
+    (ap Some first, same_option b d rest)
+
+-- texts that a command names are those of one list
+same_sources : (command : Command) (one other : Sources) → AreNamed command one → AreNamed command other → texts_of one ≡ texts_of other → one ≡ other
+same_sources command one other named also is =
+    let first : one.s_define ≡ other.s_define = cc in
+    let second : one.input ≡ other.input = cc in
+    let others : option_to_list one.from ++ option_to_list one.journal ≡ option_to_list other.from ++ option_to_list other.journal = cc in
+    let both = same_options one.from one.journal other.from other.journal (named.from ∙ sym also.from) others in
+    ap (λ s. record { s_define = s; input = one.input; from = one.from; journal = one.journal }) first
+    ∙ ap (λ i. record { s_define = other.s_define; input = i; from = one.from; journal = one.journal }) second
+    ∙ ap (λ f. record { s_define = other.s_define; input = other.input; from = f; journal = one.journal }) both.0
+    ∙ ap (λ j. record { s_define = other.s_define; input = other.input; from = other.from; journal = j }) both.1
+
+-- what a command does with texts
+performed_of : (command : Command) (given : Sources) {calls : List Call} {verdict : Verdict} → AreNamed command given → GoesOn command (texts_of given) calls verdict → Performed command.task given calls verdict
+performed_of command given {calls = calls} {verdict = verdict} named goes =
+    subst (λ g. Performed command.task g calls verdict) (sym (same_sources command given goes.given named goes.named goes.are)) goes.performed
 
 -- the faults that a verdict tells
 abbrev faults_of : Verdict → ℕ
@@ -100,11 +154,39 @@ faults_of (TextRefused line) = 0
 faults_of (PlanRefused line) = 0
 faults_of (Accepted cells jobs threads) = 0
 faults_of (Listed line) = 0
-faults_of (Ended turns tic count sessions) = count
+faults_of (Ended ended sessions) = ended.faults
+faults_of (Generated objects ended sessions) = ended.faults
+faults_of (JournalLength kept given) = 0
 faults_of ShelfFault = 0
 faults_of OutOfMemory = 0
 
+-- what a verdict tells of the faults of a run
+abbrev Tells : {S : Type 0} (shelf : Ghosts S) (old new : S) (words : List (List ℕ)) → Verdict → (ℕ → Type 0) → Type 0
+Tells shelf old new words verdict Count =
+    (request : Request) × (plan : Plan) × (first : State) × (lists : List (List Entry)) × RunsToEnd shelf old new words request plan first lists × Count ((last_state plan first lists).faults).count × (verdict ≡ end_verdict request plan first lists)
+
+-- the faults that are told are those of the last state
+end_faults : (request : Request) (plan : Plan) (first : State) (lists : List (List Entry)) → faults_of (end_verdict request plan first lists) ≡ ((last_state plan first lists).faults).count
+end_faults (Texts command) plan first lists = refl
+end_faults (Generating objects) plan first lists = refl
+
+tells : {S : Type 0} {shelf : Ghosts S} {old new : S} {words : List (List ℕ)} (verdict : Verdict) (Count : ℕ → Type 0) → TellsEnd shelf old new words verdict → Count (faults_of verdict) → Tells shelf old new words verdict Count
+tells verdict Count (request, plan, first, lists, runs, is) holds =
+    (request, plan, first, lists, runs, subst Count (ap faults_of is ∙ end_faults request plan first lists) holds, is)
+
+no_faults : (count : ℕ) → ended_status count ≡ 0 → count ≡ 0
+no_faults zero e = refl
+no_faults (suc count) e = absurd (omega (arith, e))
+
+some_faults : (count : ℕ) → ended_status count ≡ 4 → count ≢ 0
+some_faults zero e = absurd (omega (arith, e))
+some_faults (suc count) e = λ none. omega (arith, none)
+
 -- a verdict of status 0 says that it is done
+ran_done : {S : Type 0} {shelf : Ghosts S} {old new : S} {words : List (List ℕ)} (verdict : Verdict) → Tells shelf old new words verdict (λ count. count ≡ 0) → IsDone shelf old new words verdict
+ran_done {shelf = shelf} {old = old} {new = new} {words = words} verdict (request, plan, first, lists, runs, none, is) =
+    subst (IsDone shelf old new words) (sym is) (ran request plan first lists runs none)
+
 done_says : {S : Type 0} {shelf : Ghosts S} {old new : S} {words : List (List ℕ)} (verdict : Verdict) → status_of verdict ≡ 0 → Says shelf old new words verdict → IsDone shelf old new words verdict
 done_says Usage e says = absurd (omega (arith, e))
 done_says (NoFile name) e says = absurd (omega (arith, e))
@@ -112,32 +194,26 @@ done_says (TextRefused line) e says = absurd (omega (arith, e))
 done_says (PlanRefused line) e says = absurd (omega (arith, e))
 done_says {shelf = shelf} {old = old} {new = new} {words = words} (Accepted cells jobs threads) e (plan, looks, is) = subst (IsDone shelf old new words) (sym is) (accepted plan looks)
 done_says {shelf = shelf} {old = old} {new = new} {words = words} (Listed line) e (plan, looks, is) = subst (IsDone shelf old new words) (sym is) (listed plan looks)
-done_says {shelf = shelf} {old = old} {new = new} {words = words} (Ended turns tic zero sessions) e (plan, lists, runs, is) =
-    let none : ((last_state plan lists).faults).count ≡ 0 = ap faults_of (sym is) in
-    subst (IsDone shelf old new words) (sym is) (ran plan lists runs none)
-done_says (Ended turns tic (suc count) sessions) e says = absurd (omega (arith, e))
+done_says (Ended ended sessions) e says = ran_done (Ended ended sessions) (tells (Ended ended sessions) (λ count. count ≡ 0) says (no_faults ended.faults e))
+done_says (Generated objects ended sessions) e says =
+    ran_done (Generated objects ended sessions) (tells (Generated objects ended sessions) (λ count. count ≡ 0) says (no_faults ended.faults e))
+done_says (JournalLength kept given) e says = absurd (omega (arith, e))
 done_says ShelfFault e says = absurd (omega (arith, e))
 done_says OutOfMemory e says = absurd (omega (arith, e))
 
 -- a verdict of status 4 says that a run had faults
-faults_say : {S : Type 0} {shelf : Ghosts S} {old new : S} {words : List (List ℕ)} (Took : Verdict → Type 0) (verdict : Verdict) → status_of verdict ≡ 4 → Says shelf old new words verdict → Took verdict
-    → (plan : Plan) × (lists : List (List Entry)) × RunsToEnd shelf old new words plan lists × (((last_state plan lists).faults).count ≢ 0) × Took (ended_verdict (last_state plan lists))
-faults_say Took Usage e says took = absurd (omega (arith, e))
-faults_say Took (NoFile name) e says took = absurd (omega (arith, e))
-faults_say Took (TextRefused line) e says took = absurd (omega (arith, e))
-faults_say Took (PlanRefused line) e says took = absurd (omega (arith, e))
-faults_say Took (Accepted cells jobs threads) e says took = absurd (omega (arith, e))
-faults_say Took (Listed line) e says took = absurd (omega (arith, e))
-faults_say Took (Ended turns tic zero sessions) e says took = absurd (omega (arith, e))
-faults_say Took (Ended turns tic (suc count) sessions) e (plan, lists, runs, is) took =
-    let some : suc count ≡ ((last_state plan lists).faults).count = ap faults_of is in
-    (plan, lists, runs, λ none. omega (arith, some, none), subst Took is took)
-faults_say Took ShelfFault e says took = absurd (omega (arith, e))
-faults_say Took OutOfMemory e says took = absurd (omega (arith, e))
-
--- the command of files that were found
-abbrev asked_command : {S : Type 0} {shelf : Ghosts S} {old : S} {words : List (List ℕ)} {t : Task} {given : List (Option (List ℕ))} → Finds shelf old words t given → Command
-asked_command {t = t} finds = record { task = t; s_define = finds.s_define; input = finds.input }
+faults_say : {S : Type 0} {shelf : Ghosts S} {old new : S} {words : List (List ℕ)} (verdict : Verdict) → status_of verdict ≡ 4 → Says shelf old new words verdict → Tells shelf old new words verdict (λ count. count ≢ 0)
+faults_say Usage e says = absurd (omega (arith, e))
+faults_say (NoFile name) e says = absurd (omega (arith, e))
+faults_say (TextRefused line) e says = absurd (omega (arith, e))
+faults_say (PlanRefused line) e says = absurd (omega (arith, e))
+faults_say (Accepted cells jobs threads) e says = absurd (omega (arith, e))
+faults_say (Listed line) e says = absurd (omega (arith, e))
+faults_say (Ended ended sessions) e says = tells (Ended ended sessions) (λ count. count ≢ 0) says (some_faults ended.faults e)
+faults_say (Generated objects ended sessions) e says = tells (Generated objects ended sessions) (λ count. count ≢ 0) says (some_faults ended.faults e)
+faults_say (JournalLength kept given) e says = absurd (omega (arith, e))
+faults_say ShelfFault e says = absurd (omega (arith, e))
+faults_say OutOfMemory e says = absurd (omega (arith, e))
 
 -- it came to its end, unless there was no memory to tell it
 ends : {O : Type 0} {sink : sink.Ghosts O} {before now : O} {verdict : Verdict} {status : ℕ} {t : Task} → Given sink before now verdict status → IsEnd t (status_of verdict)
@@ -199,11 +275,19 @@ module _ {S O : Type 0} {shelf : Ghosts S} {sink : sink.Ghosts O} {old new : S} 
       let both = told 0 is (λ e. omega (arith, e)) (λ e. omega (arith, e)) in
       (verdict, done_says verdict both.0 says, both.1)
 
-  pub ended_with_faults : status ≡ 4 → (plan : Plan) × (lists : List (List Entry)) × RunsToEnd shelf old new words plan lists
-      × (((last_state plan lists).faults).count ≢ 0) × Took (ended_verdict (last_state plan lists))
+  pub ended_with_faults : status ≡ 4 → (request : Request) × (plan : Plan) × (first : State) × (lists : List (List Entry)) × RunsToEnd shelf old new words request plan first lists
+      × (((last_state plan first lists).faults).count ≢ 0) × Took (end_verdict request plan first lists)
   ended_with_faults is =
       let both = told 4 is (λ e. omega (arith, e)) (λ e. omega (arith, e)) in
-      faults_say Took verdict both.0 says both.1
+      let tells = faults_say verdict both.0 says in
+      (tells.0, tells.1, tells.2, tells.3, tells.4, tells.5, subst Took tells.6 both.1)
+
+  pub journal_length : status ≡ 7 → (plan : Plan) × (first : State) × (journal : Journal) × Misfits shelf old new words plan first journal × Took (length_verdict plan first journal)
+  journal_length is =
+      let both = told 7 is (λ e. omega (arith, e)) (λ e. omega (arith, e)) in
+      let same = is_journal_length verdict both.0 in
+      let tells : Says shelf old new words (JournalLength same.0 same.1) = subst (Says shelf old new words) same.2 says in
+      (tells.0, tells.1, tells.2, tells.3, subst Took (same.2 ∙ tells.4) both.1)
 
   pub shelf_fault : status ≡ 5 → Rose (shelf.failures old) (shelf.failures new)
   shelf_fault is = subst (Says shelf old new words) (is_shelf_fault verdict (told 5 is (λ e. omega (arith, e)) (λ e. omega (arith, e))).0) says
@@ -229,11 +313,19 @@ module _ {S O : Type 0} {shelf : Ghosts S} {sink : sink.Ghosts O} {old new : S} 
         sink_fault = so.fault;
       }
 
-  pub refused_same : IsRefusal status → HoldsSame (shelf.holds old) (shelf.holds new)
-  refused_same (inl is) = stands_row.usage_same shelf old new words (usage_is is).0
-  refused_same (inr (inl is)) = let refused = text_refused is in stands_row.text_same shelf old new words refused.0 refused.1
-  refused_same (inr (inr (inl is))) = let refused = plan_refused is in stands_row.plan_same shelf old new words refused.0 refused.1
-  refused_same (inr (inr (inr is))) = let misses = no_file is in stands_row.missing_same shelf old new words misses.0 misses.1
+  pub refused_same : IsRefusal words status → HoldsSame (shelf.holds old) (shelf.holds new)
+  refused_same (inl (inl is)) = stands_row.usage_same shelf old new words (usage_is is).0
+  refused_same (inl (inr is)) = let misses = no_file is in stands_row.missing_same shelf old new words misses.0 misses.1
+  refused_same (inr (inl is, never)) = let refused = text_refused is in stands_row.text_same shelf old new words refused.0 never refused.1
+  refused_same (inr (inr is, never)) = let refused = plan_refused is in stands_row.plan_same shelf old new words refused.0 never refused.1
+
+  pub refused_generated : (objects : ℕ) → Asks words (Generating objects) → (status ≡ 2) ⊎ (status ≡ 3) → HoldsTexts objects (shelf.holds old) (shelf.holds new)
+  refused_generated objects asks (inl is) =
+      let refused = text_refused is in
+      stands_row.text_made shelf old new words objects (λ request also. same_asked once words request (Generating objects) also asks) refused.0 refused.1
+  refused_generated objects asks (inr is) =
+      let refused = plan_refused is in
+      stands_row.plan_made shelf old new words objects (λ request also. same_asked once words request (Generating objects) also asks) refused.0 refused.1
 
   pub stopped : Stands shelf old new words
   stopped = stands_row.stands shelf old new words verdict row.wanted row.gone.outcome row.asked row.gone.went
@@ -245,61 +337,73 @@ module _ {S O : Type 0} {shelf : Ghosts S} {sink : sink.Ghosts O} {old new : S} 
   quiet : (Rose (shelf.failures old) (shelf.failures new) → ⊥) → fails row.gone.calls ≡ true → ⊥
   quiet never e = never (row.gone.went.went.cause.failed e)
 
-  -- the row of a command
-  goes : (asked : Command) → Asks words asked → Goes asked row.gone.calls verdict ⊎ (status_of verdict ≡ 6)
-  goes asked asks = asked_goes once words row.wanted _ _ row.asked row.gone.outcome asked asks
+  -- the row of a request
+  goes : (request : Request) → Asks words request → Outcome (Asked request) row.gone.calls verdict ⊎ (status_of verdict ≡ 6)
+  goes request asks = asked_goes once words row.wanted _ _ row.asked row.gone.outcome request asks
 
-  pub no_file_all : (t : Task) (given : List (Option (List ℕ))) → Finds shelf old words t given → Contains given None → (Rose (shelf.failures old) (shelf.failures new) → ⊥) → EndsWith status 9
-  no_file_all t given finds lacks never =
-      let command = asked_command finds in
+  pub no_file_all : (command : Command) (given : List (Option (List ℕ))) → Finds shelf old words command given → Contains given None → (Rose (shelf.failures old) (shelf.failures new) → ⊥) → EndsWith status 9
+  no_file_all command held finds lacks never =
       let left = row.gone.went.went.left finds.files finds.told in
       let none = subst (λ list. Contains list None) (sym finds.held) lacks in
       ends_with so 9
-      (elim (goes command finds.asks) [
+      (elim (goes (Texts command) finds.asks) [
         | inl on ↦ missing_ends command finds.files left.0 on (quiet never) left.2 none
         | inr short ↦ inr short
       ])
 
-  -- both files are there, so it goes on with their texts
-  both_found : (t : Task) (s_define input : List ℕ) → Finds shelf old words t (Some s_define ∷ Some input ∷ []) → (Rose (shelf.failures old) (shelf.failures new) → ⊥)
-      → ((late : List Call) × Performed t s_define input late verdict × (fails late ≡ true → ⊥)) ⊎ (status_of verdict ≡ 6)
-  both_found t s_define input finds never =
-      let command = asked_command finds in
+  -- all files are there, so it goes on with their texts
+  all_found : (command : Command) (given : Sources) → AreNamed command given → Finds shelf old words command (map Some (texts_of given)) → (Rose (shelf.failures old) (shelf.failures new) → ⊥)
+      → Done command.task given (status_of verdict) ⊎ (status_of verdict ≡ 6)
+  all_found command given named finds never =
       let left = row.gone.went.went.left finds.files finds.told in
-      elim (goes command finds.asks) [
+      elim (goes (Texts command) finds.asks) [
         | inl goes ↦
             elim
-            (found_goes command finds.files left.0 (s_define ∷ input ∷ []) goes (quiet never) left.2 finds.held) [
-              | inl on ↦ inl (on.0, performed_of command s_define input on.1, on.2)
+            (found_goes command finds.files left.0 (texts_of given) goes (quiet never) left.2 finds.held) [
+              | inl on ↦ inl (record { late = on.0; verdict = verdict; performed = performed_of command given named on.1; quiet = on.2; is = refl })
               | inr none ↦ inr none
             ]
         | inr short ↦ inr short
       ]
 
-  pub text_refused_all : (t : Task) (s_define input : List ℕ) → Finds shelf old words t (Some s_define ∷ Some input ∷ []) → AreRefusedTexts t s_define input
+  -- it goes on with the texts that the words lead to
+  texts_go : (request : Request) (given : Sources) → Gives shelf old words request given → (Rose (shelf.failures old) (shelf.failures new) → ⊥)
+      → Done (task_of request) given (status_of verdict) ⊎ (status_of verdict ≡ 6)
+  texts_go (Texts command) given (files_held named finds) never = all_found command given named finds never
+  texts_go (Generating objects) given (texts_generated asks) never = elim (goes (Generating objects) asks) [
+    | inl on ↦ generated_goes objects on (quiet never)
+    | inr short ↦ inr short
+  ]
+
+  -- the status that is due of what was done with the texts
+  due_of : {t : Task} {given : Sources} (due : ℕ) → ((late : List Call) (end : Verdict) → Performed t given late end → (fails late ≡ true → ⊥) → (status_of end ≡ due) ⊎ (status_of end ≡ 6))
+      → Done t given (status_of verdict) ⊎ (status_of verdict ≡ 6) → EndsWith status due
+  due_of due says_due (inl on) =
+      ends_with so due
+      (elim (says_due on.late on.verdict on.performed on.quiet) [ inl is ↦ inl (sym on.is ∙ is) | inr short ↦ inr (sym on.is ∙ short) ])
+  due_of due says_due (inr short) = ends_with so due (inr short)
+
+  pub text_refused_all : (request : Request) (given : Sources) → Gives shelf old words request given → AreRefusedTexts (task_of request) given
       → (Rose (shelf.failures old) (shelf.failures new) → ⊥) → EndsWith status 2
-  text_refused_all t s_define input finds refused never =
-      ends_with so 2
-      (elim (both_found t s_define input finds never) [
-        | inl on ↦ refused_ends one on.2 refused on.1
-        | inr short ↦ inr short
-      ])
+  text_refused_all request given gives refused never =
+      due_of 2 (λ late end performed never. refused_ends one never refused performed) (texts_go request given gives never)
 
-  pub plan_refused_all : (t : Task) (s_define input line : List ℕ) → Finds shelf old words t (Some s_define ∷ Some input ∷ []) → IsPlanRefused s_define input line
+  pub plan_refused_all : (request : Request) (given : Sources) (line : List ℕ) → Gives shelf old words request given → IsPlanRefused given.s_define given.input line
       → (Rose (shelf.failures old) (shelf.failures new) → ⊥) → EndsWith status 3
-  plan_refused_all t s_define input line finds refused never =
-      ends_with so 3
-      (elim (both_found t s_define input finds never) [
-        | inl on ↦ bad_plan_ends one line refused on.1
-        | inr short ↦ inr short
-      ])
+  plan_refused_all request given line gives refused never =
+      due_of 3 (λ late end performed never. bad_plan_ends one line refused performed) (texts_go request given gives never)
 
-  pub complete : (t : Task) (s_define input : List ℕ) → Finds shelf old words t (Some s_define ∷ Some input ∷ []) → AreAccepted t s_define input
-      → (Rose (shelf.failures old) (shelf.failures new) → ⊥) → (Rose (sink.failures before) (sink.failures now) → ⊥) → IsEnd t status
-  complete t s_define input finds good never sink_never =
+  pub journal_length_all : (request : Request) (given : Sources) → Gives shelf old words request given → task_of request ≡ task.Run → AreAccepted given → IsMisfitIn given
+      → (Rose (shelf.failures old) (shelf.failures new) → ⊥) → EndsWith status 7
+  journal_length_all request given gives run good bad never =
+      due_of 7 (λ late end performed never. misfit_ends one never run good bad performed) (texts_go request given gives never)
+
+  pub complete : (request : Request) (given : Sources) → Gives shelf old words request given → AreAccepted given → IsFittingIn given
+      → (Rose (shelf.failures old) (shelf.failures new) → ⊥) → (Rose (sink.failures before) (sink.failures now) → ⊥) → IsEnd (task_of request) status
+  complete request given gives good fits never sink_never =
       ends so
-      (elim (both_found t s_define input finds never) [
-        | inl on ↦ accepted_ends one on.2 good on.1
+      (elim (texts_go request given gives never) [
+        | inl on ↦ subst (IsEnd (task_of request)) on.is (accepted_ends one on.quiet good fits on.performed)
         | inr short ↦ inr (inr short)
       ])
       (λ is. sink_never (sink_fault is))

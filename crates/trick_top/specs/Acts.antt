@@ -1,20 +1,28 @@
 -- What a command does with an accepted plan, and how it ends.
-use Rattle.std.specs.Prelude.{◌≡◌, ℕ, List, [], ◌++◌, true, false, IsTrue, codes, length}
+use Rattle.std.specs.Prelude.{◌≡◌, ℕ, List, [], ◌++◌, Option, Some, true, false, codes, length}
 use Rattle.trick_base.specs.Files.{Write}
-use Rattle.trick_exec.specs.Alone.{AreInTics}
+use Rattle.trick_codes.specs.declared.load_fault.LoadFault.{LoadFault}
+use Rattle.trick_journal.specs.declared.journal_fault.JournalFault.{JournalFault}
 use Rattle.trick_memory.specs.Listing.{listing_text}
 use Rattle.trick_model.specs.Files.{run_writes}
 use Rattle.trick_model.specs.PlanOf.{plan_of}
-use Rattle.trick_model.specs.Run.{AreSerial, IsOwnJournal, final, goes_on, opened, start}
+use Rattle.trick_model.specs.Run.{final}
 use Rattle.trick_model.specs.State.{State}
 use Rattle.trick_model.specs.declared.entry.Entry.{Entry}
+use Rattle.trick_model.specs.declared.journal.Journal.{Journal}
 use Rattle.trick_model.specs.declared.plan.Plan.{Plan}
 use Rattle.trick_outside.specs.Calls.{Call, fails}
 use Rattle.trick_outside.specs.Does.{IsPartOf, Went}
 use Rattle.trick_outside.specs.declared.shelf.Shelf.{Ghosts}
-use Rattle.trick_serial.specs.Serial.{has_beside}
+use Rattle.trick_refusal.specs.Checkpoint.{checkpoint_line}
+use Rattle.trick_refusal.specs.Journal.{journal_line}
+use Rattle.trick_turns.specs.Joins.{joins_of}
+use Rattle.trick_serial.specs.Serial.{ended_by}
 use Rattle.trick_tic.specs.Steps.{steps_of}
-use Rattle.trick_top.specs.Verdict.{Verdict, Accepted, Ended, Listed, OutOfMemory, ShelfFault, TextRefused}
+use Rattle.trick_top.specs.First.{IsFirst, IsUnloaded}
+use Rattle.trick_top.specs.Runs.{IsMisfit, IsUnderWay, IsUnread, IsWholeRun, given_turn, short_steps}
+use Rattle.trick_top.specs.Verdict.{Verdict, Accepted, Ended, JournalLength, Listed, OutOfMemory, ShelfFault}
+use Rattle.trick_top.specs.Verdict.{TextRefused}
 use Rattle.trick_top.specs.declared.words.Task.TheVariants as task
 use Rattle.trick_top.specs.declared.words.Task.{Task}
 
@@ -27,70 +35,58 @@ accepted_verdict plan = Accepted (length plan.program.cells) (length plan.progra
 abbrev pub listed_verdict : Plan → Verdict
 listed_verdict plan = Listed (listing_text plan.program.cells ++ codes "\n")
 
--- A run with threads beside the tics is not built yet. They come from an input, of which no line is
--- wrong.
-abbrev pub beside_line : List ℕ
-beside_line = codes "refused NotInProfile input 0\n"
-
-abbrev pub IsUnbuilt : Task → Plan → Type 0
-IsUnbuilt task.Serial plan = has_beside plan.threads ≡ true
-IsUnbuilt task.Check plan = ⊥
-IsUnbuilt task.List plan = ⊥
-
-abbrev pub IsBuilt : Task → Plan → Type 0
-IsBuilt task.Serial plan = AreInTics plan.threads
-IsBuilt task.Check plan = Unit {0}
-IsBuilt task.List plan = Unit {0}
-
--- the state in which the run of a plan starts
-abbrev pub first_state : Plan → State
-first_state plan = start (plan_of plan)
-
--- what a run without clients writes, under the entries of its turns
-abbrev pub all_writes : Plan → List (List Entry) → List Write
-all_writes plan lists = run_writes (plan_of plan) (first_state plan) lists
+-- what a run writes from a state on, under the entries of its turns
+abbrev pub all_writes : Plan → State → List (List Entry) → List Write
+all_writes plan first lists = run_writes (plan_of plan) first lists
 
 -- its calls of the shelf
-abbrev pub run_steps : Plan → List (List Entry) → List Call
-run_steps plan lists = steps_of (all_writes plan lists)
+abbrev pub run_steps : Plan → State → List (List Entry) → List Call
+run_steps plan first lists = steps_of (all_writes plan first lists)
 
 -- the state in which it ends
-abbrev pub last_state : Plan → List (List Entry) → State
-last_state plan lists = final (plan_of plan) (first_state plan) lists
+abbrev pub last_state : Plan → State → List (List Entry) → State
+last_state plan first lists = final (plan_of plan) first lists
 
--- what a run says that ends in a state: no session has joined
-abbrev pub ended_verdict : State → Verdict
-ended_verdict last = Ended last.turn last.tic last.faults.count 0
+-- what a run says that is done: what holds of its last state, and how many sessions joined
+abbrev pub ended_verdict : Plan → State → List (List Entry) → Verdict
+ended_verdict plan first lists = Ended (ended_by (last_state plan first lists)) (joins_of lists)
 
--- a run without clients is not over before it has had these turns
-pub record IsUnderWay (plan : Plan) (lists : List (List Entry)) : Type 0 where
-  pub goes : IsTrue (goes_on (plan_of plan) (opened (first_state plan)) lists)
-  pub published : AreSerial (plan_of plan) (opened (first_state plan)) lists
+-- what is said of a journal that does not fit: its end, and the turn at which its run is over
+abbrev pub length_verdict : Plan → State → Journal → Verdict
+length_verdict plan first journal = JournalLength journal.end (given_turn plan first journal)
 
--- the whole run without clients has these turns
-abbrev pub IsWholeRun : Plan → List (List Entry) → Type 0
-IsWholeRun plan lists = IsOwnJournal (plan_of plan) (first_state plan) lists
-
--- How a command goes with an accepted plan: its calls of the shelf, and the verdict.
-pub data Acts (plan : Plan) : Task → List Call → Verdict → Type 0 where
-  checked : Acts plan task.Check [] (accepted_verdict plan)
-  listed : Acts plan task.List [] (listed_verdict plan)
+-- How a command goes with an accepted plan, with the text of a checkpoint and with that of a journal, where there
+-- are such texts: its calls of the shelf, and the verdict. The checkpoint decides before the journal.
+pub data Acts (plan : Plan) (from journal : Option (List ℕ)) : Task → List Call → Verdict → Type 0 where
+  checked : Acts plan from journal task.Check [] (accepted_verdict plan)
+  listed : Acts plan from journal task.List [] (listed_verdict plan)
   -- want of memory before the shelf is called
-  no_memory : {t : Task} → Acts plan t [] OutOfMemory
-  not_built : {t : Task} → IsUnbuilt t plan → Acts plan t [] (TextRefused beside_line)
-  ran : (lists : List (List Entry)) → AreInTics plan.threads → IsWholeRun plan lists
-      → Acts plan task.Serial (run_steps plan lists) (ended_verdict (last_state plan lists))
+  no_memory : {t : Task} → Acts plan from journal t [] OutOfMemory
+  -- the text is no checkpoint
+  unloaded : {text : List ℕ} {why : LoadFault} → from ≡ Some text → IsUnloaded plan text why
+      → Acts plan from journal task.Run [] (TextRefused (checkpoint_line why))
+  -- the text is no journal
+  no_journal : (first : State) {text : List ℕ} {why : JournalFault} → IsFirst plan from first → journal ≡ Some text
+      → IsUnread plan first text why → Acts plan from journal task.Run [] (TextRefused (journal_line why))
+  ran : (first : State) (lists : List (List Entry)) → IsFirst plan from first → IsWholeRun plan journal first lists
+      → Acts plan from journal task.Run (run_steps plan first lists) (ended_verdict plan first lists)
+  -- the journal does not fit
+  misfits : (first : State) (told : Journal) {text : List ℕ} → IsFirst plan from first → journal ≡ Some text
+      → IsMisfit plan text first told
+      → Acts plan from journal task.Run (short_steps plan first told) (length_verdict plan first told)
   -- the last call failed
-  not_written : (lists : List (List Entry)) {part : List Call} → AreInTics plan.threads → IsUnderWay plan lists
-      → IsPartOf part (run_steps plan lists) → fails part ≡ true → Acts plan task.Serial part ShelfFault
+  not_written : (first : State) (lists : List (List Entry)) {part : List Call} → IsFirst plan from first
+      → IsUnderWay plan journal first lists → IsPartOf part (run_steps plan first lists) → fails part ≡ true
+      → Acts plan from journal task.Run part ShelfFault
   -- no call failed
-  no_memory_to_write : (lists : List (List Entry)) {part : List Call} → AreInTics plan.threads
-      → IsUnderWay plan lists → IsPartOf part (run_steps plan lists) → fails part ≡ false
-      → Acts plan task.Serial part OutOfMemory
+  no_memory_to_write : (first : State) (lists : List (List Entry)) {part : List Call} → IsFirst plan from first
+      → IsUnderWay plan journal first lists → IsPartOf part (run_steps plan first lists) → fails part ≡ false
+      → Acts plan from journal task.Run part OutOfMemory
 
--- How a command went with an accepted plan on a shelf, from old to new.
-pub record HasActed {S : Type 0} (shelf : Ghosts S) (old new : S) (plan : Plan) (t : Task)
-    (verdict : Verdict) : Type 0 where
+-- How a command went with an accepted plan on a shelf, from old to new, with the texts of a checkpoint and of a
+-- journal, where there are such texts.
+pub record HasActed {S : Type 0} (shelf : Ghosts S) (old new : S) (plan : Plan) (from journal : Option (List ℕ))
+    (t : Task) (verdict : Verdict) : Type 0 where
   pub calls : List Call
   pub went : Went shelf old new calls
-  pub acts : Acts plan t calls verdict
+  pub acts : Acts plan from journal t calls verdict

@@ -2,6 +2,14 @@
 pub mod Verdict
 -- Which words ask for which command.
 pub mod Words
+-- The two texts of a generated simulation, as files.
+pub mod Generated
+-- The texts with which something is done.
+pub mod Sources
+-- The state from which a run starts.
+pub mod First
+-- Which run of a plan it is: one without clients, or that under a journal.
+pub mod Runs
 -- What a command does with an accepted plan.
 pub mod Acts
 -- Files that were read one after another, and found.

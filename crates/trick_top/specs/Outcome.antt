@@ -1,35 +1,41 @@
 -- How a command may go on a shelf: a case for each row of the table of statuses, with each call and
 -- its answer, and the verdict.
-use Rattle.std.specs.Prelude.{◌≡◌, ℕ, List, [], ◌∷◌, ◌++◌, None}
+use Rattle.std.specs.Prelude.{◌≡◌, ℕ, List, [], ◌∷◌, ◌++◌, None, true, false}
 use Rattle.trick_model.specs.declared.plan.Plan.{Plan}
-use Rattle.trick_outside.specs.Calls.{Call, Get, Read, Stopped}
-use Rattle.trick_outside.specs.Does.{Went}
+use Rattle.trick_outside.specs.Calls.{Call, Get, Read, Stopped, fails}
+use Rattle.trick_outside.specs.Does.{IsPartOf, Went}
 use Rattle.trick_outside.specs.declared.shelf.Shelf.{Ghosts}
 use Rattle.trick_outside.specs.declared.stop.Stop.TheVariants.{Shelf, Memory}
 use Rattle.trick_ready.specs.Texts.{IsPlanRefused, IsReady, IsTextRefused}
 use Rattle.trick_top.specs.Acts.{Acts}
 use Rattle.trick_top.specs.Found.{Found, names, reads, texts}
-use Rattle.trick_top.specs.Verdict.{Verdict, Usage, NoFile, TextRefused, PlanRefused, ShelfFault, OutOfMemory}
+use Rattle.trick_top.specs.Generated.{text_steps}
+use Rattle.trick_top.specs.Sources.{AreNamed, Sources, generated_sources, texts_of}
+use Rattle.trick_top.specs.Verdict.{Verdict, Usage, NoFile, TextRefused, PlanRefused, ShelfFault, OutOfMemory, with_objects}
 use Rattle.trick_top.specs.Words.{Wanted, Asked, Nothing, Unknown, names_of}
 use Rattle.trick_top.specs.declared.words.Command.{Command}
+use Rattle.trick_top.specs.declared.words.Request.TheVariants as request
+use Rattle.trick_top.specs.declared.words.Task.TheVariants as task
 use Rattle.trick_top.specs.declared.words.Task.{Task}
 
--- How the two texts of a simulation go: they decide first, by the lines that refuse them, and then
--- what is done with the plan that they have.
-pub data Performed (t : Task) (s_define input : List ℕ) : List Call → Verdict → Type 0 where
-  text_refused : {line : List ℕ} → IsTextRefused s_define input line
-      → Performed t s_define input [] (TextRefused line)
-  plan_refused : {line : List ℕ} → IsPlanRefused s_define input line
-      → Performed t s_define input [] (PlanRefused line)
+-- How the texts of a simulation go: they decide first, by the lines that refuse them, and then what is done
+-- with the plan that they have.
+pub data Performed (t : Task) (given : Sources) : List Call → Verdict → Type 0 where
+  text_refused : {line : List ℕ} → IsTextRefused given.s_define given.input line
+      → Performed t given [] (TextRefused line)
+  plan_refused : {line : List ℕ} → IsPlanRefused given.s_define given.input line
+      → Performed t given [] (PlanRefused line)
   -- want of memory at a text
-  not_understood : Performed t s_define input [] OutOfMemory
-  acted : {plan : Plan} {calls : List Call} {verdict : Verdict} → IsReady s_define input plan
-      → Acts plan t calls verdict → Performed t s_define input calls verdict
+  not_understood : Performed t given [] OutOfMemory
+  acted : {plan : Plan} {calls : List Call} {verdict : Verdict} → IsReady given.s_define given.input plan
+      → Acts plan given.from given.journal t calls verdict → Performed t given calls verdict
 
 -- How a command goes once its files are found, by their texts.
-abbrev pub GoesOn : Command → List (List ℕ) → List Call → Verdict → Type 0
-GoesOn command (s_define ∷ input ∷ []) calls verdict = Performed command.task s_define input calls verdict
-GoesOn command given calls verdict = ⊥
+pub record GoesOn (command : Command) (texts : List (List ℕ)) (calls : List Call) (verdict : Verdict) : Type 0 where
+  pub given : Sources
+  pub named : AreNamed command given
+  pub are : texts ≡ texts_of given
+  pub performed : Performed command.task given calls verdict
 
 -- How the files of these names are read, one after another, where it ends with a verdict.
 pub data Unread (wanted : List (List ℕ)) : List Call → Verdict → Type 0 where
@@ -51,11 +57,24 @@ pub data Goes (command : Command) : List Call → Verdict → Type 0 where
   gone_on : (files : List Found) (calls : List Call) {verdict : Verdict} → names_of command ≡ names files
       → GoesOn command (texts files) calls verdict → Goes command (reads files ++ calls) verdict
 
+-- How a generated simulation goes: its two texts are written, and then run as `serial` runs texts.
+pub data Generates (objects : ℕ) : List Call → Verdict → Type 0 where
+  -- a text was not written, and the call that failed was the last
+  texts_not_written : {part : List Call} → IsPartOf part (text_steps objects) → fails part ≡ true
+      → Generates objects part ShelfFault
+  -- there was no memory to make or to write a text, and no call failed
+  no_memory_for_texts : {part : List Call} → IsPartOf part (text_steps objects) → fails part ≡ false
+      → Generates objects part OutOfMemory
+  texts_run : (calls : List Call) {verdict : Verdict}
+      → Performed task.Run (generated_sources objects) calls verdict
+      → Generates objects (text_steps objects ++ calls) (with_objects objects verdict)
+
 -- How it goes, by what is known of the words.
 abbrev pub Outcome : Wanted → List Call → Verdict → Type 0
 Outcome Unknown calls verdict = (calls ≡ []) × (verdict ≡ OutOfMemory)
 Outcome Nothing calls verdict = (calls ≡ []) × (verdict ≡ Usage)
-Outcome (Asked command) calls verdict = Goes command calls verdict
+Outcome (Asked (request.Texts command)) calls verdict = Goes command calls verdict
+Outcome (Asked (request.Generated objects)) calls verdict = Generates objects calls verdict
 
 -- How it went on a shelf, from old to new.
 pub record HasGone {S : Type 0} (shelf : Ghosts S) (old new : S) (wanted : Wanted)
@@ -64,12 +83,12 @@ pub record HasGone {S : Type 0} (shelf : Ghosts S) (old new : S) (wanted : Wante
   pub went : Went shelf old new calls
   pub outcome : Outcome wanted calls verdict
 
--- How a command went with two texts on a shelf, from old to new.
-pub record HasPerformed {S : Type 0} (shelf : Ghosts S) (old new : S) (t : Task) (s_define input : List ℕ)
+-- How a command went with the texts of a simulation on a shelf, from old to new.
+pub record HasPerformed {S : Type 0} (shelf : Ghosts S) (old new : S) (t : Task) (given : Sources)
     (verdict : Verdict) : Type 0 where
   pub calls : List Call
   pub went : Went shelf old new calls
-  pub performed : Performed t s_define input calls verdict
+  pub performed : Performed t given calls verdict
 
 -- How a command went on, once its files were found.
 pub record HasGoneOn {S : Type 0} (shelf : Ghosts S) (old new : S) (command : Command) (given : List (List ℕ))

@@ -1,25 +1,39 @@
 -- What each status says.
 use Rattle.std.specs.FinMap.{get}
 use Rattle.std.specs.Prelude.{◌≡◌, ◌⊎◌, ℕ, List, [], ◌∷◌, ◌++◌, Option, Some, None, map}
+use Rattle.trick_base.specs.Content.{content}
 use Rattle.trick_base.specs.Files.{Files, Write, all_written}
 use Rattle.trick_base.specs.Fronts.{IsFrontOf}
-use Rattle.trick_exec.specs.Alone.{AreInTics}
+use Rattle.trick_codes.specs.declared.load_fault.LoadFault.{LoadFault}
+use Rattle.trick_journal.specs.declared.journal_fault.JournalFault.{JournalFault}
 use Rattle.trick_model.specs.Files.{file}
 use Rattle.trick_model.specs.PlanOf.{plan_of}
+use Rattle.trick_model.specs.State.{State}
 use Rattle.trick_model.specs.declared.entry.Entry.{Entry}
+use Rattle.trick_model.specs.declared.journal.Journal.{Journal}
 use Rattle.trick_model.specs.declared.plan.Plan.{Plan}
 use Rattle.trick_outside.specs.Calls.{Call, Read}
 use Rattle.trick_outside.specs.Causes.{Rose}
 use Rattle.trick_outside.specs.Does.{Went}
 use Rattle.trick_outside.specs.declared.shelf.Shelf.{Ghosts}
 use Rattle.trick_ready.specs.Texts.{IsPlanRefused, IsReady, IsTextRefused}
-use Rattle.trick_top.specs.Acts.{IsBuilt, IsUnbuilt, IsUnderWay, IsWholeRun, accepted_verdict, all_writes, beside_line}
-use Rattle.trick_top.specs.Acts.{ended_verdict, first_state, last_state, listed_verdict, run_steps}
-use Rattle.trick_top.specs.Found.{Found, names, reads}
-use Rattle.trick_top.specs.Verdict.{Verdict, Accepted, Ended, Listed, NoFile, OutOfMemory, PlanRefused, ShelfFault}
-use Rattle.trick_top.specs.Verdict.{TextRefused, Usage}
-use Rattle.trick_top.specs.Words.{AreRefused, Asks, names_of}
+use Rattle.trick_refusal.specs.Checkpoint.{checkpoint_line}
+use Rattle.trick_refusal.specs.Journal.{journal_line}
+use Rattle.trick_resume.specs.Loaded.{IsCheckpointOf}
+use Rattle.trick_top.specs.Acts.{accepted_verdict, all_writes, ended_verdict, last_state, length_verdict}
+use Rattle.trick_top.specs.Acts.{listed_verdict, run_steps}
+use Rattle.trick_top.specs.First.{IsFirst, IsUnloaded}
+use Rattle.trick_top.specs.Found.{Found, names, reads, texts}
+use Rattle.trick_top.specs.Generated.{text_steps, text_writes}
+use Rattle.trick_top.specs.Runs.{IsFitting, IsJournalFor, IsMisfit, IsUnderWay, IsUnread, IsWholeRun, short_steps}
+use Rattle.trick_top.specs.Runs.{short_writes}
+use Rattle.trick_top.specs.Sources.{AreNamed, Sources, generated_sources, texts_of}
+use Rattle.trick_top.specs.Verdict.{Verdict, Accepted, Ended, Generated as GeneratedBy, JournalLength, Listed, NoFile}
+use Rattle.trick_top.specs.Verdict.{OutOfMemory, PlanRefused, ShelfFault, TextRefused, Usage, with_objects}
+use Rattle.trick_top.specs.Words.{AreRefused, Asks, names_of, task_of}
 use Rattle.trick_top.specs.declared.words.Command.{Command}
+use Rattle.trick_top.specs.declared.words.Request.TheVariants.{Generated, Texts}
+use Rattle.trick_top.specs.declared.words.Request.{Request}
 use Rattle.trick_top.specs.declared.words.Task.TheVariants as task
 use Rattle.trick_top.specs.declared.words.Task.{Task}
 
@@ -27,9 +41,15 @@ use Rattle.trick_top.specs.declared.words.Task.{Task}
 abbrev pub EndsWith : ℕ → ℕ → Type 0
 EndsWith status due = (status ≡ due) ⊎ ((status ≡ 6) ⊎ (status ≡ 8))
 
--- The words, a refused text, a refused plan and a missing file refuse a command.
-abbrev pub IsRefusal : ℕ → Type 0
-IsRefusal status = (status ≡ 1) ⊎ ((status ≡ 2) ⊎ ((status ≡ 3) ⊎ (status ≡ 9)))
+-- The words ask for no generated simulation.
+abbrev pub AskForFiles : List (List ℕ) → Type 0
+AskForFiles words = (objects : ℕ) → Asks words (Generated objects) → ⊥
+
+-- The words, a missing file, a refused text and a refused plan refuse what is asked for before anything
+-- is written. A generated simulation has written its texts before they could be refused.
+abbrev pub IsRefusal : List (List ℕ) → ℕ → Type 0
+IsRefusal words status =
+    ((status ≡ 1) ⊎ (status ≡ 9)) ⊎ (((status ≡ 2) ⊎ (status ≡ 3)) × AskForFiles words)
 
 -- The sink took this line, where it tells what it has taken.
 abbrev pub TookLine : Option (List ℕ) → Option (List ℕ) → List ℕ → Type 0
@@ -39,72 +59,124 @@ TookLine old new line = (taken : List ℕ) → old ≡ Some taken → new ≡ So
 abbrev pub HoldsSame : Option Files → Option Files → Type 0
 HoldsSame old new = (files : Files) → old ≡ Some files → new ≡ Some files
 
+-- The shelf holds what it held and the two texts of a generated simulation, where it tells what it holds.
+abbrev pub HoldsTexts : ℕ → Option Files → Option Files → Type 0
+HoldsTexts objects old new = (files : Files) → old ≡ Some files → new ≡ Some (all_written (text_writes objects) files)
+
 -- Status 9: of the files that the words name this one is missing, by the shelf's own answer, and the
 -- ones before it were found. No other call was made.
 pub record MissesFile {S : Type 0} (shelf : Ghosts S) (old new : S) (words : List (List ℕ))
     (missing : List ℕ) : Type 0 where
   pub command : Command
-  pub asks : Asks words command
+  pub asks : Asks words (Texts command)
   pub files : List Found
   pub others : List (List ℕ)
   pub named : names_of command ≡ names files ++ missing ∷ others
   pub went : Went shelf old new (reads files ++ Read missing None ∷ [])
 
--- The words ask for this with two files; they were found, with these texts; and then these calls were
--- made, and no others.
-pub record Reads {S : Type 0} (shelf : Ghosts S) (old new : S) (words : List (List ℕ)) (t : Task)
-    (s_define_text input_text : List ℕ) (calls : List Call) : Type 0 where
-  pub s_define : List ℕ
-  pub input : List ℕ
-  pub asks : Asks words (record { task = t; s_define = s_define; input = input })
-  pub went : Went shelf old new (Read s_define (Some s_define_text) ∷ Read input (Some input_text) ∷ calls)
+-- How the texts come that a request is about, by these calls: the files that the words name were found, or the
+-- texts of a generated simulation were written.
+pub data Come : Request → Sources → List Call → Type 0 where
+  files_found : {command : Command} {given : Sources} (files : List Found) → names_of command ≡ names files
+      → AreNamed command given → texts files ≡ texts_of given → Come (Texts command) given (reads files)
+  texts_made : {objects : ℕ} → Come (Generated objects) (generated_sources objects) (text_steps objects)
 
--- What a text is refused for, with the line: for what it says, or, where it is to be run, for threads
--- beside the tics.
-pub data Refuses (t : Task) (s_define input : List ℕ) : List ℕ → Type 0 where
-  by_text : {line : List ℕ} → IsTextRefused s_define input line → Refuses t s_define input line
-  not_built : {plan : Plan} → IsReady s_define input plan → IsUnbuilt t plan → Refuses t s_define input beside_line
+-- What was written before the texts were there.
+abbrev pub earlier_writes : Request → List Write
+earlier_writes (Texts command) = []
+earlier_writes (Generated objects) = text_writes objects
 
--- Status 2: a text is refused with this line. After the two files were read no call was made.
+-- The words ask for this; its texts came, which are these; and then these calls were made, and no others.
+pub record Reads {S : Type 0} (shelf : Ghosts S) (old new : S) (words : List (List ℕ)) (request : Request)
+    (given : Sources) (calls : List Call) : Type 0 where
+  pub asks : Asks words request
+  pub earlier : List Call
+  pub come : Come request given earlier
+  pub went : Went shelf old new (earlier ++ calls)
+
+-- A text is refused with this line: one of the two of a simulation; or, where these have an accepted plan, that
+-- of the checkpoint from which it is to be run; or, where the run has its first state, that of the journal.
+pub data HasRefusal (t : Task) (given : Sources) : List ℕ → Type 0 where
+  of_text : {line : List ℕ} → IsTextRefused given.s_define given.input line → HasRefusal t given line
+  of_checkpoint : {plan : Plan} {text : List ℕ} {why : LoadFault} → t ≡ task.Run
+      → IsReady given.s_define given.input plan → given.from ≡ Some text → IsUnloaded plan text why
+      → HasRefusal t given (checkpoint_line why)
+  of_journal : {plan : Plan} {first : State} {text : List ℕ} {why : JournalFault} → t ≡ task.Run
+      → IsReady given.s_define given.input plan → IsFirst plan given.from first → given.journal ≡ Some text
+      → IsUnread plan first text why → HasRefusal t given (journal_line why)
+
+-- Status 2: a text is refused with this line. After the texts were there no call was made.
 pub record RefusesText {S : Type 0} (shelf : Ghosts S) (old new : S) (words : List (List ℕ))
     (line : List ℕ) : Type 0 where
-  pub command : Task
-  pub s_define_text : List ℕ
-  pub input_text : List ℕ
-  pub reads : Reads shelf old new words command s_define_text input_text []
-  pub refuses : Refuses command s_define_text input_text line
+  pub request : Request
+  pub given : Sources
+  pub reads : Reads shelf old new words request given []
+  pub refuses : HasRefusal (task_of request) given line
 
--- Status 3: the plan is refused with this line. After the two files were read no call was made.
+-- Status 3: the plan is refused with this line. After the texts were there no call was made.
 pub record RefusesPlan {S : Type 0} (shelf : Ghosts S) (old new : S) (words : List (List ℕ))
     (line : List ℕ) : Type 0 where
-  pub command : Task
-  pub s_define_text : List ℕ
-  pub input_text : List ℕ
-  pub reads : Reads shelf old new words command s_define_text input_text []
-  pub refuses : IsPlanRefused s_define_text input_text line
+  pub request : Request
+  pub given : Sources
+  pub reads : Reads shelf old new words request given []
+  pub refuses : IsPlanRefused given.s_define given.input line
 
 -- Status 0 of `check` and `list`: the texts are ready by this plan. After the two files were read no
 -- call was made.
 pub record Looks {S : Type 0} (shelf : Ghosts S) (old new : S) (words : List (List ℕ)) (t : Task)
     (plan : Plan) : Type 0 where
-  pub s_define_text : List ℕ
-  pub input_text : List ℕ
-  pub reads : Reads shelf old new words t s_define_text input_text []
-  pub ready : IsReady s_define_text input_text plan
+  pub command : Command
+  pub is_look : command.task ≡ t
+  pub given : Sources
+  pub reads : Reads shelf old new words (Texts command) given []
+  pub ready : IsReady given.s_define given.input plan
 
--- Status 0 or 4 of `serial`: the run without clients of the plan of the texts is done, and had these
--- turns. Each file is the one that the run gives, every other file as before.
-pub record RunsToEnd {S : Type 0} (shelf : Ghosts S) (old new : S) (words : List (List ℕ)) (plan : Plan)
-    (lists : List (List Entry)) : Type 0 where
-  pub s_define_text : List ℕ
-  pub input_text : List ℕ
-  pub reads : Reads shelf old new words task.Serial s_define_text input_text (run_steps plan lists)
-  pub ready : IsReady s_define_text input_text plan
-  pub in_tics : AreInTics plan.threads
-  pub whole : IsWholeRun plan lists
+-- Status 0 or 4 of `serial`, `replay` and `gen`: the run of the plan of the texts, without clients or under the
+-- journal, which fits, from the plan's start or from the state of the checkpoint, is done, and had these turns.
+-- Each file is the one that the run gives, every other file as it was when the run began: as before, but that `gen`
+-- has written its texts.
+pub record RunsToEnd {S : Type 0} (shelf : Ghosts S) (old new : S) (words : List (List ℕ)) (request : Request)
+    (plan : Plan) (first : State) (lists : List (List Entry)) : Type 0 where
+  pub is_run : task_of request ≡ task.Run
+  pub given : Sources
+  pub reads : Reads shelf old new words request given (run_steps plan first lists)
+  pub ready : IsReady given.s_define given.input plan
+  pub starts : IsFirst plan given.from first
+  pub whole : IsWholeRun plan given.journal first lists
   pub files : (before : Files) → shelf.holds old ≡ Some before
       → (now : Files) × (shelf.holds new ≡ Some now)
-      × ((name : List ℕ) → get now name ≡ file name (plan_of plan) (first_state plan) lists (get before name))
+      × ((name : List ℕ) → get now name
+      ≡ file name (plan_of plan) first lists (get (all_written (earlier_writes request) before) name))
+
+-- Status 7: the texts have an accepted plan, and the journal does not fit. Its turns were done up to the one at
+-- which its run is over, or up to its end. Each file is what was written by then, every other file as before.
+pub record Misfits {S : Type 0} (shelf : Ghosts S) (old new : S) (words : List (List ℕ)) (plan : Plan)
+    (first : State) (journal : Journal) : Type 0 where
+  pub command : Command
+  pub is_run : command.task ≡ task.Run
+  pub given : Sources
+  pub reads : Reads shelf old new words (Texts command) given (short_steps plan first journal)
+  pub ready : IsReady given.s_define given.input plan
+  pub starts : IsFirst plan given.from first
+  pub text : List ℕ
+  pub replays : given.journal ≡ Some text
+  pub misfit : IsMisfit plan text first journal
+  pub files : (before : Files) → shelf.holds old ≡ Some before
+      → (now : Files) × (shelf.holds new ≡ Some now)
+      × ((name : List ℕ) → get now name ≡ content name (short_writes plan first journal) (get before name))
+
+-- What is said where a run came to its end, by its turns: what holds of its last state, and how many sessions
+-- joined in its journal.
+abbrev pub end_verdict : Request → Plan → State → List (List Entry) → Verdict
+end_verdict (Texts command) plan first lists = ended_verdict plan first lists
+end_verdict (Generated objects) plan first lists = with_objects objects (ended_verdict plan first lists)
+
+-- A verdict tells the end of a run that is done.
+abbrev pub TellsEnd : {S : Type 0} (shelf : Ghosts S) (old new : S) (words : List (List ℕ)) → Verdict → Type 0
+TellsEnd shelf old new words verdict =
+    (request : Request) × (plan : Plan) × (first : State) × (lists : List (List Entry))
+    × RunsToEnd shelf old new words request plan first lists
+    × (verdict ≡ end_verdict request plan first lists)
 
 -- What a verdict says of the words and of the shelf.
 abbrev pub Says : {S : Type 0} (shelf : Ghosts S) (old new : S) (words : List (List ℕ)) → Verdict → Type 0
@@ -116,9 +188,12 @@ Says shelf old new words (Accepted cells jobs threads) =
     (plan : Plan) × Looks shelf old new words task.Check plan × (Accepted cells jobs threads ≡ accepted_verdict plan)
 Says shelf old new words (Listed line) =
     (plan : Plan) × Looks shelf old new words task.List plan × (Listed line ≡ listed_verdict plan)
-Says shelf old new words (Ended turns tic faults sessions) =
-    (plan : Plan) × (lists : List (List Entry)) × RunsToEnd shelf old new words plan lists
-    × (Ended turns tic faults sessions ≡ ended_verdict (last_state plan lists))
+Says shelf old new words (Ended ended sessions) = TellsEnd shelf old new words (Ended ended sessions)
+Says shelf old new words (GeneratedBy objects ended sessions) =
+    TellsEnd shelf old new words (GeneratedBy objects ended sessions)
+Says shelf old new words (JournalLength kept given) =
+    (plan : Plan) × (first : State) × (journal : Journal) × Misfits shelf old new words plan first journal
+    × (JournalLength kept given ≡ length_verdict plan first journal)
 Says shelf old new words ShelfFault = Rose (shelf.failures old) (shelf.failures new)
 Says shelf old new words OutOfMemory = Unit {0}
 
@@ -129,39 +204,88 @@ pub data IsDone {S : Type 0} (shelf : Ghosts S) (old new : S) (words : List (Lis
       → IsDone shelf old new words (accepted_verdict plan)
   listed : (plan : Plan) → Looks shelf old new words task.List plan
       → IsDone shelf old new words (listed_verdict plan)
-  ran : (plan : Plan) (lists : List (List Entry)) → RunsToEnd shelf old new words plan lists
-      → ((last_state plan lists).faults).count ≡ 0 → IsDone shelf old new words (ended_verdict (last_state plan lists))
+  ran : (request : Request) (plan : Plan) (first : State) (lists : List (List Entry))
+      → RunsToEnd shelf old new words request plan first lists → ((last_state plan first lists).faults).count ≡ 0
+      → IsDone shelf old new words (end_verdict request plan first lists)
 
 -- What the shelf holds, where it tells, under the names that the words name.
-pub record Finds {S : Type 0} (shelf : Ghosts S) (old : S) (words : List (List ℕ)) (t : Task)
+pub record Finds {S : Type 0} (shelf : Ghosts S) (old : S) (words : List (List ℕ)) (command : Command)
     (given : List (Option (List ℕ))) : Type 0 where
-  pub s_define : List ℕ
-  pub input : List ℕ
-  pub asks : Asks words (record { task = t; s_define = s_define; input = input })
+  pub asks : Asks words (Texts command)
   pub files : Files
   pub told : shelf.holds old ≡ Some files
-  pub held : map (get files) (s_define ∷ input ∷ []) ≡ given
+  pub held : map (get files) (names_of command) ≡ given
 
--- The texts have an accepted plan, and what is asked for is built for what they have.
-pub record AreAccepted (t : Task) (s_define input : List ℕ) : Type 0 where
+-- The words ask for this with these texts: the shelf holds all files that they name, where it tells what it
+-- holds, or the texts are those of a generated simulation.
+pub data Gives {S : Type 0} (shelf : Ghosts S) (old : S) (words : List (List ℕ)) : Request → Sources → Type 0 where
+  files_held : {command : Command} {given : Sources} → AreNamed command given
+      → Finds shelf old words command (map Some (texts_of given)) → Gives shelf old words (Texts command) given
+  texts_generated : {objects : ℕ} → Asks words (Generated objects)
+      → Gives shelf old words (Generated objects) (generated_sources objects)
+
+-- A text is refused: one of the two of a simulation; or these have an accepted plan, and the text from which it is
+-- to be run is the checkpoint of no state of it, or the one under which it is to be run is no journal of it.
+pub data AreRefusedTexts (t : Task) (given : Sources) : Type 0 where
+  for_text : (line : List ℕ) → IsTextRefused given.s_define given.input line → AreRefusedTexts t given
+  for_checkpoint : (plan : Plan) (text : List ℕ) → t ≡ task.Run → IsReady given.s_define given.input plan
+      → given.from ≡ Some text
+      → ((other : Plan) (s : State) → IsReady given.s_define given.input other → IsCheckpointOf other text s → ⊥)
+      → AreRefusedTexts t given
+  for_journal : (plan : Plan) (text : List ℕ) → t ≡ task.Run → IsReady given.s_define given.input plan
+      → given.journal ≡ Some text
+      → ((other : Plan) (first : State) (journal : Journal) → IsReady given.s_define given.input other
+      → IsFirst other given.from first → IsJournalFor other first text journal → ⊥)
+      → AreRefusedTexts t given
+
+-- The texts have an accepted plan, a text from which it is to be run is the checkpoint of a state of it, and one
+-- under which it is to be run is a journal of it for the state from which the run starts.
+pub record AreAccepted (given : Sources) : Type 0 where
   pub plan : Plan
-  pub ready : IsReady s_define input plan
-  pub built : (other : Plan) → IsReady s_define input other → IsBuilt t other
+  pub ready : IsReady given.s_define given.input plan
+  pub loaded : (other : Plan) (text : List ℕ) → IsReady given.s_define given.input other → given.from ≡ Some text
+      → (s : State) × IsCheckpointOf other text s
+  pub read : (other : Plan) (first : State) (text : List ℕ) → IsReady given.s_define given.input other
+      → IsFirst other given.from first → given.journal ≡ Some text
+      → (journal : Journal) × IsJournalFor other first text journal
 
--- A text is refused for what it says, or what is asked for is not built for what the texts have.
-pub data AreRefusedTexts (t : Task) (s_define input : List ℕ) : Type 0 where
-  by_text : (line : List ℕ) → IsTextRefused s_define input line → AreRefusedTexts t s_define input
-  not_built : (plan : Plan) → IsReady s_define input plan
-      → ((other : Plan) → IsReady s_define input other → IsUnbuilt t other) → AreRefusedTexts t s_define input
+-- The journal of the texts is so, from the state at which the run starts.
+abbrev pub HasJournal : Sources → (Plan → State → Journal → Type 0) → Type 0
+HasJournal given Is =
+    (plan : Plan) (first : State) (text : List ℕ) (journal : Journal) → IsReady given.s_define given.input plan
+    → IsFirst plan given.from first → given.journal ≡ Some text → IsJournalFor plan first text journal
+    → Is plan first journal
 
--- What a command may have written: nothing, or a front of what the run writes that the named files
--- describe.
+-- The texts have no journal, or it fits.
+abbrev pub IsFittingIn : Sources → Type 0
+IsFittingIn given = HasJournal given IsFitting
+
+-- The texts have a journal, and it does not fit.
+pub record IsMisfitIn (given : Sources) : Type 0 where
+  pub text : List ℕ
+  pub replays : given.journal ≡ Some text
+  pub misfit : HasJournal given (λ plan first journal. IsFitting plan first journal → ⊥)
+
+-- What may have been written: nothing, or a front of the texts of a generated simulation; or a front of what the
+-- run writes that the texts describe, or all of it, behind what was written before it; or what a run writes whose
+-- journal does not fit.
 pub data MayWrite {S : Type 0} (shelf : Ghosts S) (old : S) (words : List (List ℕ)) : List Write → Type 0 where
   nothing : MayWrite shelf old words []
-  a_front : {s_define input : List ℕ} {plan : Plan} {lists : List (List Entry)} {writes : List Write}
-      → Finds shelf old words task.Serial (Some s_define ∷ Some input ∷ []) → IsReady s_define input plan
-      → AreInTics plan.threads → IsUnderWay plan lists → IsFrontOf writes (all_writes plan lists)
-      → MayWrite shelf old words writes
+  of_texts : {objects : ℕ} {writes : List Write} → Asks words (Generated objects)
+      → IsFrontOf writes (text_writes objects) → MayWrite shelf old words writes
+  a_front : {request : Request} {given : Sources} {plan : Plan} (first : State) (lists : List (List Entry))
+      {writes : List Write} → Gives shelf old words request given → task_of request ≡ task.Run
+      → IsReady given.s_define given.input plan → IsFirst plan given.from first
+      → IsUnderWay plan given.journal first lists
+      → IsFrontOf writes (earlier_writes request ++ all_writes plan first lists) → MayWrite shelf old words writes
+  of_whole : {request : Request} {given : Sources} {plan : Plan} (first : State) (lists : List (List Entry))
+      → Gives shelf old words request given → task_of request ≡ task.Run → IsReady given.s_define given.input plan
+      → IsFirst plan given.from first → IsWholeRun plan given.journal first lists
+      → MayWrite shelf old words (earlier_writes request ++ all_writes plan first lists)
+  of_misfit : {request : Request} {given : Sources} {plan : Plan} {first : State} {text : List ℕ} {journal : Journal}
+      → Gives shelf old words request given → task_of request ≡ task.Run → IsReady given.s_define given.input plan
+      → IsFirst plan given.from first → given.journal ≡ Some text → IsMisfit plan text first journal
+      → MayWrite shelf old words (earlier_writes request ++ short_writes plan first journal)
 
 -- Whatever the status is: what the shelf holds is what was held, and what such writes make of it.
 abbrev pub Stands : {S : Type 0} (shelf : Ghosts S) (old new : S) (words : List (List ℕ)) → Type 0

@@ -1,59 +1,39 @@
-ghost use Rattle.std.specs.Prelude.{◌≡◌, ◌≢◌, ◌⊎◌, ℕ, List, [], ◌∷◌, None, Some, Contains, length};
+ghost use Rattle.std.specs.Prelude.{◌≡◌, ◌≢◌, ◌⊎◌, ℕ, List, [], None, Contains, length};
+ghost use Rattle.trick_model.specs.State.{State};
 ghost use Rattle.trick_model.specs.declared.entry.Entry.{Entry};
+ghost use Rattle.trick_model.specs.declared.journal.Journal.{Journal};
 ghost use Rattle.trick_model.specs.declared.plan.Plan.{Plan};
 ghost use Rattle.trick_outside.specs.Causes.{Rose};
 ghost use Rattle.trick_outside.specs.Does.{Went};
 ghost use Rattle.trick_ready.specs.Texts.{IsPlanRefused};
-ghost use Rattle.trick_top.specs.Acts.{ended_verdict, last_state};
+ghost use Rattle.trick_top.specs.Acts.{last_state, length_verdict};
 ghost use Rattle.trick_top.specs.Answered.{HasAnswered};
 ghost use Rattle.trick_top.specs.Called.{HasCalled};
-ghost use Rattle.trick_top.specs.Outcome.{HasGone, HasGoneOn, HasPerformed};
+ghost use Rattle.trick_top.specs.Outcome.{HasGone, HasGoneOn};
 ghost use Rattle.trick_top.specs.Printed.{Prints};
-ghost use Rattle.trick_top.specs.Status.{AreAccepted, AreRefusedTexts, EndsWith, Finds, HoldsSame, IsDone};
-ghost use Rattle.trick_top.specs.Status.{IsRefusal, MissesFile, RefusesPlan, RefusesText, RunsToEnd, Stands, TookLine};
-ghost use Rattle.trick_top.specs.Verdict.{NoFile, OutOfMemory, Usage, line_of, unready_verdict, verdict_of};
+ghost use Rattle.trick_top.specs.Sources.{Sources};
+ghost use Rattle.trick_top.specs.Status.{AreAccepted, AreRefusedTexts, EndsWith, Finds, Gives, HoldsSame, HoldsTexts};
+ghost use Rattle.trick_top.specs.Status.{IsDone, IsFittingIn, IsMisfitIn, IsRefusal, Misfits, MissesFile};
+ghost use Rattle.trick_top.specs.Status.{RefusesPlan, RefusesText, RunsToEnd, Stands, TookLine, end_verdict};
+ghost use Rattle.trick_top.specs.Verdict.{NoFile, OutOfMemory, Usage, line_of, verdict_of};
 ghost use Rattle.trick_top.specs.Verdict.{Verdict as VerdictOf};
-ghost use Rattle.trick_top.specs.Words.{AreRefused, Asked, names_of};
+ghost use Rattle.trick_top.specs.Words.{AreRefused, Asked, Asks, names_of, task_of};
+ghost use Rattle.trick_top.specs.declared.words.Command.{Command as CommandOf};
+ghost use Rattle.trick_top.specs.declared.words.Request.TheVariants as requests;
+ghost use Rattle.trick_top.specs.declared.words.Request.{Request as RequestOf};
 ghost use Rattle.trick_top.specs.declared.words.Task.TheVariants as tasks;
-ghost use Rattle.trick_top.specs.declared.words.Task.{Task};
 
-use crate::files::read_files;
-use crate::plans::act;
+use crate::files::read_named;
+use crate::generated::run_generated;
+use crate::sources::as_sources;
+use crate::texts::perform_on;
 use crate::verdict::Verdict;
-use crate::words::{Command, Task, read_words};
+use crate::words::{Command, Request, read_words};
 use std::alloc::Global;
 use trick_base::{Items, Word};
 use trick_outside::{Printed, Shelf, Sink, put};
 use trick_ready::laws::texts_have_one_meaning;
-use trick_ready::{Unready, ready};
 use trick_words::laws;
-
-/// The verdict on two texts that have no plan to go on with.
-fn refused(unready: Unready) -> Verdict<'static>
-    ensures { verdict_of result ≡ unready_verdict unready }
-{
-    match unready {
-        Unready::TextRefused { line } => Verdict::TextRefused(line),
-        Unready::PlanRefused { line } => Verdict::PlanRefused(line),
-        Unready::OutOfMemory => Verdict::OutOfMemory,
-    }
-}
-
-/// What a command does with the two texts of a simulation.
-fn perform_on<F: Shelf>(
-    alloc: Global,
-    task: Task,
-    s_define: &[u8],
-    input: &[u8],
-    shelf: &mut F,
-) -> Verdict<'static>
-    ensures { HasPerformed F.Shelf shelf.old shelf.new task s_define.now input.now (verdict_of result) }
-{
-    match ready(alloc, s_define, input) {
-        Ok(accepted) => act(alloc, &accepted, task, shelf),
-        Err(unready) => refused(unready),
-    }
-}
 
 /// What a command does once its files are found, by their texts.
 fn go_on<F: Shelf>(
@@ -65,22 +45,26 @@ fn go_on<F: Shelf>(
     requires { length texts.now ≡ length (names_of command.now) }
     ensures { HasGoneOn F.Shelf shelf.old shelf.new command.now texts.now (verdict_of result) }
 {
-    perform_on(
-        alloc,
-        command.task,
-        texts[0].as_slice(),
-        texts[1].as_slice(),
-        shelf,
-    )
+    perform_on(alloc, command.task, as_sources(command, texts), shelf)
 }
 
 /// What a command does; its verdict is not printed yet.
 fn perform<'a, F: Shelf>(alloc: Global, command: &'a Command, shelf: &mut F) -> Verdict<'a>
-    ensures { HasGone F.Shelf shelf.old shelf.new (Asked command.now) (verdict_of result) }
+    ensures { HasGone F.Shelf shelf.old shelf.new (Asked (requests.Texts command.now)) (verdict_of result) }
 {
-    match read_files(alloc, &command.names(), shelf) {
+    match read_named(alloc, command, shelf) {
         Ok(texts) => go_on(alloc, command, &texts, shelf),
         Err(verdict) => verdict,
+    }
+}
+
+/// Does what is asked for; the verdict is not printed yet.
+fn fulfil<'a, F: Shelf>(alloc: Global, request: &'a Request, shelf: &mut F) -> Verdict<'a>
+    ensures { HasGone F.Shelf shelf.old shelf.new (Asked request.now) (verdict_of result) }
+{
+    match request {
+        Request::Texts(command) => perform(alloc, command, shelf),
+        Request::Generated { objects } => run_generated(alloc, *objects, shelf),
     }
 }
 
@@ -122,8 +106,8 @@ fn answer<F: Shelf, O: Sink>(alloc: Global, words: &[Word], shelf: &mut F, out: 
     ensures { HasAnswered F.Shelf O.Sink shelf.old shelf.new out.old out.new words.now result }
 {
     match read_words(alloc, words) {
-        Ok(Some(command)) => {
-            let verdict = perform(alloc, &command, shelf);
+        Ok(Some(request)) => {
+            let verdict = fulfil(alloc, &request, shelf);
             print(alloc, &verdict, out)
         }
         Ok(None) => print(alloc, &Verdict::Usage, out),
@@ -135,9 +119,11 @@ fn answer<F: Shelf, O: Sink>(alloc: Global, words: &[Word], shelf: &mut F, out: 
 /// for nobody. The words come without the program's name. Answers the status of the program (see
 /// docs/RULES.md); the sink is given one line, last of all.
 ///
-/// Today the commands are `serial`, `check` and `list`, each followed by the names of an S_define and of
-/// an input. `serial` writes the files of the run, and the other two write nothing. After the shelf
-/// failed it is not called again.
+/// The commands are `serial`, `check` and `list`, each followed by the names of an S_define and of an input,
+/// `replay`, followed by these and the name of a journal, and `gen`, followed by a number of objects. `serial`
+/// writes the files of the run without clients, and `replay` those of the run under the journal; both go on
+/// from a checkpoint where `--from` names one. `gen` writes its two texts and then the files of their run; and
+/// the other two write nothing. After the shelf failed it is not called again.
 pub fn tricks_alone<F: Shelf, O: Sink>(
     alloc: Global,
     words: &[Word],
@@ -158,36 +144,41 @@ pub fn tricks_alone<F: Shelf, O: Sink>(
         × TookLine (O.holds out.old) (O.holds out.new) line }
     ensures plan_refused { result ≡ 3 → (line : List ℕ) × RefusesPlan F.Shelf shelf.old shelf.new words.now line
         × TookLine (O.holds out.old) (O.holds out.new) line }
-    ensures faults { result ≡ 4 → (plan : Plan) × (lists : List (List Entry))
-        × RunsToEnd F.Shelf shelf.old shelf.new words.now plan lists
-        × (((last_state plan lists).faults).count ≢ 0)
-        × TookLine (O.holds out.old) (O.holds out.new) (line_of (ended_verdict (last_state plan lists))) }
+    ensures faults { result ≡ 4 → (asked : RequestOf) × (plan : Plan) × (first : State) × (lists : List (List Entry))
+        × RunsToEnd F.Shelf shelf.old shelf.new words.now asked plan first lists
+        × (((last_state plan first lists).faults).count ≢ 0)
+        × TookLine (O.holds out.old) (O.holds out.new) (line_of (end_verdict asked plan first lists)) }
     ensures shelf_fault { result ≡ 5 → Rose (F.failures shelf.old) (F.failures shelf.new) }
+    ensures journal_length { result ≡ 7 → (plan : Plan) × (first : State) × (journal : Journal)
+        × Misfits F.Shelf shelf.old shelf.new words.now plan first journal
+        × TookLine (O.holds out.old) (O.holds out.new) (line_of (length_verdict plan first journal)) }
     ensures sink_fault { result ≡ 8 → Rose (O.failures out.old) (O.failures out.new) }
     ensures no_file { result ≡ 9 → (name : List ℕ) × MissesFile F.Shelf shelf.old shelf.new words.now name
         × TookLine (O.holds out.old) (O.holds out.new) (line_of (NoFile name)) }
-    ensures refused_same { IsRefusal result → HoldsSame (F.holds shelf.old) (F.holds shelf.new) }
+    ensures refused_same { IsRefusal words.now result → HoldsSame (F.holds shelf.old) (F.holds shelf.new) }
+    ensures refused_generated { (objects : ℕ) → Asks words.now (requests.Generated objects)
+        → (result ≡ 2) ⊎ (result ≡ 3) → HoldsTexts objects (F.holds shelf.old) (F.holds shelf.new) }
 
     // Whatever the status is, and so at 5, 6 and 8 too: what stands of the writes.
     ensures stopped { Stands F.Shelf shelf.old shelf.new words.now }
 
     // When each comes. Want of memory is free, and a failed sink decides over all else.
     ensures usage_all { AreRefused words.now → EndsWith result 1 }
-    ensures no_file_all { (task : Task) (given : _) → Finds F.Shelf shelf.old words.now task given
+    ensures no_file_all { (command : CommandOf) (given : _) → Finds F.Shelf shelf.old words.now command given
         → Contains given None → ¬ Rose (F.failures shelf.old) (F.failures shelf.new) → EndsWith result 9 }
-    ensures text_refused_all { (task : Task) (s_define input : _)
-        → Finds F.Shelf shelf.old words.now task (Some s_define ∷ Some input ∷ [])
-        → AreRefusedTexts task s_define input
+    ensures text_refused_all { (asked : RequestOf) (given : Sources) → Gives F.Shelf shelf.old words.now asked given
+        → AreRefusedTexts (task_of asked) given
         → ¬ Rose (F.failures shelf.old) (F.failures shelf.new) → EndsWith result 2 }
-    ensures plan_refused_all { (task : Task) (s_define input line : _)
-        → Finds F.Shelf shelf.old words.now task (Some s_define ∷ Some input ∷ [])
-        → IsPlanRefused s_define input line
+    ensures plan_refused_all { (asked : RequestOf) (given : Sources) (line : List ℕ)
+        → Gives F.Shelf shelf.old words.now asked given → IsPlanRefused given.s_define given.input line
         → ¬ Rose (F.failures shelf.old) (F.failures shelf.new) → EndsWith result 3 }
-    ensures complete { (task : Task) (s_define input : _)
-        → Finds F.Shelf shelf.old words.now task (Some s_define ∷ Some input ∷ [])
-        → AreAccepted task s_define input
+    ensures journal_length_all { (asked : RequestOf) (given : Sources) → Gives F.Shelf shelf.old words.now asked given
+        → task_of asked ≡ tasks.Run → AreAccepted given → IsMisfitIn given
+        → ¬ Rose (F.failures shelf.old) (F.failures shelf.new) → EndsWith result 7 }
+    ensures complete { (asked : RequestOf) (given : Sources) → Gives F.Shelf shelf.old words.now asked given
+        → AreAccepted given → IsFittingIn given
         → ¬ Rose (F.failures shelf.old) (F.failures shelf.new) → ¬ Rose (O.failures out.old) (O.failures out.new)
-        → (result ≡ 0) ⊎ (((result ≡ 4) × (task ≡ tasks.Serial)) ⊎ (result ≡ 6)) }
+        → (result ≡ 0) ⊎ (((result ≡ 4) × (task_of asked ≡ tasks.Run)) ⊎ (result ≡ 6)) }
 {
     laws::one_command();
     texts_have_one_meaning();

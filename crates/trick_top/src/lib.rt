@@ -3,7 +3,12 @@
 
 mod alone;
 mod files;
+mod generated;
 mod plans;
+mod replays;
+mod runs;
+mod sources;
+mod texts;
 mod verdict;
 mod words;
 

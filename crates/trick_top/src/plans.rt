@@ -1,22 +1,20 @@
 //! What a command does with an accepted plan.
 
 ghost use Rattle.std.specs.Prelude.{◌≡◌, ◌⊎◌};
-ghost use Rattle.trick_exec.specs.Alone.{AreInTics};
 ghost use Rattle.trick_top.specs.Acts.{HasActed, accepted_verdict, listed_verdict};
-ghost use Rattle.trick_top.specs.Verdict.{OutOfMemory, TextRefused, verdict_of};
-ghost use Rattle.trick_top.specs.declared.words.Task.TheVariants as task;
+ghost use Rattle.trick_top.specs.Sources.{sources_of};
+ghost use Rattle.trick_top.specs.Verdict.{OutOfMemory, verdict_of};
+ghost use Rattle.trick_top.specs.declared.words.Task.TheVariants as tasks;
 
+use crate::replays::replay;
+use crate::runs::run;
+use crate::sources::Sources;
 use crate::verdict::Verdict;
 use crate::words::Task;
 use std::alloc::Global;
 use trick_memory::listing;
 use trick_model::{Accepted, Plan};
-use trick_outside::{Shelf, Stop};
-use trick_serial::{has_beside, serial};
-
-/// The line of a run that is not built yet, whose input has a thread beside the tics. It is no
-/// mistake of a line, so the line is 0.
-const BESIDE: &[u8] = b"refused NotInProfile input 0\n";
+use trick_outside::Shelf;
 
 /// What `check` says of an accepted plan.
 fn accepted(plan: &Plan) -> Verdict<'static>
@@ -42,49 +40,36 @@ fn listed(alloc: Global, plan: &Plan) -> Verdict<'static>
     }
 }
 
-/// A text is refused with this line.
-fn text_refused(alloc: Global, line: &[u8]) -> Verdict<'static>
-    ensures { (verdict_of result ≡ TextRefused line.now) ⊎ (verdict_of result ≡ OutOfMemory) }
+/// Runs an accepted plan, under the journal where its text is given.
+fn run_given<F: Shelf>(
+    alloc: Global,
+    accepted: Accepted,
+    given: Sources,
+    shelf: &mut F,
+) -> Verdict<'static>
+    ensures { HasActed F.Shelf shelf.old shelf.new accepted.plan (sources_of given.entry).from
+        (sources_of given.entry).journal tasks.Run (verdict_of result) }
 {
-    match Vec::from_slice(alloc, line) {
-        Ok(line) => Verdict::TextRefused(line),
-        Err(_) => Verdict::OutOfMemory,
+    match given.journal {
+        None => run(alloc, accepted, given.from, shelf),
+        Some(journal) => replay(alloc, accepted, given.from, journal, shelf),
     }
 }
 
-/// Runs an accepted plan whose threads are all scheduled.
-fn run<F: Shelf>(alloc: Global, accepted: &Accepted, shelf: &mut F) -> Verdict<'static>
-    requires { AreInTics accepted.now.plan.threads }
-    ensures { HasActed F.Shelf shelf.old shelf.new accepted.now.plan task.Serial (verdict_of result) }
-{
-    match serial(alloc, accepted, shelf) {
-        Ok(ended) => Verdict::Ended(ended),
-        Err(Stop::Shelf) => Verdict::ShelfFault,
-        Err(Stop::Memory) => Verdict::OutOfMemory,
-    }
-}
-
-/// Runs an accepted plan, where it has no thread beside the tics.
-fn simulate<F: Shelf>(alloc: Global, accepted: &Accepted, shelf: &mut F) -> Verdict<'static>
-    ensures { HasActed F.Shelf shelf.old shelf.new accepted.now.plan task.Serial (verdict_of result) }
-{
-    if has_beside(accepted.plan()) {
-        return text_refused(alloc, BESIDE);
-    }
-    run(alloc, accepted, shelf)
-}
-
-/// Does with an accepted plan what a command asks for.
+/// Does with an accepted plan what a command asks for. A run goes on from a checkpoint, where its text is
+/// given, and runs under a journal, where its text is given.
 pub(crate) fn act<F: Shelf>(
     alloc: Global,
-    accepted_plan: &Accepted,
+    accepted_plan: Accepted,
+    given: Sources,
     task: Task,
     shelf: &mut F,
 ) -> Verdict<'static>
-    ensures { HasActed F.Shelf shelf.old shelf.new accepted_plan.now.plan task (verdict_of result) }
+    ensures { HasActed F.Shelf shelf.old shelf.new accepted_plan.plan (sources_of given.entry).from
+        (sources_of given.entry).journal task (verdict_of result) }
 {
     match task {
-        Task::Serial => simulate(alloc, accepted_plan, shelf),
+        Task::Run => run_given(alloc, accepted_plan, given, shelf),
         Task::Check => accepted(accepted_plan.plan()),
         Task::List => listed(alloc, accepted_plan.plan()),
     }

@@ -18,6 +18,31 @@ Counter counter;
 
 const INPUT: &str = "trick.stop(3.0)\n";
 
+/// As the input above, and the run starts frozen.
+const FROZEN: &str = "trick.stop(3.0)\ntrick.freeze()\n";
+
+/// A count, and its copy by work that may be published late.
+const ASYNCHRONOUS: &str = "class Copy : public Trick::SimObject {
+  public:
+    long n;
+    long y;
+    void count() { n += 1; }
+    void copy() { y = n; }
+    Copy() { (1.0, \"scheduled\") count(); C1 (1.0, \"scheduled\") copy(); }
+};
+Copy o;
+";
+
+const COPIED: &str = "trick.exec_set_thread_process_type(1, trick.PROCESS_TYPE_ASYNC_CHILD)
+g = trick.DRAscii(\"g\")
+g.set_cycle(1.0)
+g.add_variable(\"o.n\")
+trick.add_data_record_group(g)
+trick.stop(3.0)
+";
+
+const COUNTS: &str = "tic,o.n\n0,1\n1000000,2\n2000000,3\n3000000,4\n";
+
 const FINAL: &str = "checkpoint = 1;
 turn = 4;
 tic = 3000001;
@@ -30,6 +55,16 @@ end;
 ";
 
 const JOURNAL: &str = "tricks journal 1\nfrom 0\nend 4\n";
+
+/// The lines of a client in turn 0 of a run that starts frozen.
+const REPLAYED: &str = "tricks journal 1
+from 0
+0 join 1
+0 cmd 1 trick.var_add(\"counter.n\")
+0 cmd 1 trick.var_add(\"counter.zz\")
+0 cmd 1 trick.var_cycle(1.0)
+0 cmd 1 trick.exec_run()
+";
 
 const LISTING: &str = "[{\"cell\":0,\"name\":\"counter.n\",\"type\":\"long\"}]\n";
 
@@ -100,18 +135,18 @@ fn a_counter_that_is_looked_at(rt: HostRuntime) -> Result<(), Fail> {
 #[test]
 fn words_that_ask_for_nothing(rt: HostRuntime) -> Result<(), Fail> {
     let alloc = rt.alloc();
-    // no command, and commands and options that the program does not have yet
+    // no command, words that are no command's, and commands that the program does not have yet
     let cases: [&[&str]; 11] = [
         &[],
         &["serial", "s", "--from"],
         &["seriAl", "s", "i"],
         &["serial", "s", "i", "--", "i"],
-        &["serial", "s", "--from=s", "i"],
+        &["serial", "s", "--from=s", "i", "--from=s"],
         &["run", "s", "i"],
-        &["replay", "s", "i", "s"],
+        &["replay", "s", "i"],
         &["check", "s"],
         &["list", "s", "i", "--from=i"],
-        &["gen", "40"],
+        &["gen", "101"],
         &["--help"],
     ];
     for case in cases {
@@ -123,6 +158,75 @@ fn words_that_ask_for_nothing(rt: HostRuntime) -> Result<(), Fail> {
         );
         assert_eq!(rt; out.bytes(), USAGE.as_bytes());
         assert_eq!(rt; shelf.names()?.len(), 2);
+    }
+    Ok(())
+}
+
+#[test]
+fn a_journal_is_replayed(rt: HostRuntime) -> Result<(), Fail> {
+    let alloc = rt.alloc();
+    // the journal's last line; the status, the printed line, and whether the run ends
+    let cases = [
+        (
+            "end 4\n",
+            0,
+            "ended turns=4 tic=3000001 faults=0 sessions=1\n",
+            true,
+        ),
+        ("", 2, "refused NoEnd journal 8\n", false),
+        ("end 5\n", 7, "refused JournalLength 5 4\n", false),
+        ("end 3\n", 7, "refused JournalLength 3 4\n", false),
+    ];
+    let words = words(alloc, &["replay", "s", "i", "j"])?;
+    for (end, status, line, ends) in cases {
+        let journal = format!(in alloc; "{REPLAYED}{end}")?;
+        let shelf = with_texts(MemoryShelf::new(alloc), S_DEFINE, FROZEN)?;
+        let mut shelf = shelf.with_file(b"j", journal.as_bytes())?;
+        let mut out = MemorySink::new(alloc);
+        assert_eq!(rt; tricks_alone(alloc, &words, &mut shelf, &mut out), status);
+        assert_eq!(rt; out.bytes(), line.as_bytes());
+        if ends {
+            assert_eq!(rt; shelf.file(b"final.chk"), Some(FINAL.as_bytes()));
+            assert_eq!(rt; shelf.file(b"journal.txt"), Some(journal.as_bytes()));
+        } else {
+            assert_eq!(rt; shelf.file(b"final.chk"), None);
+        }
+        if status == 7 {
+            assert_eq!(rt; shelf.file(b"journal.txt"), Some(REPLAYED.as_bytes()));
+        }
+    }
+    Ok(())
+}
+
+#[test]
+fn a_round_is_published_where_the_journal_says(rt: HostRuntime) -> Result<(), Fail> {
+    let alloc = rt.alloc();
+    // each command, the last value of y, and the journal that it writes
+    let cases: [(&[&str], &str, &str); 2] = [
+        (
+            &["serial", "s", "i"],
+            "o.y = 3;",
+            "tricks journal 1\nfrom 0\n1 publish 1\n2 publish 1\n3 publish 1\nend 4\n",
+        ),
+        (
+            &["replay", "s", "i", "j"],
+            "o.y = 1;",
+            "tricks journal 1\nfrom 0\n3 publish 1\nend 4\n",
+        ),
+    ];
+    for (command, y, journal) in cases {
+        let shelf = with_texts(MemoryShelf::new(alloc), ASYNCHRONOUS, COPIED)?;
+        let mut shelf = shelf.with_file(b"j", journal.as_bytes())?;
+        let mut out = MemorySink::new(alloc);
+        assert_eq!(rt;
+            tricks_alone(alloc, &words(alloc, command)?, &mut shelf, &mut out),
+            0
+        );
+        assert_eq!(rt; out.bytes(), ENDED.as_bytes());
+        assert_eq!(rt; shelf.file(b"journal.txt"), Some(journal.as_bytes()));
+        assert_eq!(rt; shelf.file(b"log_g.csv"), Some(COUNTS.as_bytes()));
+        let last = str::from_utf8(shelf.file(b"final.chk").unwrap_or(b""))?;
+        assert!(rt; last.contains(y), "{last}");
     }
     Ok(())
 }

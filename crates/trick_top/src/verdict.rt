@@ -1,9 +1,12 @@
 ghost use Rattle.std.specs.Prelude.{◌≡◌, ◌++◌, IfNone, IfOk, IfSome, OnOk, decimal, true};
-ghost use Rattle.trick_top.specs.Verdict.{Accepted, Ended as EndedBy, ended_status as ended_status_of, is_made, line_of, status_of, verdict_of};
+ghost use Rattle.trick_top.specs.Verdict.{Accepted, Ended as EndedBy, Generated as GeneratedBy, is_made, line_of};
+ghost use Rattle.trick_top.specs.Verdict.{ended_status as ended_status_of, generated_line as generated_line_of};
+ghost use Rattle.trick_top.specs.Verdict.{status_of, verdict_of};
 
 use itoa::Buffer;
 use std::alloc::{AllocError, Global};
 use trick_base::Word;
+use trick_refusal::length_line;
 use trick_serial::Ended;
 
 const USAGE: &[u8] = b"usage: tricks serial|run|replay|check|list|gen\n";
@@ -24,11 +27,29 @@ pub(crate) enum Verdict<'a> {
     /// The plan is not accepted, with this line.
     PlanRefused(Vec<u8>),
     /// The plan is accepted: it has so many cells, jobs and threads.
-    Accepted { cells: u64, jobs: u64, threads: u64 },
+    Accepted {
+        cells: u64,
+        jobs: u64,
+        threads: u64,
+    },
     /// The cells are listed by this line.
     Listed(Vec<u8>),
-    /// The run came to its end.
-    Ended(Ended),
+    /// The run came to its end, and so many sessions joined in it.
+    Ended {
+        ended: Ended,
+        sessions: u64,
+    },
+    /// The run of a generated simulation of so many objects came to its end.
+    Generated {
+        objects: u32,
+        ended: Ended,
+        sessions: u64,
+    },
+    /// The journal does not fit: it ends at one turn, and its run at another.
+    JournalLength {
+        kept: u64,
+        given: u64,
+    },
     /// The shelf failed.
     ShelfFault,
     /// There was no memory.
@@ -64,16 +85,44 @@ fn accepted_line(alloc: Global, cells: u64, jobs: u64, threads: u64) -> Result<V
     Ok(line)
 }
 
-fn ended_line(alloc: Global, ended: Ended) -> Result<Vec<u8>, AllocError>
-    ensures { IfOk result (λ line. line.items ≡ line_of (EndedBy ended.turns ended.tic ended.faults 0)) }
+fn ended_line(alloc: Global, ended: Ended, sessions: u64) -> Result<Vec<u8>, AllocError>
+    ensures { IfOk result (λ line. line.items ≡ line_of (EndedBy ended sessions)) }
 {
     let mut line = Vec::new(alloc);
     push_number(&mut line, b"ended turns=", ended.turns)?;
     push_number(&mut line, b" tic=", ended.tic)?;
     push_number(&mut line, b" faults=", ended.faults)?;
-    push_number(&mut line, b" sessions=", 0)?;
+    push_number(&mut line, b" sessions=", sessions)?;
     line.extend_from_slice(b"\n")?;
     Ok(line)
+}
+
+// What is said of a generated simulation before its run's line.
+fn generated_line(alloc: Global, objects: u32, sum: i64) -> Result<Vec<u8>, AllocError>
+    ensures { IfOk result (λ line. line.items ≡ generated_line_of objects sum) }
+{
+    let mut line = Vec::new(alloc);
+    push_number(&mut line, b"gen ", objects as u64)?;
+    push_number(&mut line, b" objects=", objects as u64)?;
+    push_number(&mut line, b" jobs=", 3 * objects as u64)?;
+    line.extend_from_slice(b" sum=")?;
+    line.extend_from_slice(Buffer::new().format(sum).as_bytes())?;
+    line.extend_from_slice(b"\n")?;
+    Ok(line)
+}
+
+// The lines of a generated simulation and of its run.
+fn generated_lines(
+    alloc: Global,
+    objects: u32,
+    ended: Ended,
+    sessions: u64,
+) -> Result<Vec<u8>, AllocError>
+    ensures { IfOk result (λ line. line.items ≡ line_of (GeneratedBy objects ended sessions)) }
+{
+    let mut lines = generated_line(alloc, objects, ended.sum)?;
+    lines.extend_from_slice(&ended_line(alloc, ended, sessions)?)?;
+    Ok(lines)
 }
 
 /// The status of a run that came to its end.
@@ -97,7 +146,9 @@ impl Verdict<'_> {
             Verdict::TextRefused(_) => 2,
             Verdict::PlanRefused(_) => 3,
             Verdict::Accepted { .. } | Verdict::Listed(_) => 0,
-            Verdict::Ended(ended) => ended_status(ended.faults),
+            Verdict::Ended { ended, .. } => ended_status(ended.faults),
+            Verdict::Generated { ended, .. } => ended_status(ended.faults),
+            Verdict::JournalLength { .. } => 7,
             Verdict::ShelfFault => 5,
             Verdict::OutOfMemory => 6,
         }
@@ -110,7 +161,9 @@ impl Verdict<'_> {
     {
         match self {
             Verdict::Usage => Some(USAGE),
-            Verdict::NoFile(_) | Verdict::Accepted { .. } | Verdict::Ended(_) => None,
+            Verdict::NoFile(_) | Verdict::Accepted { .. } => None,
+            Verdict::Ended { .. } | Verdict::Generated { .. } => None,
+            Verdict::JournalLength { .. } => None,
             Verdict::TextRefused(line) => Some(line),
             Verdict::PlanRefused(line) => Some(line),
             Verdict::Listed(line) => Some(line),
@@ -134,7 +187,13 @@ impl Verdict<'_> {
                 threads,
             } => accepted_line(alloc, *cells, *jobs, *threads),
             Verdict::Listed(line) => Vec::from_slice(alloc, line),
-            Verdict::Ended(ended) => ended_line(alloc, *ended),
+            Verdict::Ended { ended, sessions } => ended_line(alloc, *ended, *sessions),
+            Verdict::Generated {
+                objects,
+                ended,
+                sessions,
+            } => generated_lines(alloc, *objects, *ended, *sessions),
+            Verdict::JournalLength { kept, given } => length_line(alloc, *kept, *given),
             Verdict::ShelfFault => Vec::from_slice(alloc, SHELF_FAULT),
             Verdict::OutOfMemory => Vec::from_slice(alloc, OUT_OF_MEMORY),
         }

@@ -1,77 +1,96 @@
 ghost use Rattle.std.specs.Prelude.{◌≡◌, IfOk, MatchOption};
-ghost use Rattle.trick_top.specs.Words.{AreRefused, Asks, command_of};
+ghost use Rattle.trick_top.specs.Words.{AreRefused, Asks, request_of};
 
 use std::alloc::{AllocError, Global};
 use trick_base::Word;
 use trick_words::{laws, read_command};
 
-/// What is done with the two texts of a simulation.
+/// What is done with the texts of a simulation.
 #[derive(Clone, Copy, Debug, PartialEq, Eq)]
 pub(crate) enum Task {
-    /// The run on one thread, from the start.
-    Serial,
+    /// The run on one thread: under the journal, where one is named, and else without clients.
+    Run,
     /// Accepts or refuses the plan, and runs nothing.
     Check,
     /// Lists the cells.
     List,
 }
 
-/// What the words of a command line ask for: a command that the program has today. Each is about the
-/// texts in two files.
+/// A command about the texts in named files.
 #[derive(Debug, Drop)]
 pub(crate) struct Command {
     pub(crate) task: Task,
     pub(crate) s_define: Word,
     pub(crate) input: Word,
+    /// The checkpoint from which a run goes on; none is read by `check` and `list`.
+    pub(crate) from: Option<Word>,
+    /// The journal under which a run is replayed; none is read by `check` and `list`.
+    pub(crate) journal: Option<Word>,
 }
 
-impl Command {
-    ghost use Rattle.std.specs.Prelude.{◌≡◌, map};
-    ghost use Rattle.trick_top.specs.Words.{names_of};
-
-    /// The names of the files that it reads, in this order.
-    pub(crate) fn names(&self) -> [&Word; 2]
-        ensures { map (λ name. name.now) result ≡ names_of self.now }
-    {
-        [&self.s_define, &self.input]
-    }
+/// What the words of a command line ask for, of what the program has today.
+#[derive(Debug, Drop)]
+pub(crate) enum Request {
+    /// Something about the texts in named files.
+    Texts(Command),
+    /// The run of a generated simulation with so many objects.
+    Generated { objects: u32 },
 }
 
-/// The command that a line of words is, where the program has it.
-fn command_of(line: trick_words::Command) -> Option<Command>
-    ensures { result ≡ command_of line }
+/// What a line of words asks for, where the program has it.
+fn request_of(line: trick_words::Command) -> Option<Request>
+    ensures { result ≡ request_of line }
 {
     match line {
         trick_words::Command::Serial {
             s_define,
             input,
-            from: None,
-        } => Some(Command {
-            task: Task::Serial,
+            from,
+        } => Some(Request::Texts(Command {
+            task: Task::Run,
             s_define,
             input,
-        }),
-        trick_words::Command::Check { s_define, input } => Some(Command {
+            from,
+            journal: None,
+        })),
+        trick_words::Command::Replay {
+            s_define,
+            input,
+            journal,
+            from,
+        } => Some(Request::Texts(Command {
+            task: Task::Run,
+            s_define,
+            input,
+            from,
+            journal: Some(journal),
+        })),
+        trick_words::Command::Check { s_define, input } => Some(Request::Texts(Command {
             task: Task::Check,
             s_define,
             input,
-        }),
-        trick_words::Command::List { s_define, input } => Some(Command {
+            from: None,
+            journal: None,
+        })),
+        trick_words::Command::List { s_define, input } => Some(Request::Texts(Command {
             task: Task::List,
             s_define,
             input,
-        }),
+            from: None,
+            journal: None,
+        })),
+        trick_words::Command::Gen { objects } => Some(Request::Generated { objects }),
         _other => None,
     }
 }
 
-/// The command that the words ask for, the program's name left out.
-pub(crate) fn read_words(alloc: Global, words: &[Word]) -> Result<Option<Command>, AllocError>
-    ensures { IfOk result (λ command. MatchOption command (AreRefused words.now) (Asks words.now)) }
+/// What the words ask for, the program's name left out.
+pub(crate) fn read_words(alloc: Global, words: &[Word]) -> Result<Option<Request>, AllocError>
+    ensures { IfOk result (λ asked. MatchOption asked (AreRefused words.now) (Asks words.now)) }
 {
     laws::one_command();
     match read_command(alloc, words)? {
-        Some(line) => Ok(command_of(line)),
+        Some(line) => Ok(request_of(line)),
         None => Ok(None),
     }
 }

@@ -1,6 +1,7 @@
 ghost use Rattle.std.specs.Prelude.{◌≡◌};
 ghost use Rattle.trick_outside.specs.Causes.{HasCause};
 
+use crate::open_files::OpenFiles;
 use std::alloc::Global;
 use std::fs::{self, OpenFile, OpenOptions};
 use std::io::{self, ErrorKind, Read, Write};
@@ -15,11 +16,14 @@ const FILE_LIMIT: u64 = 2_147_483_648;
 ///
 /// A name is the path of a file, from that folder or from the root, and links are followed. What is
 /// there and is no regular file, as a folder, a pipe or a device, is not opened: the call fails, and
-/// waits for nobody.
+/// waits for nobody. A file to which is appended stays open for the next append; each append is one
+/// write, so what was appended is there for others to see.
 #[derive(Drop)]
 pub(crate) struct Folder<'a, R: Files> {
     rt: &'a R,
+    alloc: Global,
     faults: u64,
+    open: OpenFiles<R::File>,
 }
 
 /// The path that a name is. One that is no text is the name of nothing that can be opened.
@@ -64,17 +68,45 @@ fn make_empty<R: Files>(rt: &R, name: &Word) -> io::Result<()> {
     fs::create(rt, path).map(drop)
 }
 
-/// Adds bytes at a file's end.
-fn append_to<R: Files>(rt: &R, name: &Word, bytes: &[u8]) -> io::Result<()> {
+/// Opens a file so that all that is written goes to its end. It is made where there is none.
+fn open_at_end<R: Files>(rt: &R, name: &Word) -> io::Result<R::File> {
     let path = path_of(name)?;
     is_there(rt, path)?;
-    let mut file = OpenOptions::new().append(true).create(true).open(rt, path)?;
-    file.write_all(bytes)
+    OpenOptions::new().append(true).create(true).open(rt, path)
 }
 
 impl<'a, R: Files> Folder<'a, R> {
-    pub(crate) fn new(rt: &'a R) -> Self {
-        Folder { rt, faults: 0 }
+    pub(crate) fn new(rt: &'a R, alloc: Global) -> Self {
+        Folder {
+            rt,
+            alloc,
+            faults: 0,
+            open: OpenFiles::new(alloc),
+        }
+    }
+
+    /// Opens a file for appending. Where that fails it is tried once more with all others closed, since
+    /// a process may have so many open files and no more.
+    fn open_file(&mut self, name: &Word) -> io::Result<R::File>
+        ensures { self.new.faults ≡ self.old.faults }
+    {
+        match open_at_end(self.rt, name) {
+            Err(_) if self.open.close_all() => open_at_end(self.rt, name),
+            opened => opened,
+        }
+    }
+
+    /// Adds bytes at a file's end, and keeps it open.
+    fn append_to(&mut self, name: &Word, bytes: &[u8]) -> io::Result<()>
+        ensures { self.new.faults ≡ self.old.faults }
+    {
+        if let Some(file) = self.open.find(name.as_slice()) {
+            return file.write_all(bytes);
+        }
+        let mut file = self.open_file(name)?;
+        file.write_all(bytes)?;
+        self.open.keep(self.alloc, name.as_slice(), file);
+        Ok(())
     }
 
     fn fail(&mut self)
@@ -124,12 +156,13 @@ impl<R: Files> Shelf for Folder<'_, R> {
     }
 
     fn create(&mut self, name: &Word) -> Wrote {
+        self.open.close(name.as_slice());
         let done = make_empty(self.rt, name);
         self.wrote(done)
     }
 
     fn append(&mut self, name: &Word, bytes: &[u8]) -> Wrote {
-        let done = append_to(self.rt, name, bytes);
+        let done = self.append_to(name, bytes);
         self.wrote(done)
     }
 
@@ -149,7 +182,7 @@ mod tests {
     #[test]
     fn a_folder_holds_files(rt: HostRuntime) -> Result<(), Fail> {
         let alloc = rt.alloc();
-        let mut folder = Folder::new(&rt);
+        let mut folder = Folder::new(&rt, rt.alloc());
         let name = Word::from_bytes(alloc, b"a.chk")?;
         assert!(rt; matches!(folder.get(alloc, &name), Got::Missing));
         assert_eq!(rt; folder.create(&name), Wrote::Done);
@@ -180,6 +213,41 @@ mod tests {
         Ok(())
     }
 
+    #[test]
+    fn files_stay_open(rt: HostRuntime) -> Result<(), Fail> {
+        let alloc = rt.alloc();
+        let mut folder = Folder::new(&rt, alloc);
+        // more files than are kept open, each appended to again after the others
+        for line in ["one\n", "two\n"] {
+            for number in 0..200 {
+                let name = Word::from_vec(format!(in alloc; "log_{number}.csv")?.into_bytes());
+                assert_eq!(rt; folder.append(&name, line.as_bytes()), Wrote::Done);
+            }
+        }
+        for number in [0, 1, 71, 72, 73, 127, 128, 199] {
+            let name = Word::from_vec(format!(in alloc; "log_{number}.csv")?.into_bytes());
+            assert!(rt;
+                matches!(folder.get(alloc, &name), Got::Found(bytes) if bytes.as_slice() == b"one\ntwo\n".as_slice())
+            );
+        }
+        // A file under two names, and one that is made anew while it is open, whoever does it.
+        let name = Word::from_bytes(alloc, b"log_199.csv")?;
+        let other = Word::from_bytes(alloc, b"./log_199.csv")?;
+        assert_eq!(rt; folder.append(&other, b"three\n"), Wrote::Done);
+        assert_eq!(rt; folder.append(&name, b"four\n"), Wrote::Done);
+        assert!(rt;
+            matches!(folder.get(alloc, &name), Got::Found(bytes) if bytes.as_slice() == b"one\ntwo\nthree\nfour\n".as_slice())
+        );
+        fs::remove_file(&rt, "log_199.csv")?;
+        assert_eq!(rt; folder.create(&name), Wrote::Done);
+        assert_eq!(rt; folder.append(&name, b"five\n"), Wrote::Done);
+        assert!(rt;
+            matches!(folder.get(alloc, &name), Got::Found(bytes) if bytes.as_slice() == b"five\n".as_slice())
+        );
+        assert_eq!(rt; folder.faults(), 0);
+        Ok(())
+    }
+
     /// Each call fails at once, and adds one to the count.
     fn fails_at_once(
         rt: &(impl Abort + AllocGlobal + Files),
@@ -201,7 +269,7 @@ mod tests {
     #[test]
     fn what_is_no_file_fails_at_once(rt: HostRuntime) -> Result<(), Fail> {
         let alloc = rt.alloc();
-        let mut folder = Folder::new(&rt);
+        let mut folder = Folder::new(&rt, rt.alloc());
         fs::create_dir(&rt, "d")?;
         // A pipe of which one end is open and nothing comes: to open or to read it would wait.
         let (reader, _writer) = io::pipe(&rt)?;

@@ -3,6 +3,7 @@
 #![tactic(auto)]
 
 mod folder;
+mod open_files;
 mod standard_output;
 
 use crate::folder::Folder;
@@ -34,6 +35,6 @@ fn main(rt: HostRuntime) -> ExitCode {
         // Words that are no text ask for no command.
         Err(_) => Vec::new(alloc),
     };
-    let mut shelf = Folder::new(&rt);
+    let mut shelf = Folder::new(&rt, alloc);
     ExitCode::from(tricks_alone(alloc, &words, &mut shelf, &mut out))
 }

@@ -7,9 +7,9 @@ use Rattle.trick_serial.proofs.run.serial.Goals as goal
 
 pub serial_from-requires-clause-valid : goal.serial_from-requires-clause-valid
 serial_from-requires-clause-valid g c =
-    let p = plan_of c.args.accepted.now.plan in
-    subst (IsStateOf p) (sym c.in-Ok.ensures.started) (c.runs_start_valid.ensures.start p (c.plans_are_sound.ensures c.args.accepted.now.plan))
+    let p = plan_of c.args.accepted.plan in
+    subst (IsStateOf p) (sym c.in-Ok.ensures.started) (c.runs_start_valid.ensures.start p (c.plans_are_sound.ensures c.args.accepted.plan))
 
 pub returns-in_default : goal.returns-in_default
 returns-in_default g c =
-    record { run = none_kept _ (plan_of c.args.accepted.now.plan) (start (plan_of c.args.accepted.now.plan)) (g.met.F.Shelf.called_none _) }
+    record { run = none_kept _ (plan_of c.args.accepted.plan) (start (plan_of c.args.accepted.plan)) (g.met.F.Shelf.called_none _) }

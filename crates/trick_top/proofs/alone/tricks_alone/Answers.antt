@@ -22,6 +22,9 @@ returns-clause-faults g c = top.ended_with_faults c.one_command.ensures c.texts_
 pub returns-clause-shelf_fault : goal.returns-clause-shelf_fault
 returns-clause-shelf_fault g c = top.shelf_fault c.one_command.ensures c.texts_have_one_meaning.ensures c.answer.ensures
 
+pub returns-clause-journal_length : goal.returns-clause-journal_length
+returns-clause-journal_length g c = top.journal_length c.one_command.ensures c.texts_have_one_meaning.ensures c.answer.ensures
+
 pub returns-clause-sink_fault : goal.returns-clause-sink_fault
 returns-clause-sink_fault g c = top.sink_fault c.one_command.ensures c.texts_have_one_meaning.ensures c.answer.ensures
 
@@ -30,6 +33,9 @@ returns-clause-no_file g c = top.no_file c.one_command.ensures c.texts_have_one_
 
 pub returns-clause-refused_same : goal.returns-clause-refused_same
 returns-clause-refused_same g c = top.refused_same c.one_command.ensures c.texts_have_one_meaning.ensures c.answer.ensures
+
+pub returns-clause-refused_generated : goal.returns-clause-refused_generated
+returns-clause-refused_generated g c = top.refused_generated c.one_command.ensures c.texts_have_one_meaning.ensures c.answer.ensures
 
 pub returns-clause-stopped : goal.returns-clause-stopped
 returns-clause-stopped g c = top.stopped c.one_command.ensures c.texts_have_one_meaning.ensures c.answer.ensures
@@ -45,6 +51,9 @@ returns-clause-text_refused_all g c = top.text_refused_all c.one_command.ensures
 
 pub returns-clause-plan_refused_all : goal.returns-clause-plan_refused_all
 returns-clause-plan_refused_all g c = top.plan_refused_all c.one_command.ensures c.texts_have_one_meaning.ensures c.answer.ensures
+
+pub returns-clause-journal_length_all : goal.returns-clause-journal_length_all
+returns-clause-journal_length_all g c = top.journal_length_all c.one_command.ensures c.texts_have_one_meaning.ensures c.answer.ensures
 
 pub returns-clause-complete : goal.returns-clause-complete
 returns-clause-complete g c = top.complete c.one_command.ensures c.texts_have_one_meaning.ensures c.answer.ensures

@@ -3,10 +3,10 @@ use Rattle.trick_top.proofs.plans.act.Goals as goal
 
 pub returns-in-Check : goal.returns-in-Check
 returns-in-Check g c =
-    acted_checked c.args.shelf.now c.args.accepted_plan.now.plan _ _ (g.met.F.Shelf.called_none c.args.shelf.now) c.plan.ensures.plan
+    acted_checked c.args.shelf.now c.args.accepted_plan.plan _ _ _ _ (g.met.F.Shelf.called_none c.args.shelf.now) c.plan.ensures.plan
     c.args.task c.in-Check.is c.accepted.ensures
 
-pub returns-in-List : goal.returns-in-List
-returns-in-List g c =
-    acted_listed c.args.shelf.now c.args.accepted_plan.now.plan _ _ (g.met.F.Shelf.called_none c.args.shelf.now) c.plan-in-List.ensures.plan
+pub returns : goal.returns
+returns g c =
+    acted_listed c.args.shelf.now c.args.accepted_plan.plan _ _ _ _ (g.met.F.Shelf.called_none c.args.shelf.now) c.plan-in-List.ensures.plan
     c.args.task c.in-List.is c.listed.ensures

@@ -5,7 +5,7 @@ use Rattle.trick_words.specs.Command.{AreRefused, Asks}
 pub returns-in-Some : goal.returns-in-Some
 returns-in-Some c =
     let asked : Asks c.args.words.now c.in-Some.line = rw c.in-Some.is at c.in_ok-line.ensures in
-    says_line c.one_command.ensures _ c.in-Some.line asked _ c.command_of.ensures
+    says_line c.one_command.ensures _ c.in-Some.line asked _ c.request_of.ensures
 
 pub returns-in-None : goal.returns-in-None
 returns-in-None c =

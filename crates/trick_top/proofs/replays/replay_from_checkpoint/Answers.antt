@@ -1,0 +1,30 @@
+use Rattle.std.proofs.Common.{Some}
+use Rattle.trick_top.proofs.ActedLemmas.{acted_unloaded, loaded_from}
+use Rattle.trick_top.proofs.ReplayLemmas.{acted_replay, acted_unread}
+use Rattle.trick_top.proofs.replays.replay_from_checkpoint.Goals as goal
+
+pub returns-in-Err : goal.returns-in-Err
+returns-in-Err g c =
+    let refuses = rw c.plan.ensures.plan at c.in-Err.ensures.loaded in
+    let same = rw c.plan.ensures.plan at c.in-Err.ensures.same in
+    acted_unloaded c.args.shelf.now (g.met.F.Shelf.called_none c.args.shelf.now) c.args.accepted.plan c.args.from.now
+    (Some c.args.journal.now) c.in-Err.fault _ c.unloaded.ensures refuses same
+
+pub returns-in-Ok-read : goal.returns-in-Ok-read
+returns-in-Ok-read g c =
+    let plan = c.args.accepted.plan in
+    let is = rw c.plan.ensures.plan at c.in-Ok.ensures.checkpoint in
+    let same = rw c.plan.ensures.plan at c.in-Ok.ensures.same in
+    let read = rw c.plan-2.ensures.plan at c.in-Ok-read.ensures in
+    rw c.replayed.ensures
+    (acted_replay plan (Some c.args.from.now) _ (loaded_from plan c.args.from.now _ is same) c.args.journal.now c.in-Ok-read.journal read
+    c.replay_from.result c.replay_from.ensures.run)
+
+pub returns : goal.returns
+returns g c =
+    let plan = c.args.accepted.plan in
+    let is = rw c.plan.ensures.plan at c.in-Ok.ensures.checkpoint in
+    let same = rw c.plan.ensures.plan at c.in-Ok.ensures.same in
+    let read = rw c.plan-2.ensures.plan at c.in-Err-read.ensures in
+    acted_unread plan (Some c.args.from.now) _ (loaded_from plan c.args.from.now _ is same) c.args.journal.now c.args.shelf.now
+    (g.met.F.Shelf.called_none c.args.shelf.now) c.refused_texts_are_no_journals.ensures c.in-Err-read.fault _ c.unread.ensures read

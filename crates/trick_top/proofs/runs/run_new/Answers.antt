@@ -1,0 +1,10 @@
+use Rattle.std.proofs.Common.{None, refl}
+use Rattle.trick_model.specs.PlanOf.{plan_of}
+use Rattle.trick_model.specs.Run.{start}
+use Rattle.trick_top.proofs.ActedLemmas.{acted_run}
+use Rattle.trick_top.proofs.runs.run_new.Goals as goal
+
+pub returns : goal.returns
+returns g c =
+    rw c.ended.ensures
+    (acted_run c.args.accepted.plan None (start (plan_of c.args.accepted.plan)) refl c.serial.result c.serial.ensures.run)

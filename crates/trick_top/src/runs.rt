@@ -1,0 +1,77 @@
+//! The run of an accepted plan without clients, from its start or from a checkpoint.
+
+ghost use Rattle.std.specs.Prelude.{◌≡◌, ◌⊎◌, Some, None, option_map};
+ghost use Rattle.trick_top.specs.Acts.{HasActed};
+ghost use Rattle.trick_top.specs.Verdict.{OutOfMemory, run_verdict, unloaded_verdict, verdict_of};
+ghost use Rattle.trick_top.specs.declared.words.Task.TheVariants as task;
+
+use crate::verdict::Verdict;
+use std::alloc::Global;
+use trick_codes::LoadFault;
+use trick_model::Accepted;
+use trick_outside::{Shelf, Stop};
+use trick_refusal::checkpoint_line;
+use trick_resume::resume;
+use trick_serial::{Ended, serial, serial_from};
+
+/// The verdict on a run that ended so.
+fn ended(run: Result<Ended, Stop>) -> Verdict<'static>
+    ensures { verdict_of result ≡ run_verdict run }
+{
+    match run {
+        Ok(ended) => Verdict::Ended { ended, sessions: 0 },
+        Err(Stop::Shelf) => Verdict::ShelfFault,
+        Err(Stop::Memory) => Verdict::OutOfMemory,
+    }
+}
+
+/// The verdict on a text that is no checkpoint.
+pub(crate) fn unloaded(alloc: Global, fault: LoadFault) -> Verdict<'static>
+    ensures { (verdict_of result ≡ unloaded_verdict fault) ⊎ (verdict_of result ≡ OutOfMemory) }
+{
+    if fault == LoadFault::OutOfMemory {
+        return Verdict::OutOfMemory;
+    }
+    match checkpoint_line(alloc, fault) {
+        Ok(line) => Verdict::TextRefused(line),
+        Err(_) => Verdict::OutOfMemory,
+    }
+}
+
+/// Runs an accepted plan without clients from its start.
+fn run_new<F: Shelf>(alloc: Global, accepted: Accepted, shelf: &mut F) -> Verdict<'static>
+    ensures { HasActed F.Shelf shelf.old shelf.new accepted.plan None None task.Run (verdict_of result) }
+{
+    ended(serial(alloc, accepted, shelf))
+}
+
+/// Runs an accepted plan without clients from the state of which the text is the checkpoint.
+fn run_from<F: Shelf>(
+    alloc: Global,
+    accepted: Accepted,
+    text: &[u8],
+    shelf: &mut F,
+) -> Verdict<'static>
+    ensures { HasActed F.Shelf shelf.old shelf.new accepted.plan (Some text.now) None task.Run (verdict_of result) }
+{
+    match resume(alloc, accepted.plan(), text) {
+        Ok(state) => ended(serial_from(alloc, accepted, state, shelf)),
+        Err(fault) => unloaded(alloc, fault),
+    }
+}
+
+/// Runs an accepted plan without clients, from its start or from a checkpoint.
+pub(crate) fn run<F: Shelf>(
+    alloc: Global,
+    accepted: Accepted,
+    from: Option<&[u8]>,
+    shelf: &mut F,
+) -> Verdict<'static>
+    ensures { HasActed F.Shelf shelf.old shelf.new accepted.plan (option_map (λ text. text.now) from.entry) None
+        task.Run (verdict_of result) }
+{
+    match from {
+        None => run_new(alloc, accepted, shelf),
+        Some(text) => run_from(alloc, accepted, text, shelf),
+    }
+}
