@@ -95,6 +95,16 @@ fn lists_have_at_most_4096_items(rt: HostRuntime) -> Result<(), Fail> {
         let text = format!(in rt.alloc(); "{front}{more}{back}")?;
         prints(&rt, text.as_str(), "LongList S_define 1 4096")?;
     }
+    // one job too many, whatever it begins with
+    let jobs = numbered(rt.alloc(), 4096, "(\"freeze\") f(); /*", "*/")?;
+    for (job, line) in [
+        ("C16", "LongList S_define 2 4096"),
+        ("P0", "LongList S_define 2 4096"),
+        ("C01", "Expected S_define 2"),
+    ] {
+        let text = format!(in rt.alloc(); "{CLASS} K() {{ {jobs}\n{job} (\"freeze\") f(); }} }};")?;
+        prints(&rt, text.as_str(), line)?;
+    }
     Ok(())
 }
 

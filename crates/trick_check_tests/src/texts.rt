@@ -266,6 +266,28 @@ fn parts_of_a_class(rt: HostRuntime) -> Result<(), Fail> {
 }
 
 #[test]
+fn classes_that_end_too_early(rt: HostRuntime) -> Result<(), Fail> {
+    // the text ends there, or a fault of its own stands there
+    let cases = [
+        ("int\ntrick", "NotInProfile S_define 3"),
+        ("int\ntrick // ;\n\n", "NotInProfile S_define 3"),
+        ("int trick '", "BadByte S_define 46"),
+        ("int trick ( '", "BadByte S_define 48"),
+        ("int trick = '", "NotInProfile S_define 2"),
+        ("long\n", "Expected S_define 2"),
+        ("K() { (\n0", "NotInProfile S_define 3"),
+        ("K() { (\n0.0000001", "InexactTime S_define 3"),
+        ("void f() { for\n(int i", "LoopBound S_define 2"),
+        ("void f() { for\n(int i '", "BadByte S_define 58"),
+        (
+            "void f() { for (int i = 0; i < 9; i++)\ni =",
+            "LoopBound S_define 3",
+        ),
+    ];
+    print_within(&rt, CLASS, "", &cases)
+}
+
+#[test]
 fn bodies(rt: HostRuntime) -> Result<(), Fail> {
     let cases = [
         (

@@ -131,12 +131,44 @@ fn lines_of_events(rt: HostRuntime) -> Result<(), Fail> {
     )
 }
 
+/// Each form of a line but the declaration in front of it.
+const EACH_FORM: &str = "# a whole input
+plant.tank.level = -5
+trick.exec_set_software_frame(0.5)
+trick.exec_set_terminate_time(9.0)
+trick.stop(8.0)
+trick.freeze()
+
+trick.exec_set_thread_process_type(1, trick.PROCESS_TYPE_SCHEDULED)
+trick.exec_set_thread_amf_cycle_time(1, 2.0)
+trick.exec_add_depends_on_job('plant.watch', 1, 'plant.fill', 2)
+trick.exec_set_job_onoff('plant.begin', 1, False)
+trick.add_read(1.0, 'spare[1] = 7; trick.checkpoint()')
+
+g = trick.DRAscii('log')
+g.thisown = 0
+g.set_cycle(1.0)
+g.freq = trick.DR_Changes
+g.add_variable('spare[0]')
+g.disable()
+g.enable()
+trick.add_data_record_group(g, trick.DR_Buffer)
+
+e = trick.new_event('full')
+e.set_cycle(0.5)
+e.condition(0, 'plant.tank.level >= 3 && spare[1] == HOLD')
+e.action(2, 'trick.dr_disable_group(\"log\"); trick.freeze()')
+e.activate()
+trick.add_event(e)
+";
+
 #[test]
 fn what_earlier_lines_declare(rt: HostRuntime) -> Result<(), Fail> {
     let lines = [
         "e = trick.new_event('e')\ne.condition(0, 'spare[1] > 0')",
         "g = trick.DRAscii('g')\ng.add_variable('spare[0]')",
         "trick.add_read(1.0, 'spare[1] = 7; trick.var_set(\"spare[0]\", 3)')",
+        EACH_FORM,
     ];
     let front = "trick.TMM_declare_var_s('int spare[2]')\n";
     accepts_each(&rt, PLANT, front, &lines, "cells=13 jobs=4 threads=2")

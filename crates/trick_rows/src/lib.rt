@@ -7,6 +7,8 @@ mod accepted;
 #[cfg(test)]
 mod answers;
 #[cfg(test)]
+mod beside;
+#[cfg(test)]
 mod failing;
 #[cfg(test)]
 mod forms;
@@ -20,6 +22,8 @@ mod models;
 mod races;
 #[cfg(test)]
 mod repeated;
+#[cfg(test)]
+mod resumed;
 #[cfg(test)]
 mod runs;
 #[cfg(test)]

@@ -1,13 +1,13 @@
 //! Whole runs by `serial`, with each file that they write.
 
 use crate::models::COUNTER;
-use crate::told::{answers, tells, with_texts};
+use crate::told::{tells, with_texts};
 use std::process::Abort;
 use std::test::Fail;
 use trick_outside::MemoryShelf;
 
 /// Whether `serial` on two texts ends so and leaves these files, and no others but the two texts.
-fn runs(
+pub(crate) fn runs(
     rt: &(impl Abort + AllocGlobal),
     texts: (&str, &str),
     status: u8,
@@ -40,7 +40,7 @@ pub(crate) fn holds(
     Ok(())
 }
 
-const NO_FAULTS: (&str, &str) = ("faults.txt", "total 0\n");
+pub(crate) const NO_FAULTS: (&str, &str) = ("faults.txt", "total 0\n");
 
 #[test]
 fn a_counter_and_nothing_at_all(rt: HostRuntime) -> Result<(), Fail> {
@@ -434,23 +434,4 @@ end;
             ),
         ],
     )
-}
-
-#[test]
-fn threads_beside_the_tics_are_not_run_yet(rt: HostRuntime) -> Result<(), Fail> {
-    for process in ["AMF_CHILD", "ASYNC_CHILD"] {
-        let input = format!(in rt.alloc();
-            "trick.exec_set_thread_process_type(3, trick.PROCESS_TYPE_{process})\ntrick.stop(0.0)"
-        )?;
-        let texts = (THREE, input.as_str());
-        // a and b of THREE race without the line that orders them
-        answers(&rt, "serial", texts, 3, "refused Race a.run 1 b.run 1 0")?;
-        let input = format!(in rt.alloc();
-            "{input}\ntrick.exec_add_depends_on_job('b.run', 1, 'a.run', 1)"
-        )?;
-        let texts = (THREE, input.as_str());
-        answers(&rt, "check", texts, 0, "accepted cells=3 jobs=3 threads=4")?;
-        answers(&rt, "serial", texts, 2, "refused NotInProfile input 0")?;
-    }
-    Ok(())
 }

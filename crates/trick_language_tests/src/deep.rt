@@ -1,0 +1,108 @@
+//! Bodies as deep as a text can make them, by calls, by blocks and by expressions, on the usual stack of a
+//! thread.
+
+use crate::told::{shelf_of, words};
+use std::alloc::{AllocError, Global};
+use std::test::Fail;
+use std::thread;
+use trick_outside::MemorySink;
+use trick_top::tricks_alone;
+
+/// The methods of the class: with its variables and its constructor nearly the 4,096 parts that it may have.
+const METHODS: u32 = 4090;
+
+/// The blocks round each call: with the braces of the class and of the method nearly the 64 levels that
+/// a text may have.
+const BLOCKS: u32 = 61;
+
+/// The levels of an expression inside the braces of the class and of the method.
+const LEVELS: u32 = 62;
+
+/// A text inside so many openings, with as many closings behind it.
+fn nested(
+    alloc: Global,
+    count: u32,
+    open: &str,
+    inner: &str,
+    close: &str,
+) -> Result<String, AllocError> {
+    let mut text = String::new(alloc);
+    for _k in 0..count {
+        text.push_str(open)?;
+    }
+    text.push_str(inner)?;
+    for _k in 0..count {
+        text.push_str(close)?;
+    }
+    Ok(text)
+}
+
+/// The first method adds to `n` the values of four deep expressions: 63, 0, 1 and 1.
+fn first_method(alloc: Global) -> Result<String, AllocError> {
+    let sums = nested(alloc, LEVELS, "(1 + ", "1", ")")?;
+    let indexes = nested(alloc, LEVELS, "w[", "0", "]")?;
+    let prefixes = nested(alloc, LEVELS, "- ", "1", "")?;
+    let choices = nested(alloc, LEVELS, "1 ? ", "1", ": 2")?;
+    format!(in alloc;
+        "void m0() {{ n += {sums}; n += {indexes}; n += {prefixes}; n += {choices}; }}\n"
+    )
+}
+
+/// The other methods, each of which calls the one before it, inside so many blocks.
+fn other_methods(alloc: Global) -> Result<String, AllocError> {
+    let mut text = String::new(alloc);
+    for k in 1..METHODS {
+        let before = k - 1;
+        let call = format!(in alloc; "m{before}();")?;
+        let body = nested(alloc, BLOCKS, "{", call.as_str(), "}")?;
+        let method = format!(in alloc; "void m{k}() {{{body}}}\n")?;
+        text.push_str(method.as_str())?;
+    }
+    Ok(text)
+}
+
+/// A class whose job is the last of these methods.
+fn deep_class(alloc: Global) -> Result<String, AllocError> {
+    let first = first_method(alloc)?;
+    let others = other_methods(alloc)?;
+    let last = METHODS - 1;
+    format!(in alloc;
+        "class K : public Trick::SimObject {{ long n; long w[1];
+{first}{others}K() {{ (1.0, \"scheduled\") m{last}(); }} }};
+K k;
+"
+    )
+}
+
+/// How a run ended.
+#[derive(Drop)]
+struct Ended {
+    status: u8,
+    counted: bool,
+}
+
+/// Runs the class for four tics, and tells the status and whether 65 was added in each of them.
+fn run_deep(alloc: Global) -> Result<Ended, AllocError> {
+    let s_define = deep_class(alloc)?;
+    let mut shelf = shelf_of(alloc, s_define.as_str(), "trick.stop(3.0)\n")?;
+    let mut out = MemorySink::new(alloc);
+    let status = tricks_alone(alloc, &words(alloc, "serial")?, &mut shelf, &mut out);
+    let counted = match shelf.file(b"final.chk") {
+        Some(held) => match str::from_utf8(held) {
+            Ok(text) => text.contains("\nk.n = 260;\n"),
+            Err(_) => false,
+        },
+        None => false,
+    };
+    Ok(Ended { status, counted })
+}
+
+#[test]
+fn calls_take_no_stack(rt: HostRuntime) -> Result<(), Fail> {
+    let alloc = rt.alloc();
+    let worker = thread::spawn(&rt, move || run_deep(alloc))?;
+    let ended = worker.join(&rt)?;
+    assert_eq!(rt; ended.status, 0);
+    assert!(rt; ended.counted);
+    Ok(())
+}
