@@ -10,3 +10,5 @@ pub mod Stages
 pub mod Ends
 -- the calls of a board
 pub mod Calls
+-- jobs that are passed
+pub mod Passed

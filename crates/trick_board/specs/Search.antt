@@ -1,6 +1,6 @@
 -- How the next job of a thread is found in the tables of a board.
 use Rattle.std.specs.List.{slice_index_or}
-use Rattle.std.specs.Prelude.{ℕ, ◌==◌, Bool, true, false, cond, if◌then◌else◌, List, [], ◌∷◌, Option, Some, None}
+use Rattle.std.specs.Prelude.{◌≡◌, ℕ, ◌==◌, Bool, true, false, cond, if◌then◌else◌, List, [], ◌∷◌, Option, Some, None, take}
 use Rattle.trick_board.specs.declared.search.Next.{Next}
 use Rattle.trick_board.specs.declared.search.Next.TheVariants as next
 use Rattle.trick_board.specs.declared.search.Wanted.{Wanted}
@@ -48,6 +48,15 @@ find_first test (job ∷ jobs) = cond (test job.0) (Some job) (find_first test j
 -- the first job of a list that is of the wanted kind
 abbrev pub find_wanted : Wanted → List Stage → List JobId → Option JobId
 find_wanted kind stages jobs = find_first (λ k. meets kind (stage_at stages k)) jobs
+
+-- None of the first jobs of a list is open.
+abbrev pub IsPassed : List Stage → List JobId → ℕ → Type 0
+IsPassed stages jobs passed = find_wanted wanted.Open stages (take passed jobs) ≡ None
+
+-- So it is with the jobs of each thread.
+abbrev pub ArePassed : Tables → List Stage → List ℕ → Type 0
+ArePassed tables stages passed =
+    (thread : ℕ) → IsPassed stages (slice_index_or tables.lines thread []) (slice_index_or passed thread 0)
 
 -- a job that is another one
 abbrev pub other_than : JobId → Option JobId → Option JobId

@@ -19,11 +19,12 @@ ghost use Rattle.trick_schedule.specs.declared.stage.Stage.TheVariants.{InFlight
 ghost use Rattle.trick_schedule.specs.declared.step.Step.{Step};
 ghost use Rattle.trick_schedule.specs.declared.step.Step.TheVariants.{Commit as CommitOf, Take as TakeOf};
 
-use crate::search::{Next, next_of, stage_of};
+use crate::search::{Next, next_of, pass, passed_of, stage_of};
 use crate::step::{
     add_faults, copy_flags, copy_jobs, count_open, finish, is_flagged, let_wait, next_phase,
     set_stage,
 };
+use crate::tables::{THREADS, list_at};
 use crate::{Closed, Commit, Tables, Took};
 use std::alloc::{AllocError, Global};
 use std::marker::Model;
@@ -49,12 +50,15 @@ pub struct Board<M: Cells> {
     // In key order.
     due: Vec<JobId>,
     tables: Tables,
+    // By thread, how many of its first jobs are known not to wait and not to be in flight.
+    passed: Vec<usize>,
 }
 
 impl<M: Cells> Model for Board<M> {
     ghost use Rattle.std.specs.Option.{option_map};
     ghost use Rattle.std.specs.Prelude.{length, vec_capacity};
     ghost use Rattle.trick_board.specs.Board.{BoardView, IsRoomy, opened_of};
+    ghost use Rattle.trick_board.specs.Search.{ArePassed};
 
     ghost Value = { BoardView };
 
@@ -65,7 +69,8 @@ impl<M: Cells> Model for Board<M> {
       jobs = length b.stages.items;
     } };
 
-    ghost invariant = { λ b. IsRoomy (length b.stages.items) (length b.on.items) (length b.due.items) (vec_capacity b.due) };
+    ghost invariant = { λ b. IsRoomy (length b.stages.items) (length b.on.items) (length b.due.items) (vec_capacity b.due)
+        × ArePassed b.tables b.stages.items b.passed.items };
 }
 
 impl<M: Cells> Board<M> {
@@ -82,6 +87,7 @@ impl<M: Cells> Board<M> {
         let stages = vec![in alloc; Stage::Idle; jobs]?;
         let due = Vec::with_capacity(alloc, jobs)?;
         let tables = Tables::new(alloc, plan)?;
+        let passed = vec![in alloc; 0; THREADS as usize]?;
         Ok(Board {
             phase: 0,
             tic: 0,
@@ -90,6 +96,7 @@ impl<M: Cells> Board<M> {
             stages,
             due,
             tables,
+            passed,
         })
     }
 
@@ -110,6 +117,7 @@ impl<M: Cells> Board<M> {
         copy_flags(on, &mut self.on);
         let_wait(due, &mut self.stages);
         copy_jobs(due, &mut self.due);
+        self.passed.fill(0);
         match replace(&mut self.memory, Some(memory)) {
             None => {}
             Some(_) => unreachable!(),
@@ -138,7 +146,19 @@ impl<M: Cells> Board<M> {
         ensures { IfSome self.now.opened (λ o. CanDo (tic_at plan.now o) o.progress.stages thread result) }
     {
         key_order_is_one();
-        next_of(plan, &self.tables, &self.stages, thread)
+        let passed = passed_of(&self.passed, thread);
+        next_of(plan, &self.tables, &self.stages, thread, passed)
+    }
+
+    // Passes the first jobs of a thread that do not wait and are not in flight.
+    fn pass(&mut self, thread: u8)
+        ensures { self.new ≡ self.old }
+    {
+        let at = thread as usize;
+        if at < self.passed.len() {
+            let line = list_at(self.tables.lines.as_slice(), at);
+            self.passed[at] = pass(&self.stages, line, self.passed[at]);
+        }
     }
 
     // Fills a bench with a job that waits.
@@ -344,6 +364,7 @@ impl<M: Cells> Board<M> {
         ensures kept { result ≢ Took.Took → (self.new ≡ self.old) × (bench.new ≡ bench.old) }
         ensures belongs { IsBoardOf plan.now self.new }
     {
+        self.pass(thread);
         match self.next(plan, thread) {
             Next::Nothing => Took::ThreadDone,
             Next::Waits(job, waits_for) => Took::NotYet { job, waits_for },
@@ -355,7 +376,7 @@ impl<M: Cells> Board<M> {
     }
 
     /// Fills a bench with the thread's next due job, where all predecessors of that are committed. It
-    /// costs what the job reads, the jobs of the thread and those that the job depends on.
+    /// costs what the job reads, the jobs that it depends on and, over a whole tic, the jobs of the thread.
     pub fn take(&mut self, accepted: &Accepted, thread: u8, bench: &mut Bench) -> Took
         requires open { IsSome self.old.opened }
         requires belongs { IsBoardOf accepted.now.plan self.old }

@@ -1,7 +1,9 @@
 //! Plain searches for the next job of a thread.
 
-ghost use Rattle.std.specs.Prelude.{◌≡◌, ◌<◌, length};
-ghost use Rattle.trick_board.specs.Search.{find_wanted, least_of, meets, missing_in, next_in, other_than};
+ghost use Rattle.std.specs.List.{slice_index_or};
+ghost use Rattle.std.specs.Prelude.{◌≡◌, []};
+ghost use Rattle.trick_board.specs.Search.{IsPassed, find_wanted, least_of, meets, next_in, other_than};
+ghost use Rattle.trick_board.specs.declared.search.Wanted.TheVariants.{Open};
 ghost use Rattle.trick_model.specs.Order.{is_below, key as key_of, precedes as precedes_of, rank as rank_of};
 ghost use Rattle.trick_model.specs.Plan.{job_at as job_at_of};
 ghost use Rattle.trick_model.specs.PlanOf.{plan_of};
@@ -63,6 +65,43 @@ fn find(wanted: Wanted, stages: &[Stage], jobs: &[JobId]) -> Option<JobId>
         }
     }
     None
+}
+
+// The first job of a list that is of the wanted kind, where none of the first `passed` jobs is open.
+fn find_behind(wanted: Wanted, stages: &[Stage], jobs: &[JobId], passed: usize) -> Option<JobId>
+    requires { IsPassed stages.now jobs.now passed }
+    ensures { result ≡ find_wanted wanted stages.now jobs.now }
+{
+    if passed < jobs.len() {
+        find(wanted, stages, &jobs[passed..])
+    } else {
+        None
+    }
+}
+
+/// How many of the first jobs of a thread are known not to be open.
+pub fn passed_of(passed: &[usize], thread: u8) -> usize
+    ensures { result ≡ slice_index_or passed.now thread 0 }
+{
+    match passed.get(thread as usize) {
+        Some(passed) => *passed,
+        None => 0,
+    }
+}
+
+/// How many of the first jobs of a list are not open, of which `passed` are known.
+pub fn pass(stages: &[Stage], jobs: &[JobId], passed: usize) -> usize
+    requires { IsPassed stages.now jobs.now passed }
+    ensures { IsPassed stages.now jobs.now result }
+{
+    let mut passed = passed;
+    for _job in passed..jobs.len() {
+        if is_wanted(Wanted::Open, stage_of(stages, jobs[passed])) {
+            return passed;
+        }
+        passed += 1;
+    }
+    passed
 }
 
 // A job of a number; one that is not there is none of class scheduled.
@@ -145,28 +184,38 @@ fn least(plan: &Plan, one: Option<JobId>, other: Option<JobId>) -> Option<JobId>
     }
 }
 
-// The least predecessor of a waiting job that is not committed.
-fn missing(plan: &Plan, tables: &Tables, stages: &[Stage], thread: u8, job: JobId) -> Option<JobId>
-    ensures { result ≡ missing_in (plan_of plan.now) tables.now stages.now thread job }
+// The least predecessor of a waiting job that is not committed. `first` is the first open job of its
+// thread.
+fn missing(
+    plan: &Plan,
+    tables: &Tables,
+    stages: &[Stage],
+    first: Option<JobId>,
+    job: JobId,
+) -> Option<JobId>
+    ensures { result ≡ least_of (plan_of plan.now) (other_than job first)
+        (find_wanted Open stages.now (slice_index_or tables.now.depended job.0 [])) }
 {
-    let line = list_at(tables.lines.as_slice(), thread as usize);
     let depended = list_at(tables.depended.as_slice(), job.0 as usize);
-    let before = other(job, find(Wanted::Open, stages, line));
+    let before = other(job, first);
     least(plan, before, find(Wanted::Open, stages, depended))
 }
 
-/// What a thread can do next. It costs the jobs of the thread, and those that its next job depends on.
-pub fn next_of(plan: &Plan, tables: &Tables, stages: &[Stage], thread: u8) -> Next
+/// What a thread can do next, where none of its first `passed` jobs is open. It costs the jobs behind them
+/// up to the next one, and those that this depends on.
+pub fn next_of(plan: &Plan, tables: &Tables, stages: &[Stage], thread: u8, passed: usize) -> Next
+    requires { IsPassed stages.now (slice_index_or tables.now.lines thread []) passed }
     ensures { result ≡ next_in (plan_of plan.now) tables.now stages.now thread }
 {
     let line = list_at(tables.lines.as_slice(), thread as usize);
-    let Some(job) = find(Wanted::Waiting, stages, line) else {
-        return match find(Wanted::InFlight, stages, line) {
+    let Some(job) = find_behind(Wanted::Waiting, stages, line, passed) else {
+        return match find_behind(Wanted::InFlight, stages, line, passed) {
             Some(job) => Next::Waits(job, job),
             None => Next::Nothing,
         };
     };
-    match missing(plan, tables, stages, thread, job) {
+    let first = find_behind(Wanted::Open, stages, line, passed);
+    match missing(plan, tables, stages, first, job) {
         Some(waits_for) => Next::Waits(job, waits_for),
         None => Next::Ready(job),
     }

@@ -12,7 +12,7 @@ use trick_lang::JobId;
 use trick_model::{Depends, Plan};
 
 // Threads go from 0 to 15.
-const THREADS: u8 = 16;
+pub(crate) const THREADS: u8 = 16;
 
 /// Lists of jobs of class scheduled that a board looks up, each in key order.
 #[derive(Drop)]

@@ -1,8 +1,10 @@
 use Rattle.std.proofs.Common.{◌≡◌, length, ◌∙◌, ap, subst, sym, arith}
 use Rattle.std.proofs.lemmas.List.{length-replicate}
 use Rattle.trick_board.proofs.Calls.{opened_belongs}
+use Rattle.trick_board.proofs.Passed.{none_passed}
 use Rattle.trick_board.proofs.Stages.{few_due}
 use Rattle.trick_board.specs.Board.{BoardView, IsBoardOf}
+use Rattle.trick_board.specs.Search.{ArePassed}
 use Rattle.trick_model.specs.PlanOf.{plan_of}
 use Rattle.trick_model.specs.Valid.{ids}
 use Rattle.trick_schedule.proofs.History.{length-waiting}
@@ -15,7 +17,7 @@ pub copy_jobs-requires : goal.copy_jobs-requires
 copy_jobs-requires g c =
     let many : length c.self.inside.stages.items ≡ length c.args.plan.now.program.jobs = ap (λ (v : BoardView). v.jobs) c.self.view_is ∙ c.requires.belongs.many in
     let few = few_due (plan_of c.args.plan.now) c.args.on.now c.args.tic c.args.due.now c.requires.due in
-    let room = c.self.invariant.room_is in
+    let room = c.self.invariant.0.room_is in
     omega (arith, many, few, room)
 
 pub invariant_of-self : goal.invariant_of-self
@@ -26,17 +28,19 @@ invariant_of-self g c =
     ap length c.let_wait.ensures ∙ length-waiting (ids c.args.due.now) (replicate (length c.self.inside.stages.items) Idle)
     ∙ length-replicate (length c.self.inside.stages.items) Idle in
     let copied : length c.copy_jobs.new.into.items ≡ length c.args.due.now = ap length c.copy_jobs.ensures.items in
-    let limit = c.self.invariant.limit in
-    let flags = c.self.invariant.flags_are in
-    let room = c.self.invariant.room_is in
+    let limit = c.self.invariant.0.limit in
+    let flags = c.self.invariant.0.flags_are in
+    let room = c.self.invariant.0.room_is in
     let capacity = c.copy_jobs.ensures.room in
-    let flagged = c.copy_flags.ensures.length in
-    record {
-      limit = omega (arith, same, limit);
-      flags_are = flagged ∙ flags ∙ sym same;
-      few = omega (arith, copied, few, many, same);
-      room_is = omega (arith, same, room, capacity);
-    }
+    let flagged = c.copy_flags.ensures.length in (
+      record {
+        limit = omega (arith, same, limit);
+        flags_are = flagged ∙ flags ∙ sym same;
+        few = omega (arith, copied, few, many, same);
+        room_is = omega (arith, same, room, capacity);
+      },
+      subst (ArePassed c.self.inside.tables c.let_wait.new.stages.items) (sym (c.fill.ensures.items (λ y e. e))) (none_passed c.self.inside.tables c.let_wait.new.stages.items _),
+    )
 
 pub returns-clause-belongs : goal.returns-clause-belongs
 returns-clause-belongs g c =

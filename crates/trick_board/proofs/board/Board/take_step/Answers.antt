@@ -1,6 +1,14 @@
+use Rattle.std.proofs.Common.{subst, sym}
+use Rattle.std.specs.Option.{IfSome}
+use Rattle.std.specs.Prelude.{IsSome}
 use Rattle.trick_board.proofs.Calls.{ready_there}
+use Rattle.trick_board.specs.Board.{BoardView, IsOpenOf}
 use Rattle.trick_board.proofs.board.Board.take_step.Goals as goal
 
 pub start-requires-clause-there : goal.start-requires-clause-there
 start-requires-clause-there g c =
-    ready_there c.args.self.now.opened c.args.plan.now c.args.thread c.in-Ready.job c.requires.open c.requires.belongs.opened c.in-Ready.ensures
+    let plan = c.args.plan.now in
+    ready_there c.pass.new.self.opened plan c.args.thread c.in-Ready.job
+    (subst (λ (v : BoardView). IsSome v.opened) (sym c.pass.ensures) c.requires.open)
+    (subst (λ (v : BoardView). IfSome v.opened (IsOpenOf plan)) (sym c.pass.ensures) c.requires.belongs.opened)
+    c.in-Ready.ensures
