@@ -1,19 +1,23 @@
 # make demo      proves, builds and runs the counter example, and shows its final checkpoint
 # make test      the gate: every proof, every edit that must fail, every test, the program, the examples
+# make bench     prints what runs, readers and checkpoints cost on this machine
 # make tricks    the program, at build/tricks
 # make install   the program, at $(PREFIX)/bin/tricks
 
 PREFIX ?= /usr/local
 
-.PHONY: demo test tricks install clean
+.PHONY: demo test bench tricks install clean
 
 demo: tricks
-	rm -rf build/demo && mkdir -p build/demo && cp crates/tricks/data/* build/demo
+	rm -rf build/demo && mkdir -p build/demo && cp examples/counter/counter.S_define examples/counter/counter_input.py build/demo
 	cd build/demo && ../tricks serial counter.S_define counter_input.py && cat final.chk
 
 test:
 	rt ci
 	examples/check
+
+bench:
+	bench/run
 
 # `rt run` builds what it runs. With no words the program prints its usage and ends with status 1,
 # so what tells is that the program is there afterwards.
