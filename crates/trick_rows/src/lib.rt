@@ -23,8 +23,6 @@ mod races;
 #[cfg(test)]
 mod repeated;
 #[cfg(test)]
-mod resumed;
-#[cfg(test)]
 mod runs;
 #[cfg(test)]
 mod scan;
