@@ -74,6 +74,7 @@ pub fn end(
     ensures { IfOk result (IsEnding program draft settings) }
 {
     laws::cells_are_mirrored();
-    let parts = parts_from(alloc, &program, draft, settings)?;
+    let mut draft = draft;
+    let parts = parts_from(alloc, &program, &mut draft, settings)?;
     Ok(joined(program, parts))
 }

@@ -9,6 +9,7 @@ ghost use Rattle.trick_model.specs.Valid.{ids, queues_of};
 use crate::events::events;
 use crate::groups::groups;
 use std::alloc::{AllocError, Global};
+use std::mem;
 use trick_base::Items;
 use trick_draft::Draft;
 use trick_lang::{Cell, JobId, Program};
@@ -47,33 +48,44 @@ pub struct Parts {
     pub groups_on: Flags,
 }
 
+// Takes items out of a draft.
+fn taken<T: Drop>(alloc: Global, items: &mut Items<T>) -> Items<T>
+    ensures { result ≡ items.old }
+{
+    mem::replace(items, Items::new(alloc))
+}
+
 // The parts of the plan of a program that the lines of an input give. It takes time as there are jobs,
-// groups and events, and a sort of the jobs.
+// groups and events, and a sort of the jobs. What the parts hold is taken out of the draft.
 pub(crate) fn parts_from(
     alloc: Global,
     program: &Program,
-    draft: Draft,
+    draft: &mut Draft,
     settings: Settings,
 ) -> Result<Parts, AllocError>
-    requires { IsDraftOf (jobs_of program.now) settings.threads draft }
-    ensures parts { IfOk result (AreParts draft settings) }
+    requires { IsDraftOf (jobs_of program.now) settings.threads draft.old }
+    ensures parts { IfOk result (AreParts draft.old settings) }
     ensures queues { IfOk result (λ parts. map ids parts.queues ≡ queues_of program.now.jobs) }
 {
     let queues = queues(alloc, program)?;
-    let (groups, groups_on) = groups(alloc, draft.groups, &draft.added_groups)?;
-    let (events, events_on) = events(alloc, draft.events, &draft.added_events)?;
+    let bound_groups = taken(alloc, &mut draft.groups);
+    let (groups, groups_on) = groups(alloc, bound_groups, &draft.added_groups)?;
+    let bound_events = taken(alloc, &mut draft.events);
+    let (events, events_on) = events(alloc, bound_events, &draft.added_events)?;
     Ok(Parts {
         frame: settings.frame,
         limit: settings.limit,
         frozen: settings.frozen,
         threads: settings.threads,
         queues,
-        depends: draft.depends,
+        depends: taken(alloc, &mut draft.depends),
         groups,
         events,
-        reads: draft.reads,
-        assigns: draft.assigns,
-        jobs: draft.jobs,
+        reads: taken(alloc, &mut draft.reads),
+        assigns: taken(alloc, &mut draft.assigns),
+        jobs: Flags {
+            on: taken(alloc, &mut draft.jobs.on),
+        },
         events_on,
         groups_on,
     })
