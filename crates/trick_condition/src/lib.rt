@@ -7,8 +7,6 @@ pub mod laws;
 mod place;
 mod plain;
 mod term;
-#[cfg(test)]
-mod tests;
 
 pub use fault::ConditionFault;
 pub use plain::is_plain;

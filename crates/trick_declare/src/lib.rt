@@ -8,8 +8,6 @@ mod declaring;
 mod fault;
 pub mod laws;
 mod taken;
-#[cfg(test)]
-mod tests;
 
 pub use declaration::Declaration;
 pub use declaring::{CELL_LIMIT, add, declare};

@@ -7,8 +7,6 @@ mod ask;
 mod deed;
 mod find;
 mod named;
-#[cfg(test)]
-mod tests;
 
 pub use ask::{deed_in_plan, deed_of, fitting};
 pub use deed::Deed;

@@ -8,8 +8,6 @@ mod machine;
 mod sparse;
 mod stack;
 mod store;
-#[cfg(test)]
-mod tests;
 mod working;
 
 pub use bench::{Bench, eval};

@@ -6,8 +6,6 @@ mod class;
 mod generated;
 pub mod laws;
 mod object;
-#[cfg(test)]
-mod tests;
 mod thread;
 
 pub use generated::{Generated, make};

@@ -12,8 +12,6 @@ mod line;
 mod plain;
 mod reader;
 mod says;
-#[cfg(test)]
-mod tests;
 
 pub use call::{Call, Form, Time};
 pub use fault::InputFault;

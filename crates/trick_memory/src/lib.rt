@@ -6,8 +6,6 @@ pub mod laws;
 mod list;
 mod memory;
 mod names;
-#[cfg(test)]
-mod tests;
 
 pub use list::listing;
 pub use memory::Memory;

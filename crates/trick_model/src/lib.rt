@@ -19,8 +19,6 @@ mod read_at;
 mod session;
 mod state;
 mod taken;
-#[cfg(test)]
-mod tests;
 mod thread;
 mod world;
 

@@ -13,8 +13,6 @@ pub mod laws;
 mod members;
 mod names;
 mod tables;
-#[cfg(test)]
-mod tests;
 mod world;
 
 pub use calls::calls_of_class;

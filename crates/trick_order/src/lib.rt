@@ -7,8 +7,6 @@ pub mod laws;
 mod reach;
 mod rounds;
 mod search;
-#[cfg(test)]
-mod tests;
 
 pub use callees::are_callees;
 pub use search::{OrderFault, order};

@@ -18,6 +18,3 @@ pub use shelf::{Got, Shelf, Wrote};
 pub use sink::{Sink, Taken1};
 pub use steps::{append, create, get, write_file};
 pub use stop::Stop;
-
-#[cfg(test)]
-mod tests;

@@ -13,8 +13,6 @@ mod line;
 mod name;
 mod plan;
 mod s_define;
-#[cfg(test)]
-mod tests;
 mod text;
 
 pub use check::check_line;

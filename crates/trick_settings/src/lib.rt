@@ -4,7 +4,5 @@
 
 mod said;
 mod settings;
-#[cfg(test)]
-mod tests;
 
 pub use settings::{Settings, settings_in};

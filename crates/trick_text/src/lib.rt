@@ -19,6 +19,3 @@ pub use scan::{CutText, TEXT_LIMIT, cut, last_line, tokens};
 pub use time::{TIC_LIMIT, seconds};
 pub use token::{Style, Token, TokenKind};
 pub use value::number_of;
-
-#[cfg(test)]
-mod tests;

@@ -5,8 +5,6 @@
 pub mod laws;
 mod queue;
 mod setting;
-#[cfg(test)]
-mod tests;
 mod thread_list;
 
 pub use queue::queues;

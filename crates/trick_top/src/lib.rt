@@ -13,6 +13,3 @@ mod verdict;
 mod words;
 
 pub use alone::{print_out_of_memory, tricks_alone};
-
-#[cfg(test)]
-mod tests;

@@ -7,8 +7,6 @@ mod command_line;
 mod commands;
 pub mod laws;
 mod number;
-#[cfg(test)]
-mod tests;
 
 pub use command::{Command, read_command};
 

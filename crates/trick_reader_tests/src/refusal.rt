@@ -1,11 +1,11 @@
 //! Lines of refusals.
 
-use crate::{check_line, input_line, s_define_line};
 use std::alloc::AllocError;
 use std::test::Fail;
 use trick_base::Items;
 use trick_check::CheckFault;
 use trick_input::InputFault;
+use trick_refusal::{check_line, input_line, s_define_line};
 use trick_sdef::SdefFault;
 use trick_text::TextFault;
 

@@ -1,11 +1,11 @@
 //! The threads and the queues of a program without jobs.
 
-use crate::{Setting, queues, threads};
 use std::alloc::Global;
 use std::test::Fail;
 use trick_base::Items;
 use trick_lang::Program;
 use trick_model::Process;
+use trick_threads::{Setting, queues, threads};
 
 fn program(alloc: Global) -> Program {
     Program {

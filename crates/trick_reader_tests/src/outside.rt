@@ -1,12 +1,14 @@
+//! Tests of trick_outside.
+
 ghost use Rattle.std.specs.Prelude.{◌≡◌};
 
-use crate::{
-    Got, MemoryShelf, MemorySink, Printed, Shelf, Sink, Stop, Taken1, append, create, get, put,
-    write_file,
-};
 use std::alloc::Global;
 use std::test::Fail;
 use trick_base::Word;
+use trick_outside::{
+    Got, MemoryShelf, MemorySink, Printed, Shelf, Sink, Stop, Taken1, append, create, get, put,
+    write_file,
+};
 
 /// A call of a shelf.
 #[derive(Clone, Copy, Debug, PartialEq, Eq)]

@@ -1,8 +1,8 @@
 //! Each public function once, with ample memory.
 
-use super::*;
 use std::test::Fail;
 use trick_lang::{FaultKind, JobFault, JobId};
+use trick_model::*;
 
 fn fault(tic: u64) -> JobFault {
     JobFault {

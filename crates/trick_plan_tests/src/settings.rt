@@ -1,12 +1,12 @@
 //! What the lines of an input say of a run.
 
-use crate::settings_in;
 use std::alloc::{AllocError, Global};
 use std::test::Fail;
 use trick_base::Items;
 use trick_input::{Call, Form};
 use trick_lang::Program;
 use trick_model::Process;
+use trick_settings::settings_in;
 
 // A program without objects.
 fn program(alloc: Global) -> Program {
@@ -52,17 +52,25 @@ fn calls(alloc: Global) -> Result<Vec<Call>, AllocError> {
 }
 
 #[test]
-fn the_last_line_counts(rt: HostRuntime) -> Result<(), Fail> {
+fn without_lines(rt: HostRuntime) -> Result<(), Fail> {
     let alloc = rt.alloc();
     let program = program(alloc);
     let settings = settings_in(alloc, &program, &[])?;
     assert!(rt; settings.frame == 1_000_000 && settings.limit == 1_000_000_000_000_001);
     assert!(rt; !settings.frozen && settings.threads.len() == 1);
+    Ok(())
+}
+
+#[test]
+fn the_last_line_counts(rt: HostRuntime) -> Result<(), Fail> {
+    let alloc = rt.alloc();
+    let program = program(alloc);
     let settings = settings_in(alloc, &program, &calls(alloc)?)?;
     assert!(rt; settings.frame == 20 && settings.limit == 2001 && settings.frozen);
     assert_eq!(rt; settings.threads.len(), 2);
     let child = settings.threads.as_slice()[1];
-    assert!(rt; child.number == 3 && child.named && child.cycle == 7);
-    assert!(rt; child.process == Process::MustFinish);
+    assert!(rt;
+        child.number == 3 && child.named && child.cycle == 7 && child.process == Process::MustFinish
+    );
     Ok(())
 }

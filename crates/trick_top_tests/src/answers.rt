@@ -1,11 +1,11 @@
 //! The top call over the forms in memory, with ample memory.
 
-use super::tricks_alone;
 use std::alloc::Global;
 use std::process::Abort;
 use std::test::Fail;
 use trick_base::Word;
 use trick_outside::{MemoryShelf, MemorySink, Shelf};
+use trick_top::tricks_alone;
 
 const S_DEFINE: &str = "class Counter : public Trick::SimObject {
   public:

@@ -7,10 +7,10 @@ ghost use Rattle.trick_lang.specs.Tree.{NoStep, spot};
 ghost use Rattle.trick_lang.specs.TreeOf.{code_list, spot_of};
 ghost use Rattle.trick_lang.specs.Wrap.{IsOf};
 
-use crate::{Bench, eval};
 use std::alloc::{AllocError, Global};
 use std::test::Fail;
 use trick_base::{Items, Word};
+use trick_eval::{Bench, eval};
 use trick_lang::laws::wrap_law;
 use trick_lang::{
     Arithmetic, Block, Cell, Cells, Change, Class, Expr, FaultKind, Job, JobFault, JobId, Method,
@@ -214,6 +214,17 @@ fn memory(scalar: Scalar, number: i64) -> One
     }
 }
 
+// The number that a job with this update leaves of an old one.
+fn number_after(alloc: Global, update: Update, old: i64) -> Result<i64, AllocError> {
+    let program = program(alloc, update)?;
+    let mut bench = Bench::new(alloc, &program)?;
+    let mut memory = memory(update.scalar, old);
+    bench.fill(&program, 9, JobId(0), &memory);
+    eval(&program, &mut bench);
+    bench.store(&program, &mut memory);
+    Ok(memory.number)
+}
+
 #[test]
 fn an_update_is_stored(rt: HostRuntime) -> Result<(), Fail> {
     let cases = [
@@ -253,13 +264,8 @@ fn an_update_is_stored(rt: HostRuntime) -> Result<(), Fail> {
             operator,
             number,
         };
-        let program = program(rt.alloc(), update)?;
-        let mut bench = Bench::new(rt.alloc(), &program)?;
-        let mut memory = memory(scalar, old);
-        bench.fill(&program, 9, JobId(0), &memory);
-        eval(&program, &mut bench);
-        bench.store(&program, &mut memory);
-        assert_eq!(rt; memory.number, new, "{old} {update:?}");
+        let number = number_after(rt.alloc(), update, old)?;
+        assert_eq!(rt; number, new, "{old} {update:?}");
     }
     Ok(())
 }

@@ -1,5 +1,5 @@
 use Rattle.std.proofs.Common.{◌≡◌, [], replicate}
-use Rattle.trick_memory.proofs.tests.queues.Given as goal
+use Rattle.trick_plan_tests.proofs.memory.queues.Given as goal
 
 abbrev pub invariant-loop-class : goal.invariant-loop-class
 invariant-loop-class l = l.all ≡ replicate l._class []

@@ -1,8 +1,8 @@
 //! Each public function with ample memory: texts that declare and those that do not, names that are
 //! taken, and the cells of a declaration.
 
-use crate::{Declaration, first_name};
 use std::test::Fail;
+use trick_declare::{Declaration, first_name};
 use trick_lang::Scalar;
 
 #[test]

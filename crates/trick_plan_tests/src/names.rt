@@ -1,11 +1,11 @@
 //! Each public function once, and the deepest and the longest body that a text can have.
 
-use super::*;
 use std::alloc::{AllocError, Global as Memory};
 use std::test::Fail;
 use trick_base::{Items, Word};
 use trick_lang::syntax::{ClassPart, Definition, Expr, Link, Method, SDefine, Stmt, TypeName};
 use trick_lang::{Arithmetic, Operator, Scalar};
+use trick_names::*;
 
 // void burn() { .. }
 fn method(alloc: Memory, body: Stmt) -> Result<ClassPart, AllocError> {

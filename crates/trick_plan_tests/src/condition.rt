@@ -1,9 +1,9 @@
 //! Each public function with ample memory.
 
-use crate::{ConditionFault, is_plain, resolve};
 use std::alloc::{AllocError, Global};
 use std::test::Fail;
 use trick_base::Word;
+use trick_condition::{ConditionFault, is_plain, resolve};
 use trick_lang::syntax::{Part, Path};
 use trick_lang::{Cell, Expr, syntax};
 use trick_names::Names;

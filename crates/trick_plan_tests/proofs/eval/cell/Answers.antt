@@ -1,5 +1,5 @@
 use Rattle.std.proofs.Common.{false, ap, ◌∙◌}
-use Rattle.trick_eval.proofs.tests.cell.Goals as goal
+use Rattle.trick_plan_tests.proofs.eval.cell.Goals as goal
 use Rattle.trick_lang.proofs.TreeLists.{place_is}
 use Rattle.trick_lang.specs.Tree.{spot}
 use Rattle.trick_lang.specs.TreeOf.{steps_of_list}

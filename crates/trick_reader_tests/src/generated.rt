@@ -1,7 +1,7 @@
 //! Both texts with ample memory, as a user reads them.
 
-use super::*;
 use std::test::Fail;
+use trick_gen::*;
 
 #[test]
 fn both_texts_are_made(rt: HostRuntime) -> Result<(), Fail> {

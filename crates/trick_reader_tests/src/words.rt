@@ -1,9 +1,9 @@
 //! Words and the commands that they ask for.
 
-use super::*;
 use std::alloc::Global;
 use std::test::Fail;
 use trick_base::Word;
+use trick_words::*;
 
 /// The words of a line: one blank stands between two words, and two blanks have an empty word between.
 fn words_of(alloc: Global, line: &str) -> Result<Vec<Word>, Fail> {
@@ -84,36 +84,38 @@ fn asks_for(alloc: Global, line: &str, want: &Want<'_>) -> Result<bool, Fail> {
     }
 }
 
+/// Lines, each with the name of its command, its S_define, its input, its checkpoint and its number.
+const COMMANDS: [(&str, &str, &str, &str, Option<&str>, u32); 18] = [
+    ("serial a b", "serial", "a", "b", None, 0),
+    ("serial --from c a b", "serial", "a", "b", Some("c"), 0),
+    ("serial a --from=c b", "serial", "a", "b", Some("c"), 0),
+    ("serial a b --from=-x", "serial", "a", "b", Some("-x"), 0),
+    ("serial a b --from ", "serial", "a", "b", Some(""), 0),
+    ("serial  /tmp/b", "serial", "", "/tmp/b", None, 0),
+    ("run a b", "run", "a", "b", None, 0),
+    ("run a --port=70 b --from c", "run", "a", "b", Some("c"), 70),
+    ("run --port 1 a b", "run", "a", "b", None, 1),
+    ("run --port 65535 a b", "run", "a", "b", None, 65535),
+    ("run --port 00070 a b", "run", "a", "b", None, 70),
+    ("replay a b j", "replay", "a", "b", None, 0),
+    (
+        "replay a b --from=c=d j",
+        "replay",
+        "a",
+        "b",
+        Some("c=d"),
+        0,
+    ),
+    ("check a b", "check", "a", "b", None, 0),
+    ("list a b", "list", "a", "b", None, 0),
+    ("gen 1", "gen", "", "", None, 1),
+    ("gen 007", "gen", "", "", None, 7),
+    ("gen 100", "gen", "", "", None, 100),
+];
+
 #[test]
 fn each_command_with_its_options_in_any_place(rt: HostRuntime) -> Result<(), Fail> {
-    let rows = [
-        ("serial a b", "serial", "a", "b", None, 0),
-        ("serial --from c a b", "serial", "a", "b", Some("c"), 0),
-        ("serial a --from=c b", "serial", "a", "b", Some("c"), 0),
-        ("serial a b --from=-x", "serial", "a", "b", Some("-x"), 0),
-        ("serial a b --from ", "serial", "a", "b", Some(""), 0),
-        ("serial  /tmp/b", "serial", "", "/tmp/b", None, 0),
-        ("run a b", "run", "a", "b", None, 0),
-        ("run a --port=70 b --from c", "run", "a", "b", Some("c"), 70),
-        ("run --port 1 a b", "run", "a", "b", None, 1),
-        ("run --port 65535 a b", "run", "a", "b", None, 65535),
-        ("run --port 00070 a b", "run", "a", "b", None, 70),
-        ("replay a b j", "replay", "a", "b", None, 0),
-        (
-            "replay a b --from=c=d j",
-            "replay",
-            "a",
-            "b",
-            Some("c=d"),
-            0,
-        ),
-        ("check a b", "check", "a", "b", None, 0),
-        ("list a b", "list", "a", "b", None, 0),
-        ("gen 1", "gen", "", "", None, 1),
-        ("gen 007", "gen", "", "", None, 7),
-        ("gen 100", "gen", "", "", None, 100),
-    ];
-    for (line, name, s_define, input, from, number) in rows {
+    for (line, name, s_define, input, from, number) in COMMANDS {
         let want = Want {
             name,
             s_define,
@@ -127,65 +129,76 @@ fn each_command_with_its_options_in_any_place(rt: HostRuntime) -> Result<(), Fai
     Ok(())
 }
 
+/// Lines that are no command.
+const NO_COMMANDS: [&str; 52] = [
+    "",
+    "serial",
+    "serial a",
+    "serial a b c",
+    "serial a - b",
+    "serial a -- b",
+    "serial a b --from",
+    "serial a b --from=",
+    "serial a --from --from=x b",
+    "serial a --from x b --from=y",
+    "serial a --from -x b",
+    "serial a b -h",
+    "serial a b --help",
+    "serial a b --version",
+    "serial a b --fro=x",
+    "serial a b --fromx y",
+    "serial -a b",
+    "Serial a b",
+    "help",
+    "help serial",
+    "--from c serial a b",
+    "version",
+    "--help",
+    "serial a b --port 7",
+    "run a b --port",
+    "run a b --port=",
+    "run a b --port 0",
+    "run a b --port 65536",
+    "run a b --port 000070",
+    "run a b --port 7x",
+    "run a b --port +7",
+    "run a b --port ",
+    "run a b --port 1 --port 2",
+    "replay a b",
+    "replay a b j k",
+    "replay a b j --port 1",
+    "check a",
+    "check a b c",
+    "check a --from c",
+    "check a b --from c",
+    "list a b --from=c",
+    "gen",
+    "gen 0",
+    "gen 101",
+    "gen 1000",
+    "gen 0007",
+    "gen -1",
+    "gen +1",
+    "gen 1 2",
+    "gen x",
+    "gen ",
+    "monte a b 1 c",
+];
+
+/// How many of the lines are a command.
+fn commands_among(alloc: Global, lines: &[&str]) -> Result<usize, Fail> {
+    let mut count = 0usize;
+    for line in lines {
+        if read_command(alloc, &words_of(alloc, line)?)?.is_some() {
+            count = count.saturating_add(1);
+        }
+    }
+    Ok(count)
+}
+
 #[test]
 fn words_of_no_command(rt: HostRuntime) -> Result<(), Fail> {
-    let lines = [
-        "",
-        "serial",
-        "serial a",
-        "serial a b c",
-        "serial a - b",
-        "serial a -- b",
-        "serial a b --from",
-        "serial a b --from=",
-        "serial a --from --from=x b",
-        "serial a --from x b --from=y",
-        "serial a --from -x b",
-        "serial a b -h",
-        "serial a b --help",
-        "serial a b --version",
-        "serial a b --fro=x",
-        "serial a b --fromx y",
-        "serial -a b",
-        "Serial a b",
-        "help",
-        "help serial",
-        "--from c serial a b",
-        "version",
-        "--help",
-        "serial a b --port 7",
-        "run a b --port",
-        "run a b --port=",
-        "run a b --port 0",
-        "run a b --port 65536",
-        "run a b --port 000070",
-        "run a b --port 7x",
-        "run a b --port +7",
-        "run a b --port ",
-        "run a b --port 1 --port 2",
-        "replay a b",
-        "replay a b j k",
-        "replay a b j --port 1",
-        "check a",
-        "check a b c",
-        "check a --from c",
-        "check a b --from c",
-        "list a b --from=c",
-        "gen",
-        "gen 0",
-        "gen 101",
-        "gen 1000",
-        "gen 0007",
-        "gen -1",
-        "gen +1",
-        "gen 1 2",
-        "gen x",
-        "gen ",
-        "monte a b 1 c",
-    ];
-    for line in lines {
-        assert!(rt; read_command(rt.alloc(), &words_of(rt.alloc(), line)?)?.is_none());
-    }
+    assert_eq!(rt; commands_among(rt.alloc(), &NO_COMMANDS)?, 0);
     assert!(rt; read_command(rt.alloc(), &[])?.is_none());
     Ok(())
 }

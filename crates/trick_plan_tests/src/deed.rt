@@ -3,10 +3,10 @@
 ghost use Rattle.std.specs.Prelude.{◌≡◌, ◌∷◌, [], IfOk, codes};
 ghost use Rattle.trick_lang.specs.declared.scalar.Scalar.TheVariants.{Char, Long};
 
-use crate::{Deed, deed_of, find_cell};
 use std::alloc::{AllocError, Global};
 use std::test::Fail;
 use trick_base::{Items, Word};
+use trick_deed::{Deed, deed_of, find_cell};
 use trick_lang::{Cell, Program, Scalar, Variable};
 use trick_model::{Action, Group};
 

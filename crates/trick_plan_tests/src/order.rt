@@ -1,9 +1,9 @@
 //! The public call once for each kind of answer, and on the longest chain of calls of a class.
 
-use super::*;
 use std::alloc::{AllocError, Global};
 use std::test::Fail;
 use trick_base::Items;
+use trick_order::*;
 
 fn one(alloc: Global, callee: usize) -> Result<Items<usize>, AllocError> {
     let mut callees = Items::new(alloc);

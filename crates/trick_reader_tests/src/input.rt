@@ -1,7 +1,7 @@
 //! Whole inputs.
 
-use crate::{Form, InputFault, read_input};
 use std::test::Fail;
+use trick_input::{Form, InputFault, read_input};
 use trick_text::{TextFault, TimeFault};
 
 // How many lines of an input say something.
