@@ -1,14 +1,15 @@
 -- Jobs keep memories that agree outside the asynchronous reach: a job that reads a cell of the reach writes no other cell.
-use Rattle.std.proofs.Common.{◌≡◌, ◌∙◌, inl, inr, ℕ, ◌-◌, ◌<◌, ◌==◌, ℤ, List, [], ◌∷◌, length, Bool, true, false, ◌&&◌, ◌||◌, Option, Some, None, Result, Ok, Err, IsTrue, ap, refl, sym}
+use Rattle.std.proofs.Common.{◌≡◌, ◌∙◌, inl, inr, ℕ, ◌-◌, ◌<◌, ◌==◌, ℤ, List, [], ◌∷◌, length, Bool, true, false, ◌&&◌, ◌||◌, Option, Some, None, Result, Ok, Err, IsTrue, ap, arith, refl, sym}
 use Rattle.std.proofs.lemmas.Bool.{cases_Bool}
+use Rattle.std.proofs.lemmas.Bool.Decides.{nat_tests}
 use Rattle.std.specs.List.{list_any, slice_index_or}
-use Rattle.std.specs.Prelude.{filter}
+use Rattle.std.specs.Prelude.{filter, flat_map}
 use Rattle.trick_lang.specs.declared.class.Class.{Class}
 use Rattle.trick_lang.specs.declared.fault.Stop.{Stop}
 use Rattle.trick_model.specs.Access.{IsReached, Passed, Source, may_write, writes_cell}
 use Rattle.trick_model.specs.Beside.{tics_from, work}
 use Rattle.trick_model.specs.Order.{in_key_order, is_due, is_of_class, jobs_at, jobs_in}
-use Rattle.trick_model.specs.Plan.{Plan, is_on_async, is_on_scheduled, job_numbers, jobs_of, thread_of}
+use Rattle.trick_model.specs.Plan.{Plan, is_async, is_on_async, is_on_scheduled, job_numbers, jobs_of, process_in, thread_of}
 use Rattle.trick_model.specs.Running.{after_jobs, apply, outcome}
 use Rattle.trick_model.specs.State.{number_at}
 use Rattle.trick_model.specs.declared.flags.Flags.{Flags}
@@ -126,8 +127,36 @@ either : (P : Type 0) (a b : Bool) → (a ≡ true → P) → (b ≡ true → P)
 either P true b one other h = one refl
 either P false b one other h = other h
 
-pub written_reached : (p : Plan) (ks : List ℕ) (cell : ℕ) → Every (IsOnRound p) ks → may_write p ks cell ≡ true → IsReached p cell
+written_reached : (p : Plan) (ks : List ℕ) (cell : ℕ) → Every (IsOnRound p) ks → may_write p ks cell ≡ true → IsReached p cell
 written_reached p [] cell on h = cc h
 written_reached p (k ∷ ks) cell on h =
     either (IsReached p cell) (writes_cell p k cell) (may_write p ks cell) (λ writes. Source k cell on.0.0 on.0.1 writes)
     (λ later. written_reached p ks cell on.1 later) h
+
+-- each job of a round is on its thread
+round_jobs : (p : Plan) (thread : Thread) (on : Flags) (tic : ℕ) → process_in p.threads thread.number ≡ thread.process
+    → is_async thread.process ≡ true → Every (IsOnRound p) (work p thread on tic)
+round_jobs p thread on tic same round = by_process thread.process round
+  where
+    on_round : (k : ℕ) → IsJob p k → (thread_of p.jobs k == thread.number) ≡ true → IsOnRound p k
+    on_round k there e =
+        let number : thread_of p.jobs k ≡ thread.number = grind (arith, nat_tests, e) in
+        (there, ap (λ (n : ℕ). is_async (process_in p.threads n)) number ∙ ap is_async same ∙ round)
+
+    by_process : (type : Process) → is_async type ≡ true → Every (IsOnRound p) (elim type [
+      | process.Scheduled ↦ []
+      | process.Async ↦ in_key_order p.jobs (jobs_of p.jobs thread)
+      | process.MustFinish ↦
+          let from = tic - thread.cycle in
+          flat_map (λ u. in_key_order p.jobs (filter (is_due p on u) (jobs_of p.jobs thread))) (tics_from from (tic - from))
+    ])
+    by_process process.Scheduled e = tt
+    by_process process.Async e =
+        order_every (IsOnRound p) p.jobs (jobs_of p.jobs thread)
+        (filter_every (IsOnRound p) (IsJob p) (λ k. thread_of p.jobs k == thread.number) on_round (job_numbers p.jobs) (jobs_every p.jobs))
+    by_process process.MustFinish e = cc e
+
+-- A round writes cells of the reach alone.
+pub round_reached : (p : Plan) (thread : Thread) (on : Flags) (tic cell : ℕ) → process_in p.threads thread.number ≡ thread.process
+    → is_async thread.process ≡ true → may_write p (work p thread on tic) cell ≡ true → IsReached p cell
+round_reached p thread on tic cell same round h = written_reached p (work p thread on tic) cell (round_jobs p thread on tic same round) h

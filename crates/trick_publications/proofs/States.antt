@@ -182,7 +182,7 @@ pub class_keeps : (p : Plan) → IsSteady p → (class : Class) → Keeps p (run
 class_keeps p steady class s v h = run_alike p steady s.tic (jobs_in p.jobs class) (class_jobs p class) s v h
 
 -- the mode is set, and jobs run
-mode_keeps : (p : Plan) → IsSteady p → (class : Class) (m : Mode) → Keeps p (λ (s : State). run_class p class (record s { mode = m }))
+pub mode_keeps : (p : Plan) → IsSteady p → (class : Class) (m : Mode) → Keeps p (λ (s : State). run_class p class (record s { mode = m }))
 mode_keeps p steady class m s v h = class_keeps p steady class (record s { mode = m }) v h
 
 by_mode : (p : Plan) (m : Mode) (x y s t : State) → AreAlike p x y → AreAlike p s t

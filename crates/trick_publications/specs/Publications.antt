@@ -23,7 +23,8 @@ lines_of entries = filter is_of_session entries
 -- Lists of entries differ in publications alone: at each turn they have the same joins, lines and leaves,
 -- in the same order. Behind its last list a journal has no entries.
 abbrev pub DifferInPublications : List (List Entry) → List (List Entry) → Type 0
-DifferInPublications one other = (turn : ℕ) → lines_of (slice_index_or one turn []) ≡ lines_of (slice_index_or other turn [])
+DifferInPublications one other =
+    (turn : ℕ) → lines_of (slice_index_or one turn []) ≡ lines_of (slice_index_or other turn [])
 
 -- The same of the entries of two journals, each with its turn.
 abbrev pub JournalsDifferInPublications : List Noted → List Noted → Type 0
