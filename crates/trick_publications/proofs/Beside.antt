@@ -1,13 +1,12 @@
 -- Must-finish work on both sides, and what asynchronous threads do on one.
-use Rattle.std.proofs.Common.{◌≡◌, ◌∙◌, ℕ, suc, ◌+◌, ◌%◌, ◌<◌, ◌==◌, ℤ, List, [], ◌∷◌, length, map, Bool, true, false, ◌&&◌, Option, Some, None, ap, arith, refl, subst, sym}
-use Rattle.std.specs.List.{slice_index_or}
+use Rattle.std.proofs.Common.{◌≡◌, ◌∙◌, ℕ, suc, ◌+◌, ◌%◌, ◌==◌, ℤ, List, [], ◌∷◌, Bool, true, false, ◌&&◌, Option, Some, None, ap, arith, refl, subst, sym}
 use Rattle.std.specs.Prelude.{slice_set}
 use Rattle.trick_model.proofs.Turns.{AreAt, IsAt, all_at}
-use Rattle.trick_model.specs.Access.{IsReached, may_write, scope}
-use Rattle.trick_model.specs.Beside.{each_thread, ends_at, find_thread, flag_in, has_round, held_work, must_finish, one_later, publish, publish_round, published, replaced, spread, start_round, start_rounds, take, taken_from, where_ends, work, zeros}
-use Rattle.trick_model.specs.Plan.{Plan, is_async, is_on, jobs_of, process_in, threads_beside}
-use Rattle.trick_model.specs.Running.{After, after_jobs, settled}
-use Rattle.trick_model.specs.State.{State, nothing_taken, number_at, taken_at}
+use Rattle.trick_model.specs.Access.{may_write, scope}
+use Rattle.trick_model.specs.Beside.{ends_at, find_thread, flag_in, has_round, held_work, must_finish, one_later, publish, publish_round, published, spread, start_round, take, taken_from, where_ends, work, zeros}
+use Rattle.trick_model.specs.Plan.{Plan, is_async, jobs_of, threads_beside}
+use Rattle.trick_model.specs.Running.{after_jobs, settled}
+use Rattle.trick_model.specs.State.{State, nothing_taken, taken_at}
 use Rattle.trick_model.specs.Turn.{publish_all, rounds}
 use Rattle.trick_model.specs.declared.entry.Entry.{Entry}
 use Rattle.trick_model.specs.declared.entry.Entry.TheVariants.{Join, Said, Leave, Publish}

@@ -3,17 +3,16 @@ use Rattle.std.proofs.Common.{◌≡◌, ℕ, zero, suc, ◌<◌, ◌||◌, ◌&
 use Rattle.std.proofs.lemmas.Bool.Decides.{nat_tests}
 use Rattle.std.specs.Fmt.{digits}
 use Rattle.std.specs.Int.{int_wrap}
-use Rattle.std.specs.List.{slice_index_or}
-use Rattle.std.specs.Prelude.{ℤ, pos, ◌+ℤ◌, true, false, List, [], ◌∷◌, ◌++◌, codes, replicate, Option, Some, None, Result, Ok}
+use Rattle.std.specs.Prelude.{ℤ, pos, ◌+ℤ◌, true, false, List, [], ◌∷◌, codes, Option, Some, None, Result, Ok}
 use Rattle.trick_lang.specs.declared.class.Class.TheVariants.{Scheduled}
 use Rattle.trick_lang.specs.declared.fault.Stop.{Stop}
 use Rattle.trick_lang.specs.declared.job.Job.{Job}
 use Rattle.trick_lang.specs.declared.range.CellRange.{CellRange}
 use Rattle.trick_lang.specs.declared.scalar.Scalar.TheVariants.{Long}
-use Rattle.trick_model.specs.Access.{IsReached, Source, Passed, reads_cell, writes_cell}
+use Rattle.trick_model.specs.Access.{IsReached, Source, Passed}
 use Rattle.trick_model.specs.Commands.{command_of}
 use Rattle.trick_model.specs.Files.{file}
-use Rattle.trick_model.specs.Plan.{Plan, is_on_async}
+use Rattle.trick_model.specs.Plan.{Plan}
 use Rattle.trick_model.specs.Run.{Fits, final, start}
 use Rattle.trick_model.specs.State.{number_at}
 use Rattle.trick_model.specs.declared.entry.Entry.{Entry}

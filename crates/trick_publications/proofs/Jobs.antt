@@ -1,8 +1,7 @@
 -- Jobs keep memories that agree outside the asynchronous reach: a job that reads a cell of the reach writes no other cell.
-use Rattle.std.proofs.Common.{◌≡◌, ◌∙◌, inl, inr, ℕ, ◌-◌, ◌<◌, ◌==◌, ℤ, List, [], ◌∷◌, length, Bool, true, false, ◌&&◌, ◌||◌, Option, Some, None, Result, Ok, Err, IsTrue, ap, arith, refl, sym}
+use Rattle.std.proofs.Common.{◌≡◌, ◌∙◌, inl, inr, ℕ, ◌-◌, ◌<◌, ◌==◌, ℤ, List, [], ◌∷◌, length, Bool, true, false, ◌&&◌, ◌||◌, Option, Result, Ok, Err, IsTrue, ap, arith, refl, sym}
 use Rattle.std.proofs.lemmas.Bool.{cases_Bool}
 use Rattle.std.proofs.lemmas.Bool.Decides.{nat_tests}
-use Rattle.std.specs.List.{list_any, slice_index_or}
 use Rattle.std.specs.Prelude.{filter, flat_map}
 use Rattle.trick_lang.specs.declared.class.Class.{Class}
 use Rattle.trick_lang.specs.declared.fault.Stop.{Stop}

@@ -1,7 +1,6 @@
 -- Journals that differ in publications alone give lists that do.
 use Rattle.std.proofs.Common.{◌≡◌, ◌∙◌, ℕ, zero, suc, ◌+◌, ◌-◌, ◌==◌, nat_lt, List, [], ◌∷◌, ◌++◌, length, map, Bool, true, false, not, cond, ap, refl, subst, sym}
 use Rattle.std.proofs.lemmas.List.Elements.{filter-append}
-use Rattle.std.specs.List.{slice_index_or}
 use Rattle.std.specs.Prelude.{filter}
 use Rattle.trick_model.specs.Journal.{Noted, entries_at, is_of_session, lists_from, lists_of, live_after, live_before, with_joins}
 use Rattle.trick_model.specs.declared.entry.Entry.{Entry}

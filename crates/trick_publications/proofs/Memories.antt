@@ -1,5 +1,5 @@
 -- Memories that agree outside the asynchronous reach, and what changes of a cell make of them.
-use Rattle.std.proofs.Common.{◌≡◌, ◌∙◌, ℕ, zero, suc, ◌+◌, ◌<◌, ℤ, pos, List, [], ◌∷◌, length, map, Bool, true, false, cond, Option, Some, None, unwrap_or, ap, arith, refl, subst, sym}
+use Rattle.std.proofs.Common.{◌≡◌, ◌∙◌, ℕ, zero, suc, ◌+◌, ℤ, pos, List, [], ◌∷◌, length, map, Bool, true, false, cond, Option, Some, None, unwrap_or, ap, arith, refl, subst, sym}
 use Rattle.std.specs.List.{slice_index_or}
 use Rattle.std.specs.Prelude.{slice_set}
 use Rattle.trick_lang.specs.Effect.{overwritten}

@@ -1,7 +1,7 @@
 -- Runs under lists of entries that differ in publications alone.
-use Rattle.std.proofs.Common.{◌≡◌, ◌∙◌, ℕ, zero, suc, List, [], ◌∷◌, ◌++◌, length, Bool, true, false, not, ◌&&◌, ◌||◌, ap, arith, nat_le, refl, sym}
+use Rattle.std.proofs.Common.{◌≡◌, ◌∙◌, ℕ, suc, List, [], ◌∷◌, ◌++◌, length, Bool, true, false, not, ◌&&◌, ◌||◌, ap, arith, nat_le, refl, sym}
 use Rattle.std.specs.List.{list_any, slice_index_or}
-use Rattle.std.specs.Prelude.{All, IsTrue, Option}
+use Rattle.std.specs.Prelude.{IsTrue, Option}
 use Rattle.trick_base.proofs.ContentLemmas.{content-append}
 use Rattle.trick_base.specs.Content.{content}
 use Rattle.trick_lang.specs.declared.class.Class.TheVariants as class
@@ -10,7 +10,6 @@ use Rattle.trick_model.specs.Journal.{is_of_session}
 use Rattle.trick_model.specs.Plan.{Plan}
 use Rattle.trick_model.specs.Records.{log_name}
 use Rattle.trick_model.specs.Run.{Fits, after_turns, final, goes_on, has_session_entry, is_over, is_shut, opened, shut}
-use Rattle.trick_model.specs.Running.{run_class}
 use Rattle.trick_model.specs.State.{State, World}
 use Rattle.trick_model.specs.Turn.{is_frozen, turn}
 use Rattle.trick_model.specs.declared.entry.Entry.{Entry}

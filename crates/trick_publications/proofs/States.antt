@@ -1,7 +1,6 @@
 -- States that are alike: the same but for asynchronous work. Each step of a turn keeps that.
-use Rattle.std.proofs.Common.{◌≡◌, ◌∙◌, ℕ, ◌+◌, ◌<◌, ◌==◌, ℤ, List, [], ◌∷◌, length, Bool, true, false, ◌&&◌, ap, refl, subst, sym}
+use Rattle.std.proofs.Common.{◌≡◌, ◌∙◌, ℕ, ◌+◌, ℤ, List, [], ◌∷◌, length, Bool, true, false, refl, subst, sym}
 use Rattle.std.specs.List.{slice_index_or}
-use Rattle.std.specs.Prelude.{slice_set}
 use Rattle.trick_lang.specs.declared.class.Class.{Class}
 use Rattle.trick_lang.specs.declared.class.Class.TheVariants as class
 use Rattle.trick_model.proofs.Turns.{AreAt, IsAt}
@@ -10,7 +9,7 @@ use Rattle.trick_model.specs.Beside.{each_thread, spread, zeros}
 use Rattle.trick_model.specs.Events.{enter_freeze, leave_freeze}
 use Rattle.trick_model.specs.FaultList.{FaultList, with_faults}
 use Rattle.trick_model.specs.Order.{jobs_in}
-use Rattle.trick_model.specs.Plan.{Plan, is_on, threads_beside}
+use Rattle.trick_model.specs.Plan.{Plan, is_on}
 use Rattle.trick_model.specs.Running.{After, after_jobs, run_class, settled}
 use Rattle.trick_model.specs.State.{State, nothing_taken}
 use Rattle.trick_model.specs.declared.mode.Mode.{Mode}

@@ -1,18 +1,17 @@
 -- What an accepted plan gives: effects and conditions that depend on what is read alone, and what is not reached.
-use Rattle.std.proofs.Common.{◌≡◌, ◌∙◌, ℕ, zero, suc, ◌+◌, ◌-◌, ◌<◌, ◌≤◌, ℤ, pos, List, [], ◌∷◌, ◌++◌, length, map, Bool, true, false, not, ◌&&◌, nat_le, nat_lt, IsTrue, Option, Some, None, Result, Ok, ap, arith, refl, subst, sym}
+use Rattle.std.proofs.Common.{◌≡◌, ℕ, ◌+◌, ◌-◌, ◌<◌, ℤ, pos, List, [], ◌∷◌, ◌++◌, length, map, Bool, true, false, not, ◌&&◌, nat_le, nat_lt, IsTrue, Option, Some, None, Ok, ap, arith, refl}
 use Rattle.std.proofs.Math.Logic.{∥∥₁_elim}
 use Rattle.std.proofs.lemmas.Bool.Decides.{nat_tests}
 use Rattle.std.specs.List.{slice_index_or}
 use Rattle.std.specs.Prelude.{All}
 use Rattle.trick_lang.proofs.Tests.{and_then-same, both_left, both_right, if-same, in_first, in_left, in_right}
-use Rattle.trick_lang.specs.Access.{choice_reads, index_reads, is_in, link_reads, range_of, step_reads, term_reads}
+use Rattle.trick_lang.specs.Access.{choice_reads, is_in, link_reads, term_reads}
 use Rattle.trick_lang.specs.Laws.{AgreeOn, SameEffect, WritesOnly}
 use Rattle.trick_lang.specs.Numbers.{is_true, joined}
-use Rattle.trick_lang.specs.Tree.{Term, Number, Local, Cell, Prefixed, Chain, Choose, Links, NoLink, Link, Choices, Last, Choice, Spot, spot, Steps, NoStep, Step}
+use Rattle.trick_lang.specs.Tree.{Term, Number, Local, Cell, Prefixed, Chain, Choose, Links, NoLink, Link, Choices, Last, Choice, spot, Steps, NoStep, Step}
 use Rattle.trick_lang.specs.TreeOf.{term_of}
 use Rattle.trick_lang.specs.Value.{Sight, chosen, linked, value}
 use Rattle.trick_lang.specs.declared.cells.Cell.{Cell as CellValue}
-use Rattle.trick_lang.specs.declared.fault.Stop.{Stop}
 use Rattle.trick_lang.specs.declared.range.CellRange.{CellRange}
 use Rattle.trick_lang.specs.declared.tree.Expr.{Expr}
 use Rattle.trick_model.proofs.Turns.{IsAt}

@@ -1,6 +1,6 @@
 -- Turns on both sides, under entries that differ in publications alone.
-use Rattle.std.proofs.Common.{◌≡◌, ◌∙◌, ℕ, ◌+◌, ◌==◌, List, [], ◌∷◌, ◌++◌, Bool, true, false, not, ◌&&◌, ◌||◌, cond, Option, Some, None, ap, refl, subst, sym, unwrap_or}
-use Rattle.std.specs.Prelude.{filter, min}
+use Rattle.std.proofs.Common.{◌≡◌, ◌∙◌, ℕ, List, [], ◌∷◌, ◌++◌, Bool, true, false, not, cond, Option, Some, None, ap, refl, subst, sym, unwrap_or}
+use Rattle.std.specs.Prelude.{filter}
 use Rattle.trick_base.proofs.ContentLemmas.{content-append}
 use Rattle.trick_base.specs.Content.{content, same_name}
 use Rattle.trick_base.specs.Files.{Write}
@@ -14,9 +14,7 @@ use Rattle.trick_model.specs.Plan.{Plan}
 use Rattle.trick_model.specs.Running.{run_class}
 use Rattle.trick_model.specs.Session.{Answer, answered, joined, staying}
 use Rattle.trick_model.specs.State.{State, World}
-use Rattle.trick_model.specs.Tic.{Ticked, frame}
-use Rattle.trick_model.specs.Time.{last_turn}
-use Rattle.trick_model.specs.Turn.{Hearing, Turned, begun, changed, checkpoint_jobs, checkpoint_name, checkpoint_writes, counted, do_between, framed, frozen, hear, heard, is_frozen, publish_all, resumed, rounds, run_frame, runs, session_of, turn}
+use Rattle.trick_model.specs.Turn.{Hearing, Turned, begun, changed, checkpoint_jobs, checkpoint_name, checkpoint_writes, counted, do_between, framed, frozen, hear, heard, publish_all, resumed, rounds, run_frame, runs, session_of, turn}
 use Rattle.trick_model.specs.declared.entry.Entry.{Entry}
 use Rattle.trick_model.specs.declared.entry.Entry.TheVariants.{Join, Said, Leave, Publish}
 use Rattle.trick_model.specs.declared.session.Session.{Session}
