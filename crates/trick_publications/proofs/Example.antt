@@ -3,24 +3,31 @@ use Rattle.std.proofs.Common.{◌≡◌, ℕ, zero, suc, ◌<◌, ◌||◌, ◌&
 use Rattle.std.proofs.lemmas.Bool.Decides.{nat_tests}
 use Rattle.std.specs.Fmt.{digits}
 use Rattle.std.specs.Int.{int_wrap}
-use Rattle.std.specs.Prelude.{ℤ, pos, ◌+ℤ◌, true, false, List, [], ◌∷◌, codes, Option, Some, None, Result, Ok}
+use Rattle.std.specs.Prelude.{All, ℤ, pos, ◌+ℤ◌, true, false, List, [], ◌∷◌, codes, Option, Some, None, Result, Ok}
+use Rattle.trick_lang.proofs.Tests.{both_left, both_right}
 use Rattle.trick_lang.specs.declared.class.Class.TheVariants.{Scheduled}
 use Rattle.trick_lang.specs.declared.fault.Stop.{Stop}
 use Rattle.trick_lang.specs.declared.job.Job.{Job}
 use Rattle.trick_lang.specs.declared.range.CellRange.{CellRange}
 use Rattle.trick_lang.specs.declared.scalar.Scalar.TheVariants.{Long}
+use Rattle.trick_model.specs.Acceptance.{IsAccepted, IsDecidable, IsFine, IsForward, IsNamedRight, IsRecordable, IsWrittenOnce, may_write_on}
 use Rattle.trick_model.specs.Access.{IsReached, Source, Passed}
 use Rattle.trick_model.specs.Commands.{command_of}
 use Rattle.trick_model.specs.Files.{file}
+use Rattle.trick_model.specs.Order.{is_of_class}
 use Rattle.trick_model.specs.Plan.{Plan}
 use Rattle.trick_model.specs.Run.{Fits, final, start}
 use Rattle.trick_model.specs.State.{number_at}
 use Rattle.trick_model.specs.declared.entry.Entry.{Entry}
 use Rattle.trick_model.specs.declared.entry.Entry.TheVariants.{Publish}
+use Rattle.trick_model.specs.declared.group.Group.{Group}
 use Rattle.trick_model.specs.declared.thread.Process.TheVariants as process
+use Rattle.trick_model.specs.declared.thread.Thread.{Thread}
 use Rattle.trick_publications.specs.Publications.{DifferInPublications}
 
--- Thread 0 counts n and copies y to z, every second tic. Asynchronous thread 1 copies n to y. The log has n.
+-- ---- a plan with an asynchronous thread
+
+-- a job of class scheduled, at every second tic
 abbrev job : (thread number : ℕ) → Job
 job thread number = record {
   object = 0;
@@ -39,6 +46,7 @@ job thread number = record {
 abbrev cell : ℕ → List CellRange
 cell c = record { first = record { 0 = c }; last = record { 0 = c } } ∷ []
 
+-- job 0 counts n, job 1 copies y to z, and job 2 copies n to y
 abbrev effect_of : ℕ → List ℤ → Result (List (Option ℤ)) Stop
 effect_of zero m = Ok (Some (number_at m 0 +ℤ pos 1) ∷ None ∷ None ∷ [])
 effect_of (suc zero) m = Ok (None ∷ None ∷ Some (number_at m 1) ∷ [])
@@ -54,6 +62,18 @@ writes_of zero = cell 0
 writes_of (suc zero) = cell 2
 writes_of (suc (suc k)) = cell 1
 
+-- jobs 0 and 1 are on thread 0
+abbrev main : Thread
+main = record { number = 0; process = process.Scheduled; cycle = 2; named = false }
+
+-- job 2 is on an asynchronous thread
+abbrev round : Thread
+round = record { number = 1; process = process.Async; cycle = 2; named = true }
+
+-- the log has n
+abbrev recorded : Group
+recorded = record { name = codes "g"; cycle = 2; changes = false; cells = record { 0 = 0 } ∷ [] }
+
 abbrev copying : Plan
 copying = record {
   names = codes "o.n" ∷ codes "o.y" ∷ codes "o.z" ∷ [];
@@ -67,11 +87,9 @@ copying = record {
   frame = 2;
   limit = 7;
   frozen = false;
-  threads =
-      record { number = 0; process = process.Scheduled; cycle = 2; named = false }
-      ∷ record { number = 1; process = process.Async; cycle = 2; named = true } ∷ [];
+  threads = main ∷ round ∷ [];
   depends = [];
-  groups = record { name = codes "g"; cycle = 2; changes = false; cells = record { 0 = 0 } ∷ [] } ∷ [];
+  groups = recorded ∷ [];
   events = [];
   read_ats = [];
   assigns = [];
@@ -83,13 +101,13 @@ copying = record {
 -- ---- the reach
 
 pub y_is_reached : IsReached copying 1
-y_is_reached = Source 2 1 (let l : 2 < 3 = arith_less in l) refl refl
+y_is_reached = Source 2 1 arith_less refl refl
   where
     arith_less : 2 < 3
     arith_less = omega arith
 
 pub z_is_reached : IsReached copying 2
-z_is_reached = Passed 1 1 2 (let l : 1 < 3 = arith_less in l) y_is_reached refl refl
+z_is_reached = Passed 1 1 2 arith_less y_is_reached refl refl
   where
     arith_less : 1 < 3
     arith_less = omega arith
@@ -108,6 +126,63 @@ not_first c (Passed (suc (suc k)) from d there reached reads writes) e = grind (
 
 pub n_is_not_reached : IsReached copying 0 → ⊥
 n_is_not_reached h = not_first 0 h refl
+
+-- ---- the plan is accepted
+
+none_of : {A : Type 0} (P : A → Type 0) → All P []
+none_of P k d there = absurd (omega (arith, there))
+
+one_of : {A : Type 0} (P : A → Type 0) (x : A) → P x → All P (x ∷ [])
+one_of P x first zero d there = first
+one_of P x first (suc k) d there = absurd (omega (arith, there))
+
+two_of : {A : Type 0} (P : A → Type 0) (x y : A) → P x → P y → All P (x ∷ y ∷ [])
+two_of P x y first second zero d there = first
+two_of P x y first second (suc zero) d there = second
+two_of P x y first second (suc (suc k)) d there = absurd (omega (arith, there))
+
+scheduled_all : (k : ℕ) → k < 3 → IsTrue (is_of_class copying.jobs Scheduled k)
+scheduled_all zero there = refl
+scheduled_all (suc zero) there = refl
+scheduled_all (suc (suc zero)) there = refl
+scheduled_all (suc (suc (suc k))) there = absurd (omega (arith, there))
+
+-- Thread 0 writes n and z, and thread 1 writes y.
+apart : (c : ℕ) → IsTrue (may_write_on copying main c) → IsTrue (may_write_on copying round c) → ⊥
+apart zero one other = grind (arith, nat_tests, other)
+apart (suc zero) one other = grind (arith, nat_tests, one)
+apart (suc (suc c)) one other = grind (arith, nat_tests, other)
+
+once : (one other : Thread) → ((c : ℕ) → IsTrue (may_write_on copying one c) → IsTrue (may_write_on copying other c) → ⊥)
+    → (c : ℕ) → IsWrittenOnce copying one other c
+once one other none c differ beside both =
+    none c (both_left (may_write_on copying one c) (may_write_on copying other c) both) (both_right (may_write_on copying one c) (may_write_on copying other c) both)
+
+fine : (a b : ℕ) → a < 3 → b < 3 → IsFine copying a b
+fine zero zero there also may tic shared = absurd (may.on_two_threads refl)
+fine zero (suc zero) there also may tic shared = absurd (may.on_two_threads refl)
+fine (suc zero) zero there also may tic shared = absurd (may.on_two_threads refl)
+fine (suc zero) (suc zero) there also may tic shared = absurd (may.on_two_threads refl)
+fine (suc (suc zero)) b there also may tic shared = absurd (let h = may.first_scheduled in grind (arith, h))
+fine zero (suc (suc zero)) there also may tic shared = absurd (let h = may.second_scheduled in grind (arith, h))
+fine (suc zero) (suc (suc zero)) there also may tic shared = absurd (let h = may.second_scheduled in grind (arith, h))
+fine (suc (suc (suc a))) b there also may tic shared = absurd (omega (arith, there))
+fine zero (suc (suc (suc b))) there also may tic shared = absurd (omega (arith, also))
+fine (suc zero) (suc (suc (suc b))) there also may tic shared = absurd (omega (arith, also))
+
+pub is_accepted : IsAccepted copying
+is_accepted = record {
+  named = two_of (IsNamedRight copying) main round (λ named. cc named) (λ named. (λ e. absurd (omega (arith, e)), refl));
+  on_main = λ k there other. absurd (other (scheduled_all k there));
+  forward = none_of (IsForward copying);
+  written_once = two_of (λ one. All (λ other. (c : ℕ) → IsWrittenOnce copying one other c) copying.threads) main round
+      (two_of (λ other. (c : ℕ) → IsWrittenOnce copying main other c) main round (λ c differ. absurd (differ refl)) (once main round apart))
+      (two_of (λ other. (c : ℕ) → IsWrittenOnce copying round other c) main round (once round main (λ c one other. apart c other one))
+      (λ c differ. absurd (differ refl)));
+  recordable = one_of (λ (group : Group). All (IsRecordable copying) group.cells) recorded (one_of (IsRecordable copying) (record { 0 = 0 }) n_is_not_reached);
+  decidable = none_of (IsDecidable copying);
+  no_race = fine;
+}
 
 -- ---- two journals
 

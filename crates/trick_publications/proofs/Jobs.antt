@@ -16,7 +16,7 @@ use Rattle.trick_model.specs.declared.thread.Process.{Process}
 use Rattle.trick_model.specs.declared.thread.Process.TheVariants as process
 use Rattle.trick_model.specs.declared.thread.Thread.{Thread}
 use Rattle.trick_publications.proofs.Members.{Every, filter_every, flat_every, jobs_every, order_every}
-use Rattle.trick_publications.proofs.Memories.{over_lengths, over_other, over_same}
+use Rattle.trick_publications.proofs.Memories.{over_length, over_other, over_same}
 use Rattle.trick_publications.proofs.Steady.{IsSteady}
 use Rattle.trick_publications.specs.Publications.{AgreeOutside}
 
@@ -62,20 +62,9 @@ module _ (p : Plan) (steady : IsSteady p) where
   not_both true none some = cc none
   not_both false none some = cc some
 
-  outcome_length : (tic k : ℕ) (m n : List ℤ) (e f : Result (List (Option ℤ)) Stop) → length m ≡ length n
-      → length (outcome tic k m e).memory ≡ length (outcome tic k n f).memory
-  outcome_length tic k m n (Ok stored) (Ok other) same = over_lengths stored other m n same
-  outcome_length tic k m n (Ok stored) (Err stop) same = over_lengths stored [] m n same ∙ over_none n
-    where
-      over_none : (n : List ℤ) → length (outcome tic k n (Ok [])).memory ≡ length n
-      over_none [] = refl
-      over_none (x ∷ xs) = refl
-  outcome_length tic k m n (Err stop) (Ok other) same = sym (over_none m) ∙ over_lengths [] other m n same
-    where
-      over_none : (n : List ℤ) → length (outcome tic k n (Ok [])).memory ≡ length n
-      over_none [] = refl
-      over_none (x ∷ xs) = refl
-  outcome_length tic k m n (Err stop) (Err other) same = same
+  outcome_length : (tic k : ℕ) (m : List ℤ) (e : Result (List (Option ℤ)) Stop) → length (outcome tic k m e).memory ≡ length m
+  outcome_length tic k m (Ok stored) = over_length stored m
+  outcome_length tic k m (Err stop) = refl
 
   -- a cell that the job does not write
   outcome_other : (tic k cell : ℕ) (m : List ℤ) (e : Result (List (Option ℤ)) Stop) → p.effect k m ≡ e → writes_cell p k cell ≡ false
@@ -93,11 +82,11 @@ module _ (p : Plan) (steady : IsSteady p) where
   agree_outcome : (tic k : ℕ) (m n : List ℤ) → IsJob p k → AgreeOutside p m n
       → AgreeOutside p (outcome tic k m (p.effect k m)).memory (outcome tic k n (p.effect k n)).memory
   agree_outcome tic k m n there h = record {
-    many = outcome_length tic k m n (p.effect k m) (p.effect k n) h.many;
+    many = outcome_length tic k m (p.effect k m) ∙ h.many ∙ sym (outcome_length tic k n (p.effect k n));
     same = λ cell out. elim (cases_Bool (writes_cell p k cell)) [
       | inl writes ↦
           let e : p.effect k m ≡ p.effect k n =
-              steady.effects k m n (λ d reads. h.same d (λ reached. out (Passed k d cell there reached reads writes))) in
+          steady.effects k m n (λ d reads. h.same d (λ reached. out (Passed k d cell there reached reads writes))) in
           outcome_same tic k cell m n (p.effect k m) h.many (h.same cell out)
           ∙ ap (λ (r : Result (List (Option ℤ)) Stop). number_at (outcome tic k n r).memory cell) e
       | inr none ↦

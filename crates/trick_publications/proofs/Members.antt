@@ -1,8 +1,9 @@
 -- What each member of a list keeps: lists of jobs, and the thread of a place.
-use Rattle.std.proofs.Common.{◌≡◌, ◌∙◌, ◌⊎◌, inl, inr, ℕ, zero, suc, ◌+◌, ◌<◌, ◌==◌, nat_lt, List, [], ◌∷◌, ◌++◌, length, Bool, true, false, cond, ◌&&◌, arith, refl, ap, subst}
+use Rattle.std.proofs.Common.{◌≡◌, ◌∙◌, ◌⊎◌, inl, inr, ℕ, zero, suc, ◌+◌, ◌<◌, ◌==◌, nat_lt, List, [], ◌∷◌, ◌++◌, length, Bool, true, false, cond, arith, refl, ap, subst}
 use Rattle.std.proofs.lemmas.Bool.Decides.{nat_tests}
 use Rattle.std.specs.List.{slice_index_or}
 use Rattle.std.specs.Prelude.{All, filter, flat_map}
+use Rattle.trick_lang.proofs.Tests.{both_left, both_right}
 use Rattle.trick_lang.specs.declared.job.Job.{Job}
 use Rattle.trick_model.specs.Order.{in_key_order, precedes, put_in}
 use Rattle.trick_model.specs.Plan.{job_numbers, numbers_from, process_in}
@@ -78,14 +79,6 @@ among_filter : (test : Thread → Bool) (t : Thread) (xs : List Thread) → Amon
 among_filter test t [] h = h
 among_filter test t (x ∷ xs) h = among_chosen (test x) t x xs (filter test xs) (among_filter test t xs) h
 
-and_first : (a b : Bool) → a && b ≡ true → a ≡ true
-and_first true b h = refl
-and_first false b h = h
-
-and_second : (a b : Bool) → a && b ≡ true → b ≡ true
-and_second true b h = h
-and_second false b h = cc
-
 less_of : (m n : ℕ) → nat_lt m n ≡ true → m < n
 less_of m n h = grind (arith, nat_tests, h)
 
@@ -93,15 +86,15 @@ less_of m n h = grind (arith, nat_tests, h)
 above : (n : ℕ) (t : Thread) (xs : List Thread) → rises (n ∷ thread_numbers xs) ≡ true → Among t xs → n < t.number
 above n t [] h among = absurd among
 above n t (x ∷ xs) h (inl e) =
-    subst (λ (s : Thread). n < s.number) e (less_of n x.number (and_first (nat_lt n x.number) (rises (thread_numbers (x ∷ xs))) h))
+    subst (λ (s : Thread). n < s.number) e (less_of n x.number (both_left (nat_lt n x.number) (rises (thread_numbers (x ∷ xs))) h))
 above n t (x ∷ xs) h (inr later) =
-    let first = less_of n x.number (and_first (nat_lt n x.number) (rises (thread_numbers (x ∷ xs))) h) in
-    let rest = above x.number t xs (and_second (nat_lt n x.number) (rises (thread_numbers (x ∷ xs))) h) later in
+    let first = less_of n x.number (both_left (nat_lt n x.number) (rises (thread_numbers (x ∷ xs))) h) in
+    let rest = above x.number t xs (both_right (nat_lt n x.number) (rises (thread_numbers (x ∷ xs))) h) later in
     omega (arith, first, rest)
 
 rises_on : (n : ℕ) (xs : List Thread) → rises (n ∷ thread_numbers xs) ≡ true → rises (thread_numbers xs) ≡ true
 rises_on n [] h = refl
-rises_on n (x ∷ xs) h = and_second (nat_lt n x.number) (rises (thread_numbers (x ∷ xs))) h
+rises_on n (x ∷ xs) h = both_right (nat_lt n x.number) (rises (thread_numbers (x ∷ xs))) h
 
 same_test : (n : ℕ) → (n == n) ≡ true
 same_test n = grind (arith, nat_tests)

@@ -15,13 +15,13 @@ use Rattle.trick_publications.specs.Publications.{AgreeOutside}
 abbrev pub Pairs : {A : Type 0} → (ℕ → A → A → Type 0) → A → List A → List A → Type 0
 Pairs P none xs ys = (k : ℕ) → P k (slice_index_or xs k none) (slice_index_or ys k none)
 
-one_less : (m n : ℕ) → suc m ≡ suc n → m ≡ n
+pub one_less : (m n : ℕ) → suc m ≡ suc n → m ≡ n
 one_less m n e = omega (arith, e)
 
-none_some : (n : ℕ) → 0 ≡ suc n → ⊥
+pub none_some : (n : ℕ) → 0 ≡ suc n → ⊥
 none_some n e = omega (arith, e)
 
-some_none : (n : ℕ) → suc n ≡ 0 → ⊥
+pub some_none : (n : ℕ) → suc n ≡ 0 → ⊥
 some_none n e = omega (arith, e)
 
 -- an entry of each is set
@@ -89,13 +89,10 @@ agree_spread p m n (cell ∷ cells) into other h g =
 
 -- ---- memories that are overwritten
 
-over_length : (stored : List (Option ℤ)) (m : List ℤ) → length (overwritten stored m) ≡ length m
+pub over_length : (stored : List (Option ℤ)) (m : List ℤ) → length (overwritten stored m) ≡ length m
 over_length stored [] = refl
 over_length [] (n ∷ ns) = refl
 over_length (v ∷ stored) (n ∷ ns) = ap suc (over_length stored ns)
-
-pub over_lengths : (stored other : List (Option ℤ)) (m n : List ℤ) → length m ≡ length n → length (overwritten stored m) ≡ length (overwritten other n)
-over_lengths stored other m n e = over_length stored m ∙ e ∙ sym (over_length other n)
 
 -- a cell that both have the same number in, by one effect
 pub over_same : (stored : List (Option ℤ)) (m n : List ℤ) (cell : ℕ) → length m ≡ length n → number_at m cell ≡ number_at n cell

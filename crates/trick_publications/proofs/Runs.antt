@@ -1,9 +1,10 @@
 -- Runs under lists of entries that differ in publications alone.
-use Rattle.std.proofs.Common.{◌≡◌, ◌∙◌, ℕ, suc, List, [], ◌∷◌, ◌++◌, length, Bool, true, false, not, ◌&&◌, ◌||◌, ap, arith, nat_le, refl, sym}
+use Rattle.std.proofs.Common.{◌≡◌, ◌∙◌, ℕ, suc, List, [], ◌∷◌, ◌++◌, length, Bool, true, false, not, ◌&&◌, ◌||◌, ap, nat_le, refl, sym}
 use Rattle.std.specs.List.{list_any, slice_index_or}
 use Rattle.std.specs.Prelude.{IsTrue, Option}
 use Rattle.trick_base.proofs.ContentLemmas.{content-append}
 use Rattle.trick_base.specs.Content.{content}
+use Rattle.trick_lang.proofs.Tests.{both_left, both_right}
 use Rattle.trick_lang.specs.declared.class.Class.TheVariants as class
 use Rattle.trick_model.specs.Files.{end_writes, file, start_writes, turn_writes, turns_writes}
 use Rattle.trick_model.specs.Journal.{is_of_session}
@@ -16,6 +17,7 @@ use Rattle.trick_model.specs.declared.entry.Entry.{Entry}
 use Rattle.trick_model.specs.declared.entry.Entry.TheVariants.{Join, Said, Leave, Publish}
 use Rattle.trick_model.specs.declared.group.Group.{Group}
 use Rattle.trick_model.specs.declared.mode.Mode.TheVariants as mode
+use Rattle.trick_publications.proofs.Memories.{none_some, one_less, some_none}
 use Rattle.trick_publications.proofs.States.{AreAlike, Keeps, alike_refl, both, choose, lift, mode_keeps, with_work, worked}
 use Rattle.trick_publications.proofs.Steady.{IsSteady}
 use Rattle.trick_publications.proofs.Turns.{AreWorldsAlike, IsLogName, turn_alike}
@@ -56,15 +58,6 @@ over_same p s t one other h differ =
 
 -- ---- turn after turn
 
-none_some : (n : ℕ) → 0 ≡ suc n → ⊥
-none_some n e = omega (arith, e)
-
-some_none : (n : ℕ) → suc n ≡ 0 → ⊥
-some_none n e = omega (arith, e)
-
-one_less : (m n : ℕ) → suc m ≡ suc n → m ≡ n
-one_less m n e = omega (arith, e)
-
 -- Two runs under as many lists end with alike worlds, go on alike, and write the same to logs.
 record AreRunsAlike (p : Plan) (w u : World) (one other : List (List Entry)) : Type 0 where
   world : AreWorldsAlike p (after_turns p w one) (after_turns p u other)
@@ -79,7 +72,7 @@ runs_alike p steady w u (entries ∷ one) [] many differ h = absurd (some_none (
 runs_alike p steady w u (entries ∷ one) (others ∷ other) many differ h =
     let first = turn_alike p steady w u entries others (differ 0) h in
     let rest = runs_alike p steady (turn p w entries).world (turn p u others).world one other (one_less (length one) (length other) many)
-        (λ k. differ (suc k)) first.world in
+    (λ k. differ (suc k)) first.world in
     let over = over_same p w.state u.state (entries ∷ one) (others ∷ other) h.state differ in
     record {
       world = rest.world;
@@ -97,29 +90,21 @@ not_both : (b : Bool) → IsTrue b → IsTrue (not b) → ⊥
 not_both true holds fails = cc fails
 not_both false holds fails = cc holds
 
-and_first : (a b : Bool) → IsTrue (a && b) → IsTrue a
-and_first true b h = refl
-and_first false b h = h
-
-and_second : (a b : Bool) → IsTrue (a && b) → IsTrue b
-and_second true b h = h
-and_second false b h = cc h
-
 as_many : (p : Plan) → IsSteady p → (w u : World) (one other : List (List Entry)) → DifferInPublications one other → AreWorldsAlike p w u
     → IsTrue (goes_on p w one) → IsTrue (is_over (after_turns p w one).state [])
     → IsTrue (goes_on p u other) → IsTrue (is_over (after_turns p u other).state []) → length one ≡ length other
 as_many p steady w u [] [] differ h goes over also done = refl
 as_many p steady w u [] (others ∷ other) differ h goes over also done =
     absurd (not_both (is_over u.state (others ∷ other)) (sym (over_same p w.state u.state [] (others ∷ other) h.state differ) ∙ over)
-    (and_first (not (is_over u.state (others ∷ other))) (goes_on p (turn p u others).world other) also))
+    (both_left (not (is_over u.state (others ∷ other))) (goes_on p (turn p u others).world other) also))
 as_many p steady w u (entries ∷ one) [] differ h goes over also done =
     absurd (not_both (is_over w.state (entries ∷ one)) (over_same p w.state u.state (entries ∷ one) [] h.state differ ∙ done)
-    (and_first (not (is_over w.state (entries ∷ one))) (goes_on p (turn p w entries).world one) goes))
+    (both_left (not (is_over w.state (entries ∷ one))) (goes_on p (turn p w entries).world one) goes))
 as_many p steady w u (entries ∷ one) (others ∷ other) differ h goes over also done =
     let first = turn_alike p steady w u entries others (differ 0) h in
     ap suc (as_many p steady (turn p w entries).world (turn p u others).world one other (λ k. differ (suc k)) first.world
-    (and_second (not (is_over w.state (entries ∷ one))) (goes_on p (turn p w entries).world one) goes) over
-    (and_second (not (is_over u.state (others ∷ other))) (goes_on p (turn p u others).world other) also) done)
+    (both_right (not (is_over w.state (entries ∷ one))) (goes_on p (turn p w entries).world one) goes) over
+    (both_right (not (is_over u.state (others ∷ other))) (goes_on p (turn p u others).world other) also) done)
 
 -- ---- the ends
 

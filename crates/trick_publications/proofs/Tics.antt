@@ -179,7 +179,7 @@ rows_alike p tic k [] clean s t h = record { state = h; writes = refl }
 rows_alike p tic k (group ∷ groups) clean s t h =
     let first = writes_same p tic k group clean.0 s t h in
     let others = rows_alike p tic (suc k) groups clean.1 (row_kept tic k group s) (row_kept tic k group t)
-        (both p (row_kept tic k group) (kept_keeps p tic k group clean.0) s t h) in
+    (both p (row_kept tic k group) (kept_keeps p tic k group clean.0) s t h) in
     record { state = others.state; writes = λ i. first i ++ others.writes i }
 
 -- ---- one tic
@@ -234,7 +234,7 @@ tics_alike : (p : Plan) → IsSteady p → (count : ℕ) (a b : Asking) → AreA
 tics_alike p steady zero a b h = record { asking = h; writes = refl }
 tics_alike p steady (suc count) a b h =
     let first = below_by p (nat_lt a.state.tic a.state.limit) (nat_lt b.state.tic b.state.limit) (tic p a) (tic p b) a b
-        (below_same p a.state b.state h.state) (tic_alike p steady a b h) h in
+    (below_same p a.state b.state h.state) (tic_alike p steady a b h) h in
     let others = tics_alike p steady count (tic_below_limit p a).asking (tic_below_limit p b).asking first.asking in
     record { asking = others.asking; writes = λ i. first.writes i ++ others.writes i }
 

@@ -122,7 +122,7 @@ run_alike : (p : Plan) → IsSteady p → (one other : List Entry) (a b : Asking
 run_alike p steady one other a b h =
     let top = both p (run_class p class.TopOfFrame) (class_keeps p steady class.TopOfFrame) _ _ (published_alike p steady one other a.state b.state h.state) in
     let ran = frame_alike p steady (record a { state = run_class p class.TopOfFrame (publish_all p one a.state) })
-        (record b { state = run_class p class.TopOfFrame (publish_all p other b.state) }) (with_state p a b _ _ h top) in
+    (record b { state = run_class p class.TopOfFrame (publish_all p other b.state) }) (with_state p a b _ _ h top) in
     let bottom = both p (run_class p class.EndOfFrame) (class_keeps p steady class.EndOfFrame) _ _ ran.asking.state in
     record {
       asking = with_state p _ _ _ _ ran.asking (frozen_alike p steady _ _ _ _ ran.asking.freeze bottom);
@@ -210,7 +210,7 @@ turn_alike p steady w u one other same h =
     let x = heard p one (begun w) in
     let y = heard p other (begun u) in
     let heard = all_heard p steady one other (begun w) (begun u) same
-        (record { asking = record { state = h.state; freeze = refl; checkpoint = refl }; sessions = h.sessions }) in
+    (record { asking = record { state = h.state; freeze = refl; checkpoint = refl }; sessions = h.sessions }) in
     let goes = runs_same p x.asking.state y.asking.state heard.asking.state in
     let ran = framed p (runs x.asking.state) one x.asking in
     let also = framed p (runs y.asking.state) other y.asking in
@@ -219,7 +219,7 @@ turn_alike p steady w u one other same h =
     let t = counted (rounds p (runs y.asking.state) (checkpoint_jobs p also.asking.checkpoint also.asking.state)) in
     let checked = checked_alike p steady ran.asking.checkpoint also.asking.checkpoint ran.asking.state also.asking.state framed.asking.checkpoint framed.asking.state in
     let started = started_alike p (runs x.asking.state) (runs y.asking.state) (checkpoint_jobs p ran.asking.checkpoint ran.asking.state)
-        (checkpoint_jobs p also.asking.checkpoint also.asking.state) checked in
+    (checkpoint_jobs p also.asking.checkpoint also.asking.state) checked in
     record {
       world = record { state = both p counted (counted_keeps p) _ _ started; sessions = ap staying heard.sessions };
       logs = λ name log m n before.
