@@ -71,22 +71,24 @@ definitions_short (d ∷ ds) t h all =
 
 -- ---- objects and items
 
-object_short : (first : ℕ) (name : Name) (g : Global) → is_short name ≡ true
-    → list_all (λ object. is_short object.name) (object_row first name g) ≡ true
-object_short first name the.Enum h = refl
-object_short first name (the.Struct k) h = refl
-object_short first name (the.Class k) h = refl
-object_short first name (the.Item value) h = refl
-object_short first name (the.Object (Single scalar)) h = refl
-object_short first name (the.Object (Group k)) h = rw h refl
+module _ (p : Name → Bool) where
+  row_passes : (first : ℕ) (name : Name) (g : Global) → p name ≡ true
+      → list_all (λ object. p object.name) (object_row first name g) ≡ true
+  row_passes first name the.Enum h = refl
+  row_passes first name (the.Struct k) h = refl
+  row_passes first name (the.Class k) h = refl
+  row_passes first name (the.Item value) h = refl
+  row_passes first name (the.Object (Single scalar)) h = refl
+  row_passes first name (the.Object (Group k)) h = rw h refl
 
-objects_short : (sizes : List ℕ) (first : ℕ) (names : Names Global) → AreShort names
-    → list_all (λ object. is_short object.name) (object_rows sizes first names) ≡ true
-objects_short sizes first [] all = refl
-objects_short sizes first (g ∷ gs) all =
-    let both = and_both (is_short g.0) _ all in
-    all_append (λ object. is_short object.name) (object_row first g.0 g.1) _ (object_short first g.0 g.1 both.0)
-    (objects_short sizes (narrow (first + global_count sizes g.1)) gs both.1)
+  -- what each name passes, the name of each object passes
+  pub objects_pass : (sizes : List ℕ) (first : ℕ) (names : Names Global) → list_all (λ known. p known.0) names ≡ true
+      → list_all (λ object. p object.name) (object_rows sizes first names) ≡ true
+  objects_pass sizes first [] all = refl
+  objects_pass sizes first (g ∷ gs) all =
+      let both = and_both (p g.0) _ all in
+      all_append (λ object. p object.name) (object_row first g.0 g.1) _ (row_passes first g.0 g.1 both.0)
+      (objects_pass sizes (narrow (first + global_count sizes g.1)) gs both.1)
 
 item_short : (name : Name) (g : Global) → is_short name ≡ true
     → list_all (λ item. is_short item.name) (item_row name g) ≡ true
@@ -155,4 +157,4 @@ pub names_short : (ds : SDefine) → file_passes l ds ≡ true
     → are_short_names (objects_of ds) (all_made ds).methods (item_rows (tables_of ds).names) ≡ true
 names_short ds h =
     let names = definitions_short ds (record { names = []; groups = [] }) h refl in
-    rw (objects_short (sizes_of ds) 0 (tables_of ds).names names, made_short ds (objects_of ds) (length ds) h, rows_short (tables_of ds).names names) refl
+    rw (objects_pass is_short (sizes_of ds) 0 (tables_of ds).names names, made_short ds (objects_of ds) (length ds) h, rows_short (tables_of ds).names names) refl

@@ -10,6 +10,7 @@ use Rattle.trick_check.specs.Parts.{order_at, parts_at}
 use Rattle.trick_check.specs.Walk.{all_made, has_object, jobs_named, made_of_first, objects_of, with_class_if}
 use Rattle.trick_jobs.specs.Jobs.{job_of, jobs_from, lines_at, method_number, numbers_at, object_jobs}
 use Rattle.trick_jobs.specs.Methods.{class_methods, with_numbers}
+use Rattle.trick_lang.specs.Names.{method_name}
 use Rattle.trick_lang.specs.SyntaxTree as tree
 use Rattle.trick_lang.specs.SyntaxTree.{JobLine, Name, Part, SDefine}
 use Rattle.trick_lang.specs.Valid.{job_stands, jobs_stand, of_one_class}
@@ -87,19 +88,20 @@ pub record IsNumbered (class : ℕ) (blocks : Names ℕ) (name : Name) (parts : 
   pub place : ℕ
   pub number : meaning_of name (with_numbers n parts numbers) ≡ Some (n + place)
   pub inside : place < length (class_methods class blocks parts)
+  pub named : method_name (slice_get (class_methods class blocks parts) place) ≡ name
 
 numbered : (class : ℕ) (blocks : Names ℕ) (name : Name) (parts : List Part) (n : ℕ) (numbers : Names ℕ)
     → has_method name parts ≡ true → meaning_of name numbers ≡ None → IsNumbered class blocks name parts n numbers
 numbered class blocks name [] n numbers h e = absurd cc
 numbered class blocks name (tree.Public ∷ rest) n numbers h e =
     let d = numbered class blocks name rest n numbers h e in
-    record { place = d.place; number = d.number; inside = d.inside }
+    record { place = d.place; number = d.number; inside = d.inside; named = d.named }
 numbered class blocks name (tree.HasMembers m ∷ rest) n numbers h e =
     let d = numbered class blocks name rest n numbers h e in
-    record { place = d.place; number = d.number; inside = d.inside }
+    record { place = d.place; number = d.number; inside = d.inside; named = d.named }
 numbered class blocks name (tree.Constructor line other jobs ∷ rest) n numbers h e =
     let d = numbered class blocks name rest n numbers h e in
-    record { place = d.place; number = d.number; inside = d.inside }
+    record { place = d.place; number = d.number; inside = d.inside; named = d.named }
 numbered class blocks name (tree.HasMethod m ∷ rest) n numbers h e =
     by (bytes_eq name m.name) refl h
     (λ g same. numbered class blocks name rest (n + 1) (with_name m.name n numbers) g same)
@@ -111,12 +113,22 @@ numbered class blocks name (tree.HasMethod m ∷ rest) n numbers h e =
     by true same g more =
         let here = numbers_keep rest (n + 1) (with_name m.name n numbers) name n (new_name name m.name n numbers same e) in
         let first : n ≡ n + 0 = omega arith in
-        record { place = 0; number = here ∙ ap (λ k. Some k) first; inside = omega arith }
+        record {
+          place = 0;
+          number = here ∙ ap (λ k. Some k) first;
+          inside = omega arith;
+          named = sym ((bytes_eq-Decides name m.name).0 same);
+        }
     by false unlike g more =
         let d = more g (other_name name m.name n numbers unlike e) in
         let next : n + 1 + d.place ≡ n + suc d.place = omega arith in
         let low = d.inside in
-        record { place = suc d.place; number = d.number ∙ ap (λ k. Some k) next; inside = omega (arith, low) }
+        record {
+          place = suc d.place;
+          number = d.number ∙ ap (λ k. Some k) next;
+          inside = omega (arith, low);
+          named = d.named;
+        }
 
 -- ---- the methods of a class stand together
 
@@ -128,20 +140,26 @@ of_class class blocks (tree.HasMembers m ∷ rest) = of_class class blocks rest
 of_class class blocks (tree.Constructor line name jobs ∷ rest) = of_class class blocks rest
 of_class class blocks (tree.HasMethod m ∷ rest) = rw (eq-eqb class class refl, of_class class blocks rest) refl
 
--- an object and a method of its class
-one_of_them : (o : Object) (xs ms zs : List program.Method) (i : ℕ) → i < length ms
-    → list_all (λ m. m.class == o.class) ms ≡ true
-    → of_one_class (Some o) (slice_get (xs ++ (ms ++ zs)) (length xs + i)) ≡ true
-one_of_them o [] [] zs i low all = absurd (omega (arith, low))
-one_of_them o [] (m ∷ ms) zs zero low all =
-    let is = eqb-true m.class o.class (and_both (m.class == o.class) _ all).0 in eq-eqb o.class m.class (sym is)
-one_of_them o [] (m ∷ ms) zs (suc i) low all =
+-- what stands between others
+pub at_them : {A : Type 0} (xs ms zs : List A) (i : ℕ) → i < length ms
+    → slice_get (xs ++ (ms ++ zs)) (length xs + i) ≡ slice_get ms i
+at_them [] [] zs i low = absurd (omega (arith, low))
+at_them [] (m ∷ ms) zs zero low = refl
+at_them [] (m ∷ ms) zs (suc i) low =
     let next : suc (0 + i) ≡ 0 + suc i = omega arith in
-    subst (λ k. of_one_class (Some o) (slice_get (m ∷ (ms ++ zs)) k) ≡ true) next
-    (one_of_them o [] ms zs i (omega (arith, low)) (and_both (m.class == o.class) _ all).1)
-one_of_them o (x ∷ xs) ms zs i low all =
+    subst (λ k. slice_get (m ∷ (ms ++ zs)) k ≡ slice_get ms i) next (at_them [] ms zs i (omega (arith, low)))
+at_them (x ∷ xs) ms zs i low =
     let next : suc (length xs + i) ≡ suc (length xs) + i = omega arith in
-    subst (λ k. of_one_class (Some o) (slice_get (x ∷ (xs ++ (ms ++ zs))) k) ≡ true) next (one_of_them o xs ms zs i low all)
+    subst (λ k. slice_get (x ∷ (xs ++ (ms ++ zs))) k ≡ slice_get ms i) next (at_them xs ms zs i low)
+
+-- an object and a method of its class
+one_of_them : (o : Object) (ms : List program.Method) (i : ℕ) → i < length ms
+    → list_all (λ m. m.class == o.class) ms ≡ true → of_one_class (Some o) (slice_get ms i) ≡ true
+one_of_them o [] i low all = absurd (omega (arith, low))
+one_of_them o (m ∷ ms) zero low all =
+    let is = eqb-true m.class o.class (and_both (m.class == o.class) _ all).0 in eq-eqb o.class m.class (sym is)
+one_of_them o (m ∷ ms) (suc i) low all =
+    one_of_them o ms i (omega (arith, low)) (and_both (m.class == o.class) _ all).1
 
 numbers_before : (all : List (Names ℕ)) (last : Names ℕ) (k : ℕ) → k < length all
     → numbers_at (all ++ last ∷ []) k ≡ numbers_at all k
@@ -208,7 +226,7 @@ just_made n order parts m is =
       numbers = numbers_last m.numbers (with_numbers (length m.methods) parts []) n is;
     }
 
-is_made : (ds : SDefine) (objects : List Object) (n class : ℕ) → class < n → has_object objects class ≡ true
+pub is_made : (ds : SDefine) (objects : List Object) (n class : ℕ) → class < n → has_object objects class ≡ true
     → IsMade class (parts_at ds class) (made_of_first ds objects n)
 is_made ds objects zero class low used = absurd (omega (arith, low))
 is_made ds objects (suc n) class low used =
@@ -237,19 +255,37 @@ is_made ds objects (suc n) class low used =
 number_is : (numbers : Names ℕ) (name : Name) (n : ℕ) → meaning_of name numbers ≡ Some n → method_number numbers name ≡ n
 number_is numbers name n e = ap (λ o. unwrap_or o 0) e
 
+-- where the method of a line stands
+pub record IsCalled (class : ℕ) (parts : List Part) (m : Made) (line : JobLine) (made : IsMade class parts m) : Type 0 where
+  pub place : ℕ
+  pub inside : place < length (class_methods class made.blocks parts)
+  pub named : method_name (slice_get (class_methods class made.blocks parts) place) ≡ line.method
+  pub method : slice_get m.methods (method_number (numbers_at m.numbers class) line.method)
+      ≡ slice_get (class_methods class made.blocks parts) place
+
+pub is_called : (class : ℕ) (parts : List Part) (m : Made) (line : JobLine) (made : IsMade class parts m)
+    → has_method line.method parts ≡ true → IsCalled class parts m line made
+is_called class parts m line made h =
+    let d = numbered class made.blocks line.method parts (length made.before) [] h refl in
+    let is : method_number (numbers_at m.numbers class) line.method ≡ length made.before + d.place =
+    ap (λ ns. method_number ns line.method) made.numbers
+    ∙ number_is (with_numbers (length made.before) parts []) line.method (length made.before + d.place) d.number in
+    record {
+      place = d.place;
+      inside = d.inside;
+      named = d.named;
+      method = ap (λ k. slice_get m.methods k) is ∙ ap (λ ms. slice_get ms (length made.before + d.place)) made.methods
+          ∙ at_them made.before (class_methods class made.blocks parts) made.behind d.place d.inside;
+    }
+
 line_stands : (objects : List Object) (o : Object) (object : ℕ) (parts : List Part) (m : Made) (before : List JobLine)
     (line : JobLine) → IsMade o.class parts m → slice_get objects object ≡ Some o → has_method line.method parts ≡ true
     → job_stands objects m.methods (job_of object (numbers_at m.numbers o.class) before line) ≡ true
 line_stands objects o object parts m before line made here h =
-    let d = numbered o.class made.blocks line.method parts (length made.before) [] h refl in
-    let is : method_number (numbers_at m.numbers o.class) line.method ≡ length made.before + d.place =
-    ap (λ ns. method_number ns line.method) made.numbers
-    ∙ number_is (with_numbers (length made.before) parts []) line.method (length made.before + d.place) d.number in
-    let stands = one_of_them o made.before (class_methods o.class made.blocks parts) made.behind d.place d.inside
-    (of_class o.class made.blocks parts) in
+    let d = is_called o.class parts m line made h in
     ap (λ x. of_one_class x (slice_get m.methods (method_number (numbers_at m.numbers o.class) line.method))) here
-    ∙ ap (λ k. of_one_class (Some o) (slice_get m.methods k)) is
-    ∙ ap (λ ms. of_one_class (Some o) (slice_get ms (length made.before + d.place))) made.methods ∙ stands
+    ∙ ap (λ x. of_one_class (Some o) x) d.method
+    ∙ one_of_them o (class_methods o.class made.blocks parts) d.place d.inside (of_class o.class made.blocks parts)
 
 lines_stand : (objects : List Object) (o : Object) (object : ℕ) (parts : List Part) (m : Made) (before lines : List JobLine)
     → IsMade o.class parts m → slice_get objects object ≡ Some o
@@ -260,7 +296,7 @@ lines_stand objects o object parts m before (line ∷ rest) made here h =
     let two = and_both (has_method line.method parts) _ h in
     rw (line_stands objects o object parts m before line made here two.0, lines_stand objects o object parts m (before ++ line ∷ []) rest made here two.1) refl
 
-no_lines : (ds : SDefine) (class : ℕ) → length ds ≤ class → lines_at ds class ≡ []
+pub no_lines : (ds : SDefine) (class : ℕ) → length ds ≤ class → lines_at ds class ≡ []
 no_lines [] class most = refl
 no_lines (d ∷ ds) zero most = absurd (omega (arith, most))
 no_lines (d ∷ ds) (suc class) most = no_lines ds class (omega (arith, most))
@@ -283,7 +319,7 @@ object_stands ds objects o object right used here = by (nat_lt o.class (length d
         (object_jobs object (numbers_at (made_of_first ds objects (length ds)).numbers o.class) [] lines) ≡ true)
         (sym (no_lines ds o.class (ltb-false o.class (length ds) e))) refl
 
-has_own : (before os : List Object) (o : Object) → has_object (before ++ o ∷ os) o.class ≡ true
+pub has_own : (before os : List Object) (o : Object) → has_object (before ++ o ∷ os) o.class ≡ true
 has_own [] os o = rw (eq-eqb o.class o.class refl) refl
 has_own (x ∷ before) os o = or_second (x.class == o.class) _ (has_own before os o)
   where
@@ -291,11 +327,11 @@ has_own (x ∷ before) os o = or_second (x.class == o.class) _ (has_own before o
     or_second true b h = refl
     or_second false b h = h
 
-at_place : (before os : List Object) (o : Object) → slice_get (before ++ o ∷ os) (length before) ≡ Some o
+pub at_place : (before os : List Object) (o : Object) → slice_get (before ++ o ∷ os) (length before) ≡ Some o
 at_place [] os o = refl
 at_place (x ∷ before) os o = at_place before os o
 
-last_longer : (before : List Object) (o : Object) → length (before ++ o ∷ []) ≡ length before + 1
+pub last_longer : (before : List Object) (o : Object) → length (before ++ o ∷ []) ≡ length before + 1
 last_longer [] o = refl
 last_longer (x ∷ before) o = let more = last_longer before o in omega (arith, more)
 

@@ -36,4 +36,9 @@ pub fn jobs_have_names_of_their_own()
 /// So the parts of the program that a text names pass each test that `trick_check::resolve` makes of them.
 pub fn texts_pass_all_tests()
     ensures { (text : List ℕ) (s : _) → IsSDefine text (Ok s) → NamesAreRight (sdefine_of s) → PassesAllTests (sdefine_of s) }
-{}
+{
+    programs_pass_tests();
+    jobs_have_methods();
+    cells_have_names_of_their_own();
+    jobs_have_names_of_their_own();
+}
