@@ -137,7 +137,8 @@ module _ {T : Type 0} (test : T → Bool) (cells : T → List Variable) (good : 
       let right = and_both (fits test g) _ fit in
       let parts = and_both (is_plain splits g.0) _ right.0 in
       unlike_append of_one_name (under name xs) (under g.0 (cells g.1)) (rows cells gs)
-      (under_unlike splits name g.0 xs (cells g.1) plain parts.0 tails (good g.1 parts.1).1 (not-true (bytes_eq name g.0) here.0))
+      (under_unlike splits name g.0 xs (cells g.1) plain parts.0 tails (good g.1 parts.1).1
+      (not-true (bytes_eq name g.0) here.0))
       (rows_unlike name xs gs plain tails here.1 right.1)
 
   rows_apart : (names : Names T) → are_right test names ≡ true → are_apart of_one_name (rows cells names) ≡ true

@@ -1,6 +1,6 @@
 -- The names that a text declares are plain, no two of one space are the same, and no array is too long.
 use Rattle.std.proofs.Common.{◌≡◌, ◌⊎◌, ℕ, ◌+◌, ℤ, pos, ◌+ℤ◌, Bool, true, false, not, ◌&&◌, ◌==◌, nat_le, is_some, if◌then◌else◌, List, [], ◌∷◌, ◌++◌, length, Some, refl, sym, subst, ◌∙◌, inl, inr}
-use Rattle.std.proofs.lemmas.Bool.{eqb-true, false_from_ne_true, or_cases, not_from_false}
+use Rattle.std.proofs.lemmas.Bool.{and_from, eqb-true, false_from_ne_true, or_cases, not_from_false}
 use Rattle.std.proofs.lemmas.Slice.Eq.{bytes_eq-Decides}
 use Rattle.std.specs.List.{list_all}
 use Rattle.std.specs.Str.{bytes_eq}
@@ -75,7 +75,9 @@ add_right {T} test name meaning names spelled passes right = by (is_some (meanin
     by true e = right
     by false e =
         let both = and_both (are_apart of_same_name names) _ right in
-        rw (apart_append of_same_name names ((name, meaning) ∷ []) both.0 refl (new_unlike name meaning names e), all_append (fits test) names ((name, meaning) ∷ []) both.1 (rw (spelled_plain name spelled, passes) refl)) refl
+        and_from _ _
+        (apart_append of_same_name names ((name, meaning) ∷ []) both.0 refl (new_unlike name meaning names e))
+        (all_append (fits test) names ((name, meaning) ∷ []) both.1 (rw (spelled_plain name spelled, passes) refl))
 
 -- ---- members
 

@@ -1,6 +1,6 @@
--- No two jobs have one name and instance: the instances of one method of an object rise, and names of objects are plain.
+-- No two jobs have one name and instance: instances of one method of an object rise, and names of objects are plain.
 use Rattle.std.proofs.Common.{◌≡◌, ℕ, ◌+◌, ◌<◌, Bool, true, false, not, ◌&&◌, ◌==◌, nat_lt, if◌then◌else◌, List, [], ◌∷◌, ◌++◌, length, slice_get, Some, None, refl, sym, ap, subst, ◌∙◌, arith}
-use Rattle.std.proofs.lemmas.Bool.{ltb-false, ltb-true, ne_eqb, not-true}
+use Rattle.std.proofs.lemmas.Bool.{and_from, ltb-false, ltb-true, ne_eqb, not-true}
 use Rattle.std.proofs.lemmas.List.{append_assoc, append_cancel_left}
 use Rattle.std.proofs.lemmas.Slice.Eq.{bytes_eq-Decides}
 use Rattle.std.specs.List.{list_all}
@@ -89,7 +89,8 @@ module _ (objects : List Object) (methods : List Method) where
   later_lines object numbers earlier before [] line one all more = refl
   later_lines object numbers earlier before (other ∷ rest) line one all more =
       let calls = calls_more line.method before (other ∷ []) in
-      rw (later_line object numbers earlier before line other one all.0 more, later_lines object numbers earlier (before ++ other ∷ []) rest line one all.1 (omega (arith, more, calls))) refl
+      and_from _ _ (later_line object numbers earlier before line other one all.0 more)
+      (later_lines object numbers earlier (before ++ other ∷ []) rest line one all.1 (omega (arith, more, calls)))
 
   object_apart : (object : ℕ) (numbers : Names ℕ) (before lines : List JobLine) → AreNamed methods numbers lines
       → are_apart alike (object_jobs object numbers before lines) ≡ true
@@ -97,7 +98,8 @@ module _ (objects : List Object) (methods : List Method) where
   object_apart object numbers before (line ∷ rest) all =
       let calls = calls_more line.method before (line ∷ []) in
       let once = calls_once line.method line refl in
-      rw (later_lines object numbers before (before ++ line ∷ []) rest line all.0 all.1 (omega (arith, calls, once)), object_apart object numbers (before ++ line ∷ []) rest all.1) refl
+      and_from _ _ (later_lines object numbers before (before ++ line ∷ []) rest line all.0 all.1 (omega (arith, calls, once)))
+      (object_apart object numbers (before ++ line ∷ []) rest all.1)
 
   -- jobs of objects of two names
   other_object : (a b : Job) (o p : Object) → slice_get objects a.object ≡ Some o → slice_get objects b.object ≡ Some p
@@ -118,7 +120,14 @@ module _ (objects : List Object) (methods : List Method) where
       → list_all (λ b. not (alike a b)) (object_jobs object numbers before lines) ≡ true
   other_lines a o p object numbers before [] here there one other differ = refl
   other_lines a o p object numbers before (line ∷ rest) here there one other differ =
-      rw (other_object a (job_of object numbers before line) o p here there one other differ, other_lines a o p object numbers (before ++ line ∷ []) rest here there one other differ) refl
+      and_from _ _ (other_object a (job_of object numbers before line) o p here there one other differ)
+      (other_lines a o p object numbers (before ++ line ∷ []) rest here there one other differ)
+
+  object_at : (before os : List Object) (o : Object) (object : ℕ) → before ++ o ∷ os ≡ objects → length before ≡ object
+      → slice_get objects object ≡ Some o
+  object_at before os o object is many =
+      subst (λ k. slice_get objects k ≡ Some o) many
+      (subst (λ ps. slice_get ps (length before) ≡ Some o) is (at_place before os o))
 
   other_objects : (ds : SDefine) (all : List (Names ℕ)) (a : Job) (o : Object) (object : ℕ) (before os : List Object)
       → slice_get objects a.object ≡ Some o → is_plain_object o ≡ true → before ++ os ≡ objects → length before ≡ object
@@ -126,13 +135,15 @@ module _ (objects : List Object) (methods : List Method) where
       → list_all (λ b. not (alike a b)) (jobs_from ds all object os) ≡ true
   other_objects ds all a o object before [] here one is many others plain = refl
   other_objects ds all a o object before (p ∷ os) here one is many others plain =
-      let there = subst (λ k. slice_get objects k ≡ Some p) many (subst (λ ps. slice_get ps (length before) ≡ Some p) is (at_place before os p)) in
+      let there = object_at before os p object is many in
       let differ = and_both (not (of_one_object_name o p)) _ others in
       let both = and_both (is_plain_object p) _ plain in
       let longer = last_longer before p in
       all_append (λ b. not (alike a b)) (object_jobs object (numbers_at all p.class) [] (lines_at ds p.class)) _
-      (other_lines a o p object (numbers_at all p.class) [] (lines_at ds p.class) here there one both.0 (not-true (of_one_object_name o p) differ.0))
-      (other_objects ds all a o (object + 1) (before ++ p ∷ []) os here one (append_assoc before (p ∷ []) os ∙ is) (omega (arith, longer, many)) differ.1 both.1)
+      (other_lines a o p object (numbers_at all p.class) [] (lines_at ds p.class) here there one both.0
+      (not-true (of_one_object_name o p) differ.0))
+      (other_objects ds all a o (object + 1) (before ++ p ∷ []) os here one (append_assoc before (p ∷ []) os ∙ is)
+      (omega (arith, longer, many)) differ.1 both.1)
 
   -- the jobs of an object, and those of the objects behind it
   object_unlike : (ds : SDefine) (all : List (Names ℕ)) (o : Object) (object : ℕ) (before os : List Object)
@@ -142,7 +153,8 @@ module _ (objects : List Object) (methods : List Method) where
       → are_unlike alike (object_jobs object numbers done lines) (jobs_from ds all (object + 1) os) ≡ true
   object_unlike ds all o object before os numbers done [] here one is many others plain = refl
   object_unlike ds all o object before os numbers done (line ∷ rest) here one is many others plain =
-      rw (other_objects ds all (job_of object numbers done line) o (object + 1) before os here one is many others plain, object_unlike ds all o object before os numbers (done ++ line ∷ []) rest here one is many others plain) refl
+      and_from _ _ (other_objects ds all (job_of object numbers done line) o (object + 1) before os here one is many others plain)
+      (object_unlike ds all o object before os numbers (done ++ line ∷ []) rest here one is many others plain)
 
   jobs_apart : (ds : SDefine) (all : List (Names ℕ)) (object : ℕ) (before os : List Object)
       → ((o : Object) → has_object objects o.class ≡ true → AreNamed methods (numbers_at all o.class) (lines_at ds o.class))
@@ -150,16 +162,18 @@ module _ (objects : List Object) (methods : List Method) where
       → list_all is_plain_object os ≡ true → are_apart alike (jobs_from ds all object os) ≡ true
   jobs_apart ds all object before [] named is many apart plain = refl
   jobs_apart ds all object before (o ∷ os) named is many apart plain =
-      let here = subst (λ k. slice_get objects k ≡ Some o) many (subst (λ ps. slice_get ps (length before) ≡ Some o) is (at_place before os o)) in
+      let here = object_at before os o object is many in
       let used = subst (λ ps. has_object ps o.class ≡ true) is (has_own before os o) in
       let next = append_assoc before (o ∷ []) os ∙ is in
       let longer = last_longer before o in
       let others = and_both (list_all (λ p. not (of_one_object_name o p)) os) _ apart in
       let both = and_both (is_plain_object o) _ plain in
-      apart_append alike (object_jobs object (numbers_at all o.class) [] (lines_at ds o.class)) (jobs_from ds all (object + 1) os)
+      apart_append alike (object_jobs object (numbers_at all o.class) [] (lines_at ds o.class))
+      (jobs_from ds all (object + 1) os)
       (object_apart object (numbers_at all o.class) [] (lines_at ds o.class) (named o used))
       (jobs_apart ds all (object + 1) (before ++ o ∷ []) os named next (omega (arith, longer, many)) others.1 both.1)
-      (object_unlike ds all o object (before ++ o ∷ []) os (numbers_at all o.class) [] (lines_at ds o.class) here both.0 next (omega (arith, longer, many)) others.0 both.1)
+      (object_unlike ds all o object (before ++ o ∷ []) os (numbers_at all o.class) [] (lines_at ds o.class) here both.0
+      next (omega (arith, longer, many)) others.0 both.1)
 
 -- ---- objects
 
@@ -202,7 +216,8 @@ lines_named class parts m (line ∷ rest) made h =
 
 class_named : (ds : SDefine) (objects : List Object) (class : ℕ) → fault_of (mistakes ds) ≡ None
     → has_object objects class ≡ true
-    → AreNamed (made_of_first ds objects (length ds)).methods (numbers_at (made_of_first ds objects (length ds)).numbers class) (lines_at ds class)
+    → AreNamed (made_of_first ds objects (length ds)).methods
+    (numbers_at (made_of_first ds objects (length ds)).numbers class) (lines_at ds class)
 class_named ds objects class right used = by (nat_lt class (length ds)) refl
   where
     m : Made

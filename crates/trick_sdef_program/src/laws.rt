@@ -27,7 +27,7 @@ pub fn cells_have_names_of_their_own()
     ensures { (text : List ℕ) (s : _) → IsSDefine text (Ok s) → CellsAreApart (sdefine_of s) }
 {}
 
-/// Where its names are right, no two jobs have one name and instance; and of no file two jobs have one object and number.
+/// Where its names are right, no two jobs have one name and instance. In no file two jobs have one object and number.
 pub fn jobs_have_names_of_their_own()
     ensures instances { (text : List ℕ) (s : _) → IsSDefine text (Ok s) → NamesAreRight (sdefine_of s) → JobsAreApart (sdefine_of s) }
     ensures numbers { (ds : SDefine) → JobNumbersAreApart ds }
