@@ -117,7 +117,8 @@ module _ (ends : ℕ → Bool) where
   under_unlike a b [] ys one other first second differ = refl
   under_unlike a b (x ∷ xs) ys one other first second differ =
       let both = and_both (is_tail x.name) _ first in
-      rw (one_unlike a b x.name ys one other both.0 second differ, under_unlike a b xs ys one other both.1 second differ) refl
+      let first_one = one_unlike a b x.name ys one other both.0 second differ in
+      rw (first_one, under_unlike a b xs ys one other both.1 second differ) refl
 
   pub under_tails : (b : ℕ) (p : Name) (cs : List Variable) → ends b ≡ true → are_tails (under (b ∷ p) cs) ≡ true
   under_tails b p [] end = refl

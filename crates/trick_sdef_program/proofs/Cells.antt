@@ -41,8 +41,8 @@ plain_digits =
 other_digits : (k j : ℕ) → k < j → j < 2 ^ 64 → bytes_eq (decimal k) (decimal j) ≡ false
 other_digits k j less low =
     false_from_ne_true _
-    (λ e. let same = decimal_injective k j (omega (arith, less, low)) low ((bytes_eq-Decides (decimal k) (decimal j)).0 e) in
-    omega (arith, less, same))
+    (λ e. let digits = (bytes_eq-Decides (decimal k) (decimal j)).0 e in
+    let same = decimal_injective k j (omega (arith, less, low)) low digits in omega (arith, less, same))
 
 -- behind an index and its bracket
 abbrev closed : List Variable → List Variable
@@ -56,8 +56,9 @@ brackets_unlike : (k j : ℕ) (xs ys : List Variable) → k < j → j < 2 ^ 64
 brackets_unlike k j xs ys less low =
     subst (λ zs. are_unlike of_one_name zs (under (bracket j) ys) ≡ true) (bracket_is k xs)
     (subst (λ zs. are_unlike of_one_name (under (91 ∷ decimal k) (closed xs)) zs ≡ true) (bracket_is j ys)
-    (under_unlike closes (91 ∷ decimal k) (91 ∷ decimal j) (closed xs) (closed ys) (plain_digits k (omega (arith, less, low)))
-    (plain_digits j low) (under_tails closes 93 [] xs refl) (under_tails closes 93 [] ys refl) (other_digits k j less low)))
+    (under_unlike closes (91 ∷ decimal k) (91 ∷ decimal j) (closed xs) (closed ys)
+    (plain_digits k (omega (arith, less, low))) (plain_digits j low) (under_tails closes 93 [] xs refl)
+    (under_tails closes 93 [] ys refl) (other_digits k j less low)))
 
 each_unlike : (k from n : ℕ) (xs cs : List Variable) → k < from → from + n ≤ 2 ^ 64
     → are_unlike of_one_name (under (bracket k) xs) (each from n cs) ≡ true
@@ -127,7 +128,8 @@ abbrev rows : {T : Type 0} → (T → List Variable) → Names T → List Variab
 rows cells [] = []
 rows cells (g ∷ gs) = under g.0 (cells g.1) ++ rows cells gs
 
-module _ {T : Type 0} (test : T → Bool) (cells : T → List Variable) (good : (t : T) → test t ≡ true → AreGood (cells t)) where
+module _ {T : Type 0} (test : T → Bool) (cells : T → List Variable)
+    (good : (t : T) → test t ≡ true → AreGood (cells t)) where
   rows_unlike : (name : Name) (xs : List Variable) (names : Names T) → is_plain splits name ≡ true
       → are_tails splits xs ≡ true → list_all (λ known. not (bytes_eq name known.0)) names ≡ true
       → list_all (fits test) names ≡ true → are_unlike of_one_name (under name xs) (rows cells names) ≡ true
@@ -161,7 +163,8 @@ module _ {T : Type 0} (test : T → Bool) (cells : T → List Variable) (good : 
 abbrev AreAllGood : List (List Variable) → Type 0
 AreAllGood done = (k : ℕ) → AreGood (cells_at done k)
 
-good_last : (done : List (List Variable)) (cs : List Variable) → AreAllGood done → AreGood cs → AreAllGood (done ++ cs ∷ [])
+good_last : (done : List (List Variable)) (cs : List Variable) → AreAllGood done → AreGood cs
+    → AreAllGood (done ++ cs ∷ [])
 good_last [] cs all good zero = good
 good_last [] cs all good (suc k) = (refl, refl)
 good_last (d ∷ ds) cs all good zero = all 0
@@ -176,8 +179,10 @@ abbrev pub has_few : Member → Bool
 has_few (Holds shape) = are_few shape.lengths
 has_few (Method number) = true
 
-member_good : (done : List (List Variable)) (m : Member) → AreAllGood done → has_few m ≡ true → AreGood (member_cells done m)
-member_good done (Holds shape) all few = array_good shape.lengths (base_cells done shape.base) few (base_good done shape.base all)
+member_good : (done : List (List Variable)) (m : Member) → AreAllGood done → has_few m ≡ true
+    → AreGood (member_cells done m)
+member_good done (Holds shape) all few =
+    array_good shape.lengths (base_cells done shape.base) few (base_good done shape.base all)
 member_good done (Method number) all few = (refl, refl)
 
 members_are : (done : List (List Variable)) (ms : Names Member)
@@ -185,7 +190,8 @@ members_are : (done : List (List Variable)) (ms : Names Member)
 members_are done [] = refl
 members_are done (m ∷ ms) =
     under_append (46 ∷ []) (under m.0 (member_cells done m.1)) (rows (member_cells done) ms)
-    ∙ (ap (λ cs. cs ++ under (46 ∷ []) (rows (member_cells done) ms)) (under_under (46 ∷ []) m.0 (member_cells done m.1))
+    ∙ (ap (λ cs. cs ++ under (46 ∷ []) (rows (member_cells done) ms))
+    (under_under (46 ∷ []) m.0 (member_cells done m.1))
     ∙ ap (λ cs. under (dotted m.0) (member_cells done m.1) ++ cs) (members_are done ms))
 
 members_good : (done : List (List Variable)) (ms : Names Member) → AreAllGood done → are_right has_few ms ≡ true
@@ -202,9 +208,11 @@ groups_good : (gs : List (Names Member)) (done : List (List Variable)) → AreAl
 groups_good [] done all right = all
 groups_good (g ∷ gs) done all right =
     let both = and_both (are_right has_few g) _ right in
-    groups_good gs (done ++ members_cells done g ∷ []) (good_last done (members_cells done g) all (members_good done g all both.0)) both.1
+    groups_good gs (done ++ members_cells done g ∷ [])
+    (good_last done (members_cells done g) all (members_good done g all both.0)) both.1
 
-objects_are : (done : List (List Variable)) (names : Names Global) → rows (global_cells done) names ≡ objects_cells done names
+objects_are : (done : List (List Variable)) (names : Names Global)
+    → rows (global_cells done) names ≡ objects_cells done names
 objects_are done [] = refl
 objects_are done (g ∷ gs) = ap (λ cs. under g.0 (global_cells done g.1) ++ cs) (objects_are done gs)
 

@@ -25,8 +25,10 @@ use Rattle.trick_text.specs.Pieces.{begins_name, is_in_name}
 
 -- ---- names
 
-no_split : (in_name : ℕ → Bool) → in_name 46 ≡ false → in_name 91 ≡ false → (b : ℕ) → in_name b ≡ true → not (splits b) ≡ true
-no_split in_name dot bracket b inside = not_from_false _ (false_from_ne_true _ (λ e. by (or_cases (b == 46) (b == 91) e)))
+no_split : (in_name : ℕ → Bool) → in_name 46 ≡ false → in_name 91 ≡ false → (b : ℕ) → in_name b ≡ true
+    → not (splits b) ≡ true
+no_split in_name dot bracket b inside =
+    not_from_false _ (false_from_ne_true _ (λ e. by (or_cases (b == 46) (b == 91) e)))
   where
     not_here : (k : ℕ) → in_name k ≡ false → b ≡ k → ⊥
     not_here k outside same = let here = subst (λ j. in_name j ≡ true) same inside in cc (sym outside ∙ here)
@@ -130,7 +132,8 @@ all_members_right (m ∷ ms) names members h k right =
     (members_right m names members name.0 lengths.0 right)
 
 part_right : (part : Part) (number : ℕ) (names : Names Global) (inside : Inside) → part_passes spelled part ≡ true
-    → part_passes measured part ≡ true → AreRight inside.members → AreRight (behind_part part number names inside).members
+    → part_passes measured part ≡ true → AreRight inside.members
+    → AreRight (behind_part part number names inside).members
 part_right tree.Public number names inside h k right = right
 part_right (tree.HasMembers m) number names inside h k right = members_right m names inside.members h k right
 part_right (tree.HasMethod m) number names inside h k right =
@@ -168,21 +171,24 @@ items_right [] next names h right = right
 items_right (item ∷ rest) next names h right =
     let both = and_both (item_passes spelled item) _ h in
     items_right rest (taken_value item.value next +ℤ pos 1) (with_item item next names) both.1
-    (add_right for_all item.name (the.Item (taken_value item.value next)) names (and_both (is_spelled item.name) _ both.0).0 refl right)
+    (add_right for_all item.name (the.Item (taken_value item.value next)) names
+    (and_both (is_spelled item.name) _ both.0).0 refl right)
 
 definition_right : (d : Definition) (number : ℕ) (names : Names Global) → definition_passes spelled d ≡ true
     → AreKnown names → AreKnown (names_behind d number names)
 definition_right tree.Include number names h right = right
 definition_right (tree.Enum name items) number names h right =
     let both = and_both (is_spelled name) _ h in
-    items_right items (pos 0) (with_name name the.Enum names) both.1 (add_right for_all name the.Enum names both.0 refl right)
+    items_right items (pos 0) (with_name name the.Enum names) both.1
+    (add_right for_all name the.Enum names both.0 refl right)
 definition_right (tree.Struct name members) number names h right =
     add_right for_all name (the.Struct number) names (and_both (is_spelled name) _ h).0 refl right
 definition_right (tree.ClassOf name parts) number names h right =
     add_right for_all name (the.Class number) names (and_both (is_spelled name) _ h).0 refl right
 definition_right (tree.Object line class name) number names h right =
     let second = (and_both (is_spelled class) _ h).1 in
-    add_right for_all name (the.Object (object_base (meaning_of class names))) names (and_both (is_spelled name) _ second).0 refl right
+    add_right for_all name (the.Object (object_base (meaning_of class names))) names
+    (and_both (is_spelled name) _ second).0 refl right
 
 -- names and groups of a file
 abbrev pub TablesRight : Tables → Type 0
@@ -196,9 +202,11 @@ definitions_right (d ∷ ds) t h k right =
     let lengths = and_both (definition_passes measured d) _ k in
     definitions_right ds (behind_definition d t) name.1 lengths.1 (
       definition_right d (length t.groups) t.names name.0 right.0,
-      all_append (are_right has_few) t.groups (members_in d t.names ∷ []) right.1 (rw (group_right d t.names name.0 lengths.0) refl),
+      all_append (are_right has_few) t.groups (members_in d t.names ∷ []) right.1
+          (rw (group_right d t.names name.0 lengths.0) refl),
     )
 
 -- the tables of a text
-pub text_tables : (ds : SDefine) → file_passes spelled ds ≡ true → file_passes measured ds ≡ true → TablesRight (tables_of ds)
+pub text_tables : (ds : SDefine) → file_passes spelled ds ≡ true → file_passes measured ds ≡ true
+    → TablesRight (tables_of ds)
 text_tables ds h k = definitions_right ds (record { names = []; groups = [] }) h k (refl, refl)

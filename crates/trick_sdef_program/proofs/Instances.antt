@@ -62,7 +62,8 @@ module _ (objects : List Object) (methods : List Method) where
   alike = of_one_instance objects methods
 
   later_line : (object : ℕ) (numbers : Names ℕ) (earlier before : List JobLine) (line other : JobLine)
-      → IsNamed methods numbers line → IsNamed methods numbers other → calls_in line.method earlier < calls_in line.method before
+      → IsNamed methods numbers line → IsNamed methods numbers other
+      → calls_in line.method earlier < calls_in line.method before
       → not (alike (job_of object numbers earlier line) (job_of object numbers before other)) ≡ true
   later_line object numbers earlier before line other one two more =
       by (bytes_eq (job_name objects methods first) (job_name objects methods second)) refl
@@ -84,8 +85,10 @@ module _ (objects : List Object) (methods : List Method) where
           rw (ne_eqb first.instance second.instance (λ same. omega (arith, later, same))) refl
 
   later_lines : (object : ℕ) (numbers : Names ℕ) (earlier before lines : List JobLine) (line : JobLine)
-      → IsNamed methods numbers line → AreNamed methods numbers lines → calls_in line.method earlier < calls_in line.method before
-      → list_all (λ b. not (alike (job_of object numbers earlier line) b)) (object_jobs object numbers before lines) ≡ true
+      → IsNamed methods numbers line → AreNamed methods numbers lines
+      → calls_in line.method earlier < calls_in line.method before
+      → list_all (λ b. not (alike (job_of object numbers earlier line) b)) (object_jobs object numbers before lines)
+      ≡ true
   later_lines object numbers earlier before [] line one all more = refl
   later_lines object numbers earlier before (other ∷ rest) line one all more =
       let calls = calls_more line.method before (other ∷ []) in
@@ -98,7 +101,8 @@ module _ (objects : List Object) (methods : List Method) where
   object_apart object numbers before (line ∷ rest) all =
       let calls = calls_more line.method before (line ∷ []) in
       let once = calls_once line.method line refl in
-      and_from _ _ (later_lines object numbers before (before ++ line ∷ []) rest line all.0 all.1 (omega (arith, calls, once)))
+      and_from _ _
+      (later_lines object numbers before (before ++ line ∷ []) rest line all.0 all.1 (omega (arith, calls, once)))
       (object_apart object numbers (before ++ line ∷ []) rest all.1)
 
   -- jobs of objects of two names
@@ -153,11 +157,13 @@ module _ (objects : List Object) (methods : List Method) where
       → are_unlike alike (object_jobs object numbers done lines) (jobs_from ds all (object + 1) os) ≡ true
   object_unlike ds all o object before os numbers done [] here one is many others plain = refl
   object_unlike ds all o object before os numbers done (line ∷ rest) here one is many others plain =
-      and_from _ _ (other_objects ds all (job_of object numbers done line) o (object + 1) before os here one is many others plain)
+      and_from _ _
+      (other_objects ds all (job_of object numbers done line) o (object + 1) before os here one is many others plain)
       (object_unlike ds all o object before os numbers (done ++ line ∷ []) rest here one is many others plain)
 
   jobs_apart : (ds : SDefine) (all : List (Names ℕ)) (object : ℕ) (before os : List Object)
-      → ((o : Object) → has_object objects o.class ≡ true → AreNamed methods (numbers_at all o.class) (lines_at ds o.class))
+      → ((o : Object) → has_object objects o.class ≡ true
+      → AreNamed methods (numbers_at all o.class) (lines_at ds o.class))
       → before ++ os ≡ objects → length before ≡ object → are_apart of_one_object_name os ≡ true
       → list_all is_plain_object os ≡ true → are_apart alike (jobs_from ds all object os) ≡ true
   jobs_apart ds all object before [] named is many apart plain = refl
