@@ -63,9 +63,12 @@ impl Draft {
     pub fn new(alloc: Global, program: &Program) -> Result<Self, AllocError>
         ensures { IfOk result (λ draft. draft ≡ begun program.now) }
     {
+        let cells = KnownCells::of(alloc, program)?;
+        let items = items_of(alloc, program.items.as_slice())?;
+        let jobs = all_on(alloc, program.jobs.len())?;
         Ok(Draft {
-            cells: KnownCells::of(alloc, program)?,
-            items: items_of(alloc, program.items.as_slice())?,
+            cells,
+            items,
             variables: Names::new(alloc),
             group_names: Names::new(alloc),
             event_names: Names::new(alloc),
@@ -76,7 +79,7 @@ impl Draft {
             depends: Items::new(alloc),
             reads: Items::new(alloc),
             assigns: Items::new(alloc),
-            jobs: all_on(alloc, program.jobs.len())?,
+            jobs,
         })
     }
 
