@@ -159,48 +159,263 @@ fn state(alloc: Global, tic: u64) -> Result<State<One>, AllocError> {
     })
 }
 
-// Whether the reply to a command is these bytes alone.
-fn says(
+// A command by a word, a name and a number.
+type Said = (&'static str, &'static [u8], i128);
+
+// The list of variables as text, the cycle, whether paused, the copy mode, and whether a sample is asked for.
+type Kept<'a> = (&'a [u8], u64, bool, u8, bool);
+
+// The message, a word for the action that is to be done, and whether Freeze is to be left.
+type Answer<'a> = (&'a [u8], &'static str, bool);
+
+fn action(alloc: Global, said: Said) -> Result<Action, AllocError> {
+    let (word, name, number) = said;
+    let name = Word::from_bytes(alloc, name)?;
+    Ok(match word {
+        "set" => Action::SetCell { name, number },
+        "job" => Action::SetJob {
+            name,
+            instance: 1,
+            on: true,
+        },
+        "freeze" => Action::Freeze,
+        "stop" => Action::Stop { at: None },
+        "stop at" => Action::Stop {
+            at: u64::try_from(number).ok(),
+        },
+        "checkpoint" => Action::Checkpoint,
+        "group" => Action::SetGroup { name, on: true },
+        _ => Action::SetEvent { name, on: true },
+    })
+}
+
+fn command(alloc: Global, said: Said) -> Result<Command, AllocError> {
+    let (word, name, number) = said;
+    let named = Word::from_bytes(alloc, name)?;
+    Ok(match word {
+        "nothing" => Command::Nothing,
+        "resume" => Command::Resume,
+        "add" => Command::Add { name: named },
+        "remove" => Command::Remove { name: named },
+        "clear" => Command::Clear,
+        "cycle" => Command::Cycle {
+            tics: u64::try_from(number).unwrap_or(0),
+        },
+        "pause" => Command::Pause { on: true },
+        "unpause" => Command::Pause { on: false },
+        "send" => Command::Send,
+        "exists" => Command::Exists { name: named },
+        "copy" => Command::Copy {
+            mode: u8::try_from(number).unwrap_or(0),
+        },
+        "exit" => Command::Exit,
+        "bad" => Command::Bad,
+        _ => Command::Act(action(alloc, said)?),
+    })
+}
+
+fn word_of(act: &Option<Action>) -> &'static str {
+    match act {
+        None => "",
+        Some(Action::SetCell { .. }) => "set",
+        Some(Action::Freeze) => "freeze",
+        Some(Action::Stop { at: None }) => "stop",
+        Some(Action::Stop { at: Some(_) }) => "stop at",
+        Some(Action::Checkpoint) => "checkpoint",
+        Some(_) => "other",
+    }
+}
+
+// The names of a list, each behind `+` where it is that of the cell and else behind `?`.
+fn list_of(alloc: Global, variables: &[(Word, Option<Cell>)]) -> Result<Vec<u8>, AllocError> {
+    let mut list = Vec::new(alloc);
+    for variable in variables {
+        let sign = match variable.1 {
+            Some(Cell(0)) => b'+',
+            _ => b'?',
+        };
+        list.push(sign)?;
+        list.extend_from_slice(variable.0.as_slice())?;
+    }
+    Ok(list)
+}
+
+// Whether a session is then so, and the reply is this, where it was as `START` says before.
+fn is_answered(
     alloc: Global,
     plan: &Plan,
-    session: &mut Session,
-    command: Command,
-    bytes: &[u8],
+    said: Said,
+    kept: Kept,
+    answer: Answer,
 ) -> Result<bool, AllocError> {
-    let reply = apply(alloc, plan, session, command)?;
-    Ok(reply.bytes.as_slice() == bytes && reply.act.is_none() && !reply.run)
+    let mut session = Session {
+        number: 3,
+        variables: variables(alloc)?,
+        cycle: 7,
+        paused: true,
+        copy: 2,
+        send: false,
+        leaving: false,
+    };
+    let reply = apply(alloc, plan, &mut session, command(alloc, said)?)?;
+    let list = list_of(alloc, session.variables.as_slice())?;
+    let seen: Kept = (
+        &list,
+        session.cycle,
+        session.paused,
+        session.copy,
+        session.send,
+    );
+    let said: Answer = (&reply.bytes, word_of(&reply.act), reply.run);
+    Ok(seen == kept && said == answer && session.number == 3 && !session.leaving)
 }
 
-// Whether there is a cell of this name, as the reply says it.
-fn exists(alloc: Global, plan: &Plan, name: &[u8], bytes: &[u8]) -> Result<bool, AllocError> {
-    let name = Word::from_bytes(alloc, name)?;
-    let mut session = join(alloc, 1);
-    says(alloc, plan, &mut session, Command::Exists { name }, bytes)
-}
+const START: Kept = (b"+counter.n?counter.zz+counter.n", 7, true, 2, false);
 
-// Whether a command asks for an action, and to leave Freeze.
-fn asks(alloc: Global, plan: &Plan, command: Command) -> Result<(bool, bool), AllocError> {
-    let mut session = join(alloc, 1);
-    let reply = apply(alloc, plan, &mut session, command)?;
-    Ok((reply.act.is_some(), reply.run))
+const QUIET: Answer = (b"", "", false);
+
+const BAD: Answer = (b"4\tbad command\n", "", false);
+
+const THERE: Answer = (b"1\t1\n", "", false);
+
+const MISSING: Answer = (b"1\t0\n", "", false);
+
+// The first of these commands that changes or answers another thing.
+fn first_unlike(alloc: Global, cases: &[(Said, Kept, Answer)]) -> Result<Option<Said>, AllocError> {
+    let plan = plan(alloc)?;
+    for (said, kept, answer) in cases {
+        if !is_answered(alloc, &plan, *said, *kept, *answer)? {
+            return Ok(Some(*said));
+        }
+    }
+    Ok(None)
 }
 
 #[test]
-fn lines_are_answered(rt: HostRuntime) -> Result<(), Fail> {
+fn commands_change_their_session_alone(rt: HostRuntime) -> Result<(), Fail> {
+    let cases: [(Said, Kept, Answer); 20] = [
+        (("nothing", b"", 0), START, QUIET),
+        (("exit", b"", 0), START, QUIET),
+        (("bad", b"", 0), START, BAD),
+        (("resume", b"", 0), START, (b"", "", true)),
+        (
+            ("add", b"counter.n", 0),
+            (
+                b"+counter.n?counter.zz+counter.n+counter.n",
+                7,
+                true,
+                2,
+                false,
+            ),
+            QUIET,
+        ),
+        (
+            ("add", b"counter.z", 0),
+            (
+                b"+counter.n?counter.zz+counter.n?counter.z",
+                7,
+                true,
+                2,
+                false,
+            ),
+            QUIET,
+        ),
+        (
+            ("add", b"", 0),
+            (b"+counter.n?counter.zz+counter.n?", 7, true, 2, false),
+            QUIET,
+        ),
+        (
+            ("remove", b"counter.n", 0),
+            (b"?counter.zz", 7, true, 2, false),
+            QUIET,
+        ),
+        (
+            ("remove", b"counter.zz", 0),
+            (b"+counter.n+counter.n", 7, true, 2, false),
+            QUIET,
+        ),
+        (("remove", b"counter.", 0), START, QUIET),
+        (("clear", b"", 0), (b"", 7, true, 2, false), QUIET),
+        (("cycle", b"", 1), (START.0, 1, true, 2, false), QUIET),
+        (("pause", b"", 0), START, QUIET),
+        (("unpause", b"", 0), (START.0, 7, false, 2, false), QUIET),
+        (("send", b"", 0), (START.0, 7, true, 2, true), QUIET),
+        (("copy", b"", 1), (START.0, 7, true, 1, false), QUIET),
+        (("exists", b"counter.n", 0), START, THERE),
+        (("exists", b"counter.zz", 0), START, MISSING),
+        (("exists", b"counter", 0), START, MISSING),
+        (("exists", b"", 0), START, MISSING),
+    ];
+    assert_eq!(rt; first_unlike(rt.alloc(), &cases)?, None);
+    Ok(())
+}
+
+#[test]
+fn actions_are_asked_for_where_they_can_be_done(rt: HostRuntime) -> Result<(), Fail> {
+    let cases: [(Said, Kept, Answer); 13] = [
+        (
+            ("set", b"counter.n", i128::from(i64::MAX)),
+            START,
+            (b"", "set", false),
+        ),
+        (
+            ("set", b"counter.n", i128::from(i64::MIN)),
+            START,
+            (b"", "set", false),
+        ),
+        (("set", b"counter.n", 9_223_372_036_854_775_808), START, BAD),
+        (("set", b"counter.zz", 0), START, BAD),
+        (("set", b"", 0), START, BAD),
+        (("job", b"counter.n", 0), START, BAD),
+        (("freeze", b"", 0), START, (b"", "freeze", false)),
+        (("stop", b"", 0), START, (b"", "stop", false)),
+        (
+            ("stop at", b"", 1_000_000_000_000_000),
+            START,
+            (b"", "stop at", false),
+        ),
+        (("stop at", b"", 1_000_000_000_000_001), START, BAD),
+        (("checkpoint", b"", 0), START, (b"", "checkpoint", false)),
+        (("group", b"counter.n", 0), START, BAD),
+        (("event", b"counter.n", 0), START, BAD),
+    ];
+    assert_eq!(rt; first_unlike(rt.alloc(), &cases)?, None);
+    Ok(())
+}
+
+// How long the list of a new session is after so many variables are added, and the last message.
+fn after_adding(
+    alloc: Global,
+    plan: &Plan,
+    names: &[&[u8]],
+    count: usize,
+) -> Result<(usize, Vec<u8>), AllocError> {
+    let mut session = join(alloc, 1);
+    let mut message = Vec::new(alloc);
+    for name in names.iter().cycle().take(count) {
+        let name = Word::from_bytes(alloc, name)?;
+        message = apply(alloc, plan, &mut session, Command::Add { name })?.bytes;
+    }
+    Ok((session.variables.len(), message))
+}
+
+#[test]
+fn a_session_has_at_most_256_variables(rt: HostRuntime) -> Result<(), Fail> {
     let alloc = rt.alloc();
     let plan = plan(alloc)?;
-    let mut session = join(alloc, 1);
-    assert!(rt; exists(alloc, &plan, b"counter.n", b"1\t1\n")?);
-    assert!(rt; exists(alloc, &plan, b"counter", b"1\t0\n")?);
-    let bad = b"4\tbad command\n";
-    assert!(rt; says(alloc, &plan, &mut session, Command::Bad, bad)?);
-    let late = Some(2_000_000_000_000_000);
-    let stop = Command::Act(Action::Stop { at: late });
-    assert!(rt; says(alloc, &plan, &mut session, stop, bad)?);
-    assert!(rt; says(alloc, &plan, &mut session, Command::Send, b"")?);
-    assert!(rt; session.send);
-    assert!(rt; asks(alloc, &plan, Command::Act(Action::Freeze))? == (true, false));
-    assert!(rt; asks(alloc, &plan, Command::Resume)? == (false, true));
+    let names = [b"counter.n".as_slice(), b"counter.zz", b"counter.n"];
+    for (count, len, message) in [
+        (0, 0, b"".as_slice()),
+        (256, 256, b""),
+        (257, 256, BAD.0),
+        (258, 256, BAD.0),
+        (300, 256, BAD.0),
+    ] {
+        let found = after_adding(alloc, &plan, &names, count)?;
+        assert_eq!(rt; found.0, len);
+        assert_eq!(rt; found.1.as_slice(), message);
+    }
     Ok(())
 }
 
@@ -210,46 +425,90 @@ fn variables(alloc: Global) -> Result<Items<(Word, Option<Cell>)>, AllocError>
     let mut all = Items::new(alloc);
     all.push((Word::from_bytes(alloc, b"counter.n")?, Some(Cell(0))))?;
     all.push((Word::from_bytes(alloc, b"counter.zz")?, None))?;
+    all.push((Word::from_bytes(alloc, b"counter.n")?, Some(Cell(0))))?;
     Ok(all)
 }
 
-// Whether a session of a cell and an unknown variable is sent its sample, where it is paused, asks for
-// one, and leaves or not.
-fn is_sent(
-    alloc: Global,
-    from: u64,
-    paused: bool,
-    send: bool,
-    leaving: bool,
-) -> Result<bool, AllocError> {
+// A session's cycle, and the tics at a turn's start and end.
+type Times = (u64, u64, u64);
+
+// Whether the session is paused, asks for a sample, and leaves.
+type Flagged = (bool, bool, bool);
+
+// Whether a session of a cell, an unknown variable and the cell again is sent its sample.
+fn is_sent(alloc: Global, times: Times, flags: Flagged) -> Result<bool, AllocError> {
+    let (cycle, from, to) = times;
+    let (paused, send, leaving) = flags;
     let session = Session {
         number: 1,
         variables: variables(alloc)?,
-        cycle: 100_000,
+        cycle: cycle.max(1),
         paused,
         copy: 1,
         send,
         leaving,
     };
-    match sample(alloc, &session, &state(alloc, 200_000)?, from)? {
-        Some(line) => Ok(line.as_slice() == b"0\t-7\tBAD_REF\n".as_slice()),
+    match sample(alloc, &session, &state(alloc, to)?, from)? {
+        Some(line) => Ok(line.as_slice() == b"0\t-7\tBAD_REF\t-7\n".as_slice()),
         None => Ok(false),
     }
 }
 
+// The first times at which a sample is sent and should not be, or is not and should be.
+fn first_odd_sample(
+    alloc: Global,
+    cases: &[(Times, Flagged, bool)],
+) -> Result<Option<(Times, Flagged)>, AllocError> {
+    for (times, flags, sent) in cases {
+        if is_sent(alloc, *times, *flags)? != *sent {
+            return Ok(Some((*times, *flags)));
+        }
+    }
+    Ok(None)
+}
+
 #[test]
 fn samples_are_sent_where_a_multiple_passed(rt: HostRuntime) -> Result<(), Fail> {
+    const AWAKE: Flagged = (false, false, false);
     let cases = [
-        (199_999, false, false, false, true),
-        (200_000, false, false, false, false),
-        (200_000, true, true, false, true),
-        (0, true, false, false, false),
-        (0, false, false, true, false),
-        (0, false, true, true, true),
+        ((100_000, 199_999, 200_000), AWAKE, true),
+        ((100_000, 200_000, 200_000), AWAKE, false),
+        ((100_000, 200_000, 299_999), AWAKE, false),
+        ((100_000, 200_000, 300_000), AWAKE, true),
+        ((100_000, 0, 0), AWAKE, false),
+        ((100_000, 0, 99_999), AWAKE, false),
+        ((100_000, 0, 1_000_000), AWAKE, true),
+        // the last frame of a run that stops at 3.0
+        ((1_000_000, 3_000_000, 3_000_001), AWAKE, false),
+        ((1, 5, 5), AWAKE, false),
+        ((1, 5, 6), AWAKE, true),
+        (
+            (
+                1_000_000_000_000_000,
+                999_999_999_999_999,
+                1_000_000_000_000_000,
+            ),
+            AWAKE,
+            true,
+        ),
+        (
+            (
+                1_000_000_000_000_000,
+                1_000_000_000_000_000,
+                1_000_000_000_000_001,
+            ),
+            AWAKE,
+            false,
+        ),
+        // paused, asked for, leaving
+        ((100_000, 0, 200_000), (true, false, false), false),
+        ((100_000, 0, 200_000), (false, false, true), false),
+        ((100_000, 0, 200_000), (true, true, true), true),
+        ((100_000, 200_000, 200_000), (false, true, false), true),
+        ((100_000, 200_000, 200_000), (true, true, false), true),
+        ((100_000, 200_000, 200_000), (false, true, true), true),
     ];
-    for (from, paused, send, leaving, sent) in cases {
-        assert!(rt; is_sent(rt.alloc(), from, paused, send, leaving)? == sent);
-    }
+    assert_eq!(rt; first_odd_sample(rt.alloc(), &cases)?, None);
     Ok(())
 }
 
@@ -257,6 +516,8 @@ fn samples_are_sent_where_a_multiple_passed(rt: HostRuntime) -> Result<(), Fail>
 fn an_empty_list_is_not_sent(rt: HostRuntime) -> Result<(), Fail> {
     let alloc = rt.alloc();
     let state = state(alloc, 200_000)?;
-    assert!(rt; sample(alloc, &join(alloc, 1), &state, 0)?.is_none());
+    let mut session = join(alloc, 1);
+    session.send = true;
+    assert!(rt; sample(alloc, &session, &state, 0)?.is_none());
     Ok(())
 }
