@@ -1,6 +1,7 @@
 //! Bytes in pieces, and the lines that come of them.
 
 use crate::{Feed, FeedFault};
+use std::alloc::{AllocError, Global};
 use std::test::Fail;
 
 // Whether the next line is this one.
@@ -11,40 +12,95 @@ fn gives(feed: &mut Feed, want: &[u8]) -> bool {
     }
 }
 
+// Whether bytes in three pieces give these lines, and no other.
+fn gives_all(
+    alloc: Global,
+    bytes: &[u8],
+    cuts: (usize, usize),
+    lines: &[&[u8]],
+) -> Result<bool, FeedFault> {
+    let mut feed = Feed::new(alloc);
+    let (front, back) = bytes.split_at(cuts.1.min(bytes.len()));
+    let (first, second) = front.split_at(cuts.0.min(front.len()));
+    feed.push(first)?;
+    feed.push(second)?;
+    feed.push(back)?;
+    for line in lines {
+        if !gives(&mut feed, line) {
+            return Ok(false);
+        }
+    }
+    Ok(feed.pull().is_none())
+}
+
+// The first two places at which bytes are cut in three and other lines come than these.
+fn first_odd_cuts(
+    alloc: Global,
+    bytes: &[u8],
+    lines: &[&[u8]],
+) -> Result<Option<(usize, usize)>, FeedFault> {
+    for second in 0..=bytes.len() {
+        for first in 0..=second {
+            if !gives_all(alloc, bytes, (first, second), lines)? {
+                return Ok(Some((first, second)));
+            }
+        }
+    }
+    Ok(None)
+}
+
 #[test]
 fn lines_come_however_they_are_cut(rt: HostRuntime) -> Result<(), Fail> {
-    let mut feed = Feed::new(rt.alloc());
-    for piece in [
-        b"one\r\n\ntw".as_slice(),
-        b"",
-        b"o\r",
-        b"\n\0\xff\r\r\nrest",
-    ] {
-        assert!(rt; feed.push(piece).is_ok());
-    }
-    for line in [b"one".as_slice(), b"", b"two", b"\0\xff\r"] {
-        assert!(rt; gives(&mut feed, line));
-    }
-    assert!(rt; feed.pull().is_none());
+    let bytes = b"one\r\n\n\r\n\0\xff\r\r\n \rtwo\n\r\r\r\nrest\r";
+    let lines = [b"one".as_slice(), b"", b"", b"\0\xff\r", b" \rtwo", b"\r\r"];
+    assert_eq!(rt; first_odd_cuts(rt.alloc(), bytes, &lines)?, None);
     Ok(())
+}
+
+// Of bytes that end with a line feed, and of another line behind them, cut at a place: whether the first
+// piece and the second are taken, and whether this line and the other come of them.
+fn taken(
+    alloc: Global,
+    bytes: &[u8],
+    cut: usize,
+    line: &[u8],
+) -> Result<(bool, bool, bool), AllocError> {
+    let mut all = bytes.to_vec(alloc)?;
+    all.extend_from_slice(b"next\n")?;
+    let (first, second) = all.split_at(cut.min(all.len()));
+    let mut feed = Feed::new(alloc);
+    let one = feed.push(first).is_ok();
+    let two = feed.push(second).is_ok();
+    let both = gives(&mut feed, line) && gives(&mut feed, b"next");
+    Ok((one, two, both && feed.pull().is_none()))
+}
+
+// Whether a line of so many bytes with this end, cut at a place, is taken as it should be. With at most
+// 4,096 bytes up to its line feed it comes; of a longer one as many bytes are taken.
+fn is_taken(alloc: Global, len: usize, end: &[u8], cut: usize) -> Result<bool, AllocError> {
+    let line = vec![in alloc; b'x'; len]?;
+    let mut bytes = line.to_vec(alloc)?;
+    bytes.extend_from_slice(end)?;
+    let fits = bytes.len() <= 4097;
+    Ok(taken(alloc, &bytes, cut, &line)? == (fits || cut <= 4096, fits, fits))
+}
+
+// The first length, and place near the end, at which a line is not taken as it should be.
+fn first_odd_cut(alloc: Global, end: &[u8]) -> Result<Option<(usize, usize)>, AllocError> {
+    for len in 4094..4099usize {
+        for cut in 4088..4104usize {
+            if !is_taken(alloc, len, end, cut)? {
+                return Ok(Some((len, cut)));
+            }
+        }
+    }
+    Ok(None)
 }
 
 #[test]
 fn lines_of_4096_bytes_are_taken(rt: HostRuntime) -> Result<(), Fail> {
-    for len in 4094..4099usize {
-        let mut feed = Feed::new(rt.alloc());
-        assert!(rt; feed.push(b"first\n").is_ok());
-        let line = vec![in rt.alloc(); b'x'; len]?;
-        let want = if len <= 4096 {
-            Ok(())
-        } else {
-            Err(FeedFault::LongLine)
-        };
-        assert!(rt; feed.push(&line) == want);
-        assert!(rt; feed.push(b"\n") == want);
-        assert!(rt; gives(&mut feed, b"first"));
-        assert!(rt; gives(&mut feed, &line) == want.is_ok());
-    }
+    assert_eq!(rt; first_odd_cut(rt.alloc(), b"\n")?, None);
+    assert_eq!(rt; first_odd_cut(rt.alloc(), b"\r\n")?, None);
     Ok(())
 }
 
