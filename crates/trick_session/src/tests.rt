@@ -280,8 +280,11 @@ const THERE: Answer = (b"1\t1\n", "", false);
 
 const MISSING: Answer = (b"1\t0\n", "", false);
 
+// A command, and what is then kept and answered.
+type Case = (Said, Kept<'static>, Answer<'static>);
+
 // The first of these commands that changes or answers another thing.
-fn first_unlike(alloc: Global, cases: &[(Said, Kept, Answer)]) -> Result<Option<Said>, AllocError> {
+fn first_unlike(alloc: Global, cases: &[Case]) -> Result<Option<Said>, AllocError> {
     let plan = plan(alloc)?;
     for (said, kept, answer) in cases {
         if !is_answered(alloc, &plan, *said, *kept, *answer)? {
@@ -291,96 +294,100 @@ fn first_unlike(alloc: Global, cases: &[(Said, Kept, Answer)]) -> Result<Option<
     Ok(None)
 }
 
+// Commands that are no actions.
+const COMMANDS: [Case; 20] = [
+    (("nothing", b"", 0), START, QUIET),
+    (("exit", b"", 0), START, QUIET),
+    (("bad", b"", 0), START, BAD),
+    (("resume", b"", 0), START, (b"", "", true)),
+    (
+        ("add", b"counter.n", 0),
+        (
+            b"+counter.n?counter.zz+counter.n+counter.n",
+            7,
+            true,
+            2,
+            false,
+        ),
+        QUIET,
+    ),
+    (
+        ("add", b"counter.z", 0),
+        (
+            b"+counter.n?counter.zz+counter.n?counter.z",
+            7,
+            true,
+            2,
+            false,
+        ),
+        QUIET,
+    ),
+    (
+        ("add", b"", 0),
+        (b"+counter.n?counter.zz+counter.n?", 7, true, 2, false),
+        QUIET,
+    ),
+    (
+        ("remove", b"counter.n", 0),
+        (b"?counter.zz", 7, true, 2, false),
+        QUIET,
+    ),
+    (
+        ("remove", b"counter.zz", 0),
+        (b"+counter.n+counter.n", 7, true, 2, false),
+        QUIET,
+    ),
+    (("remove", b"counter.", 0), START, QUIET),
+    (("clear", b"", 0), (b"", 7, true, 2, false), QUIET),
+    (("cycle", b"", 1), (START.0, 1, true, 2, false), QUIET),
+    (("pause", b"", 0), START, QUIET),
+    (("unpause", b"", 0), (START.0, 7, false, 2, false), QUIET),
+    (("send", b"", 0), (START.0, 7, true, 2, true), QUIET),
+    (("copy", b"", 1), (START.0, 7, true, 1, false), QUIET),
+    (("exists", b"counter.n", 0), START, THERE),
+    (("exists", b"counter.zz", 0), START, MISSING),
+    (("exists", b"counter", 0), START, MISSING),
+    (("exists", b"", 0), START, MISSING),
+];
+
 #[test]
 fn commands_change_their_session_alone(rt: HostRuntime) -> Result<(), Fail> {
-    let cases: [(Said, Kept, Answer); 20] = [
-        (("nothing", b"", 0), START, QUIET),
-        (("exit", b"", 0), START, QUIET),
-        (("bad", b"", 0), START, BAD),
-        (("resume", b"", 0), START, (b"", "", true)),
-        (
-            ("add", b"counter.n", 0),
-            (
-                b"+counter.n?counter.zz+counter.n+counter.n",
-                7,
-                true,
-                2,
-                false,
-            ),
-            QUIET,
-        ),
-        (
-            ("add", b"counter.z", 0),
-            (
-                b"+counter.n?counter.zz+counter.n?counter.z",
-                7,
-                true,
-                2,
-                false,
-            ),
-            QUIET,
-        ),
-        (
-            ("add", b"", 0),
-            (b"+counter.n?counter.zz+counter.n?", 7, true, 2, false),
-            QUIET,
-        ),
-        (
-            ("remove", b"counter.n", 0),
-            (b"?counter.zz", 7, true, 2, false),
-            QUIET,
-        ),
-        (
-            ("remove", b"counter.zz", 0),
-            (b"+counter.n+counter.n", 7, true, 2, false),
-            QUIET,
-        ),
-        (("remove", b"counter.", 0), START, QUIET),
-        (("clear", b"", 0), (b"", 7, true, 2, false), QUIET),
-        (("cycle", b"", 1), (START.0, 1, true, 2, false), QUIET),
-        (("pause", b"", 0), START, QUIET),
-        (("unpause", b"", 0), (START.0, 7, false, 2, false), QUIET),
-        (("send", b"", 0), (START.0, 7, true, 2, true), QUIET),
-        (("copy", b"", 1), (START.0, 7, true, 1, false), QUIET),
-        (("exists", b"counter.n", 0), START, THERE),
-        (("exists", b"counter.zz", 0), START, MISSING),
-        (("exists", b"counter", 0), START, MISSING),
-        (("exists", b"", 0), START, MISSING),
-    ];
-    assert_eq!(rt; first_unlike(rt.alloc(), &cases)?, None);
+    assert_eq!(rt; first_unlike(rt.alloc(), &COMMANDS)?, None);
     Ok(())
 }
 
+// Actions.
+const ACTIONS: [Case; 13] = [
+    (
+        ("set", b"counter.n", 9_223_372_036_854_775_807),
+        START,
+        (b"", "set", false),
+    ),
+    (
+        ("set", b"counter.n", -9_223_372_036_854_775_808),
+        START,
+        (b"", "set", false),
+    ),
+    (("set", b"counter.n", 9_223_372_036_854_775_808), START, BAD),
+    (("set", b"counter.zz", 0), START, BAD),
+    (("set", b"", 0), START, BAD),
+    (("job", b"counter.n", 0), START, BAD),
+    (("freeze", b"", 0), START, (b"", "freeze", false)),
+    (("stop", b"", 0), START, (b"", "stop", false)),
+    (
+        ("stop at", b"", 1_000_000_000_000_000),
+        START,
+        (b"", "stop at", false),
+    ),
+    (("stop at", b"", 1_000_000_000_000_001), START, BAD),
+    (("checkpoint", b"", 0), START, (b"", "checkpoint", false)),
+    (("group", b"counter.n", 0), START, BAD),
+    (("event", b"counter.n", 0), START, BAD),
+];
+
 #[test]
 fn actions_are_asked_for_where_they_can_be_done(rt: HostRuntime) -> Result<(), Fail> {
-    let cases: [(Said, Kept, Answer); 13] = [
-        (
-            ("set", b"counter.n", i128::from(i64::MAX)),
-            START,
-            (b"", "set", false),
-        ),
-        (
-            ("set", b"counter.n", i128::from(i64::MIN)),
-            START,
-            (b"", "set", false),
-        ),
-        (("set", b"counter.n", 9_223_372_036_854_775_808), START, BAD),
-        (("set", b"counter.zz", 0), START, BAD),
-        (("set", b"", 0), START, BAD),
-        (("job", b"counter.n", 0), START, BAD),
-        (("freeze", b"", 0), START, (b"", "freeze", false)),
-        (("stop", b"", 0), START, (b"", "stop", false)),
-        (
-            ("stop at", b"", 1_000_000_000_000_000),
-            START,
-            (b"", "stop at", false),
-        ),
-        (("stop at", b"", 1_000_000_000_000_001), START, BAD),
-        (("checkpoint", b"", 0), START, (b"", "checkpoint", false)),
-        (("group", b"counter.n", 0), START, BAD),
-        (("event", b"counter.n", 0), START, BAD),
-    ];
-    assert_eq!(rt; first_unlike(rt.alloc(), &cases)?, None);
+    assert_eq!(rt; first_unlike(rt.alloc(), &ACTIONS)?, None);
     Ok(())
 }
 
@@ -458,48 +465,51 @@ fn first_odd_sample(
     Ok(None)
 }
 
+const AWAKE: Flagged = (false, false, false);
+
+// Times and flags, and whether a sample is sent.
+const SAMPLES: [(Times, Flagged, bool); 18] = [
+    ((100_000, 199_999, 200_000), AWAKE, true),
+    ((100_000, 200_000, 200_000), AWAKE, false),
+    ((100_000, 200_000, 299_999), AWAKE, false),
+    ((100_000, 200_000, 300_000), AWAKE, true),
+    ((100_000, 0, 0), AWAKE, false),
+    ((100_000, 0, 99_999), AWAKE, false),
+    ((100_000, 0, 1_000_000), AWAKE, true),
+    // the last frame of a run that stops at 3.0
+    ((1_000_000, 3_000_000, 3_000_001), AWAKE, false),
+    ((1, 5, 5), AWAKE, false),
+    ((1, 5, 6), AWAKE, true),
+    (
+        (
+            1_000_000_000_000_000,
+            999_999_999_999_999,
+            1_000_000_000_000_000,
+        ),
+        AWAKE,
+        true,
+    ),
+    (
+        (
+            1_000_000_000_000_000,
+            1_000_000_000_000_000,
+            1_000_000_000_000_001,
+        ),
+        AWAKE,
+        false,
+    ),
+    // paused, asked for, leaving
+    ((100_000, 0, 200_000), (true, false, false), false),
+    ((100_000, 0, 200_000), (false, false, true), false),
+    ((100_000, 0, 200_000), (true, true, true), true),
+    ((100_000, 200_000, 200_000), (false, true, false), true),
+    ((100_000, 200_000, 200_000), (true, true, false), true),
+    ((100_000, 200_000, 200_000), (false, true, true), true),
+];
+
 #[test]
 fn samples_are_sent_where_a_multiple_passed(rt: HostRuntime) -> Result<(), Fail> {
-    const AWAKE: Flagged = (false, false, false);
-    let cases = [
-        ((100_000, 199_999, 200_000), AWAKE, true),
-        ((100_000, 200_000, 200_000), AWAKE, false),
-        ((100_000, 200_000, 299_999), AWAKE, false),
-        ((100_000, 200_000, 300_000), AWAKE, true),
-        ((100_000, 0, 0), AWAKE, false),
-        ((100_000, 0, 99_999), AWAKE, false),
-        ((100_000, 0, 1_000_000), AWAKE, true),
-        // the last frame of a run that stops at 3.0
-        ((1_000_000, 3_000_000, 3_000_001), AWAKE, false),
-        ((1, 5, 5), AWAKE, false),
-        ((1, 5, 6), AWAKE, true),
-        (
-            (
-                1_000_000_000_000_000,
-                999_999_999_999_999,
-                1_000_000_000_000_000,
-            ),
-            AWAKE,
-            true,
-        ),
-        (
-            (
-                1_000_000_000_000_000,
-                1_000_000_000_000_000,
-                1_000_000_000_000_001,
-            ),
-            AWAKE,
-            false,
-        ),
-        // paused, asked for, leaving
-        ((100_000, 0, 200_000), (true, false, false), false),
-        ((100_000, 0, 200_000), (false, false, true), false),
-        ((100_000, 0, 200_000), (true, true, true), true),
-        ((100_000, 200_000, 200_000), (false, true, false), true),
-        ((100_000, 200_000, 200_000), (true, true, false), true),
-        ((100_000, 200_000, 200_000), (false, true, true), true),
-    ];
-    assert_eq!(rt; first_odd_sample(rt.alloc(), &cases)?, None);
+    assert_eq!(rt; first_odd_sample(rt.alloc(), &SAMPLES)?, None);
     Ok(())
 }
 
