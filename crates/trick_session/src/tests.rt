@@ -270,7 +270,9 @@ fn is_answered(
     Ok(seen == kept && said == answer && session.number == 3 && !session.leaving)
 }
 
-const START: Kept = (b"+counter.n?counter.zz+counter.n", 7, true, 2, false);
+const LIST: &[u8] = b"+counter.n?counter.zz+counter.n";
+
+const START: Kept = (LIST, 7, true, 2, false);
 
 const QUIET: Answer = (b"", "", false);
 
@@ -339,11 +341,11 @@ const COMMANDS: [Case; 20] = [
     ),
     (("remove", b"counter.", 0), START, QUIET),
     (("clear", b"", 0), (b"", 7, true, 2, false), QUIET),
-    (("cycle", b"", 1), (START.0, 1, true, 2, false), QUIET),
+    (("cycle", b"", 1), (LIST, 1, true, 2, false), QUIET),
     (("pause", b"", 0), START, QUIET),
-    (("unpause", b"", 0), (START.0, 7, false, 2, false), QUIET),
-    (("send", b"", 0), (START.0, 7, true, 2, true), QUIET),
-    (("copy", b"", 1), (START.0, 7, true, 1, false), QUIET),
+    (("unpause", b"", 0), (LIST, 7, false, 2, false), QUIET),
+    (("send", b"", 0), (LIST, 7, true, 2, true), QUIET),
+    (("copy", b"", 1), (LIST, 7, true, 1, false), QUIET),
     (("exists", b"counter.n", 0), START, THERE),
     (("exists", b"counter.zz", 0), START, MISSING),
     (("exists", b"counter", 0), START, MISSING),
