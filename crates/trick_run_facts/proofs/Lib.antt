@@ -1,0 +1,20 @@
+-- A run without entries publishes every round in flight, where its posts are always ready.
+pub mod Own
+-- What a run did whose source gave nothing and whose posts were always ready.
+pub mod OwnRuns
+-- A round that has waited long enough is published.
+pub mod Waits
+-- Fronts of writes, and writes of other names.
+pub mod Fronts
+-- What turns write of names that are no log and no checkpoint.
+pub mod Others
+-- What the first entries that a turn noted would note.
+pub mod Notes
+-- Turns whose writes were done in part.
+pub mod Cuts
+-- What a run leaves of its files whose writes were done in part.
+pub mod Leaves
+-- A run makes its files once at most.
+pub mod Once
+-- As many rounds are left unpublished as polls found not ready.
+pub mod Counts

@@ -1,0 +1,12 @@
+-- A run whose source gives nothing and whose posts are always ready.
+pub mod Own
+-- What a run that stopped leaves of its files.
+pub mod Left
+-- The files of a run are made once at most.
+pub mod Once
+-- What runs that stopped leave.
+pub mod Stopping
+-- How long the rounds of asynchronous threads stay unpublished.
+pub mod Waiting
+-- How often rounds of asynchronous threads stay unpublished.
+pub mod Counted

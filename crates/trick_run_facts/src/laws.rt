@@ -1,0 +1,51 @@
+//! What follows from what `trick_exec::run` says. A function that calls one of these may rest on what it says; the
+//! call itself does nothing.
+
+ghost use Rattle.trick_run_facts.specs.Counted.{LeftAreNotReady};
+ghost use Rattle.trick_run_facts.specs.Once.{FilesAreMadeOnce};
+ghost use Rattle.trick_run_facts.specs.Own.{IsAlone, RunsAreOwn};
+ghost use Rattle.trick_run_facts.specs.Stopping.{StopsLeave};
+ghost use Rattle.trick_run_facts.specs.Waiting.{RoundsAreBounded};
+ghost use Rattle.trick_runs.specs.Hosts.{hosts, Place};
+
+use trick_lang::Cells;
+use trick_one_post::OnePost;
+use trick_outside::Shelf;
+use trick_post::Posts;
+use trick_turns::{NoTurns, Turns};
+
+/// A run whose source gives no entry, and whose posts are ready whenever they are asked, is the one without
+/// clients: its journal is its own, and no other.
+pub fn runs_alone_are_own<M: Cells, F: Shelf, P: Posts, T: Turns<M>>()
+    ensures { RunsAreOwn (hosts F.Shelf T.Turns P.Posts) M.numbers }
+{}
+
+/// The forms of one thread are such: `NoTurns` gives no entry, and `OnePost` is always ready.
+pub fn serial_forms_are_alone<M: Cells, F: Shelf>()
+    ensures { (old new : Place F NoTurns OnePost)
+        → IsAlone (hosts F.Shelf ⟦<NoTurns as Turns<M>>⟧ ⟦<OnePost as Posts>⟧) old new }
+{}
+
+/// A run that stopped leaves whole lines in its journal, and of each other file a prefix of what the run under
+/// these lines makes of it.
+pub fn stopped_runs_leave_fronts<M: Cells, F: Shelf, P: Posts, T: Turns<M>>()
+    ensures { StopsLeave (hosts F.Shelf T.Turns P.Posts) M.numbers }
+{
+    trick_model::laws::one_run();
+    trick_model::laws::fitting_lists_last();
+}
+
+/// A run makes each of its files once at most, its checkpoints where the count of turns has not come to its end.
+pub fn files_are_made_once()
+    ensures { FilesAreMadeOnce }
+{}
+
+/// No round stays unpublished at more than 1,000 run frames of a run.
+pub fn rounds_are_bounded()
+    ensures { RoundsAreBounded }
+{}
+
+/// As many rounds are left unpublished, counted at each run frame, as polls found not ready.
+pub fn left_rounds_are_not_ready()
+    ensures { LeftAreNotReady }
+{}
