@@ -1,7 +1,7 @@
 -- Turns whose writes were done in part, and the run under the lines that were noted.
 use Rattle.std.proofs.Common.{◌≡◌, ◌∙◌, ℕ, List, [], ◌∷◌, ◌++◌, Bool, true, false, not, ◌&&◌, ap, append-nil, append_assoc, inl, inr, refl, subst, sym}
 use Rattle.std.specs.List.{list_any}
-use Rattle.std.specs.Prelude.{◌||◌, IsTrue, Option, cond, filter, nat_le, nat_lt}
+use Rattle.std.specs.Prelude.{◌||◌, ◌⊎◌, IsTrue, Option, cond, filter, nat_le, nat_lt}
 use Rattle.trick_base.proofs.ContentLemmas.{content-append}
 use Rattle.trick_base.proofs.WriteLemmas.{front_of_early, front_of_late}
 use Rattle.trick_base.specs.Content.{IsKept, content, same_name}
@@ -11,7 +11,7 @@ use Rattle.trick_model.specs.Events.{Asking}
 use Rattle.trick_model.specs.Files.{journal_name, note, turn_writes, turns_writes}
 use Rattle.trick_model.specs.Journal.{is_of_session}
 use Rattle.trick_model.specs.Plan.{Plan}
-use Rattle.trick_model.specs.Run.{Lasts, has_session_entry, is_shut, on, over}
+use Rattle.trick_model.specs.Run.{Lasts, after_turns, has_session_entry, is_shut, on, over}
 use Rattle.trick_model.specs.State.{State, World}
 use Rattle.trick_model.specs.Turn.{Hearing, begun, checkpoint_jobs, checkpoint_writes, counted, framed, is_frozen, noted, rounds, runs, turn}
 use Rattle.trick_model.specs.declared.entry.Entry.{Entry}
@@ -21,8 +21,9 @@ use Rattle.trick_remainder.proofs.Ends.{journal_is_no_checkpoint}
 use Rattle.trick_remainder.proofs.Turns.{turns_kept}
 use Rattle.trick_remainder.specs.Remainder.{added}
 use Rattle.trick_run_facts.proofs.Fronts.{InTwo, NoneOf, in_two, none_added, none_content, none_front, none_kept, kept_front}
-use Rattle.trick_run_facts.proofs.Notes.{front_adds, notes, notes_add, notes_cut, notes_kept, notes_none, no_journal, turn_adds, turn_is}
-use Rattle.trick_run_facts.specs.Left.{IsCutOf, IsTorn, one_of}
+use Rattle.trick_run_facts.proofs.Notes.{front_adds, front_order, notes, notes_add, notes_cut, notes_kept, notes_none, no_journal, turn_adds, turn_is}
+use Rattle.trick_run_facts.proofs.Same.{worlds_same}
+use Rattle.trick_run_facts.specs.Left.{IsCutOf, IsTorn, in_note_order, lists_noted, one_of}
 use Rattle.trick_runs.proofs.Idle.{heard_nothing, idle_turn}
 use Rattle.trick_runs.specs.Goes.{goes_owing, is_over_owing}
 
@@ -130,11 +131,19 @@ lasts_front p w (entries ∷ cut) more end goes (on {lists = lists} is later) =
 
 -- ---- turns whose writes were done in part
 
+-- Of lists that turns were given these are the first; or the first, and for the next turn some of the entries that it
+-- noted first.
+abbrev pub IsGivenCut : Plan → World → List (List Entry) → List (List Entry) → Type 0
+IsGivenCut p w cut lists =
+    ((late : List (List Entry)) × (lists ≡ cut ++ late))
+    ⊎ ((early late : List (List Entry)) × (entries front rest : List Entry) × (lists ≡ early ++ entries ∷ late)
+    × (in_note_order (turn p (after_turns p w early) entries).noted ≡ front ++ rest) × (cut ≡ early ++ one_of front))
+
 -- A part of what turns write was done. The journal's whole lines are those of a cut, and all else is as after a part
 -- of what the turns under the cut write.
 pub record InTurns (p : Plan) (w : World) (lists : List (List Entry)) (part : List Write) : Type 0 where
   pub cut : List (List Entry)
-  pub is_cut : IsCutOf p w cut lists
+  pub is_cut : IsGivenCut p w cut lists
   pub goes : AllOn p w cut
   pub same : List Write
   pub is_same : IsFrontOf same (turns_writes p w cut)
@@ -197,8 +206,8 @@ behind_notes p w entries lists part rest goes all is =
     }
 
 -- a cut of later turns
-cut_later : (p : Plan) (w : World) (entries : List Entry) (cut lists : List (List Entry)) → IsCutOf p (turn p w entries).world cut lists
-    → IsCutOf p w (entries ∷ cut) (entries ∷ lists)
+cut_later : (p : Plan) (w : World) (entries : List Entry) (cut lists : List (List Entry)) → IsGivenCut p (turn p w entries).world cut lists
+    → IsGivenCut p w (entries ∷ cut) (entries ∷ lists)
 cut_later p w entries cut lists (inl (late, is)) = inl (late, ap (λ (ls : List (List Entry)). entries ∷ ls) is)
 cut_later p w entries cut lists (inr (early, late, given, front, rest, is, noted_so, cut_so)) =
     inr (
@@ -272,3 +281,38 @@ in_turns p w owed (entries ∷ lists) part goes is =
     by later (inl first) =
         by_part (in_two part (notes w.state.turn (turn p w entries).noted) (turn p w entries).writes (subst (IsFrontOf part) (turn_is p w entries) first))
     by later (inr (rest, all, is)) = later_turn p w entries lists part rest here.0 all (later rest is)
+
+-- ---- the same, by what was noted
+
+noted_append : (p : Plan) (w : World) (early late : List (List Entry)) → lists_noted p w (early ++ late) ≡ lists_noted p w early ++ lists_noted p (after_turns p w early) late
+noted_append p w [] late = refl
+noted_append p w (entries ∷ early) late =
+    ap (λ (ls : List (List Entry)). in_note_order (turn p w entries).noted ∷ ls) (noted_append p (turn p w entries).world early late)
+
+noted_front : (p : Plan) (w : World) (entries front rest : List Entry) → in_note_order (turn p w entries).noted ≡ front ++ rest
+    → lists_noted p w (one_of front) ≡ one_of front
+noted_front p w entries [] rest is = refl
+noted_front p w entries (entry ∷ front) rest is = ap (λ (es : List Entry). es ∷ []) (front_order p w entries (entry ∷ front) rest is)
+
+pub cut_noted : (p : Plan) (w : World) (cut lists : List (List Entry)) → IsGivenCut p w cut lists → IsCutOf p w (lists_noted p w cut) lists
+cut_noted p w cut lists (inl (late, is)) = inl (cut, late, is, refl)
+cut_noted p w cut lists (inr (early, late, entries, front, rest, is, noted_so, cut_so)) =
+    inr (
+      early,
+      late,
+      entries,
+      front,
+      rest,
+      is,
+      noted_so,
+      ap (lists_noted p w) cut_so ∙ noted_append p w early (one_of front)
+          ∙ ap (λ (ls : List (List Entry)). lists_noted p w early ++ ls) (noted_front p (after_turns p w early) entries front rest noted_so),
+    )
+
+pub noted_on : (p : Plan) (w : World) (cut : List (List Entry)) → AllOn p w cut → AllOn p w (lists_noted p w cut)
+noted_on p w [] goes = tt
+noted_on p w (entries ∷ cut) goes = (
+  goes.0,
+  subst (λ (v : World). AllOn p v (lists_noted p (turn p w entries).world cut)) (sym (worlds_same p w (entries ∷ [])))
+      (noted_on p (turn p w entries).world cut goes.1),
+)

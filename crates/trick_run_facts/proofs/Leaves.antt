@@ -13,7 +13,7 @@ use Rattle.trick_model.specs.Journal.{first_lines, last_line}
 use Rattle.trick_model.specs.Laws.{FittingLasts, OneRun}
 use Rattle.trick_model.specs.Plan.{Plan}
 use Rattle.trick_model.specs.Records.{header, log_name}
-use Rattle.trick_model.specs.Run.{Fits, Lasts, after_turns, final, opened}
+use Rattle.trick_model.specs.Run.{Fits, Lasts, after_turns, final, opened, shut}
 use Rattle.trick_model.specs.State.{State, World}
 use Rattle.trick_model.specs.Turn.{file_writes}
 use Rattle.trick_model.specs.declared.entry.Entry.{Entry}
@@ -26,11 +26,12 @@ use Rattle.trick_remainder.proofs.Contents.{kept_adds}
 use Rattle.trick_remainder.proofs.Ends.{journal_is_no_checkpoint, starts_journal}
 use Rattle.trick_remainder.proofs.Turns.{turns_kept}
 use Rattle.trick_remainder.specs.Remainder.{added}
-use Rattle.trick_run_facts.proofs.Cuts.{InTurns, all_on, in_turns, lasts_front}
+use Rattle.trick_run_facts.proofs.Cuts.{InTurns, all_on, cut_noted, in_turns, lasts_front, noted_on}
 use Rattle.trick_run_facts.proofs.Fronts.{InTwo, NoneOf, in_two, none_content, none_front}
 use Rattle.trick_run_facts.proofs.Notes.{journal_is_no_log}
 use Rattle.trick_run_facts.proofs.Others.{headers_none}
-use Rattle.trick_run_facts.specs.Left.{HasLines, IsCutOf, Left, begun, ended, is_of_end, lines, untouched}
+use Rattle.trick_run_facts.proofs.Same.{fits_same, worlds_same, writes_same}
+use Rattle.trick_run_facts.specs.Left.{HasLines, IsCutOf, Left, begun, ended, is_of_end, lines, lists_noted, untouched}
 use Rattle.trick_runs.specs.Goes.{goes_owing}
 use Rattle.trick_tic.proofs.StepLemmas.{all_done, writes_of-steps_of}
 use Rattle.trick_tic.specs.Steps.{steps_of}
@@ -93,7 +94,7 @@ leaves_start : (p : Plan) (s : State) (lists : List (List Entry)) (part : List W
 unfolding log_writes
 leaves_start p s lists part is = record {
   cut = [];
-  is_cut = inl (lists, refl);
+  is_cut = inl ([], lists, refl, refl);
   journal = in_start p s lists part is;
   files = λ more end lasts name before other last tidy. partly name part (run_writes p s more) before tidy (start_front p s more part is);
 }
@@ -111,20 +112,23 @@ leaves_turns : (p : Plan) (s : State) (lists : List (List Entry)) (part rest : L
     → InTurns p (opened s) lists rest → Leaves p s lists part
 leaves_turns p s lists part rest all so =
     let first = start_writes p s.turn in
+    let cut = lists_noted p (opened s) so.cut in
+    let same = writes_same p (opened s) so.cut in
     record {
-      cut = so.cut;
-      is_cut = so.is_cut;
+      cut = cut;
+      is_cut = cut_noted p (opened s) so.cut lists so.is_cut;
       journal = λ before.
-          subst (HasLines p s lists so.cut before)
+          subst (HasLines p s lists cut before)
           (sym (ap (λ (ws : List Write). content journal_name ws before) all ∙ behind_start p s rest before so.kept
-          ∙ ap (λ (bs : List ℕ). Some (first_lines s.turn ++ bs)) so.adds))
-          (lines so.cut before so.torn so.is_torn);
+          ∙ ap (λ (bs : List ℕ). Some (first_lines s.turn ++ bs)) (so.adds ∙ ap (λ (ws : List Write). added journal_name ws ++ so.torn) (sym same))))
+          (lines cut before so.torn so.is_torn);
       files = λ more end lasts name before other last tidy. (
-          let behind = lasts_front p (opened s) so.cut more end so.goes lasts in
+          let behind = lasts_front p (opened s) cut more end (noted_on p (opened s) so.cut so.goes) lasts in
           let front : IsFrontOf (first ++ so.same) (run_writes p s more) =
           front_of_early (first ++ so.same) (first ++ turns_writes p (opened s) more) (end_writes p (final p s more))
           (front_of_late first so.same (turns_writes p (opened s) more)
-          (subst (IsFrontOf so.same) (sym behind.1) (front_of_early so.same (turns_writes p (opened s) so.cut) behind.0 so.is_same))) in
+          (subst (IsFrontOf so.same) (sym behind.1) (front_of_early so.same (turns_writes p (opened s) cut) behind.0
+          (subst (IsFrontOf so.same) (sym same) so.is_same)))) in
           subst (λ (o : Option (List ℕ)). IsPartly before o (content name (run_writes p s more) before))
           (content-append name first so.same before ∙ sym (so.others name (content name first before) other)
           ∙ sym (content-append name first rest before) ∙ sym (ap (λ (ws : List Write). content name ws before) all))
@@ -190,44 +194,55 @@ leaves_end : (p : Plan) (s : State) (owed : Bool) (lists : List (List Entry)) (p
 leaves_end p s owed lists part rest one fitting goes all is =
     let first = start_writes p s.turn in
     let turns = turns_writes p (opened s) lists in
-    let ends = end_writes p (final p s lists) in
+    let cut = lists_noted p (opened s) lists in
     record {
-      cut = lists;
-      is_cut = inl ([], sym (append-nil lists));
+      cut = cut;
+      is_cut = inl (lists, [], sym (append-nil lists), refl);
       journal = λ before. (
           let so = end_journal p (final p s lists) rest (first_lines s.turn ++ added journal_name turns) is in
-          subst (HasLines p s lists lists before)
+          subst (HasLines p s lists cut before)
           (sym (ap (λ (ws : List Write). content journal_name ws before) all ∙ content-append journal_name (first ++ turns) rest before
           ∙ ap (content journal_name rest) (behind_start p s turns before (turns_kept journal_name p (opened s) lists journal_is_no_checkpoint))
-          ∙ so.2 ∙ ap Some (append_assoc (first_lines s.turn) (added journal_name turns) so.0)))
+          ∙ so.2 ∙ ap Some (append_assoc (first_lines s.turn) (added journal_name turns) so.0)
+          ∙ ap (λ (ws : List Write). Some (first_lines s.turn ++ (added journal_name ws ++ so.0))) (sym (writes_same p (opened s) lists))))
           (ended before so.0 so.1)
           );
       files = λ more end lasts name before other last tidy. by_last more end lasts name before other last tidy;
     }
   where
-    whole : IsFrontOf part (run_writes p s lists)
-    whole =
-        subst (λ (ws : List Write). IsFrontOf ws (run_writes p s lists)) (sym all)
-        (front_of_late (start_writes p s.turn ++ turns_writes p (opened s) lists) rest (end_writes p (final p s lists)) is)
+    same_run : run_writes p s lists ≡ run_writes p s (lists_noted p (opened s) lists)
+    same_run =
+        ap (λ (ws : List Write). start_writes p s.turn ++ ws ++ end_writes p (final p s lists)) (sym (writes_same p (opened s) lists))
+        ∙ ap (λ (w : World). start_writes p s.turn ++ turns_writes p (opened s) (lists_noted p (opened s) lists) ++ end_writes p (shut p w.state))
+        (sym (worlds_same p (opened s) lists))
 
-    by_last : (more : List (List Entry)) (end : World) → Lasts p (opened s) lists more end → (name : List ℕ) (before : Option (List ℕ))
+    whole : IsFrontOf part (run_writes p s (lists_noted p (opened s) lists))
+    whole =
+        subst (IsFrontOf part) same_run
+        (subst (λ (ws : List Write). IsFrontOf ws (run_writes p s lists)) (sym all)
+        (front_of_late (start_writes p s.turn ++ turns_writes p (opened s) lists) rest (end_writes p (final p s lists)) is))
+
+    by_last : (more : List (List Entry)) (end : World) → Lasts p (opened s) (lists_noted p (opened s) lists) more end → (name : List ℕ) (before : Option (List ℕ))
         → same_name name journal_name ≡ false → (is_of_end name ≡ false) ⊎ Fits p s lists → IsTidy name (run_writes p s more)
         → IsPartly before (content name part before) (content name (run_writes p s more) before)
     by_last more end lasts name before other (inl early) tidy =
         let first = start_writes p s.turn in
         let turns = turns_writes p (opened s) lists in
-        let behind = lasts_front p (opened s) lists more end (all_on p (opened s) owed lists goes) lasts in
+        let cut = lists_noted p (opened s) lists in
+        let behind = lasts_front p (opened s) cut more end (noted_on p (opened s) lists (all_on p (opened s) owed lists goes)) lasts in
         let front : IsFrontOf (first ++ turns) (run_writes p s more) =
         front_of_early (first ++ turns) (first ++ turns_writes p (opened s) more) (end_writes p (final p s more))
         (front_of_late first turns (turns_writes p (opened s) more)
-        (subst (IsFrontOf turns) (sym behind.1) (front_of_early turns turns behind.0 (front_of_all turns)))) in
+        (subst (IsFrontOf turns) (sym behind.1) (front_of_early turns (turns_writes p (opened s) cut) behind.0
+        (subst (IsFrontOf turns) (sym (writes_same p (opened s) lists)) (front_of_all turns))))) in
         subst (λ (o : Option (List ℕ)). IsPartly before o (content name (run_writes p s more) before))
         (sym (none_content name rest (content name (first ++ turns) before)
         (none_front name rest (end_writes p (final p s lists)) is (end_none p (final p s lists) name other early)))
         ∙ sym (content-append name (first ++ turns) rest before) ∙ sym (ap (λ (ws : List Write). content name ws before) all))
         (partly name (first ++ turns) (run_writes p s more) before tidy front)
     by_last more end lasts name before other (inr fits) tidy =
-        let same : lists ≡ more = (one p (opened s) (after_turns p (opened s) lists) end lists lists more (fitting p s lists fits) lasts).0 in
+        let cut = lists_noted p (opened s) lists in
+        let same : cut ≡ more = (one p (opened s) (after_turns p (opened s) cut) end cut cut more (fitting p s cut (fits_same p s lists fits)) lasts).0 in
         partly name part (run_writes p s more) before tidy (subst (λ (ls : List (List Entry)). IsFrontOf part (run_writes p s ls)) same whole)
 
 -- ---- anywhere

@@ -10,6 +10,8 @@ pub mod Fronts
 pub mod Others
 -- What the first entries that a turn noted would note.
 pub mod Notes
+-- Turns do the same under what they note.
+pub mod Same
 -- Turns whose writes were done in part.
 pub mod Cuts
 -- What a run leaves of its files whose writes were done in part.

@@ -1,5 +1,5 @@
 -- What the first entries that a turn noted would note, and what a turn writes of names.
-use Rattle.std.proofs.Common.{◌≡◌, ◌∙◌, ℕ, zero, suc, List, [], ◌∷◌, ◌++◌, Bool, true, false, not, nat_lt, ap, append-nil, append_assoc, inl, inr, refl, subst, sym}
+use Rattle.std.proofs.Common.{◌≡◌, ◌∙◌, ℕ, List, [], ◌∷◌, ◌++◌, Bool, true, false, not, ap, append-nil, append_assoc, inl, inr, refl, subst, sym}
 use Rattle.std.specs.List.{list_any}
 use Rattle.std.specs.Prelude.{◌⊎◌, cond, filter}
 use Rattle.trick_base.specs.Content.{IsKept, same_name}
@@ -9,7 +9,7 @@ use Rattle.trick_model.specs.Files.{journal_name, note, turn_writes, turns_write
 use Rattle.trick_model.specs.Journal.{entry_lines, is_of_session}
 use Rattle.trick_model.specs.Plan.{Plan}
 use Rattle.trick_model.specs.State.{State, World}
-use Rattle.trick_model.specs.Turn.{Hearing, begun, checkpoint_jobs, checkpoint_writes, counted, framed, hear, heard, noted, publish_all, publishes, rounds, runs, turn}
+use Rattle.trick_model.specs.Turn.{Hearing, begun, hear, heard, noted, publishes, turn}
 use Rattle.trick_model.specs.declared.entry.Entry.{Entry}
 use Rattle.trick_model.specs.declared.entry.Entry.TheVariants.{Join, Said, Leave, Publish}
 use Rattle.trick_remainder.proofs.Contents.{added_append, kept_append}
@@ -24,14 +24,14 @@ use Rattle.trick_turns.specs.Turns.{has_line}
 
 -- ---- lines and publications among what is noted
 
-abbrev lines_in : List Entry → List Entry
+abbrev pub lines_in : List Entry → List Entry
 lines_in entries = filter is_of_session entries
 
-abbrev others_in : List Entry → List Entry
+abbrev pub others_in : List Entry → List Entry
 others_in entries = filter (λ (entry : Entry). not (is_of_session entry)) entries
 
 -- publications are not heard
-heard_lines : (p : Plan) (entries : List Entry) (h : Hearing) → heard p (lines_in entries) h ≡ heard p entries h
+pub heard_lines : (p : Plan) (entries : List Entry) (h : Hearing) → heard p (lines_in entries) h ≡ heard p entries h
 heard_lines p [] h = refl
 heard_lines p (Join session ∷ entries) h = heard_lines p entries (hear p (Join session) h)
 heard_lines p (Said session line ∷ entries) h = heard_lines p entries (hear p (Said session line) h)
@@ -39,7 +39,7 @@ heard_lines p (Leave session cause ∷ entries) h = heard_lines p entries (hear 
 heard_lines p (Publish thread ∷ entries) h = heard_lines p entries h
 
 -- all lines are noted
-lines_noted : (p : Plan) (s : State) (entries : List Entry) → lines_in (noted p s entries) ≡ lines_in entries
+pub lines_noted : (p : Plan) (s : State) (entries : List Entry) → lines_in (noted p s entries) ≡ lines_in entries
 lines_noted p s [] = refl
 lines_noted p s (Join session ∷ entries) = ap (λ (es : List Entry). Join session ∷ es) (lines_noted p s entries)
 lines_noted p s (Said session line ∷ entries) = ap (λ (es : List Entry). Said session line ∷ es) (lines_noted p s entries)
@@ -50,7 +50,7 @@ lines_noted p s (Publish thread ∷ entries) = by (publishes p s (Publish thread
     by true e = e
     by false e = e
 
-only_lines : (entries : List Entry) → list_any (λ (entry : Entry). not (is_of_session entry)) (lines_in entries) ≡ false
+pub only_lines : (entries : List Entry) → list_any (λ (entry : Entry). not (is_of_session entry)) (lines_in entries) ≡ false
 only_lines [] = refl
 only_lines (Join session ∷ entries) = only_lines entries
 only_lines (Said session line ∷ entries) = only_lines entries
@@ -58,11 +58,11 @@ only_lines (Leave session cause ∷ entries) = only_lines entries
 only_lines (Publish thread ∷ entries) = only_lines entries
 
 -- Each of these entries is a publication that counts.
-abbrev AllCount : Plan → State → List Entry → Type 0
+abbrev pub AllCount : Plan → State → List Entry → Type 0
 AllCount p s [] = Unit {0}
 AllCount p s (entry ∷ entries) = (publishes p s entry ≡ true) × AllCount p s entries
 
-noted_count : (p : Plan) (s : State) (entries : List Entry) → AllCount p s (others_in (noted p s entries))
+pub noted_count : (p : Plan) (s : State) (entries : List Entry) → AllCount p s (others_in (noted p s entries))
 noted_count p s [] = tt
 noted_count p s (Join session ∷ entries) = noted_count p s entries
 noted_count p s (Said session line ∷ entries) = noted_count p s entries
@@ -78,13 +78,13 @@ count_front : (p : Plan) (s : State) (front rest : List Entry) → AllCount p s 
 count_front p s [] rest so = tt
 count_front p s (entry ∷ front) rest so = (so.0, count_front p s front rest so.1)
 
-all_counting : (p : Plan) (s : State) (entries : List Entry) → AllCount p s entries → counting p s entries ≡ entries
+pub all_counting : (p : Plan) (s : State) (entries : List Entry) → AllCount p s entries → counting p s entries ≡ entries
 all_counting p s [] so = refl
 all_counting p s (entry ∷ entries) so =
     ap (λ (b : Bool). cond b (entry ∷ counting p s entries) (counting p s entries)) so.0
     ∙ ap (λ (es : List Entry). entry ∷ es) (all_counting p s entries so.1)
 
-no_line_counts : (p : Plan) (s : State) (entries : List Entry) → AllCount p s entries → has_line entries ≡ false
+pub no_line_counts : (p : Plan) (s : State) (entries : List Entry) → AllCount p s entries → has_line entries ≡ false
 no_line_counts p s [] so = refl
 no_line_counts p s (Join session ∷ entries) so = let never = so.0 in cc never
 no_line_counts p s (Said session line ∷ entries) so = let never = so.0 in cc never

@@ -1,5 +1,5 @@
 -- What turns write of names that are no log and no checkpoint.
-use Rattle.std.proofs.Common.{◌≡◌, ℕ, zero, suc, List, [], ◌∷◌, ◌++◌, Bool, true, false, not, nat_lt}
+use Rattle.std.proofs.Common.{◌≡◌, ℕ, zero, suc, List, [], ◌∷◌, Bool, true, false, nat_lt}
 use Rattle.std.specs.Prelude.{flat_map}
 use Rattle.trick_base.specs.Content.{same_name}
 use Rattle.trick_base.specs.Files.{Write}

@@ -2,6 +2,8 @@
 pub mod Own
 -- What a run that stopped leaves of its files.
 pub mod Left
+-- Turns do the same under what they note.
+pub mod Noting
 -- The files of a run are made once at most.
 pub mod Once
 -- What runs that stopped leave.

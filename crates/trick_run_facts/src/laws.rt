@@ -2,6 +2,7 @@
 //! call itself does nothing.
 
 ghost use Rattle.trick_run_facts.specs.Counted.{LeftAreNotReady};
+ghost use Rattle.trick_run_facts.specs.Noting.{NotedDoSame};
 ghost use Rattle.trick_run_facts.specs.Once.{FilesAreMadeOnce};
 ghost use Rattle.trick_run_facts.specs.Own.{IsAlone, RunsAreOwn};
 ghost use Rattle.trick_run_facts.specs.Stopping.{StopsLeave};
@@ -34,6 +35,12 @@ pub fn stopped_runs_leave_fronts<M: Cells, F: Shelf, P: Posts, T: Turns<M>>()
     trick_model::laws::one_run();
     trick_model::laws::fitting_lists_last();
 }
+
+/// Turns that are given what they note come to the same world, and write and say the same: publications that do not
+/// count change nothing.
+pub fn noted_turns_do_the_same()
+    ensures { NotedDoSame }
+{}
 
 /// A run makes each of its files once at most, its checkpoints where the count of turns has not come to its end.
 pub fn files_are_made_once()
