@@ -23,7 +23,7 @@ use Rattle.trick_remainder.specs.Remainder.{added}
 use Rattle.trick_run_facts.proofs.Fronts.{InTwo, NoneOf, in_two, none_added, none_content, none_front, none_kept, kept_front}
 use Rattle.trick_run_facts.proofs.Notes.{front_adds, front_order, notes, notes_add, notes_cut, notes_kept, notes_none, no_journal, turn_adds, turn_is}
 use Rattle.trick_run_facts.proofs.Same.{worlds_same}
-use Rattle.trick_run_facts.specs.Left.{IsCutOf, IsTorn, in_note_order, lists_noted, one_of}
+use Rattle.trick_run_facts.specs.Left.{IsCutOf, IsTorn, in_note_order, journal_lists, one_of}
 use Rattle.trick_runs.proofs.Idle.{heard_nothing, idle_turn}
 use Rattle.trick_runs.specs.Goes.{goes_owing, is_over_owing}
 
@@ -284,17 +284,17 @@ in_turns p w owed (entries ∷ lists) part goes is =
 
 -- ---- the same, by what was noted
 
-noted_append : (p : Plan) (w : World) (early late : List (List Entry)) → lists_noted p w (early ++ late) ≡ lists_noted p w early ++ lists_noted p (after_turns p w early) late
+noted_append : (p : Plan) (w : World) (early late : List (List Entry)) → journal_lists p w (early ++ late) ≡ journal_lists p w early ++ journal_lists p (after_turns p w early) late
 noted_append p w [] late = refl
 noted_append p w (entries ∷ early) late =
     ap (λ (ls : List (List Entry)). in_note_order (turn p w entries).noted ∷ ls) (noted_append p (turn p w entries).world early late)
 
 noted_front : (p : Plan) (w : World) (entries front rest : List Entry) → in_note_order (turn p w entries).noted ≡ front ++ rest
-    → lists_noted p w (one_of front) ≡ one_of front
+    → journal_lists p w (one_of front) ≡ one_of front
 noted_front p w entries [] rest is = refl
 noted_front p w entries (entry ∷ front) rest is = ap (λ (es : List Entry). es ∷ []) (front_order p w entries (entry ∷ front) rest is)
 
-pub cut_noted : (p : Plan) (w : World) (cut lists : List (List Entry)) → IsGivenCut p w cut lists → IsCutOf p w (lists_noted p w cut) lists
+pub cut_noted : (p : Plan) (w : World) (cut lists : List (List Entry)) → IsGivenCut p w cut lists → IsCutOf p w (journal_lists p w cut) lists
 cut_noted p w cut lists (inl (late, is)) = inl (cut, late, is, refl)
 cut_noted p w cut lists (inr (early, late, entries, front, rest, is, noted_so, cut_so)) =
     inr (
@@ -305,14 +305,14 @@ cut_noted p w cut lists (inr (early, late, entries, front, rest, is, noted_so, c
       rest,
       is,
       noted_so,
-      ap (lists_noted p w) cut_so ∙ noted_append p w early (one_of front)
-          ∙ ap (λ (ls : List (List Entry)). lists_noted p w early ++ ls) (noted_front p (after_turns p w early) entries front rest noted_so),
+      ap (journal_lists p w) cut_so ∙ noted_append p w early (one_of front)
+          ∙ ap (λ (ls : List (List Entry)). journal_lists p w early ++ ls) (noted_front p (after_turns p w early) entries front rest noted_so),
     )
 
-pub noted_on : (p : Plan) (w : World) (cut : List (List Entry)) → AllOn p w cut → AllOn p w (lists_noted p w cut)
+pub noted_on : (p : Plan) (w : World) (cut : List (List Entry)) → AllOn p w cut → AllOn p w (journal_lists p w cut)
 noted_on p w [] goes = tt
 noted_on p w (entries ∷ cut) goes = (
   goes.0,
-  subst (λ (v : World). AllOn p v (lists_noted p (turn p w entries).world cut)) (sym (worlds_same p w (entries ∷ [])))
+  subst (λ (v : World). AllOn p v (journal_lists p (turn p w entries).world cut)) (sym (worlds_same p w (entries ∷ [])))
       (noted_on p (turn p w entries).world cut goes.1),
 )

@@ -31,7 +31,7 @@ use Rattle.trick_run_facts.proofs.Fronts.{InTwo, NoneOf, in_two, none_content, n
 use Rattle.trick_run_facts.proofs.Notes.{journal_is_no_log}
 use Rattle.trick_run_facts.proofs.Others.{headers_none}
 use Rattle.trick_run_facts.proofs.Same.{fits_same, worlds_same, writes_same}
-use Rattle.trick_run_facts.specs.Left.{HasLines, IsCutOf, Left, begun, ended, is_of_end, lines, lists_noted, untouched}
+use Rattle.trick_run_facts.specs.Left.{HasLines, IsCutOf, Left, begun, ended, is_of_end, lines, journal_lists, untouched}
 use Rattle.trick_runs.specs.Goes.{goes_owing}
 use Rattle.trick_tic.proofs.StepLemmas.{all_done, writes_of-steps_of}
 use Rattle.trick_tic.specs.Steps.{steps_of}
@@ -112,7 +112,7 @@ leaves_turns : (p : Plan) (s : State) (lists : List (List Entry)) (part rest : L
     → InTurns p (opened s) lists rest → Leaves p s lists part
 leaves_turns p s lists part rest all so =
     let first = start_writes p s.turn in
-    let cut = lists_noted p (opened s) so.cut in
+    let cut = journal_lists p (opened s) so.cut in
     let same = writes_same p (opened s) so.cut in
     record {
       cut = cut;
@@ -194,7 +194,7 @@ leaves_end : (p : Plan) (s : State) (owed : Bool) (lists : List (List Entry)) (p
 leaves_end p s owed lists part rest one fitting goes all is =
     let first = start_writes p s.turn in
     let turns = turns_writes p (opened s) lists in
-    let cut = lists_noted p (opened s) lists in
+    let cut = journal_lists p (opened s) lists in
     record {
       cut = cut;
       is_cut = inl (lists, [], sym (append-nil lists), refl);
@@ -210,25 +210,25 @@ leaves_end p s owed lists part rest one fitting goes all is =
       files = λ more end lasts name before other last tidy. by_last more end lasts name before other last tidy;
     }
   where
-    same_run : run_writes p s lists ≡ run_writes p s (lists_noted p (opened s) lists)
+    same_run : run_writes p s lists ≡ run_writes p s (journal_lists p (opened s) lists)
     same_run =
         ap (λ (ws : List Write). start_writes p s.turn ++ ws ++ end_writes p (final p s lists)) (sym (writes_same p (opened s) lists))
-        ∙ ap (λ (w : World). start_writes p s.turn ++ turns_writes p (opened s) (lists_noted p (opened s) lists) ++ end_writes p (shut p w.state))
+        ∙ ap (λ (w : World). start_writes p s.turn ++ turns_writes p (opened s) (journal_lists p (opened s) lists) ++ end_writes p (shut p w.state))
         (sym (worlds_same p (opened s) lists))
 
-    whole : IsFrontOf part (run_writes p s (lists_noted p (opened s) lists))
+    whole : IsFrontOf part (run_writes p s (journal_lists p (opened s) lists))
     whole =
         subst (IsFrontOf part) same_run
         (subst (λ (ws : List Write). IsFrontOf ws (run_writes p s lists)) (sym all)
         (front_of_late (start_writes p s.turn ++ turns_writes p (opened s) lists) rest (end_writes p (final p s lists)) is))
 
-    by_last : (more : List (List Entry)) (end : World) → Lasts p (opened s) (lists_noted p (opened s) lists) more end → (name : List ℕ) (before : Option (List ℕ))
+    by_last : (more : List (List Entry)) (end : World) → Lasts p (opened s) (journal_lists p (opened s) lists) more end → (name : List ℕ) (before : Option (List ℕ))
         → same_name name journal_name ≡ false → (is_of_end name ≡ false) ⊎ Fits p s lists → IsTidy name (run_writes p s more)
         → IsPartly before (content name part before) (content name (run_writes p s more) before)
     by_last more end lasts name before other (inl early) tidy =
         let first = start_writes p s.turn in
         let turns = turns_writes p (opened s) lists in
-        let cut = lists_noted p (opened s) lists in
+        let cut = journal_lists p (opened s) lists in
         let behind = lasts_front p (opened s) cut more end (noted_on p (opened s) lists (all_on p (opened s) owed lists goes)) lasts in
         let front : IsFrontOf (first ++ turns) (run_writes p s more) =
         front_of_early (first ++ turns) (first ++ turns_writes p (opened s) more) (end_writes p (final p s more))
@@ -241,7 +241,7 @@ leaves_end p s owed lists part rest one fitting goes all is =
         ∙ sym (content-append name (first ++ turns) rest before) ∙ sym (ap (λ (ws : List Write). content name ws before) all))
         (partly name (first ++ turns) (run_writes p s more) before tidy front)
     by_last more end lasts name before other (inr fits) tidy =
-        let cut = lists_noted p (opened s) lists in
+        let cut = journal_lists p (opened s) lists in
         let same : cut ≡ more = (one p (opened s) (after_turns p (opened s) cut) end cut cut more (fitting p s cut (fits_same p s lists fits)) lasts).0 in
         partly name part (run_writes p s more) before tidy (subst (λ (ls : List (List Entry)). IsFrontOf part (run_writes p s ls)) same whole)
 

@@ -23,7 +23,7 @@ use Rattle.trick_model.specs.declared.session.Session.{Session}
 use Rattle.trick_model.specs.declared.taken.Taken.{Taken}
 use Rattle.trick_model.specs.declared.thread.Thread.{Thread}
 use Rattle.trick_run_facts.proofs.Notes.{all_counting, heard_lines, lines_in, lines_noted, no_line_counts, noted_count, only_lines, others_in}
-use Rattle.trick_run_facts.specs.Left.{in_note_order, lists_noted}
+use Rattle.trick_run_facts.specs.Left.{in_note_order, journal_lists}
 use Rattle.trick_run_facts.specs.Noting.{DoAsNoted}
 use Rattle.trick_runs.proofs.PartLemmas.{IsMade, turn_made}
 use Rattle.trick_runs.specs.Parts.{AreApart}
@@ -189,28 +189,28 @@ turn_same p w entries =
 
 -- ---- turns
 
-pub worlds_same : (p : Plan) (w : World) (lists : List (List Entry)) → after_turns p w (lists_noted p w lists) ≡ after_turns p w lists
+pub worlds_same : (p : Plan) (w : World) (lists : List (List Entry)) → after_turns p w (journal_lists p w lists) ≡ after_turns p w lists
 worlds_same p w [] = refl
 worlds_same p w (entries ∷ lists) =
     let next = (turn p w entries).world in
-    ap (λ (v : World). after_turns p v (lists_noted p next lists)) (turn_same p w entries).world ∙ worlds_same p next lists
+    ap (λ (v : World). after_turns p v (journal_lists p next lists)) (turn_same p w entries).world ∙ worlds_same p next lists
 
-pub writes_same : (p : Plan) (w : World) (lists : List (List Entry)) → turns_writes p w (lists_noted p w lists) ≡ turns_writes p w lists
+pub writes_same : (p : Plan) (w : World) (lists : List (List Entry)) → turns_writes p w (journal_lists p w lists) ≡ turns_writes p w lists
 writes_same p w [] = refl
 writes_same p w (entries ∷ lists) =
     let next = (turn p w entries).world in
     let same = turn_same p w entries in
-    ap (λ (ws : List Write). ws ++ turns_writes p (turn p w (in_note_order (turn p w entries).noted)).world (lists_noted p next lists)) same.writes
-    ∙ ap (λ (v : World). turn_writes w.state.turn (turn p w entries) ++ turns_writes p v (lists_noted p next lists)) same.world
+    ap (λ (ws : List Write). ws ++ turns_writes p (turn p w (in_note_order (turn p w entries).noted)).world (journal_lists p next lists)) same.writes
+    ∙ ap (λ (v : World). turn_writes w.state.turn (turn p w entries) ++ turns_writes p v (journal_lists p next lists)) same.world
     ∙ ap (λ (ws : List Write). turn_writes w.state.turn (turn p w entries) ++ ws) (writes_same p next lists)
 
-said_same : (p : Plan) (w : World) (lists : List (List Entry)) → turns_said p w (lists_noted p w lists) ≡ turns_said p w lists
+said_same : (p : Plan) (w : World) (lists : List (List Entry)) → turns_said p w (journal_lists p w lists) ≡ turns_said p w lists
 said_same p w [] = refl
 said_same p w (entries ∷ lists) =
     let next = (turn p w entries).world in
     let same = turn_same p w entries in
-    ap (λ (ms : List Message). ms ++ turns_said p (turn p w (in_note_order (turn p w entries).noted)).world (lists_noted p next lists)) same.said
-    ∙ ap (λ (v : World). (turn p w entries).said ++ turns_said p v (lists_noted p next lists)) same.world
+    ap (λ (ms : List Message). ms ++ turns_said p (turn p w (in_note_order (turn p w entries).noted)).world (journal_lists p next lists)) same.said
+    ∙ ap (λ (v : World). (turn p w entries).said ++ turns_said p v (journal_lists p next lists)) same.world
     ∙ ap (λ (ms : List Message). (turn p w entries).said ++ ms) (said_same p next lists)
 
 pub do_same : (p : Plan) (w : World) (lists : List (List Entry)) → DoAsNoted p w lists
@@ -239,22 +239,22 @@ order_any p w entries =
     any_append (lines_in (noted p s entries)) (others_in (noted p s entries)) (no_line_counts p s (others_in (noted p s entries)) (noted_count p s entries))
     ∙ ap (list_any is_of_session) (lines_noted p s entries) ∙ lines_any entries
 
-has_same : (p : Plan) (w : World) (lists : List (List Entry)) → has_session_entry (lists_noted p w lists) ≡ has_session_entry lists
+has_same : (p : Plan) (w : World) (lists : List (List Entry)) → has_session_entry (journal_lists p w lists) ≡ has_session_entry lists
 has_same p w [] = refl
 has_same p w (entries ∷ lists) =
-    ap (λ (b : Bool). b || has_session_entry (lists_noted p (turn p w entries).world lists)) (order_any p w entries)
+    ap (λ (b : Bool). b || has_session_entry (journal_lists p (turn p w entries).world lists)) (order_any p w entries)
     ∙ ap (λ (b : Bool). list_any is_of_session entries || b) (has_same p (turn p w entries).world lists)
 
-goes_same : (p : Plan) (w : World) (lists : List (List Entry)) → goes_on p w (lists_noted p w lists) ≡ goes_on p w lists
+goes_same : (p : Plan) (w : World) (lists : List (List Entry)) → goes_on p w (journal_lists p w lists) ≡ goes_on p w lists
 goes_same p w [] = refl
 goes_same p w (entries ∷ lists) =
     let next = (turn p w entries).world in
-    ap (λ (v : World). not (is_over w.state (lists_noted p w (entries ∷ lists))) && goes_on p v (lists_noted p next lists)) (turn_same p w entries).world
-    ∙ ap (λ (b : Bool). not (is_over w.state (lists_noted p w (entries ∷ lists))) && b) (goes_same p next lists)
+    ap (λ (v : World). not (is_over w.state (journal_lists p w (entries ∷ lists))) && goes_on p v (journal_lists p next lists)) (turn_same p w entries).world
+    ∙ ap (λ (b : Bool). not (is_over w.state (journal_lists p w (entries ∷ lists))) && b) (goes_same p next lists)
     ∙ ap (λ (b : Bool). not (is_shut w.state.mode || (nat_le w.state.limit w.state.tic || (is_frozen w.state.mode && not b))) && goes_on p next lists)
     (has_same p w (entries ∷ lists))
 
-pub fits_same : (p : Plan) (s : State) (lists : List (List Entry)) → Fits p s lists → Fits p s (lists_noted p (opened s) lists)
+pub fits_same : (p : Plan) (s : State) (lists : List (List Entry)) → Fits p s lists → Fits p s (journal_lists p (opened s) lists)
 fits_same p s lists fits = record {
   goes = goes_same p (opened s) lists ∙ fits.goes;
   over = ap (λ (w : World). is_over w.state []) (worlds_same p (opened s) lists) ∙ fits.over;

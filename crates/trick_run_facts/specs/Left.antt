@@ -24,21 +24,21 @@ abbrev pub one_of : List Entry → List (List Entry)
 one_of [] = []
 one_of (entry ∷ entries) = (entry ∷ entries) ∷ []
 
--- what turns note, a list for each
-abbrev pub lists_noted : Plan → World → List (List Entry) → List (List Entry)
-lists_noted p w [] = []
-lists_noted p w (entries ∷ lists) =
+-- the lists of the journal that turns write: what each of them notes
+abbrev pub journal_lists : Plan → World → List (List Entry) → List (List Entry)
+journal_lists p w [] = []
+journal_lists p w (entries ∷ lists) =
     let t = turn p w entries in
-    let next = t.world in in_note_order t.noted ∷ lists_noted p next lists
+    let next = t.world in in_note_order t.noted ∷ journal_lists p next lists
 
 -- The cut is what was noted of lists that turns were given: what the first of them noted; or that, and for the next
 -- turn the first of the entries that it would note.
 abbrev pub IsCutOf : Plan → World → List (List Entry) → List (List Entry) → Type 0
 IsCutOf p w cut lists =
-    ((early late : List (List Entry)) × (lists ≡ early ++ late) × (cut ≡ lists_noted p w early))
+    ((early late : List (List Entry)) × (lists ≡ early ++ late) × (cut ≡ journal_lists p w early))
     ⊎ ((early late : List (List Entry)) × (entries front rest : List Entry) × (lists ≡ early ++ entries ∷ late)
     × (in_note_order (turn p (after_turns p w early) entries).noted ≡ front ++ rest)
-    × (cut ≡ lists_noted p w early ++ one_of front))
+    × (cut ≡ journal_lists p w early ++ one_of front))
 
 -- the bytes of the first are the first bytes of the second, which has more
 abbrev pub IsShort : List ℕ → List ℕ → Type 0
@@ -63,8 +63,8 @@ pub data HasLines (p : Plan) (s : State) (lists : List (List Entry))
   lines : (cut : List (List Entry)) (before : Option (List ℕ)) (torn : List ℕ) → IsTorn torn
       → HasLines p s lists cut before (Some (first_lines s.turn ++ (noted_text p s cut ++ torn)))
   ended : (before : Option (List ℕ)) (last : List ℕ) → IsPrefix last (last_line (final p s lists).turn)
-      → HasLines p s lists (lists_noted p (opened s) lists) before
-      (Some (first_lines s.turn ++ (noted_text p s (lists_noted p (opened s) lists) ++ last)))
+      → HasLines p s lists (journal_lists p (opened s) lists) before
+      (Some (first_lines s.turn ++ (noted_text p s (journal_lists p (opened s) lists) ++ last)))
 
 -- ---- the other files
 
