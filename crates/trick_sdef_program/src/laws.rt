@@ -27,7 +27,8 @@ pub fn cells_have_names_of_their_own()
     ensures { (text : List ℕ) (s : _) → IsSDefine text (Ok s) → CellsAreApart (sdefine_of s) }
 {}
 
-/// Where its names are right, no two jobs have one name and instance. In no file two jobs have one object and number.
+/// Of each simulation definition that is read from a text and whose names are right, no two jobs have one name and
+/// instance. Whether it was read from a text or not, no two jobs of one object have one number in their constructor.
 pub fn jobs_have_names_of_their_own()
     ensures instances { (text : List ℕ) (s : _) → IsSDefine text (Ok s) → NamesAreRight (sdefine_of s) → JobsAreApart (sdefine_of s) }
     ensures numbers { (ds : SDefine) → JobNumbersAreApart ds }
