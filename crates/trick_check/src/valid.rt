@@ -1,6 +1,6 @@
 //! Tests of what every program keeps and a tree of any kind may lack: names of a text have at most 64
-//! bytes and no dot or bracket, times and threads are in their ranges. A tree that was read from a text
-//! should pass them all; that no two cells and no two jobs share a name is not proved yet.
+//! bytes and no dot or bracket, times and threads are in their ranges. A tree that was read from a text, and
+//! whose names are right, passes them all, by the laws of `trick_sdef_program`.
 
 ghost use Rattle.std.specs.List.{list_all};
 ghost use Rattle.std.specs.Prelude.{◌≡◌, IfOk, IsTrue, Some, slice_get, true};
