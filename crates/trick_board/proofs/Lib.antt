@@ -6,6 +6,8 @@ pub mod Firsts
 pub mod Nexts
 -- stages and due jobs
 pub mod Stages
+-- which stages are not idle
+pub mod Among
 -- commits and closes
 pub mod Ends
 -- the calls of a board

@@ -1,16 +1,19 @@
--- The tables of a plan: threads that no job can have.
-use Rattle.std.proofs.Common.{◌≡◌, ℕ, ◌≤◌, ◌==◌, nat_le, Bool, true, false, cond, List, [], ◌∷◌, length, refl, sym, ◌∙◌, ap, subst, arith, inl, inr}
+-- The tables of a plan: threads that no job can have, and the pairs of one target.
+use Rattle.std.proofs.Common.{◌≡◌, ℕ, ◌≤◌, ◌==◌, ◌&&◌, ◌||◌, nat_le, Bool, true, false, cond, List, [], ◌∷◌, length, refl, sym, ◌∙◌, ap, subst, arith, inl, inr}
 use Rattle.std.proofs.lemmas.Bool.{cases_lt}
 use Rattle.std.proofs.lemmas.Bool.Decides.{nat_tests}
 use Rattle.std.proofs.lemmas.List.{get_or_past}
 use Rattle.std.proofs.lemmas.List.Sums.{AllPass-from_list_all}
 use Rattle.std.specs.Prelude.{filter}
-use Rattle.trick_board.specs.Tables.{line_of, scheduled}
+use Rattle.trick_board.specs.Tables.{depended_of, line_of, scheduled}
 use Rattle.trick_lang.specs.Valid.{have_right_threads}
 use Rattle.trick_lang.specs.declared.job.Job.{Job}
 use Rattle.trick_model.specs.Plan.{Plan, no_job, thread_of}
+use Rattle.trick_model.specs.declared.depends.Depends.{Depends}
+use Rattle.trick_schedule.specs.Tics.{depends_on}
 
-none_pass : (test : ℕ → Bool) (ks : List ℕ) → ((k : ℕ) → test k ≡ false) → filter test ks ≡ []
+-- where no job passes none is left
+pub none_pass : (test : ℕ → Bool) (ks : List ℕ) → ((k : ℕ) → test k ≡ false) → filter test ks ≡ []
 none_pass test [] none = refl
 none_pass test (k ∷ ks) none = ap (λ (b : Bool). cond b (k ∷ filter test ks) (filter test ks)) (none k) ∙ none_pass test ks none
 
@@ -30,3 +33,22 @@ differ n m small large = grind (arith, nat_tests)
 pub no_line : (p : Plan) (thread : ℕ) → have_right_threads p.jobs ≡ true → 16 ≤ thread → line_of p thread ≡ []
 no_line p thread right large =
     none_pass (λ k. thread_of p.jobs k == thread) (scheduled p) (λ k. differ (thread_of p.jobs k) thread (thread_small p.jobs k right) large)
+
+-- ---- pairs
+
+-- the pairs of a target alone say what it depends on
+pub own_pairs : (pairs : List Depends) (k a : ℕ) → depends_on (filter (λ (pair : Depends). (pair.target).0 == k) pairs) k a ≡ depends_on pairs k a
+own_pairs [] k a = refl
+own_pairs (pair ∷ pairs) k a = by_test (own_pairs pairs k a) ((pair.target).0 == k) refl
+  where
+    by_test : depends_on (filter (λ (pair : Depends). (pair.target).0 == k) pairs) k a ≡ depends_on pairs k a → (b : Bool) → ((pair.target).0 == k) ≡ b
+        → depends_on (cond b (pair ∷ filter (λ (pair : Depends). (pair.target).0 == k) pairs) (filter (λ (pair : Depends). (pair.target).0 == k) pairs)) k a
+        ≡ (((pair.target).0 == k) && ((pair.depended).0 == a)) || depends_on pairs k a
+    by_test others true e = ap (λ (r : Bool). (((pair.target).0 == k) && ((pair.depended).0 == a)) || r) others
+    by_test others false e = others ∙ ap (λ (b : Bool). (b && ((pair.depended).0 == a)) || depends_on pairs k a) (sym e)
+
+-- a job without pairs depends on none
+pub no_depended : (p : Plan) (k : ℕ) → filter (λ (pair : Depends). (pair.target).0 == k) p.depends ≡ [] → depended_of p k ≡ []
+no_depended p k none =
+    none_pass (depends_on p.depends k) (scheduled p)
+    (λ a. sym (own_pairs p.depends k a) ∙ ap (λ (pairs : List Depends). depends_on pairs k a) none)

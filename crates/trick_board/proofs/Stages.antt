@@ -29,7 +29,7 @@ due_kept stages k s same i = elim (cases_eq i k) [
   ]
 ]
 
-all_idle : (n k : ℕ) → stage_at (replicate n Idle) k ≡ Idle
+pub all_idle : (n k : ℕ) → stage_at (replicate n Idle) k ≡ Idle
 all_idle zero k = refl
 all_idle (suc n) zero = refl
 all_idle (suc n) (suc k) = all_idle n k

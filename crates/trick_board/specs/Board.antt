@@ -1,6 +1,6 @@
 -- What a board is, and which boards are a plan's.
 use Rattle.std.specs.Option.{IfSome}
-use Rattle.std.specs.Prelude.{◌≡◌, ℕ, ◌+◌, ◌-◌, ◌^◌, ◌<◌, ◌≤◌, ◌==◌, if◌then◌else◌, ℤ, Bool, List, length, Option, Some}
+use Rattle.std.specs.Prelude.{◌≡◌, ℕ, ◌+◌, ◌-◌, ◌^◌, ◌<◌, ◌≤◌, ◌==◌, if◌then◌else◌, ℤ, Bool, IsTrue, List, length, Option, Some}
 use Rattle.trick_board.specs.Tables.{IsFor}
 use Rattle.trick_board.specs.declared.tables.Tables.{Tables}
 use Rattle.trick_job.specs.Belongs.{IsMemoryOf}
@@ -51,6 +51,10 @@ pub record IsRoomy (jobs flags due room : ℕ) : Type 0 where
   pub flags_are : flags ≡ jobs
   pub few : due ≤ jobs
   pub room_is : jobs ≤ room
+
+-- each job that is due is one of these
+abbrev pub AreDueAmong : List ℕ → List Stage → Type 0
+AreDueAmong ks stages = (k : ℕ) → IsTrue (is_due (stage_at stages k)) → IsTrue (is_among k ks)
 
 -- the tic that is open
 abbrev pub tic_at : PlanValue → Opened → Tic

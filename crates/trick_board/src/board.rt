@@ -57,8 +57,9 @@ pub struct Board<M: Cells> {
 impl<M: Cells> Model for Board<M> {
     ghost use Rattle.std.specs.Option.{option_map};
     ghost use Rattle.std.specs.Prelude.{length, vec_capacity};
-    ghost use Rattle.trick_board.specs.Board.{BoardView, IsRoomy, opened_of};
+    ghost use Rattle.trick_board.specs.Board.{AreDueAmong, BoardView, IsRoomy, opened_of};
     ghost use Rattle.trick_board.specs.Search.{ArePassed};
+    ghost use Rattle.trick_model.specs.Valid.{ids};
 
     ghost Value = { BoardView };
 
@@ -70,12 +71,12 @@ impl<M: Cells> Model for Board<M> {
     } };
 
     ghost invariant = { λ b. IsRoomy (length b.stages.items) (length b.on.items) (length b.due.items) (vec_capacity b.due)
-        × ArePassed b.tables b.stages.items b.passed.items };
+        × ArePassed b.tables b.stages.items b.passed.items
+        × AreDueAmong (ids b.due.items) b.stages.items };
 }
 
 impl<M: Cells> Board<M> {
-    /// A closed board of a plan. This call alone takes memory. It costs the jobs times the jobs and the
-    /// depends_on pairs.
+    /// A closed board of a plan. This call alone takes memory. It costs the jobs times the depends_on pairs.
     pub fn new(alloc: Global, accepted: &Accepted) -> Result<Self, AllocError>
         ensures belongs { IfOk result (IsBoardOf accepted.now.plan) }
         ensures closed { IfOk result (λ b. b.opened ≡ None) }
@@ -115,7 +116,7 @@ impl<M: Cells> Board<M> {
         self.phase = next_phase(self.phase);
         self.tic = tic;
         copy_flags(on, &mut self.on);
-        let_wait(due, &mut self.stages);
+        let_wait(due, &self.due, &mut self.stages);
         copy_jobs(due, &mut self.due);
         self.passed.fill(0);
         match replace(&mut self.memory, Some(memory)) {
@@ -125,7 +126,7 @@ impl<M: Cells> Board<M> {
     }
 
     /// Opens a tic on a closed board: its due jobs wait, and the phase is the next one, which is 1 after
-    /// the last number. It costs the jobs of the plan, a flag and a stage each.
+    /// the last number. It costs the due jobs of this tic and of the last one, and one copy of the flags.
     pub fn open(&mut self, accepted: &Accepted, memory: M, on: &Flags, due: &[JobId], tic: u64)
         requires closed { self.old.opened ≡ None }
         requires belongs { IsBoardOf accepted.now.plan self.old }
@@ -185,6 +186,7 @@ impl<M: Cells> Board<M> {
         requires belongs { IsBoardOf plan.now self.old }
         requires job { bench.now.job ≡ Some job }
         requires evaluated { IsEvaluated plan.now.program bench.now }
+        requires flies { IfSome self.old.opened (λ o. stage_at o.progress.stages job.0 ≡ InFlight) }
         requires inputs { IfSome self.old.opened (λ o. AgreeOn (reads plan.now.program job)
             o.progress.memory bench.now.inputs) }
         ensures { IfSome self.old.opened (λ o. self.new ≡ stepped plan.now self.old o (CommitOf job)) }

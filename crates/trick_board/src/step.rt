@@ -3,7 +3,7 @@
 ghost use Rattle.std.specs.List.{slice_index_or};
 ghost use Rattle.std.specs.Prelude.{◌≡◌, ℕ, ◌+◌, ◌<◌, ◌≤◌, [], Some, None, false, true, length, replicate, slice_set, vec_capacity};
 ghost use Rattle.trick_board.specs.Answers.{open_count};
-ghost use Rattle.trick_board.specs.Board.{next_phase as next_phase_of};
+ghost use Rattle.trick_board.specs.Board.{AreDueAmong, next_phase as next_phase_of};
 ghost use Rattle.trick_eval.specs.Bench.{IsEvaluated, the_job};
 ghost use Rattle.trick_job.specs.Belongs.{IsMemoryOf};
 ghost use Rattle.trick_lang.specs.Effect.{reads};
@@ -50,13 +50,26 @@ pub fn is_flagged(on: &[bool], job: JobId) -> bool
     }
 }
 
-/// Copies the flags of all jobs.
-pub fn copy_flags(on: &Flags, into: &mut Vec<bool>)
+// Copies the flag of each job, where there may be fewer flags than jobs.
+fn copy_each_flag(on: &Flags, into: &mut Vec<bool>)
     ensures length { length into.new.items ≡ length into.old.items }
     ensures flags { (k : ℕ) → k < length into.old.items → slice_index_or into.new.items k false ≡ is_on on.now k }
 {
     for job in 0..into.len() {
         into[job] = flag(on, job);
+    }
+}
+
+/// Copies the flags of all jobs: as a block, where there are as many.
+pub fn copy_flags(on: &Flags, into: &mut Vec<bool>)
+    ensures length { length into.new.items ≡ length into.old.items }
+    ensures flags { (k : ℕ) → k < length into.old.items → slice_index_or into.new.items k false ≡ is_on on.now k }
+{
+    let flags = on.on.as_slice();
+    if flags.len() == into.len() {
+        into.copy_from_slice(flags);
+    } else {
+        copy_each_flag(on, into);
     }
 }
 
@@ -69,19 +82,23 @@ pub fn set_stage(stages: &mut Vec<Stage>, job: JobId, stage: Stage)
     }
 }
 
-/// Lets each of these jobs wait, and no other one be due.
-pub fn let_wait(due: &[JobId], stages: &mut Vec<Stage>)
+/// Lets each of these jobs wait, and no other one be due. Only the jobs of `last` were due.
+pub fn let_wait(due: &[JobId], last: &[JobId], stages: &mut Vec<Stage>)
+    requires { AreDueAmong (ids last.now) stages.old.items }
     ensures { stages.new.items ≡ with_waiting (ids due.now) (replicate (length stages.old.items) Idle) }
 {
-    clear_stages(stages);
+    clear_stages(last, stages);
     mark_waiting(due, stages);
 }
 
-// No job is due.
-fn clear_stages(stages: &mut Vec<Stage>)
+// No job is due any more, where only these were.
+fn clear_stages(last: &[JobId], stages: &mut Vec<Stage>)
+    requires { AreDueAmong (ids last.now) stages.old.items }
     ensures { stages.new.items ≡ replicate (length stages.old.items) Idle }
 {
-    stages.fill(Stage::Idle);
+    for job in last {
+        set_stage(stages, *job, Stage::Idle);
+    }
 }
 
 // Each of these jobs waits.

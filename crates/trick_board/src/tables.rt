@@ -1,9 +1,10 @@
 ghost use Rattle.std.specs.List.{slice_index_or};
-ghost use Rattle.std.specs.Prelude.{◌≡◌, ℕ, ◌==◌, ◌∷◌, ◌++◌, ◌<◌, [], IfOk, cond, length};
+ghost use Rattle.std.specs.Prelude.{◌≡◌, ℕ, ◌==◌, ◌∷◌, ◌++◌, ◌<◌, [], IfOk, cond, filter, length};
 ghost use Rattle.trick_board.specs.Tables.{IsFor, depended_of, ids_at, line_of};
 ghost use Rattle.trick_model.specs.Plan.{thread_of};
 ghost use Rattle.trick_model.specs.PlanOf.{plan_of};
 ghost use Rattle.trick_model.specs.Valid.{ids};
+ghost use Rattle.trick_model.specs.declared.depends.Depends.{Depends as Pair};
 ghost use Rattle.trick_schedule.specs.Tics.{depends_on as depends_on_of};
 
 use std::alloc::{AllocError, Global};
@@ -72,14 +73,30 @@ fn line(alloc: Global, plan: &Plan, thread: u8) -> Result<Items<JobId>, AllocErr
     Ok(jobs)
 }
 
-// The jobs that a job depends on.
+// The pairs of a target.
+fn pairs_of(alloc: Global, pairs: &[Depends], target: JobId) -> Result<Items<Depends>, AllocError>
+    ensures { IfOk result (λ own. own ≡ filter (λ (pair : Pair). (pair.target).0 == target.0) pairs.now) }
+{
+    let own = pairs
+        .iter()
+        .copied()
+        .filter(|pair| pair.target.0 == target.0)
+        .collect(alloc)?;
+    Ok(Items::from_vec(own))
+}
+
+// The jobs that a job depends on. It costs the pairs, and the jobs for each of its own.
 fn depended(alloc: Global, plan: &Plan, target: JobId) -> Result<Items<JobId>, AllocError>
     ensures { IfOk result (λ jobs. ids jobs ≡ depended_of (plan_of plan.now) target.0) }
 {
     let mut jobs = Items::new(alloc);
+    let own = pairs_of(alloc, plan.depends.as_slice(), target)?;
+    if own.is_empty() {
+        return Ok(jobs);
+    }
     let all = class_scheduled(plan);
     for job in all {
-        let wanted = depends_on(plan.depends.as_slice(), target, *job);
+        let wanted = depends_on(own.as_slice(), target, *job);
         add(&mut jobs, *job, wanted)?;
     }
     Ok(jobs)
@@ -108,7 +125,7 @@ fn all_depended(alloc: Global, plan: &Plan) -> Result<Items<Items<JobId>>, Alloc
 }
 
 impl Tables {
-    // The tables of a plan. Their making costs the jobs times the jobs and the pairs.
+    // The tables of a plan. Their making costs the jobs times the pairs.
     pub(crate) fn new(alloc: Global, plan: &Plan) -> Result<Self, AllocError>
         ensures { IfOk result (IsFor (plan_of plan.now)) }
     {

@@ -1,10 +1,19 @@
-use Rattle.std.proofs.Common.{◌++◌, ◌∷◌, [], ◌∙◌, ap, get_or, refl}
-use Rattle.std.specs.Prelude.{cond}
+use Rattle.std.proofs.Common.{rules, ◌≡◌, ◌++◌, ◌∷◌, [], ◌∙◌, ap, get_or, refl, sym}
+use Rattle.std.specs.Prelude.{cond, filter, ◌==◌}
+use Rattle.trick_board.proofs.Lines.{no_depended, own_pairs}
+use Rattle.trick_model.specs.PlanOf.{plan_of}
 use Rattle.trick_model.specs.Valid.{ids}
+use Rattle.trick_model.specs.declared.depends.Depends.{Depends as Pair}
 use Rattle.trick_queue.proofs.Queued.{queue_more}
 use Rattle.trick_queue.specs.Queue.{no_id}
 use Rattle.trick_schedule.specs.Tics.{depends_on}
 use Rattle.trick_board.proofs.tables.depended.Goals as goal
+
+pub returns-then-is_empty : goal.returns-then-is_empty
+returns-then-is_empty c =
+    let target = c.args.target.0 in
+    let none : filter (λ (pair : Pair). (pair.target).0 == target) c.args.plan.now.depends ≡ [] = search rules in
+    ap ids c.new-jobs.ensures ∙ sym (no_depended (plan_of c.args.plan.now) target none)
 
 pub loop-job-preserved : goal.loop-job-preserved
 loop-job-preserved c =
@@ -12,7 +21,9 @@ loop-job-preserved c =
     let i = c.loop-job.job-index in
     let job = get_or all i no_id in
     let jobs = c.loop-job.jobs in
+    let target = c.args.target.0 in
+    let own = c.as_slice-in-loop-job.ensures ∙ c.in_ok-own.ensures ∙ ap (filter (λ (pair : Pair). (pair.target).0 == target)) c.as_slice.ensures in
     ap ids c.in_ok-add.ensures
     ∙ ap (λ w. ids (jobs ++ cond w (job ∷ []) []))
-    (c.depends_on-wanted.ensures ∙ ap (λ pairs. depends_on pairs c.args.target.0 job.0) c.as_slice.ensures)
-    ∙ queue_more (depends_on c.args.plan.now.depends c.args.target.0) all i no_id job jobs c.loop-job-test.true refl c.loop-job.invariant
+    (c.depends_on-wanted.ensures ∙ ap (λ pairs. depends_on pairs target job.0) own ∙ own_pairs c.args.plan.now.depends target job.0)
+    ∙ queue_more (depends_on c.args.plan.now.depends target) all i no_id job jobs c.loop-job-test.true refl c.loop-job.invariant

@@ -1,9 +1,10 @@
 use Rattle.std.proofs.Common.{◌≡◌, length, ◌∙◌, ap, subst, sym, arith}
 use Rattle.std.proofs.lemmas.List.{length-replicate}
+use Rattle.trick_board.proofs.Among.{opened_among}
 use Rattle.trick_board.proofs.Calls.{opened_belongs}
 use Rattle.trick_board.proofs.Passed.{none_passed}
 use Rattle.trick_board.proofs.Stages.{few_due}
-use Rattle.trick_board.specs.Board.{BoardView, IsBoardOf}
+use Rattle.trick_board.specs.Board.{AreDueAmong, BoardView, IsBoardOf}
 use Rattle.trick_board.specs.Search.{ArePassed}
 use Rattle.trick_model.specs.PlanOf.{plan_of}
 use Rattle.trick_model.specs.Valid.{ids}
@@ -40,6 +41,9 @@ invariant_of-self g c =
         room_is = omega (arith, same, room, capacity);
       },
       subst (ArePassed c.self.inside.tables c.let_wait.new.stages.items) (sym (c.fill.ensures.items (λ y e. e))) (none_passed c.self.inside.tables c.let_wait.new.stages.items _),
+      subst (AreDueAmong (ids c.copy_jobs.new.into.items)) (sym c.let_wait.ensures)
+          (subst (λ ks. AreDueAmong ks (with_waiting (ids c.args.due.now) (replicate (length c.self.inside.stages.items) Idle))) (sym (ap ids c.copy_jobs.ensures.items))
+          (opened_among (ids c.args.due.now) (length c.self.inside.stages.items))),
     )
 
 pub returns-clause-belongs : goal.returns-clause-belongs
