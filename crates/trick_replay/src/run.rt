@@ -40,7 +40,7 @@ pub fn replay_from<M: Cells + Drop, F: Shelf>(
     let Ok(accepted) = Arc::new(alloc, accepted) else {
         return Err(Stop::Memory);
     };
-    let Ok(mut workers) = one_thread(alloc, &accepted) else {
+    let Ok(mut workers) = one_thread::<M>(alloc, &accepted) else {
         return Err(Stop::Memory);
     };
     let Ok(mut turns) = JournalTurns::new(alloc, journal, state.turn) else {

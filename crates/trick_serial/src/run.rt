@@ -1,5 +1,6 @@
 //! The run of a plan, and that of a state.
 
+ghost use Rattle.std.specs.Arc.{arc_value};
 ghost use Rattle.trick_job.specs.Belongs.{IsMemoryOf};
 ghost use Rattle.trick_model.specs.PlanOf.{plan_of};
 ghost use Rattle.trick_model.specs.Run.{start as start_of};
@@ -18,6 +19,26 @@ use trick_lang::Cells;
 use trick_model::{Accepted, State, laws};
 use trick_outside::{Shelf, Stop};
 
+// Runs a plan that is shared with its workers.
+fn run_shared<M: Cells + Drop, F: Shelf>(
+    alloc: Global,
+    accepted: &Arc<Accepted, Global>,
+    state: State<M>,
+    shelf: &mut F,
+) -> Result<Ended, Stop>
+    requires valid { IsStateOf (plan_of (arc_value accepted.now).plan) (seen M.numbers state) }
+    requires memory { IsMemoryOf (arc_value accepted.now).plan.program (M.numbers state.memory)
+        (M.scalars state.memory) }
+    ensures run { RunsSerially F.Shelf (plan_of (arc_value accepted.now).plan) (seen M.numbers state)
+        shelf.old shelf.new result }
+{
+    let Ok(mut workers) = one_thread::<M>(alloc, accepted) else {
+        return Err(Stop::Memory);
+    };
+    let last = run_alone(alloc, accepted, state, shelf, &mut workers)?;
+    Ok(ended_by(&last))
+}
+
 /// Runs an accepted plan from a state, on the caller's thread and without clients, until the run is
 /// over: so a run goes on from a checkpoint. It writes the files of the run, and where it stops a part of
 /// them: at `Stop::Shelf` the shelf failed, and at `Stop::Memory` there was no memory.
@@ -34,11 +55,7 @@ pub fn serial_from<M: Cells + Drop, F: Shelf>(
     let Ok(accepted) = Arc::new(alloc, accepted) else {
         return Err(Stop::Memory);
     };
-    let Ok(mut workers) = one_thread(alloc, &accepted) else {
-        return Err(Stop::Memory);
-    };
-    let last = run_alone(alloc, &accepted, state, shelf, &mut workers)?;
-    Ok(ended_by(&last))
+    run_shared(alloc, &accepted, state, shelf)
 }
 
 /// Runs an accepted plan from its start, on the caller's thread and without clients, until the run is
