@@ -1,5 +1,6 @@
 //! The run under a journal.
 
+ghost use Rattle.std.specs.Prelude.{◌≡◌, ℕ, None};
 ghost use Rattle.trick_job.specs.Belongs.{IsMemoryOf};
 ghost use Rattle.trick_model.specs.PlanOf.{plan_of};
 ghost use Rattle.trick_model.specs.Run.{start as start_of};
@@ -15,8 +16,43 @@ use trick_journal_turns::JournalTurns;
 use trick_lang::Cells;
 use trick_model::{Accepted, Journal, State, laws};
 use trick_outside::{Shelf, Stop};
+use trick_phase::Phases;
+use trick_post::Posts;
 use trick_runs::laws::journals_show;
 use trick_serial::{ended_by, first_state, one_thread};
+use trick_tic::Workers;
+
+// Replays a journal from a state by these workers.
+fn replay_by<M: Cells + Drop, F: Shelf, H: Phases<M> + Drop, P: Posts + Drop>(
+    alloc: Global,
+    accepted: &Accepted,
+    journal: Journal,
+    state: State<M>,
+    shelf: &mut F,
+    workers: Workers<H, P>,
+) -> Result<Replayed, Stop>
+    requires own { H.is_for workers.phases accepted.now.plan }
+    requires posts { P.plan workers.posts ≡ accepted.now.plan }
+    requires free { (n : ℕ) → P.in_flight workers.posts n ≡ None }
+    requires valid { IsStateOf (plan_of accepted.now.plan) (seen M.numbers state) }
+    requires memory { IsMemoryOf accepted.now.plan.program (M.numbers state.memory) (M.scalars state.memory) }
+    ensures run { RunsReplay F.Shelf (plan_of accepted.now.plan) (seen M.numbers state) journal
+        shelf.old shelf.new result }
+{
+    journals_show();
+    let mut workers = workers;
+    let Ok(mut turns) = JournalTurns::new(alloc, journal, state.turn) else {
+        return Err(Stop::Memory);
+    };
+    let joins = turns.joins();
+    match run(alloc, accepted, state, shelf, &mut workers, &mut turns)? {
+        Ended::Done(world) => Ok(Replayed::Ended {
+            ended: ended_by(&world.state),
+            joins,
+        }),
+        Ended::Length { kept, given } => Ok(Replayed::Length { kept, given }),
+    }
+}
 
 /// Runs an accepted plan from a state under a journal, on the caller's thread, until the run is over: so a
 /// replay goes on from a checkpoint. Entries of turns before the state's are skipped, and the sessions that
@@ -36,24 +72,13 @@ pub fn replay_from<M: Cells + Drop, F: Shelf>(
     ensures run { RunsReplay F.Shelf (plan_of accepted.plan) (seen M.numbers state) journal
         shelf.old shelf.new result }
 {
-    journals_show();
     let Ok(accepted) = Arc::new(alloc, accepted) else {
         return Err(Stop::Memory);
     };
-    let Ok(mut workers) = one_thread::<M>(alloc, &accepted) else {
+    let Ok(workers) = one_thread::<M>(alloc, &accepted) else {
         return Err(Stop::Memory);
     };
-    let Ok(mut turns) = JournalTurns::new(alloc, journal, state.turn) else {
-        return Err(Stop::Memory);
-    };
-    let joins = turns.joins();
-    match run(alloc, &accepted, state, shelf, &mut workers, &mut turns)? {
-        Ended::Done(world) => Ok(Replayed::Ended {
-            ended: ended_by(&world.state),
-            joins,
-        }),
-        Ended::Length { kept, given } => Ok(Replayed::Length { kept, given }),
-    }
+    replay_by(alloc, &accepted, journal, state, shelf, workers)
 }
 
 /// Runs an accepted plan from its start under a journal, on the caller's thread, until the run is over. It

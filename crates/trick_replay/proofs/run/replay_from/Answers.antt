@@ -1,13 +1,8 @@
-use Rattle.std.proofs.Common.{◌≡◌, ◌∙◌, Some, ap, refl}
-use Rattle.std.proofs.lemmas.Result.{err_from_is_err_and}
-use Rattle.trick_exec.specs.declared.ended.Ended.{Ended as EndedValue}
+use Rattle.std.proofs.Common.{◌≡◌, ◌∙◌}
 use Rattle.trick_model.specs.PlanOf.{plan_of}
-use Rattle.trick_model.specs.State.{State, World, seen}
-use Rattle.trick_replay.proofs.ReplayLemmas.{misfit, none_kept, stopped, whole}
+use Rattle.trick_model.specs.State.{seen}
+use Rattle.trick_replay.proofs.ReplayLemmas.{none_kept}
 use Rattle.trick_replay.proofs.run.replay_from.Goals as goal
-use Rattle.trick_serial.specs.Serial.{ended_by}
-use Rattle.trick_turns.specs.Joins.{joins_of}
-use Rattle.trick_turns.specs.Turns.{Told}
 
 pub returns-in_default : goal.returns-in_default
 returns-in_default g c =
@@ -17,36 +12,7 @@ pub returns-in_default-one_thread : goal.returns-in_default-one_thread
 returns-in_default-one_thread g c =
     record { run = none_kept _ (plan_of c.args.accepted.plan) (seen g.M.Cells.numbers c.args.state) c.args.journal (g.met.F.Shelf.called_none _) }
 
-pub returns-in_default-new : goal.returns-in_default-new
-returns-in_default-new g c =
-    record { run = none_kept _ (plan_of c.args.accepted.plan) (seen g.M.Cells.numbers c.args.state) c.args.journal (g.met.F.Shelf.called_none _) }
-
-pub returns-in_err-world : goal.returns-in_err-world
-returns-in_err-world g c =
-    let same : c.deref.result.now ≡ c.args.accepted = c.deref.ensures ∙ c.in-Ok.ensures.ok in
-    let error = err_from_is_err_and c.from_residual.result c.from_residual.ensures.1 in
-    let run = rw same at c.in_err-world.ensures.run in
-    rw error.1 (record {
-      run = stopped (plan_of c.args.accepted.plan) (seen g.M.Cells.numbers c.args.state) c.args.journal run.0 _ _ run.1 refl
-          (ap (λ (told : Told). Some told) c.in-Ok-new.ensures.told) refl error.2;
-    })
-
-pub returns-in-Done : goal.returns-in-Done
-returns-in-Done g c =
-    let same : c.deref.result.now ≡ c.args.accepted = c.deref.ensures ∙ c.in-Ok.ensures.ok in
-    let run = rw same at (rw c.in-Done.is at c.in_ok-world.ensures.run) in
-    record {
-      run = whole (plan_of c.args.accepted.plan) (seen g.M.Cells.numbers c.args.state) c.args.journal run.0 _ _ c.journals_show.ensures run.1 refl
-          (ap (λ (told : Told). Some told) c.in-Ok-new.ensures.told)
-          (c.ended_by.ensures ∙ ap (λ (w : World). ended_by w.state) run.2)
-          (c.joins-joins.ensures ∙ ap (λ (told : Told). joins_of told.lists) c.in-Ok-new.ensures.told);
-    }
-
 pub returns : goal.returns
 returns g c =
     let same : c.deref.result.now ≡ c.args.accepted = c.deref.ensures ∙ c.in-Ok.ensures.ok in
-    let run = rw same at (rw c.in-Length.is at c.in_ok-world.ensures.run) in
-    record {
-      run = misfit (plan_of c.args.accepted.plan) (seen g.M.Cells.numbers c.args.state) c.args.journal run.0 c.in-Length.kept c.in-Length.given
-          c.journals_show.ensures run.1 refl (ap (λ (told : Told). Some told) c.in-Ok-new.ensures.told);
-    }
+    record { run = rw same at c.replay_by.ensures.run }
