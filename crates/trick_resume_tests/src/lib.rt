@@ -1,9 +1,11 @@
-//! Tests of runs that go on from a checkpoint, by the program over whole texts: what they write, and the
-//! texts that are no checkpoint. The page FORMATS of the documents has the rules.
+//! Tests of runs that go on from a checkpoint and of replays, by the program over whole texts: what they write,
+//! and the texts that are no checkpoint. The page FORMATS of the documents has the rules.
 #![tactic(auto)]
 
 #[cfg(test)]
 mod changed;
+#[cfg(test)]
+mod clients;
 #[cfg(test)]
 mod loaded;
 #[cfg(test)]
