@@ -17,8 +17,6 @@ mod read_faults;
 mod read_groups;
 mod read_records;
 mod records;
-#[cfg(test)]
-mod tests;
 mod thread_scope;
 
 pub use faults::push_fault;

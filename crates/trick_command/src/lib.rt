@@ -12,8 +12,6 @@ mod piece;
 mod read;
 mod reader;
 mod row;
-#[cfg(test)]
-mod tests;
 mod value;
 
 pub use fault::ActionFault;

@@ -4,8 +4,6 @@
 mod fault;
 mod feed;
 pub mod laws;
-#[cfg(test)]
-mod tests;
 
 pub use fault::FeedFault;
 pub use feed::Feed;

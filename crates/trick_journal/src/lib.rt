@@ -7,8 +7,6 @@ mod printer;
 mod reader;
 mod row;
 mod rows;
-#[cfg(test)]
-mod tests;
 
 pub use journal_fault::JournalFault;
 pub use printer::{print, push_entry_line, push_first_lines, push_last_line};

@@ -4,7 +4,5 @@
 mod due;
 mod journal_turns;
 mod sessions;
-#[cfg(test)]
-mod tests;
 
 pub use journal_turns::JournalTurns;

@@ -10,6 +10,3 @@ mod values;
 
 pub use log_header::header;
 pub use log_row::row;
-
-#[cfg(test)]
-mod tests;

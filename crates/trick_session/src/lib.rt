@@ -6,8 +6,6 @@ mod lines;
 mod reply;
 mod samples;
 mod session;
-#[cfg(test)]
-mod tests;
 
 pub use lines::apply;
 pub use reply::Reply;

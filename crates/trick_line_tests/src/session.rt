@@ -6,13 +6,13 @@ ghost use Rattle.trick_lang.specs.declared.scalar.Scalar.TheVariants.{Long};
 ghost use Rattle.trick_model.specs.declared.thread.Process.TheVariants.{Scheduled};
 ghost use Rattle.trick_session.specs.Kept.{AreThere};
 
-use crate::{apply, join, sample};
 use std::alloc::{AllocError, Global};
 use std::test::Fail;
 use trick_base::{Items, Word};
 use trick_lang::laws::wrap_law;
 use trick_lang::{Cell, Cells, JobId, Program, Scalar, Variable, wrap};
 use trick_model::{Action, Command, Faults, Flags, Mode, Plan, Process, Session, State, Thread};
+use trick_session::{apply, join, sample};
 
 // A memory of one cell.
 #[derive(Drop)]

@@ -2,10 +2,10 @@
 
 ghost use Rattle.std.specs.Prelude.{◌≡◌, [], ◌∷◌, IfOk};
 
-use super::*;
 use std::alloc::{AllocError, Global};
 use std::test::Fail;
 use trick_base::Items;
+use trick_journal::*;
 use trick_lang::{JobId, Program};
 use trick_model::{Flags, Plan, Process, Thread};
 
@@ -141,9 +141,9 @@ fn refusal_of(fault: JournalFault) -> Refusal {
 
 // How a run that starts at turn 3 refuses two texts, one behind the other.
 fn refusal(alloc: Global, front: &[u8], back: &[u8]) -> Result<Refusal, AllocError> {
-    let plan = plan(alloc)?;
     let mut text = front.to_vec(alloc)?;
     text.extend_from_slice(back)?;
+    let plan = plan(alloc)?;
     match read(alloc, &plan, 3, &text) {
         Ok(_) => Ok(("", 0)),
         Err(fault) => Ok(refusal_of(fault)),
@@ -382,12 +382,9 @@ const EXCHANGED: [Case; 6] = [
 #[test]
 fn wrong_journals_are_refused(rt: HostRuntime) -> Result<(), Fail> {
     let alloc = rt.alloc();
-    assert_eq!(rt; first_unlike(alloc, b"", &BEGIN)?, None);
-    assert_eq!(rt; first_unlike(alloc, FRONT, &REST)?, None);
-    assert_eq!(rt; first_unlike(alloc, FRONT, &PUBLICATIONS)?, None);
-    assert_eq!(rt;
-        first_unlike(alloc, b"tricks journal 1\nfrom 0\n", &EXCHANGED)?,
-        None
-    );
+    assert!(rt; first_unlike(alloc, b"", &BEGIN)?.is_none());
+    assert!(rt; first_unlike(alloc, FRONT, &REST)?.is_none());
+    assert!(rt; first_unlike(alloc, FRONT, &PUBLICATIONS)?.is_none());
+    assert!(rt; first_unlike(alloc, b"tricks journal 1\nfrom 0\n", &EXCHANGED)?.is_none());
     Ok(())
 }

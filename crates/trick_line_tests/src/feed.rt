@@ -1,8 +1,8 @@
 //! Bytes in pieces, and the lines that come of them.
 
-use crate::{Feed, FeedFault};
 use std::alloc::{AllocError, Global};
 use std::test::Fail;
+use trick_feed::{Feed, FeedFault};
 
 // Whether the next line is this one.
 fn gives(feed: &mut Feed, want: &[u8]) -> bool {

@@ -1,9 +1,9 @@
 //! Texts of actions, and lines of clients.
 
-use crate::{ActionFault, actions, command};
 use std::alloc::{AllocError, Global};
 use std::test::Fail;
 use trick_base::Line;
+use trick_command::{ActionFault, actions, command};
 use trick_model::{Action, Command};
 
 // What a line says: a word for its kind, a name and a number; no byte and 0 where it has none.
@@ -313,29 +313,27 @@ fn first_action(alloc: Global, texts: &[&'static [u8]]) -> Option<&'static [u8]>
     None
 }
 
+// Texts that say no actions.
+const NO_ACTIONS: [&[u8]; 9] = [
+    b"",
+    b" ",
+    b";",
+    b"trick.stop();",
+    b";trick.stop()",
+    b"trick.stop();;trick.stop()",
+    b"trick.stop() trick.stop()",
+    b"trick.exec_run()",
+    b"trick.stop(); trick.var_send()",
+];
+
+const THREE: &[u8] = b"trick.exec_set_job_onoff('o.f', 1, -2);trick.freeze();x=1";
+
 #[test]
 fn texts_say_actions(rt: HostRuntime) -> Result<(), Fail> {
     let alloc = rt.alloc();
-    assert_eq!(rt; first_no_action(alloc, &ACTIONS)?, None);
-    assert_eq!(rt;
-        count(
-            alloc,
-            b"trick.exec_set_job_onoff('o.f', 1, -2);trick.freeze();x=1"
-        ),
-        Ok(3)
-    );
-    let others: [&[u8]; 9] = [
-        b"",
-        b" ",
-        b";",
-        b"trick.stop();",
-        b";trick.stop()",
-        b"trick.stop();;trick.stop()",
-        b"trick.stop() trick.stop()",
-        b"trick.exec_run()",
-        b"trick.stop(); trick.var_send()",
-    ];
-    assert_eq!(rt; first_action(alloc, &others), None);
-    assert_eq!(rt; first_action(alloc, &BAD[..26]), None);
+    assert!(rt; first_no_action(alloc, &ACTIONS)?.is_none());
+    assert!(rt; count(alloc, THREE) == Ok(3));
+    assert!(rt; first_action(alloc, &NO_ACTIONS).is_none());
+    assert!(rt; first_action(alloc, &BAD[..26]).is_none());
     Ok(())
 }

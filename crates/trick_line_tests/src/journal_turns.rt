@@ -4,10 +4,10 @@ ghost use Rattle.std.specs.Prelude.{◌≡◌, ◌∷◌, [], IfOk, codes};
 ghost use Rattle.trick_model.specs.declared.entry.Cause.TheVariants.{Exit};
 ghost use Rattle.trick_model.specs.declared.entry.Entry.TheVariants.{Join, Leave, Publish, Said};
 
-use crate::JournalTurns;
 use std::alloc::{AllocError, Global};
 use std::test::Fail;
 use trick_base::{Items, Line};
+use trick_journal_turns::JournalTurns;
 use trick_lang::{Cell, Cells};
 use trick_model::{Cause, Entry, Faults, Flags, Journal, Mode, State};
 use trick_turns::{Next, Turns};

@@ -2,10 +2,10 @@
 
 ghost use Rattle.std.specs.Prelude.{◌≡◌, [], ◌∷◌, IfOk};
 
-use super::*;
 use std::alloc::{AllocError, Global};
 use std::test::Fail;
 use trick_base::Items;
+use trick_chkpt::*;
 use trick_codes::LoadFault;
 use trick_lang::{Cell, Cells, JobId, Program};
 use trick_model::{Faults, Flags, Mode, Plan, Process, State, Taken, Thread};
