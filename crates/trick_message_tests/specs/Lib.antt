@@ -1,0 +1,1 @@
+-- Nothing is defined here: tables of texts say what sessions are sent.

@@ -1,0 +1,119 @@
+//! What the sessions of journals are sent.
+
+use crate::listener::heard;
+use std::alloc::{AllocError, Global};
+use std::process::Abort;
+use std::test::Fail;
+
+/// A number that counts the seconds.
+const COUNTER: &str = "class Counter : public Trick::SimObject {
+  public:
+    long n;
+    void step() { n += 1; }
+    Counter() { (1.0, \"scheduled\") step(); }
+};
+Counter counter;
+";
+
+/// What a session was sent.
+fn sent_to(alloc: Global, heard: &[(u32, Vec<u8>)], session: u32) -> Result<Vec<u8>, AllocError> {
+    let mut text = Vec::new(alloc);
+    for (to, bytes) in heard {
+        if *to == session {
+            text.extend_from_slice(bytes)?;
+        }
+    }
+    Ok(text)
+}
+
+/// Whether just these sessions of a journal are sent messages, and these.
+fn is_sent(
+    rt: &(impl Abort + AllocGlobal),
+    texts: (&str, &str),
+    sessions: &[(u32, &str)],
+) -> Result<(), Fail> {
+    let (input, journal) = texts;
+    let heard = heard(rt, COUNTER, input, journal)?;
+    let mut messages: usize = 0;
+    for (session, text) in sessions {
+        let sent = sent_to(rt.alloc(), &heard, *session)?;
+        assert_eq!(rt; str::from_utf8(&sent)?, *text, "session {session}");
+        messages = messages.wrapping_add(text.lines().count());
+    }
+    // each message is a line
+    assert_eq!(rt; heard.len(), messages);
+    Ok(())
+}
+
+#[test]
+fn a_client_lets_a_run_go_on(rt: HostRuntime) -> Result<(), Fail> {
+    // the last frame has one tic, and no sample is due there
+    let journal = "tricks journal 1
+from 0
+0 join 1
+0 cmd 1 trick.var_add(\"counter.n\")
+0 cmd 1 trick.var_add(\"counter.zz\")
+0 cmd 1 trick.var_cycle(1.0)
+0 cmd 1 trick.exec_run()
+end 4
+";
+    let text = "0\t1\tBAD_REF\n0\t2\tBAD_REF\n0\t3\tBAD_REF\n";
+    is_sent(
+        &rt,
+        ("trick.stop(3.0)\ntrick.freeze()", journal),
+        &[(1, text)],
+    )
+}
+
+#[test]
+fn replies_come_before_the_sample(rt: HostRuntime) -> Result<(), Fail> {
+    let journal = "tricks journal 1
+from 0
+0 join 1
+0 cmd 1 trick.var_add(\"counter.n\")
+0 cmd 1 trick.var_send()
+0 cmd 1 trick.var_exists(\"counter.n\")
+0 cmd 1 hello
+end 1
+";
+    let text = "1\t1\n4\tbad command\n0\t0\n";
+    is_sent(
+        &rt,
+        ("trick.stop(3.0)\ntrick.freeze()", journal),
+        &[(1, text)],
+    )
+}
+
+#[test]
+fn sessions_come_and_leave(rt: HostRuntime) -> Result<(), Fail> {
+    // the first is sampled every two seconds, the second in each frame until it pauses and once as it leaves, and the
+    // last in its one frame
+    let journal = "tricks journal 1
+from 0
+0 join 1
+0 cmd 1 trick.var_add(\"counter.n\")
+0 cmd 1 trick.var_cycle(2.0)
+0 join 2
+0 cmd 2 trick.var_exists(\"counter.zz\")
+0 cmd 2 trick.var_add(\"counter.n\")
+1 cmd 2 trick.var_pause()
+1 cmd 1 trick.var_send()
+2 cmd 2 trick.var_send()
+2 leave 2 Exit
+3 cmd 1 trick.exec_set_job_onoff(\"counter.step\", 2, False)
+3 cmd 1 trick.var_clear()
+3 cmd 1 trick.var_send()
+3 join 5
+3 cmd 5 counter.n = 70
+3 cmd 5 trick.var_add(\"counter.n\")
+3 cmd 5 trick.var_send()
+3 leave 5 HungUp
+end 4
+";
+    let texts = [
+        (1, "0\t2\n4\tbad command\n"),
+        (2, "1\t0\n0\t1\n0\t3\n"),
+        (5, "0\t71\n"),
+    ];
+    is_sent(&rt, ("trick.stop(3.0)", journal), &texts)
+}
