@@ -1,0 +1,2 @@
+-- What holds of a board and of the benches beside it.
+pub mod Trial
