@@ -12,8 +12,8 @@ use trick_model::{Faults, Flags, Mode, Plan, Process, State, Taken, Thread};
 
 // A memory of one cell or of none.
 #[derive(Debug, Drop)]
-struct Few {
-    number: Option<i64>,
+pub(crate) struct Few {
+    pub(crate) number: Option<i64>,
 }
 
 impl Cells for Few {

@@ -4,35 +4,13 @@ ghost use Rattle.std.specs.Prelude.{◌≡◌, ◌∷◌, [], IfOk, codes};
 ghost use Rattle.trick_model.specs.declared.entry.Cause.TheVariants.{Exit};
 ghost use Rattle.trick_model.specs.declared.entry.Entry.TheVariants.{Join, Leave, Publish, Said};
 
+use crate::chkpt::Few;
 use std::alloc::{AllocError, Global};
 use std::test::Fail;
 use trick_base::{Items, Line};
 use trick_journal_turns::JournalTurns;
-use trick_lang::{Cell, Cells};
 use trick_model::{Cause, Entry, Faults, Flags, Journal, Mode, State};
 use trick_turns::{Next, Turns};
-
-// A memory without cells.
-#[derive(Drop)]
-struct Nothing;
-
-impl Cells for Nothing {
-    ghost use Rattle.std.specs.Prelude.{[]};
-
-    ghost numbers = { λ memory. [] };
-
-    ghost scalars = { λ memory. [] };
-
-    fn len(&self) -> u32 {
-        0
-    }
-
-    fn get(&self, _cell: Cell) -> i64 {
-        0
-    }
-
-    fn set(&mut self, _cell: Cell, _number: i64) {}
-}
 
 fn no_flags(alloc: Global) -> Flags {
     Flags {
@@ -41,13 +19,13 @@ fn no_flags(alloc: Global) -> Flags {
 }
 
 // A state at a turn.
-fn state(alloc: Global, turn: u64, mode: Mode) -> Result<State<Nothing>, AllocError> {
+fn state(alloc: Global, turn: u64, mode: Mode) -> Result<State<Few>, AllocError> {
     Ok(State {
         turn,
         tic: 0,
         limit: 1,
         mode,
-        memory: Nothing,
+        memory: Few { number: None },
         jobs: no_flags(alloc),
         events: no_flags(alloc),
         groups: no_flags(alloc),
@@ -177,9 +155,9 @@ fn a_journal_ends_where_it_says(rt: HostRuntime) -> Result<(), Fail> {
     let mut turns = JournalTurns::new(alloc, journal(alloc)?, 0)?;
     assert_eq!(rt; turns.joins(), 3);
     let turns: &mut JournalTurns = &mut turns;
-    assert_eq!(rt; Turns::<Nothing>::ends(turns, 7), None);
-    assert_eq!(rt; Turns::<Nothing>::ends(turns, 6), Some((7, 6)));
-    assert!(rt; Turns::<Nothing>::decides(turns));
-    assert!(rt; Turns::<Nothing>::send(turns, 1, b"0\n").is_ok());
+    assert_eq!(rt; Turns::<Few>::ends(turns, 7), None);
+    assert_eq!(rt; Turns::<Few>::ends(turns, 6), Some((7, 6)));
+    assert!(rt; Turns::<Few>::decides(turns));
+    assert!(rt; Turns::<Few>::send(turns, 1, b"0\n").is_ok());
     Ok(())
 }
