@@ -1,5 +1,5 @@
 # make demo      proves, builds and runs the counter example, and shows its final checkpoint
-# make test      the gate: every proof, every edit that must fail, every test, the program, the examples
+# make test      the gate: every proof, the edits in must-fail/, every test, the program, the examples
 # make edits     tries all edits that must fail, also those for which the gate has no time
 # make bench     prints what runs, readers and checkpoints cost on this machine
 # make tricks    the program, at build/tricks
