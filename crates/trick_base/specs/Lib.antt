@@ -1,3 +1,5 @@
+-- How far the time of a simulation goes.
+pub mod Time
 -- Files by name, and what calls write to them.
 pub mod Files
 -- What stands where calls that write were done only in part.

@@ -15,7 +15,7 @@ use Rattle.trick_model.specs.Beside.{ends_at, published}
 use Rattle.trick_model.specs.Plan.{Plan, is_beside, threads_beside}
 use Rattle.trick_model.specs.PlanOf.{plan_of}
 use Rattle.trick_model.specs.State.{State, nothing_taken, taken_at}
-use Rattle.trick_model.specs.Time.{last_time}
+use Rattle.trick_base.specs.Time.{tic_limit}
 use Rattle.trick_model.specs.Valid.{IsCycle}
 use Rattle.trick_model.specs.ValidState.{IsRecord, IsStateOf}
 use Rattle.trick_model.specs.declared.flags.Flags.{Flags}
@@ -120,7 +120,7 @@ kind_fits process.Scheduled cycle end beside = cc beside
 kind_fits process.Async cycle end beside = tt
 kind_fits process.MustFinish cycle end beside = by (end == 0)
   where
-    by : (b : Bool) → IsKindOf process.MustFinish (elim b [ true ↦ work.Frame 1 0 | false ↦ work.Frame (end - cycle) (min (end - 1) last_time) ])
+    by : (b : Bool) → IsKindOf process.MustFinish (elim b [ true ↦ work.Frame 1 0 | false ↦ work.Frame (end - cycle) (min (end - 1) tic_limit) ])
     by true = omega arith
     by false = omega arith
 
@@ -140,8 +140,8 @@ can_start p found place tic taken there beside held right =
 
 -- ---- what is published
 
-frame_right : (cycle tic : ℕ) → tic ≤ last_time → (b : Bool) → (tic == 0) ≡ b
-    → (first last : ℕ) → work.Frame first last ≡ elim b [ true ↦ work.Frame 1 0 | false ↦ work.Frame (tic - cycle) (min (tic - 1) last_time) ]
+frame_right : (cycle tic : ℕ) → tic ≤ tic_limit → (b : Bool) → (tic == 0) ≡ b
+    → (first last : ℕ) → work.Frame first last ≡ elim b [ true ↦ work.Frame 1 0 | false ↦ work.Frame (tic - cycle) (min (tic - 1) tic_limit) ]
     → IsFrameOf cycle tic first last
 frame_right cycle tic fits true e first last is =
     let none : tic ≡ 0 = eqb-true tic 0 e in
@@ -150,7 +150,7 @@ frame_right cycle tic fits true e first last is =
     record { begins = λ some. absurd (omega (arith, some, none)); ends = λ some. absurd (omega (arith, some, none)); none = λ zero. omega (arith, low, high) }
 frame_right cycle tic fits false e first last is =
     let low : first ≡ tic - cycle = cc is in
-    let high : last ≡ min (tic - 1) last_time = cc is in
+    let high : last ≡ min (tic - 1) tic_limit = cc is in
     record {
       begins = λ some. low;
       ends = λ some. omega (arith, high, fits, some);
@@ -172,13 +172,13 @@ published_is law p thread on taken tic memory over = by thread.process refl over
         → publication p thread (record { taken = taken; work = work_at thread tic }) tic memory ≡ published p thread on tic taken memory
     with_work w is told = ap (λ (x : Job1). publication p thread (record { taken = taken; work = x }) tic memory) is ∙ told
 
-    by_end : (b : Bool) → (tic == 0) ≡ b → thread.process ≡ process.MustFinish → tic ≤ last_time
-        → publication p thread (record { taken = taken; work = elim b [ true ↦ work.Frame 1 0 | false ↦ work.Frame (tic - thread.cycle) (min (tic - 1) last_time) ] }) tic memory
+    by_end : (b : Bool) → (tic == 0) ≡ b → thread.process ≡ process.MustFinish → tic ≤ tic_limit
+        → publication p thread (record { taken = taken; work = elim b [ true ↦ work.Frame 1 0 | false ↦ work.Frame (tic - thread.cycle) (min (tic - 1) tic_limit) ] }) tic memory
         ≡ published p thread on tic taken memory
     by_end true e is fits = law.frames p thread on taken tic 1 0 memory is (frame_right thread.cycle tic fits true e 1 0 refl)
     by_end false e is fits =
-        law.frames p thread on taken tic (tic - thread.cycle) (min (tic - 1) last_time) memory is
-        (frame_right thread.cycle tic fits false e (tic - thread.cycle) (min (tic - 1) last_time) refl)
+        law.frames p thread on taken tic (tic - thread.cycle) (min (tic - 1) tic_limit) memory is
+        (frame_right thread.cycle tic fits false e (tic - thread.cycle) (min (tic - 1) tic_limit) refl)
 
     by : (kind : Process) → thread.process ≡ kind → IsOver kind thread.cycle tic
         → publication p thread (record { taken = taken; work = work_at thread tic }) tic memory ≡ published p thread on tic taken memory

@@ -20,7 +20,7 @@ use Rattle.trick_model.specs.Beside.{ends_at, find_thread, publish, take, taken_
 use Rattle.trick_model.specs.Plan.{Plan, is_async, is_on, jobs_of, threads_beside}
 use Rattle.trick_model.specs.PlanOf.{plan_of}
 use Rattle.trick_model.specs.State.{State, nothing_taken, number_at, taken_at}
-use Rattle.trick_model.specs.Time.{last_time}
+use Rattle.trick_base.specs.Time.{tic_limit}
 use Rattle.trick_model.specs.ValidState.{IsRecord, IsSound, IsStateOf}
 use Rattle.trick_model.specs.declared.plan.Plan.{Plan as PlanValue}
 use Rattle.trick_model.specs.declared.taken.Taken.{Taken}
@@ -109,7 +109,7 @@ held_right plan place tic station s seat good held =
 -- ---- what goes on
 
 pub publish_goes : {plan : PlanValue} {old : ℕ → Option Started} {tic place : ℕ} {s : State} {scalars : List Scalar} (station : Station)
-    (new : ℕ → Option Started) (t : State) (more : List Scalar) → IsSound (plan_of plan) → tic ≤ last_time + 1
+    (new : ℕ → Option Started) (t : State) (more : List Scalar) → IsSound (plan_of plan) → tic ≤ tic_limit + 1
     → GoesWith plan old tic s scalars → IsSeat (plan_of plan) place station → t ≡ publish (plan_of plan) place station.thread tic s
     → t.taken ≡ slice_set s.taken place nothing_taken → more ≡ scalars
     → new station.thread.number ≡ None → ((n : ℕ) → n ≢ station.thread.number → new n ≡ old n)
@@ -135,7 +135,7 @@ take_goes {plan = plan} {tic = tic} {place = place} {s = s} station new t more g
 
 -- ---- what is over
 
-pub ends_over : (tic : ℕ) (thread : Thread) → ends_at tic thread ≡ true → tic ≤ last_time → IsOver thread.process thread.cycle tic
+pub ends_over : (tic : ℕ) (thread : Thread) → ends_at tic thread ≡ true → tic ≤ tic_limit → IsOver thread.process thread.cycle tic
 ends_over tic thread ends fits = by thread.process ends
   where
     by : (kind : Process)

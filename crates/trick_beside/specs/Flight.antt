@@ -7,7 +7,7 @@ use Rattle.trick_model.specs.Beside.{each_thread, ends_at, publish, take, where_
 use Rattle.trick_model.specs.Plan.{Plan, threads_beside}
 use Rattle.trick_model.specs.PlanOf.{plan_of}
 use Rattle.trick_model.specs.State.{State, nothing_taken, taken_at}
-use Rattle.trick_model.specs.Time.{last_time}
+use Rattle.trick_base.specs.Time.{tic_limit}
 use Rattle.trick_model.specs.ValidState.{IsStateOf}
 use Rattle.trick_model.specs.declared.plan.Plan.{Plan as PlanValue}
 use Rattle.trick_model.specs.declared.taken.Taken.{Taken}
@@ -30,7 +30,7 @@ end_of cycle tic = elim ((tic % cycle) == 0) [ true ↦ tic | false ↦ tic + (c
 abbrev pub frame_to : ℕ → ℕ → Job1
 frame_to cycle end = elim (end == 0) [
   | true ↦ work.Frame 1 0
-  | false ↦ work.Frame (end - cycle) (min (end - 1) last_time)
+  | false ↦ work.Frame (end - cycle) (min (end - 1) tic_limit)
 ]
 
 -- what a thread has to do that was given its record before this tic
@@ -84,7 +84,7 @@ pub record AsksNothing {S : Type 0} (posts : Ghosts S) (old new : S) : Type 0 wh
 abbrev pub IsOver : Process → ℕ → ℕ → Type 0
 IsOver process.Scheduled cycle tic = ⊥
 IsOver process.Async cycle tic = Unit {0}
-IsOver process.MustFinish cycle tic = (tic % cycle ≡ 0) × (tic ≤ last_time)
+IsOver process.MustFinish cycle tic = (tic % cycle ≡ 0) × (tic ≤ tic_limit)
 
 -- all threads whose cycle ends at the tic have published
 abbrev pub ended_published : Plan → ℕ → State → State

@@ -7,7 +7,7 @@ ghost use Rattle.trick_model.specs.Beside.{ends_at as ends_of, must_finish as mu
 ghost use Rattle.trick_model.specs.Plan.{threads_beside};
 ghost use Rattle.trick_model.specs.PlanOf.{plan_of};
 ghost use Rattle.trick_model.specs.State.{seen, taken_at};
-ghost use Rattle.trick_model.specs.Time.{last_time};
+ghost use Rattle.trick_base.specs.Time.{tic_limit};
 
 use crate::Station;
 use crate::frames::ends_at;
@@ -26,7 +26,7 @@ fn publish_end<M: Cells, P: Posts>(
     posts: &mut P,
 )
     requires seat { IsSeat (plan_of (P.plan posts.old)) seat.place seat.station.now }
-    requires tic { tic ≤ last_time }
+    requires tic { tic ≤ tic_limit }
     requires goes { GoesWith (P.plan posts.old) (P.in_flight posts.old) tic (seen M.numbers state.old)
         (M.scalars state.old.memory) }
     ensures state { seen M.numbers state.new
@@ -50,7 +50,7 @@ fn publish_ended<M: Cells, P: Posts>(
     posts: &mut P,
 )
     requires stations { AreStations (plan_of (P.plan posts.old)) stations.now }
-    requires tic { tic ≤ last_time }
+    requires tic { tic ≤ tic_limit }
     requires goes { GoesWith (P.plan posts.old) (P.in_flight posts.old) tic (seen M.numbers state.old) (M.scalars state.old.memory) }
     ensures state { seen M.numbers state.new
         ≡ ended_published (plan_of (P.plan posts.old)) tic (seen M.numbers state.old) }
@@ -74,7 +74,7 @@ fn take_end<M: Cells, P: Posts>(
     posts: &mut P,
 ) -> Result<(), AllocError>
     requires seat { IsSeat (plan_of (P.plan posts.old)) seat.place seat.station.now }
-    requires tic { tic ≤ last_time }
+    requires tic { tic ≤ tic_limit }
     requires goes { GoesWith (P.plan posts.old) (P.in_flight posts.old) (tic + 1) (seen M.numbers state.old)
         (M.scalars state.old.memory) }
     requires empty { IsTrue (ends_of tic seat.station.now.thread)
@@ -101,7 +101,7 @@ fn take_ended<M: Cells, P: Posts>(
     posts: &mut P,
 ) -> Result<(), AllocError>
     requires stations { AreStations (plan_of (P.plan posts.old)) stations.now }
-    requires tic { tic ≤ last_time }
+    requires tic { tic ≤ tic_limit }
     requires goes { GoesWith (P.plan posts.old) (P.in_flight posts.old) (tic + 1) (seen M.numbers state.old) (M.scalars state.old.memory) }
     requires empty { HoldNothing (plan_of (P.plan posts.old)) tic 0
         (length (threads_beside (plan_of (P.plan posts.old)))) (seen M.numbers state.old) }
@@ -130,7 +130,7 @@ pub fn must_finish<M: Cells, P: Posts>(
     posts: &mut P,
 ) -> Result<(), AllocError>
     requires stations { AreStations (plan_of (P.plan posts.old)) stations.now }
-    requires tic { tic ≤ last_time }
+    requires tic { tic ≤ tic_limit }
     requires goes { GoesWith (P.plan posts.old) (P.in_flight posts.old) tic (seen M.numbers state.old) (M.scalars state.old.memory) }
     ensures state { OnOk result (seen M.numbers state.new
         ≡ must_finish_of (plan_of (P.plan posts.old)) tic (seen M.numbers state.old)) }

@@ -3,17 +3,17 @@
 ghost use Rattle.std.specs.Prelude.{◌≡◌, ◌+◌, ◌≤◌};
 ghost use Rattle.trick_beside.specs.Flight.{end_of as end_of_cycle, frame_to as frame_to_end, work_at as work_of};
 ghost use Rattle.trick_model.specs.Beside.{ends_at as ends_of};
-ghost use Rattle.trick_model.specs.Time.{last_time};
+ghost use Rattle.trick_base.specs.Time.{tic_limit};
 ghost use Rattle.trick_model.specs.Valid.{IsCycle};
 
-use trick_cycle::MAX_TICS;
+use trick_base::TIC_LIMIT;
 use trick_model::{Process, Thread};
 use trick_post::Job1;
 
 // The first tic from one on at which a cycle ends.
 fn end_of(cycle: u64, tic: u64) -> u64
     requires cycle { IsCycle cycle }
-    requires tic { tic ≤ last_time + 1 }
+    requires tic { tic ≤ tic_limit + 1 }
     ensures { result ≡ end_of_cycle cycle tic }
 {
     let past = tic % cycle;
@@ -29,7 +29,7 @@ fn frame_to(cycle: u64, end: u64) -> Job1
     }
     Job1::Frame {
         first: end.saturating_sub(cycle),
-        last: (end - 1).min(MAX_TICS),
+        last: (end - 1).min(TIC_LIMIT),
     }
 }
 
@@ -37,7 +37,7 @@ fn frame_to(cycle: u64, end: u64) -> Job1
 /// cycle that ends there or next, and an asynchronous thread a round.
 pub(crate) fn work_at(thread: Thread, tic: u64) -> Job1
     requires cycle { IsCycle thread.cycle }
-    requires tic { tic ≤ last_time + 1 }
+    requires tic { tic ≤ tic_limit + 1 }
     ensures { result ≡ work_of thread tic }
 {
     match thread.process {

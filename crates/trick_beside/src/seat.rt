@@ -6,7 +6,7 @@ ghost use Rattle.trick_beside.specs.Stations.{IsSeat, record_of};
 ghost use Rattle.trick_model.specs.Beside.{publish as publish_of, take as take_of};
 ghost use Rattle.trick_model.specs.PlanOf.{plan_of};
 ghost use Rattle.trick_model.specs.State.{nothing_taken, seen, taken_at};
-ghost use Rattle.trick_model.specs.Time.{last_time};
+ghost use Rattle.trick_base.specs.Time.{tic_limit};
 
 use crate::frames::work_at;
 use crate::{Station, records};
@@ -75,7 +75,7 @@ pub(crate) fn publish<M: Cells, P: Posts>(
 )
     requires seat { IsSeat (plan_of (P.plan posts.old)) seat.place seat.station.now }
     requires over { IsOver seat.station.now.thread.process seat.station.now.thread.cycle tic }
-    requires tic { tic ≤ last_time + 1 }
+    requires tic { tic ≤ tic_limit + 1 }
     requires goes { GoesWith (P.plan posts.old) (P.in_flight posts.old) tic (seen M.numbers state.old) (M.scalars state.old.memory) }
     ensures state { seen M.numbers state.new ≡ publish_of (plan_of (P.plan posts.old)) seat.entry.place
         seat.entry.station.now.thread tic (seen M.numbers state.old) }
@@ -104,7 +104,7 @@ pub(crate) fn take<M: Cells, P: Posts>(
 ) -> Result<(), AllocError>
     requires seat { IsSeat (plan_of (P.plan posts.old)) seat.place seat.station.now }
     requires empty { (taken_at (seen M.numbers state.old) seat.place).held ≡ false }
-    requires tic { tic ≤ last_time + 1 }
+    requires tic { tic ≤ tic_limit + 1 }
     requires goes { GoesWith (P.plan posts.old) (P.in_flight posts.old) tic (seen M.numbers state.old) (M.scalars state.old.memory) }
     ensures state { OnOk result (seen M.numbers state.new ≡ take_of (plan_of (P.plan posts.old)) seat.entry.place
         seat.entry.station.now.thread (seen M.numbers state.old)) }

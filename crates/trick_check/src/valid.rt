@@ -13,7 +13,7 @@ use std::alloc::{AllocError, Global as Memory};
 use trick_base::Word;
 use trick_lang::{Class, EnumItem, Job, Method, Object, Variable};
 use trick_names::Names;
-use trick_text::TIC_LIMIT;
+use trick_base::TIC_LIMIT;
 
 // ---- names
 

@@ -25,7 +25,8 @@ use Rattle.trick_model.specs.FaultList.{kept}
 use Rattle.trick_model.specs.Plan.{is_beside, jobs_of, numbers_from, thread_of, threads_beside}
 use Rattle.trick_model.specs.PlanOf.{plan_of}
 use Rattle.trick_model.specs.State.{nothing_taken}
-use Rattle.trick_model.specs.Time.{last_time, last_turn}
+use Rattle.trick_base.specs.Time.{tic_limit}
+use Rattle.trick_model.specs.Time.{last_turn}
 use Rattle.trick_model.specs.Valid.{cell_names}
 use Rattle.trick_model.specs.declared.group.Group.{Group}
 use Rattle.trick_model.specs.declared.plan.Plan.{Plan}
@@ -66,8 +67,8 @@ head_sound = (
     λ version h. (
       number_line_sound (codes "turn") 0 last_turn refl (omega arith) (omega arith) (omega arith),
       λ turn h. (
-        number_line_sound (codes "tic") 0 (last_time + 1) refl (omega arith) (omega arith) (omega arith),
-        λ tic h. (number_line_sound (codes "limit") 0 (last_time + 1) refl (omega arith) (omega arith) (omega arith), λ limit h. mode_sound),
+        number_line_sound (codes "tic") 0 (tic_limit + 1) refl (omega arith) (omega arith) (omega arith),
+        λ tic h. (number_line_sound (codes "limit") 0 (tic_limit + 1) refl (omega arith) (omega arith) (omega arith), λ limit h. mode_sound),
       ),
     ),
   ),

@@ -14,7 +14,8 @@ use Rattle.trick_model.specs.FaultList.{FaultList}
 use Rattle.trick_model.specs.Plan.{jobs_of, threads_beside}
 use Rattle.trick_model.specs.PlanOf.{plan_of}
 use Rattle.trick_model.specs.State.{State, nothing_taken}
-use Rattle.trick_model.specs.Time.{last_time, last_turn}
+use Rattle.trick_base.specs.Time.{tic_limit}
+use Rattle.trick_model.specs.Time.{last_turn}
 use Rattle.trick_model.specs.declared.group.Group.{Group}
 use Rattle.trick_model.specs.declared.mode.Mode.{Mode}
 use Rattle.trick_model.specs.declared.mode.Mode.TheVariants as mode
@@ -49,8 +50,8 @@ head_lines =
     seen_as (λ v. v.1) (λ head. (1, head))
     (and_then (number_line (codes "checkpoint") 1 1) (λ version.
     and_then (number_line (codes "turn") 0 last_turn) (λ turn.
-    and_then (number_line (codes "tic") 0 (last_time + 1)) (λ tic.
-    and_then (number_line (codes "limit") 0 (last_time + 1)) (λ limit. mode_line)))))
+    and_then (number_line (codes "tic") 0 (tic_limit + 1)) (λ tic.
+    and_then (number_line (codes "limit") 0 (tic_limit + 1)) (λ limit. mode_line)))))
 
 -- ---- cells and flags
 

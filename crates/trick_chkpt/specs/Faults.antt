@@ -16,7 +16,7 @@ use Rattle.trick_lang.specs.declared.fault.JobFault.{JobFault}
 use Rattle.trick_lang.specs.declared.job.Job.{Job}
 use Rattle.trick_lang.specs.declared.job.JobId.{JobId}
 use Rattle.trick_model.specs.FaultList.{FaultList, kept}
-use Rattle.trick_model.specs.Time.{last_time}
+use Rattle.trick_base.specs.Time.{tic_limit}
 use Rattle.trick_model.specs.declared.plan.Plan.{Plan}
 
 -- ---- the words of a fault
@@ -143,7 +143,7 @@ fault_parts f = (f.tic, (f.job, (f.kind, f.line)))
 abbrev pub fault_code : List (List ℕ) → Code JobFault
 fault_code texts =
     read_as fault_at fault_parts
-    (sequence (number 0 (last_time + 1) 32)
+    (sequence (number 0 (tic_limit + 1) 32)
     (λ tic. sequence (job_code texts) (λ job. sequence kind_code (λ kind. number 0 4294967295 59))))
 
 unfoldable pub fault_line : List (List ℕ) → ℕ → Lines JobFault

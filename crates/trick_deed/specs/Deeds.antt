@@ -8,7 +8,7 @@ use Rattle.trick_lang.specs.Wrap.{IsInRange, wrap}
 use Rattle.trick_lang.specs.declared.program.Program.{Program}
 use Rattle.trick_lang.specs.declared.scalar.Scalar.{Scalar}
 use Rattle.trick_model.specs.Names.{Deed, SetCell, SetJob, Freeze, Stop, Checkpoint, SetGroup, SetEvent}
-use Rattle.trick_model.specs.Time.{last_time}
+use Rattle.trick_base.specs.Time.{tic_limit}
 
 -- the deed by its numbers
 abbrev pub deed_as : code.Deed → Deed
@@ -27,7 +27,7 @@ IsDeedIn p groups events (deeds.SetCell cell number) =
     (cell.0 < length p.cells) × IsInRange (scalars_of p.cells) cell.0 number
 IsDeedIn p groups events (deeds.SetJob job on) = job.0 < length p.jobs
 IsDeedIn p groups events deeds.Freeze = Unit {0}
-IsDeedIn p groups events (deeds.Stop at) = IfSome at (λ tic. tic ≤ last_time)
+IsDeedIn p groups events (deeds.Stop at) = IfSome at (λ tic. tic ≤ tic_limit)
 IsDeedIn p groups events deeds.Checkpoint = Unit {0}
 IsDeedIn p groups events (deeds.SetGroup group on) = group < groups
 IsDeedIn p groups events (deeds.SetEvent event on) = event < events

@@ -14,7 +14,7 @@ use crate::find::{find_cell, find_job};
 use crate::named::place_of;
 use trick_lang::{Cell, Program, Scalar, wrap};
 use trick_model::{Action, Event, Group, Plan};
-use trick_text::TIC_LIMIT;
+use trick_base::TIC_LIMIT;
 
 fn scalar_at(program: &Program, cell: Cell) -> Scalar
     requires { cell.0 < length program.now.cells }

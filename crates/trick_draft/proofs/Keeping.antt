@@ -24,7 +24,7 @@ use Rattle.trick_lang.specs.declared.job.JobId.{JobId}
 use Rattle.trick_lang.specs.declared.program.Program.{Program}
 use Rattle.trick_lang.specs.declared.scalar.Scalar.{Scalar}
 use Rattle.trick_model.specs.Names.{deed_of}
-use Rattle.trick_model.specs.Time.{last_time}
+use Rattle.trick_base.specs.Time.{tic_limit}
 use Rattle.trick_model.specs.Valid.{IsDoable, IsPair, can_depend}
 use Rattle.trick_model.specs.declared.action.Action.{Action}
 use Rattle.trick_model.specs.declared.depends.Depends.{Depends}
@@ -176,7 +176,7 @@ module _ (jobs : Jobs) (threads : List Thread) where
   doable d None h = absurd (cc h)
   doable d (Some actions) h = AllPass-from_list_all (can_do jobs d) actions h
 
-  pub add_read : (tic : ℕ) → tic ≤ last_time → (actions : Option (List Action)) (d e : Draft)
+  pub add_read : (tic : ℕ) → tic ≤ tic_limit → (actions : Option (List Action)) (d e : Draft)
       → add_read_line jobs tic actions d ≡ Ok e → Keeps jobs threads d e
   add_read tic early actions d e h =
       let read : ReadAt = record { tic = tic; actions = or_none actions } in
@@ -193,7 +193,7 @@ module _ (jobs : Jobs) (threads : List Thread) where
           depends = right.depends;
           reads = record {
             few = room d.reads read 4096 q.0;
-            times = All-push (λ (r : ReadAt). r.tic ≤ last_time) d.reads read right.reads.times early;
+            times = All-push (λ (r : ReadAt). r.tic ≤ tic_limit) d.reads read right.reads.times early;
             doable = All-push (λ (r : ReadAt). All (IsDoable (names_of jobs d)) r.actions) d.reads read
                 right.reads.doable (doable d actions (holds (can_do_all jobs d actions) p.0));
           };

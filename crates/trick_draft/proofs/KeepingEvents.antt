@@ -26,7 +26,7 @@ use Rattle.trick_draft.specs.declared.event.EventDraft.{EventDraft}
 use Rattle.trick_draft.specs.declared.group.GroupDraft.{GroupDraft}
 use Rattle.trick_lang.specs.SyntaxTree.{Expression, Name}
 use Rattle.trick_model.specs.Names as model
-use Rattle.trick_model.specs.Time.{last_time}
+use Rattle.trick_base.specs.Time.{tic_limit}
 use Rattle.trick_model.specs.Valid.{IsCycle, IsDoable}
 use Rattle.trick_model.specs.declared.action.Action.{Action}
 use Rattle.trick_model.specs.declared.thread.Thread.{Thread}
@@ -88,7 +88,7 @@ module _ (jobs : Jobs) (threads : List Thread) where
 
   -- ---- groups and events
 
-  pub set_cycle : (variable : Name) (tics : ℕ) → tics ≤ last_time → (d e : Draft) → set_cycle_line variable tics d
+  pub set_cycle : (variable : Name) (tics : ℕ) → tics ≤ tic_limit → (d e : Draft) → set_cycle_line variable tics d
       ≡ Ok e → Keeps jobs threads d e
   set_cycle variable tics early d e h =
       let of_event : EventDraft → EventDraft = λ event. record event { cycle = tics } in

@@ -18,7 +18,7 @@ use Rattle.trick_lang.specs.declared.program.Program.{Program}
 use Rattle.trick_lang.specs.declared.scalar.Scalar.{Scalar}
 use Rattle.trick_model.specs.Condition.{is_condition}
 use Rattle.trick_model.specs.Names as model
-use Rattle.trick_model.specs.Time.{last_time}
+use Rattle.trick_base.specs.Time.{tic_limit}
 use Rattle.trick_model.specs.Valid.{all_differ, cell_names, IsCell, IsCycle, IsDoable, IsPair, rises}
 use Rattle.trick_model.specs.declared.depends.Depends.{Depends}
 use Rattle.trick_model.specs.declared.read_at.ReadAt.{ReadAt}
@@ -57,7 +57,7 @@ pub record ArePairs (jobs : Jobs) (threads : List Thread) (depends : List Depend
 -- There are at most 4,096 reads, each at a time, whose actions can be done.
 pub record AreReads (names : model.Names) (reads : List ReadAt) : Type 0 where
   pub few : length reads ≤ 4096
-  pub times : All (λ (read : ReadAt). read.tic ≤ last_time) reads
+  pub times : All (λ (read : ReadAt). read.tic ≤ tic_limit) reads
   pub doable : All (λ (read : ReadAt). All (IsDoable names) read.actions) reads
 
 -- ---- groups and events

@@ -9,7 +9,7 @@ use Rattle.trick_declare.specs.declared.declaration.Declaration.{Declaration}
 use Rattle.trick_lang.specs.SyntaxTree.{Expression, Name}
 use Rattle.trick_lang.specs.declared.job.JobId.{JobId}
 use Rattle.trick_lang.specs.declared.program.Program.{Program}
-use Rattle.trick_model.specs.Time.{last_time}
+use Rattle.trick_base.specs.Time.{tic_limit}
 use Rattle.trick_model.specs.Valid.{IsCycle}
 use Rattle.trick_model.specs.declared.action.Action.{Action}
 use Rattle.trick_model.specs.declared.thread.Thread.{Thread}
@@ -27,7 +27,7 @@ pub record LinesKeep (jobs : Jobs) (threads : List Thread) : Type 0 where
       ≡ Ok e
       → Keeps jobs threads d e
   pub set_job : (job : Option JobId) (on : Bool) (d e : Draft) → set_job_line job on d ≡ Ok e → Keeps jobs threads d e
-  pub add_read : (tic : ℕ) → tic ≤ last_time → (actions : Option (List Action)) (d e : Draft)
+  pub add_read : (tic : ℕ) → tic ≤ tic_limit → (actions : Option (List Action)) (d e : Draft)
       → add_read_line jobs tic actions d ≡ Ok e
       → Keeps jobs threads d e
   pub new_group : (variable name : Name) (d e : Draft) → new_group_line variable name d ≡ Ok e → Keeps jobs threads d e
@@ -41,7 +41,7 @@ pub record LinesKeep (jobs : Jobs) (threads : List Thread) : Type 0 where
       → set_changes_line variable changes d ≡ Ok e
       → Keeps jobs threads d e
   pub add_group : (variable : Name) (d e : Draft) → add_group_line variable d ≡ Ok e → Keeps jobs threads d e
-  pub set_cycle : (variable : Name) (tics : ℕ) → tics ≤ last_time → (d e : Draft)
+  pub set_cycle : (variable : Name) (tics : ℕ) → tics ≤ tic_limit → (d e : Draft)
       → set_cycle_line variable tics d ≡ Ok e
       → Keeps jobs threads d e
   pub this_own : (variable : Name) (d e : Draft) → this_own_line variable d ≡ Ok e → Keeps jobs threads d e

@@ -13,7 +13,7 @@ use trick_base::Word;
 use trick_lang::Program;
 use trick_model::Action;
 use trick_names::Names;
-use trick_text::TIC_LIMIT;
+use trick_base::TIC_LIMIT;
 
 impl KnownCells {
     // Whether a cell of this name can get a number.

@@ -25,7 +25,7 @@ use Rattle.trick_lang.specs.declared.tree.Expr.{Expr}
 use Rattle.trick_lang.specs.declared.variable.Variable.{Variable}
 use Rattle.trick_model.specs.Condition.{is_condition_of}
 use Rattle.trick_model.specs.Names as model
-use Rattle.trick_model.specs.Time.{last_time}
+use Rattle.trick_base.specs.Time.{tic_limit}
 use Rattle.trick_model.specs.Valid.{all_differ, AreDoable, AreNumbered, cell_names, event_names, group_names, ids, IsAssignment, IsCell, IsCycle, IsDoable, IsFrame, IsPair, names_in, queues_of, rises}
 use Rattle.trick_model.specs.declared.action.Action.{Action}
 use Rattle.trick_model.specs.declared.depends.Depends.{Depends}
@@ -203,7 +203,7 @@ same_names p d groups events mirrors of_groups of_events =
     ∙ ap (λ (ns : List Name). of (cell_names p.cells) (scalars_of p.cells) (group_names groups) ns) (sym of_events)))
 
 pub right : (p : Program) (d : Draft) (s : Settings) (parts : Parts) → IsMirrored p d → IsDraftOf (jobs_of p) s.threads d
-    → AreThreads p.jobs s.threads → IsFrame s.frame → s.limit ≤ last_time + 1 → AreParts d s parts
+    → AreThreads p.jobs s.threads → IsFrame s.frame → s.limit ≤ tic_limit + 1 → AreParts d s parts
     → map ids parts.queues ≡ queues_of p.jobs
     → AreRight p parts
 right p d s parts mirrors draft threads frame limit are queues = record {
@@ -215,13 +215,13 @@ right p d s parts mirrors draft threads frame limit are queues = record {
   main_right = all_threads.main_right;
   queues_right = queues;
   frame_right = subst IsFrame (sym are.frame) frame;
-  limit_right = subst (λ (n : ℕ). n ≤ last_time + 1) (sym are.limit) limit;
+  limit_right = subst (λ (n : ℕ). n ≤ tic_limit + 1) (sym are.limit) limit;
   thread_cycles = all_threads.thread_cycles;
   group_cycles = each_group count d.groups d.added_groups parts.groups are.groups
       (λ (group : Group). IsCycle group.cycle) draft.groups (λ group is. is.cycle);
   event_cycles = each_event names count d.events d.added_events parts.events are.events
       (λ (tree : EventTree). IsCycle tree.cycle) draft.events (λ event is. is.cycle);
-  read_tics = subst (All (λ (read : ReadAt). read.tic ≤ last_time)) (sym are.reads) draft.reads.times;
+  read_tics = subst (All (λ (read : ReadAt). read.tic ≤ tic_limit)) (sym are.reads) draft.reads.times;
   groups_differ = subst (λ (ns : List Name). IsTrue (all_differ ns)) (sym of_groups) draft.added_groups.differ;
   events_differ = subst (λ (ns : List Name). IsTrue (all_differ ns)) (sym of_events) draft.added_events.differ;
   pairs_right = subst (λ (all : List Thread). All (IsPair p.jobs all) parts.depends) (sym are.threads)

@@ -5,7 +5,7 @@ use Rattle.trick_lang.specs.declared.job.Job.{Job}
 use Rattle.trick_lang.specs.declared.program.Program.{Program}
 use Rattle.trick_model.specs.Condition.{is_condition_of}
 use Rattle.trick_model.specs.Plan.{has_thread}
-use Rattle.trick_model.specs.Time.{last_time}
+use Rattle.trick_base.specs.Time.{tic_limit}
 use Rattle.trick_model.specs.Valid.{all_differ, AreDoable, AreNumbered, event_names, group_names, ids, IsAssignment, IsCell, IsCycle, IsDoable, IsFrame, IsMainRight, IsPair, is_there, names_in, queues_of, rises, thread_numbers}
 use Rattle.trick_model.specs.declared.event.Event.{Event}
 use Rattle.trick_model.specs.declared.group.Group.{Group}
@@ -22,11 +22,11 @@ pub record AreRight (p : Program) (parts : Parts) : Type 0 where
   pub main_right : All IsMainRight parts.threads
   pub queues_right : map ids parts.queues ≡ queues_of p.jobs
   pub frame_right : IsFrame parts.frame
-  pub limit_right : parts.limit ≤ last_time + 1
+  pub limit_right : parts.limit ≤ tic_limit + 1
   pub thread_cycles : All (λ (thread : Thread). IsCycle thread.cycle) parts.threads
   pub group_cycles : All (λ (group : Group). IsCycle group.cycle) parts.groups
   pub event_cycles : All (λ (event : Event). IsCycle event.cycle) parts.events
-  pub read_tics : All (λ (read : ReadAt). read.tic ≤ last_time) parts.reads
+  pub read_tics : All (λ (read : ReadAt). read.tic ≤ tic_limit) parts.reads
   pub groups_differ : IsTrue (all_differ (group_names parts.groups))
   pub events_differ : IsTrue (all_differ (event_names parts.events))
   pub pairs_right : All (IsPair p.jobs parts.threads) parts.depends

@@ -5,7 +5,7 @@ ghost use Rattle.trick_draft.specs.Jobs.{jobs_of};
 ghost use Rattle.trick_draft.specs.Kept.{IsDraftOf, Mirrors};
 ghost use Rattle.trick_ending.specs.Ending.{IsEnding, parts_of};
 ghost use Rattle.trick_ending.specs.Right.{AreRight};
-ghost use Rattle.trick_model.specs.Time.{last_time};
+ghost use Rattle.trick_base.specs.Time.{tic_limit};
 ghost use Rattle.trick_model.specs.Valid.{IsFrame};
 ghost use Rattle.trick_threads.specs.Threads.{AreThreads};
 
@@ -70,7 +70,7 @@ pub fn end(
     requires draft { IsDraftOf (jobs_of program) settings.threads draft }
     requires threads { AreThreads program.jobs settings.threads }
     requires frame { IsFrame settings.frame }
-    requires limit { settings.limit ≤ last_time + 1 }
+    requires limit { settings.limit ≤ tic_limit + 1 }
     ensures { IfOk result (IsEnding program draft settings) }
 {
     laws::cells_are_mirrored();

@@ -8,7 +8,7 @@ use Rattle.trick_event.specs.Due.{AreLeft, no_read, tic_left, tic_of}
 use Rattle.trick_event.specs.Event.{read_done}
 use Rattle.trick_model.specs.Events.{Asking, act_all, reads_done}
 use Rattle.trick_model.specs.Plan.{Plan}
-use Rattle.trick_model.specs.Time.{last_time}
+use Rattle.trick_base.specs.Time.{tic_limit}
 use Rattle.trick_model.specs.declared.read_at.ReadAt.{ReadAt}
 use Rattle.trick_queue.proofs.Trees.{below_or, same_or}
 use Rattle.trick_queue.specs.Tree.{AreLater, IsFirst, never}
@@ -45,7 +45,7 @@ left_other before tic t le late same = elim (below_or t before) [
 ]
 
 -- a read that is not later is not passed
-pub left_now : (before tic t : ℕ) → tic ≤ last_time → tic_left before t ≤ tic → (before ≤ t) × (t ≤ tic)
+pub left_now : (before tic t : ℕ) → tic ≤ tic_limit → tic_left before t ≤ tic → (before ≤ t) × (t ≤ tic)
 left_now before tic t in_range now = elim (below_or t before) [
   | inl h ↦ let e = left_passed before t h in absurd (omega (arith, e))
   | inr h ↦ let e = left_kept before t h in (h, omega (arith, e))
@@ -69,7 +69,7 @@ passing_starts before reads tics tic left = record {
 }
 
 -- no earlier place is found again
-passing_on : (before : ℕ) (reads : List ReadAt) (tics : List ℕ) (tic passed place : ℕ) → tic ≤ last_time
+passing_on : (before : ℕ) (reads : List ReadAt) (tics : List ℕ) (tic passed place : ℕ) → tic ≤ tic_limit
     → IsPassing before reads tics tic passed → IsFirst tics tic place → passed ≤ place
 passing_on before reads tics tic passed place in_range p first = elim (below_or place passed) [
   | inl h ↦
@@ -87,7 +87,7 @@ pub passing_between : (before : ℕ) (reads : List ReadAt) (tics : List ℕ) (ti
 passing_between before reads tics tic passed to fits p later k low high =
     subst (λ (n : ℕ). tic < n) (p.late k low (omega arith)) (later k high)
 
-pub passing_more : (before : ℕ) (reads : List ReadAt) (tics : List ℕ) (tic passed place : ℕ) → before ≤ tic → tic ≤ last_time
+pub passing_more : (before : ℕ) (reads : List ReadAt) (tics : List ℕ) (tic passed place : ℕ) → before ≤ tic → tic ≤ tic_limit
     → IsPassing before reads tics tic passed → IsFirst tics tic place → IsPassing before reads (set tics place never) tic (place + 1)
 passing_more before reads tics tic passed place le in_range p first =
     let as_many : length tics ≡ length reads = p.as_many in
@@ -165,7 +165,7 @@ skip_to p tic reads a all from to le fits none told =
     ∙ skip p tic reads a all from (to - from) (omega arith) (λ k low high. none k low (omega arith)) told
 
 -- one more read that is found
-pub found_next : (p : Plan) (before : ℕ) (reads : List ReadAt) (tics : List ℕ) (tic passed place : ℕ) (a all : Asking) → before ≤ tic → tic ≤ last_time
+pub found_next : (p : Plan) (before : ℕ) (reads : List ReadAt) (tics : List ℕ) (tic passed place : ℕ) (a all : Asking) → before ≤ tic → tic ≤ tic_limit
     → IsPassing before reads tics tic passed → IsFirst tics tic place
     → reads_done p tic (drop passed reads) a ≡ all
     → reads_done p tic (drop (place + 1) reads) (read_done p tic (get_or reads place no_read) a) ≡ all

@@ -10,7 +10,7 @@ use Rattle.trick_model.specs.Laws.{event_is_due}
 use Rattle.trick_model.specs.Plan.{is_on}
 use Rattle.trick_model.specs.PlanOf.{event_of, plan_of}
 use Rattle.trick_model.specs.State.{State}
-use Rattle.trick_model.specs.Time.{last_time}
+use Rattle.trick_base.specs.Time.{tic_limit}
 use Rattle.trick_model.specs.declared.event.Event.{Event}
 use Rattle.trick_model.specs.declared.flags.Flags.{Flags}
 use Rattle.trick_model.specs.declared.plan.Plan.{Plan as PlanValue}
@@ -142,7 +142,7 @@ due_then plan on s tics from read event same left least next fits = elim (below_
               | inl gone ↦ let e = left_passed from tic gone in absurd (omega (arith, e, left_is))
               | inr low ↦
                   let kept : tic ≡ read = sym (left_kept from tic low) ∙ left_is in
-                  let range : tic ≤ last_time = plan.read_tics found.0 no_read there in
+                  let range : tic ≤ tic_limit = plan.read_tics found.0 no_read there in
                   record {
                     not_passed = omega arith;
                     in_range = omega arith;
@@ -166,6 +166,6 @@ finds_least plan on s tics from read event same left least next = elim (below_or
       let test : nat_lt (min read event) never ≡ false = grind arith in
       subst (λ (b : Bool). FindsLeast (IsStirred (plan_of plan) s from) (cond b (Some (min read event)) None)) (sym test)
       (λ t stirred.
-      let range : t ≤ last_time = stirred.in_range in
+      let range : t ≤ tic_limit = stirred.in_range in
       none_before plan on s tics from read event same left least next t (omega arith) (omega arith) stirred)
 ]

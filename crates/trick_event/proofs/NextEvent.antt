@@ -5,7 +5,7 @@ use Rattle.trick_cycle.specs.Due.{IsDue}
 use Rattle.trick_cycle.specs.declared.Due.{Due}
 use Rattle.trick_event.specs.Due.{IsEventDue, IsNextEvent, IsNextWhere, cycle_of}
 use Rattle.trick_model.specs.Plan.{is_on}
-use Rattle.trick_model.specs.Time.{last_time}
+use Rattle.trick_base.specs.Time.{tic_limit}
 use Rattle.trick_model.specs.declared.event.Event.{Event}
 use Rattle.trick_model.specs.declared.flags.Flags.{Flags}
 use Rattle.trick_queue.proofs.Trees.{below_or, same_or}
@@ -14,16 +14,16 @@ use Rattle.trick_queue.specs.Tree.{never}
 
 -- when an event of a place may be due
 abbrev pub times_of : List Event → ℕ → Due
-times_of events place = record { start = 0; cycle = cycle_of events place; stop = last_time }
+times_of events place = record { start = 0; cycle = cycle_of events place; stop = tic_limit }
 
 -- it is due in the words of tics
-as_due : (events : List Event) (on : Flags) (place t : ℕ) → t ≤ last_time → IsEventDue events on place t → IsDue (times_of events place) t
+as_due : (events : List Event) (on : Flags) (place t : ℕ) → t ≤ tic_limit → IsEventDue events on place t → IsDue (times_of events place) t
 as_due events on place t fits due =
     let same : t - 0 ≡ t = omega arith in
     record { started = omega arith; not_over = fits; in_step = ap (λ (n : ℕ). n % cycle_of events place) same ∙ due.in_step }
 
 none_here : (events : List Event) (on : Flags) (from place tic t : ℕ) → IsNextWhere (is_on on place) (times_of events place) from tic
-    → from ≤ t → t < tic → t ≤ last_time → IsEventDue events on place t → ⊥
+    → from ≤ t → t < tic → t ≤ tic_limit → IsEventDue events on place t → ⊥
 none_here events on from place tic t next low high fits due =
     let told : IsNext (times_of events place) from tic =
     subst (λ (b : Bool). IsNextWhere b (times_of events place) from tic) due.active next in
@@ -32,7 +32,7 @@ none_here events on from place tic t next low high fits due =
 -- the tic of the event is one at which it is due
 due_here : (events : List Event) (on : Flags) (from place tic : ℕ) → place < length events
     → (b : Bool) → is_on on place ≡ b → IsNextWhere b (times_of events place) from tic
-    → (tic ≡ never) ⊎ ((k : ℕ) × (k < length events) × (from ≤ tic) × (tic ≤ last_time) × IsEventDue events on k tic)
+    → (tic ≡ never) ⊎ ((k : ℕ) × (k < length events) × (from ≤ tic) × (tic ≤ tic_limit) × IsEventDue events on k tic)
 due_here events on from place tic there false is next = inl next
 due_here events on from place tic there true is next = elim (next.due) [
   | inl e ↦ inl e
@@ -54,10 +54,10 @@ event_more events on from place next tic there here before = record {
   due = elim (below_or tic next) [
     | inl h ↦
         let is : tic ≡ min next tic = omega arith in
-        subst (λ (n : ℕ). (n ≡ never) ⊎ ((k : ℕ) × (k < length events) × (from ≤ n) × (n ≤ last_time) × IsEventDue events on k n)) is
+        subst (λ (n : ℕ). (n ≡ never) ⊎ ((k : ℕ) × (k < length events) × (from ≤ n) × (n ≤ tic_limit) × IsEventDue events on k n)) is
         (due_here events on from place tic there (is_on on place) refl here)
     | inr h ↦
         let is : next ≡ min next tic = omega arith in
-        subst (λ (n : ℕ). (n ≡ never) ⊎ ((k : ℕ) × (k < length events) × (from ≤ n) × (n ≤ last_time) × IsEventDue events on k n)) is before.due
+        subst (λ (n : ℕ). (n ≡ never) ⊎ ((k : ℕ) × (k < length events) × (from ≤ n) × (n ≤ tic_limit) × IsEventDue events on k n)) is before.due
   ];
 }

@@ -5,7 +5,7 @@ use Rattle.trick_event.specs.declared.moment.Moment.{Moment as MomentValue}
 use Rattle.trick_event.specs.declared.moment.Moment.TheVariants as moment
 use Rattle.trick_model.specs.Events.{Asking, Moment, InTic, Between}
 use Rattle.trick_model.specs.State.{seen}
-use Rattle.trick_model.specs.Time.{last_time}
+use Rattle.trick_base.specs.Time.{tic_limit}
 use Rattle.trick_model.specs.declared.state.State.{State as StateValue}
 
 -- A state with what was asked for in its turn; `numbers` are those of its memory.
@@ -23,5 +23,5 @@ moment_of moment.Between = Between
 
 -- The tic of an action is a time.
 abbrev pub IsTimely : MomentValue → Type 0
-IsTimely (moment.Tic tic) = tic ≤ last_time
+IsTimely (moment.Tic tic) = tic ≤ tic_limit
 IsTimely moment.Between = Unit {0}

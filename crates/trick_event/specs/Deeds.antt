@@ -4,11 +4,11 @@ use Rattle.trick_deed.specs.declared.deed.Deed.{Deed}
 use Rattle.trick_deed.specs.declared.deed.Deed.TheVariants as deed
 use Rattle.trick_lang.specs.Wrap.{IsInRange}
 use Rattle.trick_lang.specs.declared.scalar.Scalar.{Scalar}
-use Rattle.trick_model.specs.Time.{last_time}
+use Rattle.trick_base.specs.Time.{tic_limit}
 
 -- A stop has a time of a run, or none.
 abbrev pub IsTimeOf : Option ℕ → Type 0
-IsTimeOf at = IfSome at (λ tic. tic ≤ last_time)
+IsTimeOf at = IfSome at (λ tic. tic ≤ tic_limit)
 
 -- The deed can be done to a memory of so many cells of these types: its cell is there, and its number
 -- is in the range of the cell's type; its time is one of a run.

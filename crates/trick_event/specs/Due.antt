@@ -5,7 +5,7 @@ use Rattle.trick_cycle.specs.declared.Due.{Due}
 use Rattle.trick_model.specs.Laws.{event_is_due}
 use Rattle.trick_model.specs.Plan.{Plan, is_on}
 use Rattle.trick_model.specs.State.{State}
-use Rattle.trick_model.specs.Time.{last_time}
+use Rattle.trick_base.specs.Time.{tic_limit}
 use Rattle.trick_model.specs.declared.event.Event.{Event}
 use Rattle.trick_model.specs.declared.flags.Flags.{Flags}
 use Rattle.trick_model.specs.declared.plan.Plan.{Plan as PlanValue}
@@ -22,7 +22,7 @@ read_is_due reads tic = list_any (λ (read : ReadAt). read.tic == tic) reads
 -- At a tic from `from` on, up to the last one that is run, a read or an active event is due.
 pub record IsStirred (p : Plan) (s : State) (from tic : ℕ) : Type 0 where
   pub not_passed : from ≤ tic
-  pub in_range : tic ≤ last_time
+  pub in_range : tic ≤ tic_limit
   pub due : read_is_due p.read_ats tic || event_is_due tic 0 p.events s ≡ true
 
 -- ---- the reads that are left
@@ -80,7 +80,7 @@ pub record IsEventDue (events : List Event) (on : Flags) (place tic : ℕ) : Typ
 -- Of the events before this place none is due from `from` on before the tic, which is `never` or one
 -- at which an event is due.
 pub record IsNextEvent (events : List Event) (on : Flags) (from end next : ℕ) : Type 0 where
-  pub none_before : (place t : ℕ) → place < end → from ≤ t → t < next → t ≤ last_time
+  pub none_before : (place t : ℕ) → place < end → from ≤ t → t < next → t ≤ tic_limit
       → IsEventDue events on place t → ⊥
   pub due : (next ≡ never)
-      ⊎ ((place : ℕ) × (place < length events) × (from ≤ next) × (next ≤ last_time) × IsEventDue events on place next)
+      ⊎ ((place : ℕ) × (place < length events) × (from ≤ next) × (next ≤ tic_limit) × IsEventDue events on place next)

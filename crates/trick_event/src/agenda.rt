@@ -9,7 +9,7 @@ ghost use Rattle.trick_job.specs.Belongs.{IsMemoryOf};
 ghost use Rattle.trick_model.specs.Events.{fire as fired_of, reads_done};
 ghost use Rattle.trick_model.specs.PlanOf.{plan_of};
 ghost use Rattle.trick_model.specs.State.{State as StateOf};
-ghost use Rattle.trick_model.specs.Time.{last_time};
+ghost use Rattle.trick_base.specs.Time.{tic_limit};
 ghost use Rattle.trick_model.specs.Valid.{IsCycle};
 ghost use Rattle.trick_model.specs.declared.event.Event.{Event as EventValue};
 ghost use Rattle.trick_queue.specs.Tree.{never};
@@ -18,7 +18,8 @@ use crate::Asked;
 use crate::due::{events_done, is_on, read_done};
 use std::alloc::{AllocError, Global};
 use std::marker::Model;
-use trick_cycle::{Due, MAX_TICS, next_due};
+use trick_base::TIC_LIMIT;
+use trick_cycle::{Due, next_due};
 use trick_lang::Cells;
 use trick_model::{Event, Flags, Plan, ReadAt, State};
 use trick_queue::{NEVER, Tics};
@@ -67,7 +68,7 @@ fn fill(reads: &[ReadAt], from: u64, tics: &mut Tics)
 // Forgets the reads up to a tic.
 fn pass(reads: &[ReadAt], tics: &mut Tics, tic: u64)
     requires left { AreLeftBy tic reads.now tics.old }
-    requires range { tic ≤ last_time }
+    requires range { tic ≤ tic_limit }
     ensures { AreLeft (tic + 1) reads.now tics.new }
 {
     let mut passed = 0;
@@ -92,7 +93,7 @@ fn reads_done<M: Cells>(
 )
     requires memory { IsMemoryOf plan.now.program (M.numbers state.old.memory) (M.scalars state.old.memory) }
     requires left { AreLeftBy tic plan.now.reads tics.old }
-    requires range { tic ≤ last_time }
+    requires range { tic ≤ tic_limit }
     ensures done { asking M.numbers state.new asked.new
         ≡ reads_done (plan_of plan.now) tic plan.now.reads (asking M.numbers state.old asked.old) }
     ensures memory { IsMemoryOf plan.now.program (M.numbers state.new.memory) (M.scalars state.new.memory) }
@@ -115,13 +116,13 @@ fn reads_done<M: Cells>(
 fn times(events: &[Event], place: usize) -> Due
     requires place { place < length events.now }
     requires cycles { All (λ (event : EventValue). IsCycle event.cycle) events.now }
-    ensures times { result ≡ record { start = 0; cycle = cycle_of events.now place; stop = last_time } }
+    ensures times { result ≡ record { start = 0; cycle = cycle_of events.now place; stop = tic_limit } }
     ensures range { IsInRange result }
 {
     Due {
         start: 0,
         cycle: events[place].cycle,
-        stop: MAX_TICS,
+        stop: TIC_LIMIT,
     }
 }
 
@@ -178,7 +179,7 @@ impl Agenda {
     pub fn next(&mut self, plan: &Plan, events: &Flags, from: u64) -> Option<u64>
         requires own { IsFor plan.now self.old }
         requires from { self.old.from ≤ from }
-        requires range { from ≤ last_time + 1 }
+        requires range { from ≤ tic_limit + 1 }
         ensures next { (s : StateOf) → s.events ≡ events.now → FindsLeast (IsStirred (plan_of plan.now) s from) result }
         ensures own { IsFor plan.now self.new }
         ensures from { self.new.from ≡ from }
@@ -198,7 +199,7 @@ impl Agenda {
         requires own { IsFor plan.now self.old }
         requires from { self.old.from ≤ tic }
         requires memory { IsMemoryOf plan.now.program (M.numbers state.old.memory) (M.scalars state.old.memory) }
-        requires tic { tic ≤ last_time }
+        requires tic { tic ≤ tic_limit }
         ensures fired { asking M.numbers state.new asked.new
             ≡ fired_of (plan_of plan.now) tic (asking M.numbers state.old asked.old) }
         ensures memory { IsMemoryOf plan.now.program (M.numbers state.new.memory) (M.scalars state.new.memory) }

@@ -10,7 +10,7 @@ ghost use Rattle.trick_model.specs.Events.{act_all, event_acts, events_done, fir
 ghost use Rattle.trick_model.specs.Plan.{Event as EventOf, is_on as is_on_of};
 ghost use Rattle.trick_model.specs.PlanOf.{event_of, plan_of};
 ghost use Rattle.trick_model.specs.State.{seen};
-ghost use Rattle.trick_model.specs.Time.{last_time};
+ghost use Rattle.trick_base.specs.Time.{tic_limit};
 ghost use Rattle.trick_model.specs.declared.read_at.ReadAt.{ReadAt};
 
 use crate::action::{act, set_flag};
@@ -29,7 +29,7 @@ fn act_all<M: Cells>(
     tic: u64,
 )
     requires memory { IsMemoryOf plan.now.program (M.numbers state.old.memory) (M.scalars state.old.memory) }
-    requires tic { tic ≤ last_time }
+    requires tic { tic ≤ tic_limit }
     ensures acted { asking M.numbers state.new asked.new
         ≡ act_all (plan_of plan.now) tic actions.now (asking M.numbers state.old asked.old) }
     ensures memory { IsMemoryOf plan.now.program (M.numbers state.new.memory) (M.scalars state.new.memory) }
@@ -48,7 +48,7 @@ fn event_acts<M: Cells>(
     tic: u64,
 )
     requires memory { IsMemoryOf plan.now.program (M.numbers state.old.memory) (M.scalars state.old.memory) }
-    requires tic { tic ≤ last_time }
+    requires tic { tic ≤ tic_limit }
     ensures acted { asking M.numbers state.new asked.new
         ≡ event_acts (plan_of plan.now) tic numbered.now (asking M.numbers state.old asked.old) }
     ensures memory { IsMemoryOf plan.now.program (M.numbers state.new.memory) (M.scalars state.new.memory) }
@@ -87,7 +87,7 @@ fn event_done<M: Cells>(
 )
     requires memory { IsMemoryOf plan.now.program (M.numbers state.old.memory) (M.scalars state.old.memory) }
     requires place { place < length plan.now.events }
-    requires tic { tic ≤ last_time }
+    requires tic { tic ≤ tic_limit }
     ensures done { (none : EventOf) → asking M.numbers state.new asked.new
         ≡ event_done (plan_of plan.now) tic place (slice_index_or (plan_of plan.now).events place none)
         (asking M.numbers state.old asked.old) }
@@ -103,7 +103,7 @@ fn event_done<M: Cells>(
 /// The events of a tic, in the order in which the input added them.
 pub(crate) fn events_done<M: Cells>(plan: &Plan, state: &mut State<M>, asked: &mut Asked, tic: u64)
     requires memory { IsMemoryOf plan.now.program (M.numbers state.old.memory) (M.scalars state.old.memory) }
-    requires tic { tic ≤ last_time }
+    requires tic { tic ≤ tic_limit }
     ensures done { asking M.numbers state.new asked.new
         ≡ events_done (plan_of plan.now) tic 0 (plan_of plan.now).events (asking M.numbers state.old asked.old) }
     ensures memory { IsMemoryOf plan.now.program (M.numbers state.new.memory) (M.scalars state.new.memory) }
@@ -123,7 +123,7 @@ pub(crate) fn read_done<M: Cells>(
 )
     requires memory { IsMemoryOf plan.now.program (M.numbers state.old.memory) (M.scalars state.old.memory) }
     requires place { place < length plan.now.reads }
-    requires tic { tic ≤ last_time }
+    requires tic { tic ≤ tic_limit }
     ensures done { (none : ReadAt) → asking M.numbers state.new asked.new
         ≡ read_done (plan_of plan.now) tic (slice_index_or plan.now.reads place none) (asking M.numbers state.old asked.old) }
     ensures memory { IsMemoryOf plan.now.program (M.numbers state.new.memory) (M.scalars state.new.memory) }
@@ -137,7 +137,7 @@ pub(crate) fn read_done<M: Cells>(
 // The reads of a tic, in the order of their lines.
 fn reads_done<M: Cells>(plan: &Plan, state: &mut State<M>, asked: &mut Asked, tic: u64)
     requires memory { IsMemoryOf plan.now.program (M.numbers state.old.memory) (M.scalars state.old.memory) }
-    requires tic { tic ≤ last_time }
+    requires tic { tic ≤ tic_limit }
     ensures done { asking M.numbers state.new asked.new
         ≡ reads_done (plan_of plan.now) tic plan.now.reads (asking M.numbers state.old asked.old) }
     ensures memory { IsMemoryOf plan.now.program (M.numbers state.new.memory) (M.scalars state.new.memory) }
@@ -152,7 +152,7 @@ fn reads_done<M: Cells>(plan: &Plan, state: &mut State<M>, asked: &mut Asked, ti
 /// does the same at the cost of the reads that are due. Takes no memory.
 pub fn fire<M: Cells>(plan: &Plan, state: &mut State<M>, asked: &mut Asked, tic: u64)
     requires memory { IsMemoryOf plan.now.program (M.numbers state.old.memory) (M.scalars state.old.memory) }
-    requires tic { tic ≤ last_time }
+    requires tic { tic ≤ tic_limit }
     ensures fired { asking M.numbers state.new asked.new
         ≡ fired_of (plan_of plan.now) tic (asking M.numbers state.old asked.old) }
     ensures memory { IsMemoryOf plan.now.program (M.numbers state.new.memory) (M.scalars state.new.memory) }

@@ -10,7 +10,7 @@ ghost use Rattle.trick_model.specs.Files.{note};
 ghost use Rattle.trick_model.specs.Journal.{is_entry, is_of_session as is_of_session_of};
 ghost use Rattle.trick_model.specs.PlanOf.{plan_of};
 ghost use Rattle.trick_model.specs.State.{seen};
-ghost use Rattle.trick_model.specs.Time.{last_time};
+ghost use Rattle.trick_base.specs.Time.{tic_limit};
 ghost use Rattle.trick_model.specs.Turn.{begun, heard, replies as replies_of};
 ghost use Rattle.trick_model.specs.ValidState.{IsStateOf};
 ghost use Rattle.trick_model.specs.declared.entry.Entry.{Entry as EntryValue};
@@ -67,7 +67,7 @@ pub(crate) struct Heard<M> {
 // Looks at a course again, where a turn had lines, which may have changed flags.
 fn look_again<M: Cells>(plan: &Plan, lines: &[Entry], state: &State<M>, course: &mut Course)
     requires made { IsMadeFor plan.now course.old state.now.tic }
-    requires tic { state.now.tic ≤ last_time + 1 }
+    requires tic { state.now.tic ≤ tic_limit + 1 }
     requires same { lines.now ≡ [] → IsCourseOf plan.now course.old (seen M.numbers state.now) }
     ensures { IsCourseOf plan.now course.new (seen M.numbers state.now) }
 {

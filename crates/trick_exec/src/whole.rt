@@ -11,7 +11,7 @@ ghost use Rattle.trick_model.specs.Files.{end_writes};
 ghost use Rattle.trick_model.specs.PlanOf.{plan_of};
 ghost use Rattle.trick_model.specs.Run.{shut as shut_of};
 ghost use Rattle.trick_model.specs.State.{seen};
-ghost use Rattle.trick_model.specs.Time.{last_time};
+ghost use Rattle.trick_base.specs.Time.{tic_limit};
 ghost use Rattle.trick_model.specs.ValidState.{IsStateOf};
 ghost use Rattle.trick_outside.specs.Does.{Does};
 ghost use Rattle.trick_runs.specs.Hosts.{at, hosts};
@@ -50,7 +50,7 @@ fn no_wait(alloc: Global, stations: &[Station]) -> Result<Vec<u64>, AllocError>
 
 // What a run of a plan keeps beside its world.
 fn keep<M: Cells>(alloc: Global, plan: &Plan, state: &State<M>) -> Result<Keeping, AllocError>
-    requires { state.now.tic ≤ last_time + 1 }
+    requires { state.now.tic ≤ tic_limit + 1 }
     ensures course { IfOk result (λ keeping. IsCourseOf plan.now keeping.equipment.course (seen M.numbers state.now)) }
     ensures bench { IfOk result (λ keeping. IsFor plan.now.program keeping.equipment.bench.parts) }
     ensures waits { IfOk result (λ keeping. keeping.waits.items ≡ no_waits (plan_of plan.now)) }

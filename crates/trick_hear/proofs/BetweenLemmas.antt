@@ -7,7 +7,7 @@ use Rattle.trick_lang.specs.declared.scalar.Scalar.{Scalar}
 use Rattle.trick_model.specs.Events.{Asking, Between, act, do_deed, do_found, enter_freeze, names_of}
 use Rattle.trick_model.specs.Names.{Names, Deed, SetCell, SetJob, Freeze, Stop, Checkpoint, SetGroup, SetEvent, deed_of, find_job, find_name, on_found, set_in_range, stop_after}
 use Rattle.trick_model.specs.Plan.{Plan}
-use Rattle.trick_model.specs.Time.{last_time}
+use Rattle.trick_base.specs.Time.{tic_limit}
 use Rattle.trick_model.specs.Turn.{do_between}
 use Rattle.trick_model.specs.declared.action.Action.{Action}
 use Rattle.trick_model.specs.declared.action.Action.TheVariants as action
@@ -40,7 +40,7 @@ not_set scalars number (Some cell) e = by (int_eq (wrap (scalar_at scalars cell)
 
 not_stop : (at : Option ℕ) → stop_after at ≡ Some Freeze → ⊥
 not_stop None e = cc
-not_stop (Some at) e = by (nat_le at last_time) e
+not_stop (Some at) e = by (nat_le at tic_limit) e
   where
     by : (b : Bool) → (let o : Option Deed = elim b [ true ↦ Some (Stop (Some at)) | false ↦ None ] in o ≡ Some Freeze) → ⊥
     by true e = cc

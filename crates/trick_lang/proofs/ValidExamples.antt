@@ -4,7 +4,8 @@ use Rattle.std.proofs.Common.{◌≡◌, ℕ, pos, Bool, true, false, List, [], 
 use Rattle.trick_lang.specs.Locals.{block_knows}
 use Rattle.trick_lang.specs.Names.{are_apart, job_name, of_one_instance, of_one_name, of_one_number}
 use Rattle.trick_lang.specs.Tree.{Number, Local, Spot, spot, NoStep, Step, Set, Increase, Code, Declare, SetLocal, Assign, If, For, Run, NoElse, Test}
-use Rattle.trick_lang.specs.Valid.{are_in_order, code_fits, has_class, has_right_times, is_in_span, lies_in, job_stands, last_tic, object_stands}
+use Rattle.trick_base.specs.Time.{tic_limit}
+use Rattle.trick_lang.specs.Valid.{are_in_order, code_fits, has_class, has_right_times, is_in_span, lies_in, job_stands, object_stands}
 use Rattle.trick_lang.specs.declared.bound.Bound.TheVariants.{Below, UpTo}
 use Rattle.trick_lang.specs.declared.class.Class.TheVariants.{Scheduled, Freeze}
 use Rattle.trick_lang.specs.declared.job.Job.{Job}
@@ -135,7 +136,7 @@ job object method instance number = record {
   phase = 60000;
   start = 0;
   cycle = 1;
-  stop = last_tic;
+  stop = tic_limit;
   number = number;
 }
 

@@ -1,6 +1,7 @@
 -- What a valid program keeps of its places, blocks, classes and jobs, as tests over its lists.
 use Rattle.std.specs.List.{list_all, slice_index_or}
 use Rattle.std.specs.Prelude.{ℕ, zero, suc, ◌+◌, ◌*◌, ◌-◌, ◌==◌, Bool, true, false, ◌&&◌, nat_lt, nat_le, List, [], ◌∷◌, length, slice_get, Option, Some, None}
+use Rattle.trick_base.specs.Time.{tic_limit}
 use Rattle.trick_lang.specs.Count.{block_steps}
 use Rattle.trick_lang.specs.Passes.{Leaves, all_blocks, all_pass, branch_blocks}
 use Rattle.trick_lang.specs.Tree.{Spot, spot, Steps, NoStep, Step, Code, Empty, Declare, SetLocal, Assign, If, For, Run}
@@ -131,14 +132,10 @@ job_stands objects methods job = of_one_class (slice_get objects job.object) (sl
 abbrev pub jobs_stand : List Object → List Method → List Job → Bool
 jobs_stand objects methods = list_all (job_stands objects methods)
 
--- the latest tic that a time can be
-abbrev pub last_tic : ℕ
-last_tic = 1000000000000000
-
 -- a scheduled job has a cycle from 1 and times up to the last tic
 abbrev pub is_scheduled_right : Job → Bool
 is_scheduled_right job =
-    nat_le 1 job.cycle && (nat_le job.cycle last_tic && (nat_le job.start last_tic && nat_le job.stop last_tic))
+    nat_le 1 job.cycle && (nat_le job.cycle tic_limit && (nat_le job.start tic_limit && nat_le job.stop tic_limit))
 
 -- a job of another class has no times
 abbrev pub has_no_times : Job → Bool

@@ -19,7 +19,7 @@ use Rattle.trick_lines.specs.Kinds.{is_declaration}
 use Rattle.trick_lines.specs.Said.{said}
 use Rattle.trick_lines.specs.Texts.{Texts}
 use Rattle.trick_lines.specs.Times.{fault_of_time, tics_of, time_in}
-use Rattle.trick_model.specs.Time.{last_time}
+use Rattle.trick_base.specs.Time.{tic_limit}
 use Rattle.trick_model.specs.Valid.{IsCycle, IsFrame}
 use Rattle.trick_model.specs.declared.thread.Thread.{Thread}
 use Rattle.trick_settings.specs.declared.settings.Settings.{Settings}
@@ -30,14 +30,14 @@ at_most : (a b : ℕ) → nat_le a b ≡ true → a ≤ b
 at_most a b e = search rules
 
 -- a time that is one is in range
-pub in_range : (line : ℕ) (time : Result ℕ TimeFault) → fault_of_time line (Some time) ≡ None → tics_of time ≤ last_time
+pub in_range : (line : ℕ) (time : Result ℕ TimeFault) → fault_of_time line (Some time) ≡ None → tics_of time ≤ tic_limit
 in_range line (Err fault) h = absurd (cc h)
-in_range line (Ok tics) h = by (nat_le tics last_time) refl h
+in_range line (Ok tics) h = by (nat_le tics tic_limit) refl h
   where
-    by : (b : Bool) → nat_le tics last_time ≡ b
+    by : (b : Bool) → nat_le tics tic_limit ≡ b
         → (let none : Option TimeFault = None in if b then none else Some (fault.TimeTooLarge line)) ≡ None
-        → tics ≤ last_time
-    by true e h = at_most tics last_time e
+        → tics ≤ tic_limit
+    by true e h = at_most tics tic_limit e
     by false e h = absurd (cc h)
 
 pub cycle_of_frame : (frame : ℕ) → IsFrame frame → IsCycle frame

@@ -3,7 +3,7 @@ use Rattle.std.specs.Prelude.{ℕ, nat_le, Option, Some, None, Result, Ok, Err, 
 use Rattle.trick_input.specs.declared.call.Call.{Call}
 use Rattle.trick_input.specs.declared.call.Form.{Form}
 use Rattle.trick_input.specs.declared.call.Form.TheVariants as form
-use Rattle.trick_model.specs.Time.{last_time}
+use Rattle.trick_base.specs.Time.{tic_limit}
 use Rattle.trick_text.specs.declared.fault.TimeFault.{TimeFault}
 use Rattle.trick_text.specs.declared.fault.TimeFault.TheVariants as fault
 
@@ -20,7 +20,7 @@ time_in other = None
 abbrev pub fault_of_time : ℕ → Option (Result ℕ TimeFault) → Option TimeFault
 fault_of_time line None = None
 fault_of_time line (Some (Err refused)) = Some refused
-fault_of_time line (Some (Ok tics)) = if nat_le tics last_time then None else Some (fault.TimeTooLarge line)
+fault_of_time line (Some (Ok tics)) = if nat_le tics tic_limit then None else Some (fault.TimeTooLarge line)
 
 abbrev pub time_fault : Call → Option TimeFault
 time_fault call = fault_of_time call.line (time_in call.form)

@@ -11,14 +11,14 @@ use Rattle.trick_lines.specs.Drafted.{Drafted, answered}
 use Rattle.trick_lines.specs.Texts.{Texts}
 use Rattle.trick_lines.specs.declared.fault.JoinFault.{JoinFault}
 use Rattle.trick_lines.specs.declared.fault.JoinFault.TheVariants as fault
-use Rattle.trick_model.specs.Time.{last_time}
+use Rattle.trick_base.specs.Time.{tic_limit}
 use Rattle.trick_model.specs.declared.thread.Process.TheVariants as process
 use Rattle.trick_settings.specs.declared.settings.Settings.{Settings}
 use Rattle.trick_text.specs.declared.fault.TimeFault.TheVariants as time
 
 -- a frame of 7 tics
 abbrev pub settings : Settings
-settings = record { frame = 7; limit = last_time + 1; frozen = false; threads = [] }
+settings = record { frame = 7; limit = tic_limit + 1; frozen = false; threads = [] }
 
 abbrev pub no_texts : Texts
 no_texts = record { declaration = None; condition = None }
@@ -37,8 +37,8 @@ pub record AreWorked : Type 0 where
   pub largest_frame : line (form.SoftwareFrame (Ok 1000000000)) ≡ Ok draft
   pub larger_frame : line (form.SoftwareFrame (Ok 1000000001)) ≡ Err (fault.OutOfRange 4)
   -- trick.stop(..)
-  pub stop_at_the_last : line (form.Stop (Ok last_time)) ≡ Ok draft
-  pub stop_behind_it : line (form.Stop (Ok (last_time + 1))) ≡ Err (fault.Time (time.TimeTooLarge 4))
+  pub stop_at_the_last : line (form.Stop (Ok tic_limit)) ≡ Ok draft
+  pub stop_behind_it : line (form.Stop (Ok (tic_limit + 1))) ≡ Err (fault.Time (time.TimeTooLarge 4))
   pub stop_between : line (form.Stop (Err (time.InexactTime 4))) ≡ Err (fault.Time (time.InexactTime 4))
   -- trick.freeze()
   pub freeze : line form.Freeze ≡ Ok draft
@@ -52,7 +52,7 @@ pub record AreWorked : Type 0 where
   -- a time is looked at before the name of the variable and before the number of the thread
   pub time_first : line (form.SetCycle (codes "h") (Err (time.InexactTime 4))) ≡ Err (fault.Time (time.InexactTime 4))
   pub time_first_of_thread :
-      line (form.AmfCycle 16 (Ok (last_time + 1))) ≡ Err (fault.Time (time.TimeTooLarge 4))
+      line (form.AmfCycle 16 (Ok (tic_limit + 1))) ≡ Err (fault.Time (time.TimeTooLarge 4))
   pub then_the_name : line (form.SetCycle (codes "h") (Ok 0)) ≡ Err (fault.UnknownName 4)
   -- o.c = 128
   pub too_much : line (form.Assign (codes "o.c") (pos 128)) ≡ Err (fault.OutOfRange 4)

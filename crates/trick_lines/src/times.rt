@@ -4,7 +4,8 @@ ghost use Rattle.std.specs.Prelude.{◌≡◌};
 ghost use Rattle.trick_lines.specs.Times.{fault_of_time, tics_of, time_fault, time_in};
 
 use trick_input::{Call, Form, Time};
-use trick_text::{TIC_LIMIT, TimeFault};
+use trick_base::TIC_LIMIT;
+use trick_text::TimeFault;
 
 // The time of a line, where it has one.
 fn time_in(form: &Form) -> Option<Time>

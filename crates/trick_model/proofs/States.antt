@@ -20,7 +20,8 @@ use Rattle.trick_model.specs.Order.{is_due, is_of_class, jobs_at, jobs_in}
 use Rattle.trick_model.specs.Plan.{Event, Plan, is_on, is_on_scheduled, job_numbers}
 use Rattle.trick_model.specs.Running.{After, after_jobs, apply, outcome, run_class, settled}
 use Rattle.trick_model.specs.State.{State, nothing_taken}
-use Rattle.trick_model.specs.Time.{last_time, last_turn}
+use Rattle.trick_base.specs.Time.{tic_limit}
+use Rattle.trick_model.specs.Time.{last_turn}
 use Rattle.trick_model.specs.ValidState.{AreInRange, IsFault, IsLastRow, IsRecord, IsSound, IsStateOf, OfGroup, OfThread, sizes}
 use Rattle.trick_model.specs.declared.action.Action.{Action}
 use Rattle.trick_model.specs.declared.action.Action.TheVariants as action
@@ -60,7 +61,7 @@ with_flags p s jobs events groups same good = record {
   kept = good.kept;
 }
 
-pub with_limit : (p : Plan) (s : State) (limit : ℕ) → limit ≤ last_time + 1 → IsStateOf p s → IsStateOf p (record s { limit = limit })
+pub with_limit : (p : Plan) (s : State) (limit : ℕ) → limit ≤ tic_limit + 1 → IsStateOf p s → IsStateOf p (record s { limit = limit })
 with_limit p s limit fits good = record {
   turn = good.turn;
   tic = good.tic;
@@ -73,7 +74,7 @@ with_limit p s limit fits good = record {
   kept = good.kept;
 }
 
-pub with_tic : (p : Plan) (s : State) (tic : ℕ) → tic ≤ last_time + 1 → IsStateOf p s → IsStateOf p (record s { tic = tic })
+pub with_tic : (p : Plan) (s : State) (tic : ℕ) → tic ≤ tic_limit + 1 → IsStateOf p s → IsStateOf p (record s { tic = tic })
 with_tic p s tic fits good = record {
   turn = good.turn;
   tic = fits;
@@ -191,7 +192,7 @@ pub record IsAfter (p : Plan) (after : After) : Type 0 where
   pub faults : Every p after.faults
 
 outcome_right : (p : Plan) → IsSound p → (tic k : ℕ) (memory : List ℤ) (effect : Result (List (Option ℤ)) Stop) → p.effect k memory ≡ effect
-    → tic ≤ last_time + 1 → k < length p.jobs → AreInRange p.scalars memory → IsAfter p (outcome tic k memory effect)
+    → tic ≤ tic_limit + 1 → k < length p.jobs → AreInRange p.scalars memory → IsAfter p (outcome tic k memory effect)
 outcome_right p sound tic k memory (Ok stored) e fits there range = record {
   range = over_each (IsInRange p.scalars) stored memory (λ cell n found. sound.effects k cell memory stored n e found) range;
   faults = tt;
@@ -199,12 +200,12 @@ outcome_right p sound tic k memory (Ok stored) e fits there range = record {
 outcome_right p sound tic k memory (Err stop) e fits there range = record { range = range; faults = (record { job = there; tic = fits }, tt) }
 
 apply_right : (p : Plan) → IsSound p → (on : Bool) (tic k : ℕ) (memory : List ℤ)
-    → tic ≤ last_time + 1 → k < length p.jobs → AreInRange p.scalars memory → IsAfter p (apply p on tic k memory)
+    → tic ≤ tic_limit + 1 → k < length p.jobs → AreInRange p.scalars memory → IsAfter p (apply p on tic k memory)
 apply_right p sound false tic k memory fits there range = record { range = range; faults = tt }
 apply_right p sound true tic k memory fits there range = outcome_right p sound tic k memory (p.effect k memory) refl fits there range
 
 pub jobs_right : (p : Plan) → IsSound p → (on : ℕ → Bool) (tic : ℕ) (ks : List ℕ) (memory : List ℤ)
-    → tic ≤ last_time + 1 → Below (length p.jobs) ks → AreInRange p.scalars memory → IsAfter p (after_jobs p on tic ks memory)
+    → tic ≤ tic_limit + 1 → Below (length p.jobs) ks → AreInRange p.scalars memory → IsAfter p (after_jobs p on tic ks memory)
 jobs_right p sound on tic [] memory fits there range = record { range = range; faults = tt }
 jobs_right p sound on tic (k ∷ ks) memory fits there range =
     let first = apply_right p sound (on k) tic k memory fits there.0 range in
@@ -225,7 +226,7 @@ settled_right p after s right same good =
       kept = faults.kept;
     }
 
-run_right : (p : Plan) → IsSound p → (s : State) (tic : ℕ) (ks : List ℕ) → tic ≤ last_time + 1 → Below (length p.jobs) ks
+run_right : (p : Plan) → IsSound p → (s : State) (tic : ℕ) (ks : List ℕ) → tic ≤ tic_limit + 1 → Below (length p.jobs) ks
     → IsStateOf p s → IsStateOf p (settled (after_jobs p (is_on s.jobs) tic ks s.memory) s)
 run_right p sound s tic ks fits there good =
     settled_right p (after_jobs p (is_on s.jobs) tic ks s.memory) s
@@ -237,7 +238,7 @@ class_right p sound c s good =
     (order_below (length p.jobs) p.jobs _ (filter_below (length p.jobs) (is_of_class p.jobs c) (job_numbers p.jobs) (jobs_below p.jobs))) good
 
 -- the jobs of a tic
-pub due_right : (p : Plan) → IsSound p → (tic : ℕ) (s : State) → tic ≤ last_time + 1 → IsStateOf p s
+pub due_right : (p : Plan) → IsSound p → (tic : ℕ) (s : State) → tic ≤ tic_limit + 1 → IsStateOf p s
     → IsStateOf p (settled (after_jobs p (is_on s.jobs) tic (jobs_at p s.jobs tic) s.memory) s)
 due_right p sound tic s fits good =
     run_right p sound s tic (jobs_at p s.jobs tic) fits
@@ -251,7 +252,7 @@ IsDeed p (SetCell cell number) = IsInRange p.scalars cell number
 IsDeed p (SetJob job on) = Unit {0}
 IsDeed p Freeze = Unit {0}
 IsDeed p (StopRun None) = Unit {0}
-IsDeed p (StopRun (Some at)) = at ≤ last_time
+IsDeed p (StopRun (Some at)) = at ≤ tic_limit
 IsDeed p Checkpoint = Unit {0}
 IsDeed p (SetGroup group on) = Unit {0}
 IsDeed p (SetEvent event on) = Unit {0}
@@ -269,7 +270,7 @@ range_found : (p : Plan) (number : ℤ) (found : Option ℕ) → IsFound p (set_
 range_found p number None = tt
 range_found p number (Some cell) = set_found p cell number _ refl
 
-time_found : (p : Plan) (at : ℕ) (b : Bool) → nat_le at last_time ≡ b → IsFound p (elim b [ true ↦ Some (StopRun (Some at)) | false ↦ None ])
+time_found : (p : Plan) (at : ℕ) (b : Bool) → nat_le at tic_limit ≡ b → IsFound p (elim b [ true ↦ Some (StopRun (Some at)) | false ↦ None ])
 time_found p at true e = grind (arith, e)
 time_found p at false e = tt
 
@@ -292,7 +293,7 @@ action_found p (action.SetEvent name on) = flag_found p (λ k. SetEvent k on) (�
 
 -- an action in a tic is at a tic that is a time
 abbrev pub IsMoment : Moment → Type 0
-IsMoment (InTic tic) = tic ≤ last_time
+IsMoment (InTic tic) = tic ≤ tic_limit
 IsMoment Between = Unit {0}
 
 stop_right : (p : Plan) (moment : Moment) (at : Option ℕ) (a : Asking) → IsMoment moment → IsDeed p (StopRun at)
@@ -322,7 +323,7 @@ pub found_right : (p : Plan) (moment : Moment) (deed : Option Deed) (a : Asking)
 found_right p moment None a fits right good = good
 found_right p moment (Some deed) a fits right good = deed_right p moment deed a fits right good
 
-acts_right : (p : Plan) (tic : ℕ) (actions : List Action) (a : Asking) → tic ≤ last_time → IsStateOf p a.state → IsStateOf p (act_all p tic actions a).state
+acts_right : (p : Plan) (tic : ℕ) (actions : List Action) (a : Asking) → tic ≤ tic_limit → IsStateOf p a.state → IsStateOf p (act_all p tic actions a).state
 acts_right p tic [] a fits good = good
 acts_right p tic (one ∷ actions) a fits good =
     acts_right p tic actions _ fits (found_right p (InTic tic) (deed_of (names_of p) one) a fits (action_found p one) good)
@@ -331,26 +332,26 @@ either_asking : (p : Plan) (b : Bool) (x y : Asking) → IsStateOf p x.state →
 either_asking p true x y hx hy = hx
 either_asking p false x y hx hy = hy
 
-reads_right : (p : Plan) (tic : ℕ) (reads : List ReadAt) (a : Asking) → tic ≤ last_time → IsStateOf p a.state → IsStateOf p (reads_done p tic reads a).state
+reads_right : (p : Plan) (tic : ℕ) (reads : List ReadAt) (a : Asking) → tic ≤ tic_limit → IsStateOf p a.state → IsStateOf p (reads_done p tic reads a).state
 reads_right p tic [] a fits good = good
 reads_right p tic (read ∷ reads) a fits good =
     reads_right p tic reads _ fits (either_asking p (read.tic == tic) _ a (acts_right p tic read.actions a fits good) good)
 
-event_acts_right : (p : Plan) (tic : ℕ) (numbered : List (ℕ × List Action)) (a : Asking) → tic ≤ last_time
+event_acts_right : (p : Plan) (tic : ℕ) (numbered : List (ℕ × List Action)) (a : Asking) → tic ≤ tic_limit
     → IsStateOf p a.state → IsStateOf p (event_acts p tic numbered a).state
 event_acts_right p tic [] a fits good = good
 event_acts_right p tic (one ∷ more) a fits good = event_acts_right p tic more _ fits (acts_right p tic one.1 a fits good)
 
-fired_right : (p : Plan) (tic k : ℕ) (event : Event) (a : Asking) → tic ≤ last_time → IsStateOf p a.state → IsStateOf p (fired p tic k event a).state
+fired_right : (p : Plan) (tic k : ℕ) (event : Event) (a : Asking) → tic ≤ tic_limit → IsStateOf p a.state → IsStateOf p (fired p tic k event a).state
 fired_right p tic k event a fits good =
     deed_right p (InTic tic) (SetEvent k false) (event_acts p tic event.actions a) fits tt (event_acts_right p tic event.actions a fits good)
 
-events_right : (p : Plan) (tic k : ℕ) (events : List Event) (a : Asking) → tic ≤ last_time → IsStateOf p a.state → IsStateOf p (events_done p tic k events a).state
+events_right : (p : Plan) (tic k : ℕ) (events : List Event) (a : Asking) → tic ≤ tic_limit → IsStateOf p a.state → IsStateOf p (events_done p tic k events a).state
 events_right p tic k [] a fits good = good
 events_right p tic k (event ∷ events) a fits good =
     events_right p tic (suc k) events _ fits (either_asking p (fires tic k event a.state) _ a (fired_right p tic k event a fits good) good)
 
-pub fire_right : (p : Plan) (tic : ℕ) (a : Asking) → tic ≤ last_time → IsStateOf p a.state → IsStateOf p (fire p tic a).state
+pub fire_right : (p : Plan) (tic : ℕ) (a : Asking) → tic ≤ tic_limit → IsStateOf p a.state → IsStateOf p (fire p tic a).state
 fire_right p tic a fits good = events_right p tic 0 p.events _ fits (reads_right p tic p.read_ats a fits good)
 
 -- ---- Freeze

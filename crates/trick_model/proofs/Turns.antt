@@ -24,7 +24,8 @@ use Rattle.trick_model.specs.Running.{run_class, settled}
 use Rattle.trick_model.specs.Session.{Answer, acted, answered, bad, quiet}
 use Rattle.trick_model.specs.State.{State, nothing_taken, number_at, taken_at}
 use Rattle.trick_model.specs.Tic.{Ticked, jobs_done, tic, tic_below_limit, tics}
-use Rattle.trick_model.specs.Time.{last_time, last_turn, tics_left}
+use Rattle.trick_base.specs.Time.{tic_limit}
+use Rattle.trick_model.specs.Time.{last_turn, tics_left}
 use Rattle.trick_model.specs.Turn.{Hearing, begun, checkpoint_jobs, counted, do_between, framed, frozen, hear, heard, publish_all, resumed, rounds, runs, session_of}
 use Rattle.trick_model.specs.ValidState.{AreInRange, AreNumbersOf, Each, IsLastRow, IsRecord, IsSound, IsStateOf, OfGroup, OfThread, sizes, sizes_of}
 use Rattle.trick_model.specs.declared.command.Command.{Command}
@@ -61,7 +62,7 @@ work_below p thread on tic = by_process thread.process
         flat_below (length p.jobs) (λ u. in_key_order p.jobs (filter (is_due p on u) (jobs_of p.jobs thread))) _
         (λ u. order_below (length p.jobs) p.jobs _ (filter_below (length p.jobs) (is_due p on u) (jobs_of p.jobs thread) (thread_jobs_below p thread)))
 
-held_right : (p : Plan) → IsSound p → (thread : Thread) (on : Flags) (tic : ℕ) (taken : Taken) → tic ≤ last_time + 1
+held_right : (p : Plan) → IsSound p → (thread : Thread) (on : Flags) (tic : ℕ) (taken : Taken) → tic ≤ tic_limit + 1
     → AreNumbersOf p.scalars (scope p thread) taken.cells → IsAfter p (held_work p thread on tic taken)
 held_right p sound thread on tic taken fits cells =
     jobs_right p sound (flag_in (jobs_of p.jobs thread) taken.on.on) tic (work p thread on tic)
@@ -69,7 +70,7 @@ held_right p sound thread on tic taken fits cells =
     (spread_each p.scalars (scope p thread) taken.cells (zeros p) cells
     (replicate_each (IsInRange p.scalars) (pos 0) (length p.names) (zero_in_range p.scalars)))
 
-published_right : (p : Plan) → IsSound p → (thread : Thread) (on : Flags) (tic : ℕ) (taken : Taken) (memory : List ℤ) → tic ≤ last_time + 1
+published_right : (p : Plan) → IsSound p → (thread : Thread) (on : Flags) (tic : ℕ) (taken : Taken) (memory : List ℤ) → tic ≤ tic_limit + 1
     → AreNumbersOf p.scalars (scope p thread) taken.cells → AreInRange p.scalars memory → IsAfter p (published p thread on tic taken memory)
 published_right p sound thread on tic taken memory fits cells range =
     let held = held_right p sound thread on tic taken fits cells in
@@ -87,7 +88,7 @@ published_right p sound thread on tic taken memory fits cells range =
 nothing_right : (p : Plan) (thread : Thread) → IsRecord p thread nothing_taken
 nothing_right p thread = record { cells = λ h. grind (arith, h); flags = λ h. grind (arith, h); none = λ h. refl }
 
-pub publish_right : (p : Plan) → IsSound p → (place : ℕ) (thread : Thread) (tic : ℕ) (s : State) → tic ≤ last_time + 1
+pub publish_right : (p : Plan) → IsSound p → (place : ℕ) (thread : Thread) (tic : ℕ) (s : State) → tic ≤ tic_limit + 1
     → IsRecord p thread (taken_at s place) → IsStateOf p s → IsStateOf p (publish p place thread tic s)
 publish_right p sound place thread tic s fits right good =
     let taken = taken_at s place in
@@ -145,7 +146,7 @@ pub all_at : (p : Plan) → AreAt p 0 (threads_beside p)
 all_at p = at_places p 0 (threads_beside p) (λ k d there. let same : k ≡ 0 + k = omega arith in
     subst (λ (n : ℕ). IsAt p n (slice_index_or (threads_beside p) k d)) same (there, λ e. get_or_default (threads_beside p) k e d there))
 
-pub must_right : (p : Plan) → IsSound p → (tic : ℕ) (s : State) → tic ≤ last_time + 1 → IsStateOf p s → IsStateOf p (must_finish p tic s)
+pub must_right : (p : Plan) → IsSound p → (tic : ℕ) (s : State) → tic ≤ tic_limit + 1 → IsStateOf p s → IsStateOf p (must_finish p tic s)
 must_right p sound tic s fits good =
     threads_right p (where_ends (take p) tic)
     (λ place thread s at good. by_test p (ends_at tic thread) _ s (λ ends. take_right p place thread s at good) (λ goes. good))
@@ -205,8 +206,8 @@ all_groups_at p = groups_at p 0 p.groups (λ i d e there. let same : 0 + i ≡ i
 pub tic_right : (p : Plan) → IsSound p → (a : Asking) → a.state.tic < a.state.limit → IsStateOf p a.state → IsStateOf p (tic p a).asking.state
 tic_right p sound a below good =
     let now = a.state.tic in
-    let fits : now ≤ last_time = omega (arith, below, good.limit) in
-    let later : now ≤ last_time + 1 = omega (arith, fits) in
+    let fits : now ≤ tic_limit = omega (arith, below, good.limit) in
+    let later : now ≤ tic_limit + 1 = omega (arith, fits) in
     let b = fire p now a in
     let must = must_right p sound now b.state later (fire_right p now a fits good) in
     let jobs = due_right p sound now (must_finish p now b.state) later must in

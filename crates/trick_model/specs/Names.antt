@@ -5,7 +5,7 @@ use Rattle.std.specs.Str.{bytes_eq}
 use Rattle.trick_lang.specs.Wrap.{wrap, scalar_at}
 use Rattle.trick_lang.specs.declared.job.Job.{Job}
 use Rattle.trick_lang.specs.declared.scalar.Scalar.{Scalar}
-use Rattle.trick_model.specs.Time.{last_time}
+use Rattle.trick_base.specs.Time.{tic_limit}
 use Rattle.trick_model.specs.declared.action.Action.{Action}
 use Rattle.trick_model.specs.declared.action.Action.TheVariants as action
 
@@ -59,7 +59,7 @@ set_in_range scalars number (Some cell) =
 -- A stop is after no tic, or after one that is a time.
 abbrev pub stop_after : Option ℕ → Option Deed
 stop_after None = Some (Stop None)
-stop_after (Some at) = elim (nat_le at last_time) [ true ↦ Some (Stop (Some at)) | false ↦ None ]
+stop_after (Some at) = elim (nat_le at tic_limit) [ true ↦ Some (Stop (Some at)) | false ↦ None ]
 
 -- a deed on what was found
 abbrev pub on_found : (ℕ → Deed) → Option ℕ → Option Deed

@@ -4,10 +4,6 @@ use Rattle.trick_cycle.specs.declared.Due.{Due}
 use Rattle.trick_model.specs.Plan.{Plan, job_at}
 use Rattle.trick_model.specs.declared.flags.Flags.{Flags}
 
--- No time is above 10^15 tics.
-abbrev pub last_time : ℕ
-last_time = 10 ^ 15
-
 -- The start, cycle and stop by which a job of class scheduled is due. The flags will choose among
 -- several allowed cycles; a job has one as yet.
 abbrev pub due_of : Plan → Flags → ℕ → Due

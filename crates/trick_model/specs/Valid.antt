@@ -14,7 +14,7 @@ use Rattle.trick_lang.specs.declared.variable.Variable.{Variable}
 use Rattle.trick_model.specs.Names.{Names, deed_of}
 use Rattle.trick_model.specs.Order.{classes, is_of_class, jobs_in}
 use Rattle.trick_model.specs.Plan.{has_job, is_on_scheduled}
-use Rattle.trick_model.specs.Time.{last_time}
+use Rattle.trick_base.specs.Time.{tic_limit}
 use Rattle.trick_model.specs.declared.action.Action.{Action}
 use Rattle.trick_model.specs.declared.depends.Depends.{Depends}
 use Rattle.trick_model.specs.declared.event.Event.{Event}
@@ -87,7 +87,7 @@ ids jobs = map (λ (job : JobId). job.0) jobs
 -- a cycle from 1 tic to the last time
 pub record IsCycle (cycle : ℕ) : Type 0 where
   pub some : 1 ≤ cycle
-  pub in_range : cycle ≤ last_time
+  pub in_range : cycle ≤ tic_limit
 
 -- the frame has from 1 to 10^9 tics
 pub record IsFrame (frame : ℕ) : Type 0 where

@@ -9,7 +9,8 @@ use Rattle.trick_model.specs.Access.{scope}
 use Rattle.trick_model.specs.FaultList.{kept}
 use Rattle.trick_model.specs.Plan.{Plan, jobs_of, threads_beside}
 use Rattle.trick_model.specs.State.{State, nothing_taken}
-use Rattle.trick_model.specs.Time.{last_time, last_turn}
+use Rattle.trick_base.specs.Time.{tic_limit}
+use Rattle.trick_model.specs.Time.{last_turn}
 use Rattle.trick_model.specs.declared.group.Group.{Group}
 use Rattle.trick_model.specs.declared.taken.Taken.{Taken}
 use Rattle.trick_model.specs.declared.thread.Thread.{Thread}
@@ -50,7 +51,7 @@ pub record IsRecord (p : Plan) (thread : Thread) (taken : Taken) : Type 0 where
 -- A fault is of a job of the plan, and its tic is one of a run.
 pub record IsFault (p : Plan) (fault : JobFault) : Type 0 where
   pub job : (fault.job).0 < length p.jobs
-  pub tic : fault.tic ≤ last_time + 1
+  pub tic : fault.tic ≤ tic_limit + 1
 
 -- ---- states
 
@@ -78,8 +79,8 @@ OfThread p P k = (d : Thread) → k < length (threads_beside p) → P (slice_ind
 -- A valid state of a plan.
 pub record IsStateOf (p : Plan) (s : State) : Type 0 where
   pub turn : s.turn ≤ last_turn
-  pub tic : s.tic ≤ last_time + 1
-  pub limit : s.limit ≤ last_time + 1
+  pub tic : s.tic ≤ tic_limit + 1
+  pub limit : s.limit ≤ tic_limit + 1
   -- its lists have one entry per cell, job, event, group and thread
   pub sizes : sizes s ≡ sizes_of p
   pub memory : AreInRange p.scalars s.memory
@@ -95,7 +96,7 @@ pub record IsStateOf (p : Plan) (s : State) : Type 0 where
 pub record IsSound (p : Plan) : Type 0 where
   pub effects : (k cell : ℕ) (memory : List ℤ) (stored : List (Option ℤ)) (n : ℤ) → p.effect k memory ≡ Ok stored
       → slice_index_or stored cell None ≡ Some n → IsInRange p.scalars cell n
-  pub limit : p.limit ≤ last_time + 1
+  pub limit : p.limit ≤ tic_limit + 1
   pub assigns : All (λ (a : Cell × ℤ). IsInRange p.scalars (a.0).0 a.1) p.assigns
   pub jobs_flagged : length p.jobs_on.on ≡ length p.jobs
   pub events_flagged : length p.events_on.on ≡ length p.events

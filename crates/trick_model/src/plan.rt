@@ -2,7 +2,7 @@ ghost use Rattle.std.specs.Prelude.{◌≡◌, ◌+◌, ◌≤◌, All, IsTrue, 
 ghost use Rattle.trick_lang.specs.declared.job.Job.{Job};
 ghost use Rattle.trick_model.specs.Condition.{is_condition_of};
 ghost use Rattle.trick_model.specs.Plan.{has_thread};
-ghost use Rattle.trick_model.specs.Time.{last_time};
+ghost use Rattle.trick_base.specs.Time.{tic_limit};
 ghost use Rattle.trick_model.specs.Valid.{all_differ, AreDoable, AreNumbered, event_names, group_names, ids, IsAssignment, IsCell, IsCycle, IsDoable, IsFrame, IsMainRight, IsPair, is_there, names_in, queues_of, rises, thread_numbers};
 ghost use Rattle.trick_model.specs.declared.event.Event.{Event};
 ghost use Rattle.trick_model.specs.declared.group.Group.{Group};
@@ -54,11 +54,11 @@ pub struct Plan {
     pub ghost queues_right: { map ids queues ≡ queues_of program.jobs },
     // Frame, limit, cycles and tics are in their ranges.
     pub ghost frame_right: { IsFrame frame },
-    pub ghost limit_right: { limit ≤ last_time + 1 },
+    pub ghost limit_right: { limit ≤ tic_limit + 1 },
     pub ghost thread_cycles: { All (λ (thread : Thread). IsCycle thread.cycle) threads },
     pub ghost group_cycles: { All (λ (group : Group). IsCycle group.cycle) groups },
     pub ghost event_cycles: { All (λ (event : Event). IsCycle event.cycle) events },
-    pub ghost read_tics: { All (λ (read : ReadAt). read.tic ≤ last_time) reads },
+    pub ghost read_tics: { All (λ (read : ReadAt). read.tic ≤ tic_limit) reads },
     // No two groups, and no two events, have one name.
     pub ghost groups_differ: { IsTrue (all_differ (group_names groups)) },
     pub ghost events_differ: { IsTrue (all_differ (event_names events)) },

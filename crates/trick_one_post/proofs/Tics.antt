@@ -7,7 +7,7 @@ use Rattle.trick_cycle.specs.Due.{IsDue, is_due_at}
 use Rattle.trick_cycle.specs.declared.Due.{Due}
 use Rattle.trick_lang.specs.declared.job.Job.{Job}
 use Rattle.trick_lang.specs.declared.job.JobId.{JobId}
-use Rattle.trick_model.specs.Time.{last_time}
+use Rattle.trick_base.specs.Time.{tic_limit}
 use Rattle.trick_model.specs.Valid.{ids}
 use Rattle.trick_one_post.proofs.Lists.{any_tic, next_first, no_tic, nothing_left}
 use Rattle.trick_one_post.specs.Calendars.{due_of, line_work}
@@ -82,7 +82,7 @@ work_over pj all tics from next last tells as_many are least past =
 
 -- the work goes on at the next tic
 pub work_next : (pj : List Job) (all : List JobId) (tics : List ℕ) (from next last : ℕ) → Tells → length tics ≡ length all
-    → AreNext pj all tics from 0 (length all) → IsLeast tics next → next ≤ last → last ≤ last_time
+    → AreNext pj all tics from 0 (length all) → IsLeast tics next → next ≤ last → last ≤ tic_limit
     → line_work pj (ids all) (work.Frame from last) ≡ due_of pj (ids all) next ++ line_work pj (ids all) (work.Frame (next + 1) last)
 work_next pj all tics from next last tells as_many are least high range =
     next_first (due_of pj (ids all)) from last next (least_from pj all tics from next as_many are least (omega arith)) high
@@ -90,7 +90,7 @@ work_next pj all tics from next last tells as_many are least high range =
 
 -- ---- whether a job has something to do
 
-pub work_by_next : (d : Due) (first last n : ℕ) → Tells → Shows → IsNext d first n → last ≤ last_time
+pub work_by_next : (d : Due) (first last n : ℕ) → Tells → Shows → IsNext d first n → last ≤ tic_limit
     → nat_le n last ≡ list_any (is_due_at d) (tics_between first last)
 work_by_next d first last n tells shows next range = by_test (nat_le n last) refl
   where

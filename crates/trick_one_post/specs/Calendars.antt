@@ -6,7 +6,7 @@ use Rattle.trick_lang.specs.declared.class.Class.TheVariants as class
 use Rattle.trick_lang.specs.declared.job.Job.{Job}
 use Rattle.trick_model.specs.Order.{jobs_in}
 use Rattle.trick_model.specs.Plan.{Plan, thread_of}
-use Rattle.trick_model.specs.Time.{last_time}
+use Rattle.trick_base.specs.Time.{tic_limit}
 use Rattle.trick_model.specs.declared.plan.Plan.{Plan as PlanValue}
 use Rattle.trick_one_post.specs.declared.calendar.Calendar.{Calendar}
 use Rattle.trick_post.specs.Work.{tics_between}
@@ -34,7 +34,7 @@ has_work jobs work.Round k = true
 
 -- The last tic is one of a run.
 abbrev pub EndsInTime : Job1 → Type 0
-EndsInTime (work.Frame first last) = last ≤ last_time
+EndsInTime (work.Frame first last) = last ≤ tic_limit
 EndsInTime work.Round = Unit {0}
 
 -- The jobs are those of a plan, of class scheduled, and there is room for all of them.

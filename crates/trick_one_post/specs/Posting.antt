@@ -1,12 +1,15 @@
 -- What a value that does the work itself promises.
+use Rattle.std.proofs.Common.{refl, subst, sym, zero-le}
 use Rattle.std.specs.List.{slice_index_or}
-use Rattle.std.specs.Prelude.{◌≡◌, ℕ, List, [], ◌∷◌, ◌++◌, Option, None, map}
+use Rattle.std.specs.Prelude.{◌≡◌, ℕ, suc, cond, List, [], ◌∷◌, ◌++◌, Option, None, map}
 use Rattle.trick_model.specs.declared.plan.Plan.{Plan as PlanValue}
 use Rattle.trick_one_post.specs.Trays.{AreTraysOf, IsWorkerOf, held_in}
 use Rattle.trick_one_post.specs.declared.tray.Tray.{Tray}
 use Rattle.trick_one_post.specs.declared.worker.Worker.{Worker}
-use Rattle.trick_post.specs.Polls.{Poll}
+use Rattle.trick_outside.specs.Causes.{RoseBy}
+use Rattle.trick_post.specs.Polls.{Poll, is_ready, not_ready}
 use Rattle.trick_post.specs.Work.{Started}
+use Rattle.trick_post.specs.declared.posts.Posted.{Posted}
 use Rattle.trick_post.specs.declared.posts.Posted.TheVariants.{Ready}
 
 -- what is started and not finished, by the number of the thread
@@ -27,3 +30,14 @@ AllReady (poll ∷ polls) = (poll.answer ≡ Ready) × AllReady polls
 pub ready_join : (early late : List Poll) → AllReady early → AllReady late → AllReady (early ++ late)
 ready_join [] late ready all = all
 ready_join (poll ∷ polls) late ready all = (ready.0, ready_join polls late ready.1 all)
+
+-- polls that were ready were not late
+pub none_waits : (polls : List Poll) → AllReady polls → not_ready polls ≡ 0
+none_waits [] ready = refl
+none_waits (poll ∷ polls) ready =
+    subst (λ (answer : Posted). cond (is_ready answer) (not_ready polls) (suc (not_ready polls)) ≡ 0) (sym ready.0)
+    (none_waits polls ready.1)
+
+-- so a count that stands at 0 has risen by as many
+pub none_late : (polls : List Poll) → AllReady polls → RoseBy 0 (not_ready polls) 0
+none_late polls ready = subst (λ count. RoseBy 0 count 0) (sym (none_waits polls ready)) zero-le

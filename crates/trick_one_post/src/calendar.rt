@@ -1,7 +1,7 @@
 //! The jobs of a thread, in key order, with the next tic of each.
 
 ghost use Rattle.std.specs.Prelude.{◌≡◌, ◌+◌, ◌<◌, ◌≤◌, IfOk, length};
-ghost use Rattle.trick_model.specs.Time.{last_time};
+ghost use Rattle.trick_base.specs.Time.{tic_limit};
 ghost use Rattle.trick_model.specs.Valid.{ids};
 ghost use Rattle.trick_one_post.specs.Calendars.{IsCalendar, IsSet, due_of};
 ghost use Rattle.trick_queue.specs.Queue.{AreScheduled};
@@ -68,7 +68,7 @@ impl Calendar {
         requires own { IsCalendar plan.now self.old }
         requires set { IsSet plan.now self.old }
         requires from { self.old.from ≤ tic }
-        requires range { tic ≤ last_time }
+        requires range { tic ≤ tic_limit }
         ensures own { IsCalendar plan.now self.new }
         ensures set { IsSet plan.now self.new }
         ensures from { self.new.from ≡ tic + 1 }

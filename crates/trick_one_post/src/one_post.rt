@@ -55,7 +55,7 @@ impl OnePost {
 
 impl Posts for OnePost {
     ghost use Rattle.std.specs.Arc.{arc_value};
-    ghost use Rattle.trick_one_post.specs.Posting.{AllReady, ready_join, started_at};
+    ghost use Rattle.trick_one_post.specs.Posting.{AllReady, none_late, ready_join, started_at};
 
     ghost plan = { λ post. (arc_value post.accepted).plan };
 
@@ -87,4 +87,6 @@ impl Posts for OnePost {
     ghost asked_none = { λ post. tt };
 
     ghost asked_join = { λ first second third early late. ready_join early late };
+
+    ghost asked_late = { λ old new polls ready. none_late polls ready };
 }

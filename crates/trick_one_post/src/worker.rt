@@ -6,7 +6,7 @@ ghost use Rattle.trick_job.specs.Belongs.{AreJobsOf, IsMemoryOf};
 ghost use Rattle.trick_model.specs.Acceptance.{IsAccepted};
 ghost use Rattle.trick_model.specs.FaultList.{with_faults};
 ghost use Rattle.trick_model.specs.PlanOf.{plan_of};
-ghost use Rattle.trick_model.specs.Time.{last_time};
+ghost use Rattle.trick_base.specs.Time.{tic_limit};
 ghost use Rattle.trick_model.specs.Valid.{ids};
 ghost use Rattle.trick_one_post.specs.Calendars.{EndsInTime, IsCalendar, IsSet, line_work};
 ghost use Rattle.trick_one_post.specs.Trays.{AreSet, AreThere, HasRun, IsLaidOut, IsTrayOf, IsWorkerOf, held_in};
@@ -85,7 +85,7 @@ impl Worker {
         requires bench { IsFor plan.now.program self.old.bench.parts }
         requires calendar { IsCalendar plan.now calendar.old }
         requires set { IsSet plan.now calendar.old }
-        requires last { last ≤ last_time }
+        requires last { last ≤ tic_limit }
         requires memory { IsMemoryOf plan.now.program self.old.scratch.numbers self.old.scratch.scalars }
         ensures ran { HasRun plan.now tic
             (line_work plan.now.program.jobs (ids calendar.old.jobs) (work.Frame calendar.old.from last))

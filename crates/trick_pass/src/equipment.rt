@@ -3,7 +3,7 @@
 ghost use Rattle.std.specs.Prelude.{◌≡◌, ◌+◌, ◌≤◌, IfOk};
 ghost use Rattle.trick_eval.specs.Bench.{IsFor};
 ghost use Rattle.trick_model.specs.State.{seen};
-ghost use Rattle.trick_model.specs.Time.{last_time};
+ghost use Rattle.trick_base.specs.Time.{tic_limit};
 ghost use Rattle.trick_tic.specs.Course.{IsCourseOf};
 
 use std::alloc::{AllocError, Global};
@@ -22,7 +22,7 @@ pub struct Equipment {
 impl Equipment {
     /// That of a run of a plan that goes on from a state.
     pub fn new<M: Cells>(alloc: Global, plan: &Plan, state: &State<M>) -> Result<Self, AllocError>
-        requires { state.now.tic ≤ last_time + 1 }
+        requires { state.now.tic ≤ tic_limit + 1 }
         ensures course { IfOk result (λ equipment. IsCourseOf plan.now equipment.course (seen M.numbers state.now)) }
         ensures bench { IfOk result (λ equipment. IsFor plan.now.program equipment.bench.parts) }
     {

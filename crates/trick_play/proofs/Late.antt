@@ -5,7 +5,7 @@ use Rattle.trick_cycle.specs.declared.Due.{Due}
 use Rattle.trick_lang.specs.declared.job.JobId.{JobId}
 use Rattle.trick_model.specs.Order.{jobs_at}
 use Rattle.trick_model.specs.PlanOf.{plan_of}
-use Rattle.trick_model.specs.Time.{last_time}
+use Rattle.trick_base.specs.Time.{tic_limit}
 use Rattle.trick_model.specs.Valid.{ids}
 use Rattle.trick_model.specs.declared.flags.Flags.{Flags}
 use Rattle.trick_model.specs.declared.plan.Plan.{Plan as PlanValue}
@@ -25,7 +25,7 @@ numbers_of_them [] = refl
 numbers_of_them (k ∷ ks) = ap (λ (l : List ℕ). k ∷ l) (numbers_of_them ks)
 
 -- behind the last time no job is due
-pub none_due : (plan : PlanValue) (on : Flags) (tic : ℕ) → ((d : Due) (t : ℕ) → IsTrue (is_due_at d t) → IsDue d t) → last_time < tic
+pub none_due : (plan : PlanValue) (on : Flags) (tic : ℕ) → ((d : Due) (t : ℕ) → IsTrue (is_due_at d t) → IsDue d t) → tic_limit < tic
     → jobs_at (plan_of plan) on tic ≡ []
 none_due plan on tic tells late =
     let p = plan_of plan in

@@ -13,7 +13,7 @@ ghost use Rattle.trick_schedule.specs.Tics.{tic_of};
 use crate::steps::{commit_job, take_job, thread_at};
 use std::alloc::{AllocError, Global};
 use trick_board::{Board, Closed};
-use trick_cycle::MAX_TICS;
+use trick_base::TIC_LIMIT;
 use trick_cycle::laws::due_test_is_exact;
 use trick_eval::Bench;
 use trick_lang::laws::{frame_law, write_law};
@@ -43,7 +43,7 @@ fn due_jobs(alloc: Global, plan: &Plan, tic: u64) -> Result<Vec<JobId>, AllocErr
 {
     due_test_is_exact();
     let mut due = Vec::new(alloc);
-    if tic > MAX_TICS {
+    if tic > TIC_LIMIT {
         return Ok(due);
     }
     let mut queues = Queues::new(alloc, plan, tic)?;

@@ -5,7 +5,7 @@ use Rattle.trick_model.specs.Access.{may_write, scope}
 use Rattle.trick_model.specs.Order.{in_key_order, is_due}
 use Rattle.trick_model.specs.Plan.{Plan, jobs_of, threads_beside}
 use Rattle.trick_model.specs.Running.{After, after_jobs}
-use Rattle.trick_model.specs.Time.{last_time}
+use Rattle.trick_base.specs.Time.{tic_limit}
 use Rattle.trick_model.specs.ValidState.{IsRecord}
 use Rattle.trick_model.specs.declared.taken.Taken.{Taken}
 use Rattle.trick_model.specs.declared.thread.Process.TheVariants as process
@@ -37,7 +37,7 @@ thread_at p number = found_or_none (find_thread number (threads_beside p))
 -- Must-finish threads work tics, and asynchronous threads a round.
 abbrev pub IsKindOf : Process → Job1 → Type 0
 IsKindOf process.Scheduled w = ⊥
-IsKindOf process.MustFinish (work.Frame first last) = last ≤ last_time
+IsKindOf process.MustFinish (work.Frame first last) = last ≤ tic_limit
 IsKindOf process.MustFinish work.Round = ⊥
 IsKindOf process.Async (work.Frame first last) = ⊥
 IsKindOf process.Async work.Round = Unit {0}

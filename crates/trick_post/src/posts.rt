@@ -2,10 +2,10 @@ ghost use Rattle.std.specs.Prelude.{◌≡◌, ◌≢◌, ℕ, ◌+◌, ◌≤�
 ghost use Rattle.trick_job.specs.Belongs.{IsMemoryOf};
 ghost use Rattle.trick_model.specs.FaultList.{with_faults};
 ghost use Rattle.trick_model.specs.PlanOf.{plan_of};
-ghost use Rattle.trick_model.specs.Time.{last_time};
+ghost use Rattle.trick_base.specs.Time.{tic_limit};
 ghost use Rattle.trick_model.specs.declared.plan.Plan.{Plan};
-ghost use Rattle.trick_outside.specs.Causes.{Rose};
-ghost use Rattle.trick_post.specs.Polls.{Poll};
+ghost use Rattle.trick_outside.specs.Causes.{Rose, RoseBy};
+ghost use Rattle.trick_post.specs.Polls.{Poll, not_ready};
 ghost use Rattle.trick_post.specs.Work.{CanStart, finished, Started};
 
 use trick_lang::Cells;
@@ -72,7 +72,7 @@ pub trait Posts {
     fn finish<M: Cells>(&mut self, thread: u8, memory: &mut M, faults: &mut Faults, tic: u64)
         requires started { IsSome (in_flight self.old thread) }
         requires memory { IsMemoryOf (plan self.old).program (M.numbers memory.old) (M.scalars memory.old) }
-        requires tic { tic ≤ last_time + 1 }
+        requires tic { tic ≤ tic_limit + 1 }
         ensures memory { M.numbers memory.new
             ≡ (finished (plan_of (plan self.old)) thread (in_flight self.old thread) tic (M.numbers memory.old)).memory }
         ensures scalars { M.scalars memory.new ≡ M.scalars memory.old }
@@ -91,4 +91,8 @@ pub trait Posts {
     /// Steps join.
     ghost asked_join: { (first second third : Self) (early late : List Poll)
         → asked first early second → asked second late third → asked first (early ++ late) third };
+
+    /// `late` has risen by one at least for each poll that found nothing ready.
+    ghost asked_late: { (old new : Self) (polls : List Poll)
+        → asked old polls new → RoseBy (lateness old) (not_ready polls) (lateness new) };
 }

@@ -8,14 +8,14 @@ use Rattle.trick_cycle.specs.Due.{IsDue, is_due_at}
 use Rattle.trick_cycle.specs.declared.Due.{Due}
 use Rattle.trick_lang.specs.declared.job.Job.{Job}
 use Rattle.trick_lang.specs.declared.job.JobId.{JobId}
-use Rattle.trick_model.specs.Time.{last_time}
+use Rattle.trick_base.specs.Time.{tic_limit}
 use Rattle.trick_model.specs.Valid.{ids}
 use Rattle.trick_queue.proofs.Queued.{ids_at, ids_length, ids_more}
 use Rattle.trick_queue.proofs.Trees.{below_or, same_or}
 use Rattle.trick_queue.specs.Queue.{AreKnown, AreNext, IsKnown, IsNext, IsPassed, id_at, no_id, times_at}
 use Rattle.trick_queue.specs.Tree.{AreLater, IsFirst, never}
 
-next_later : (d : Due) (tic n : ℕ) → tic ≤ last_time → IsNext d (tic + 1) n → tic < n
+next_later : (d : Due) (tic n : ℕ) → tic ≤ tic_limit → IsNext d (tic + 1) n → tic < n
 next_later d tic n in_range next = elim (next.due) [ inl e ↦ omega arith | inr h ↦ let le : tic + 1 ≤ n = h.0 in omega arith ]
 
 ids_get : (all : List JobId) (place : ℕ) → place < length all → get_or (ids all) place 0 ≡ id_at all place
@@ -86,7 +86,7 @@ one_more : (due : List JobId) (job : JobId) (b : Bool) (n : ℕ) → length due 
 one_more due job true n few = omega (arith, length-append due (job ∷ []))
 one_more due job false n few = omega (arith, length-append {A = JobId} due [])
 
-pub passing_more : (pj : List Job) (jobs : List JobId) (tics : List ℕ) (tic passed place t : ℕ) (due : List JobId) (job : JobId) → tic ≤ last_time
+pub passing_more : (pj : List Job) (jobs : List JobId) (tics : List ℕ) (tic passed place t : ℕ) (due : List JobId) (job : JobId) → tic ≤ tic_limit
     → IsPassing pj jobs tics tic passed due → IsFirst tics tic place → job.0 ≡ id_at jobs place → IsNext (times_at pj job.0) (tic + 1) t
     → IsPassing pj jobs (set tics place t) tic (place + 1) (due ++ cond (is_due_at (times_at pj job.0) tic) (job ∷ []) [])
 passing_more pj jobs tics tic passed place t due job in_range p first is next =

@@ -3,7 +3,7 @@ ghost use Rattle.trick_cycle.specs.Due.{IsInRange, is_due_at};
 ghost use Rattle.trick_cycle.specs.Least.{FindsLeast};
 ghost use Rattle.trick_model.specs.Order.{jobs_at};
 ghost use Rattle.trick_model.specs.PlanOf.{plan_of};
-ghost use Rattle.trick_model.specs.Time.{last_time};
+ghost use Rattle.trick_base.specs.Time.{tic_limit};
 ghost use Rattle.trick_model.specs.Valid.{ids};
 ghost use Rattle.trick_model.specs.declared.flags.Flags.{Flags};
 ghost use Rattle.trick_model.specs.declared.plan.Plan.{Plan as PlanValue};
@@ -89,7 +89,7 @@ pub fn pass(plan: &Plan, jobs: &[JobId], tic: u64, tics: &mut Tics, due: &mut Ve
     requires known { AreKnown plan.now.program.jobs jobs.now tics.old tic 0 (length jobs.now) }
     requires empty { due.old.items ≡ [] }
     requires room { length jobs.now ≤ vec_capacity due.old }
-    requires tic { tic ≤ last_time }
+    requires tic { tic ≤ tic_limit }
     ensures passed { IsPassed plan.now.program.jobs jobs.now tics.new tic due.new.items }
     ensures capacity { vec_capacity due.new ≡ vec_capacity due.old }
 {
@@ -133,7 +133,7 @@ impl Queues {
     pub fn ask(&mut self, plan: &Plan, tic: u64)
         requires own { IsFor plan.now self.old }
         requires tic { CanAsk self.old tic }
-        requires range { tic ≤ last_time }
+        requires range { tic ≤ tic_limit }
         ensures own { IsFor plan.now self.new }
         ensures from { self.new.from ≡ tic + 1 }
         ensures asked { self.new.asked ≡ Some tic }

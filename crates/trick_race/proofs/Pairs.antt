@@ -7,7 +7,8 @@ use Rattle.trick_cycle.specs.Least.{IsLeast}
 use Rattle.trick_cycle.specs.Shared.{Covers, IsShared}
 use Rattle.trick_cycle.specs.declared.Due.{Due}
 use Rattle.trick_lang.proofs.Tests.{both_left, both_right}
-use Rattle.trick_lang.specs.Valid.{has_right_times, is_scheduled_right, last_tic}
+use Rattle.trick_base.specs.Time.{tic_limit}
+use Rattle.trick_lang.specs.Valid.{has_right_times, is_scheduled_right}
 use Rattle.trick_lang.specs.declared.class.Class.{Class}
 use Rattle.trick_lang.specs.declared.class.Class.TheVariants as class
 use Rattle.trick_lang.specs.declared.job.Job.{Job}
@@ -54,12 +55,12 @@ due_in_range plan flags k racer =
     let right = scheduled_times job.class job racer.scheduled
     (all_at (λ job. has_right_times job.class job) jobs k plan.program.right_times racer.there) in
     let rest = both_right (nat_le 1 job.cycle) _ right in
-    let times = both_right (nat_le job.cycle last_tic) _ rest in
+    let times = both_right (nat_le job.cycle tic_limit) _ rest in
     record {
       cycle_positive = le_of _ _ (both_left (nat_le 1 job.cycle) _ right);
-      start_in_range = le_of _ _ (both_left (nat_le job.start last_tic) _ times);
-      cycle_in_range = le_of _ _ (both_left (nat_le job.cycle last_tic) _ rest);
-      stop_in_range = le_of _ _ (both_right (nat_le job.start last_tic) _ times);
+      start_in_range = le_of _ _ (both_left (nat_le job.start tic_limit) _ times);
+      cycle_in_range = le_of _ _ (both_left (nat_le job.cycle tic_limit) _ rest);
+      stop_in_range = le_of _ _ (both_right (nat_le job.start tic_limit) _ times);
     }
 
 -- ---- what two jobs may read and write

@@ -27,7 +27,8 @@ use Rattle.trick_model.specs.FaultList.{FaultList, kept}
 use Rattle.trick_model.specs.Plan.{jobs_of, threads_beside}
 use Rattle.trick_model.specs.PlanOf.{event_of, plan_of}
 use Rattle.trick_model.specs.State.{State, nothing_taken}
-use Rattle.trick_model.specs.Time.{last_time, last_turn}
+use Rattle.trick_base.specs.Time.{tic_limit}
+use Rattle.trick_model.specs.Time.{last_turn}
 use Rattle.trick_model.specs.ValidState.{AreInRange, AreNumbersOf, IsFault, IsLastRow, IsRecord, IsStateOf, cell_numbers, sizes, sizes_of}
 use Rattle.trick_model.specs.declared.flags.Flags.{Flags}
 use Rattle.trick_model.specs.declared.group.Group.{Group}
@@ -287,9 +288,9 @@ states_have_checkpoints plan s right numbers =
         (
           number_holds (codes "turn") 0 last_turn s.turn (least s.turn) right.turn,
           (
-            number_holds (codes "tic") 0 (last_time + 1) s.tic (least s.tic) right.tic,
+            number_holds (codes "tic") 0 (tic_limit + 1) s.tic (least s.tic) right.tic,
             (
-              number_holds (codes "limit") 0 (last_time + 1) s.limit (least s.limit) right.limit,
+              number_holds (codes "limit") 0 (tic_limit + 1) s.limit (least s.limit) right.limit,
               mode_holds s.mode,
             ),
           ),

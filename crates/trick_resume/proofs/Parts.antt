@@ -17,7 +17,7 @@ use Rattle.trick_model.specs.FaultList.{FaultList, kept}
 use Rattle.trick_model.specs.Plan.{jobs_of}
 use Rattle.trick_model.specs.PlanOf.{plan_of}
 use Rattle.trick_model.specs.State.{nothing_taken}
-use Rattle.trick_model.specs.Time.{last_time}
+use Rattle.trick_base.specs.Time.{tic_limit}
 use Rattle.trick_model.specs.ValidState.{AreNumbersOf, IsFault, IsLastRow, IsRecord, cell_numbers}
 use Rattle.trick_model.specs.declared.flags.Flags.{Flags}
 use Rattle.trick_model.specs.declared.group.Group.{Group}

@@ -17,8 +17,8 @@ use Rattle.trick_model.specs.declared.entry.Entry.{Entry}
 use Rattle.trick_model.specs.declared.entry.Entry.TheVariants.{Publish}
 use Rattle.trick_model.specs.declared.plan.Plan.{Plan as PlanValue}
 use Rattle.trick_model.specs.declared.thread.Thread.{Thread}
-use Rattle.trick_post.specs.Polls.{Poll}
-use Rattle.trick_run_facts.specs.Counted.{is_ready, left_among, left_by, left_in, not_ready}
+use Rattle.trick_post.specs.Polls.{Poll, is_ready, not_ready}
+use Rattle.trick_run_facts.specs.Counted.{left_among, left_by, left_in}
 use Rattle.trick_runs.specs.Rounds.{AreChosen, Chooses, IsChosen, heard_state, idle, is_publication_of, is_published, no_turn, none, not_yet, one_more, publications, ready, unasked}
 
 -- ---- threads of other numbers

@@ -1,5 +1,5 @@
 -- How often rounds of asynchronous threads stay unpublished.
-use Rattle.std.specs.Prelude.{◌≡◌, ◌+◌, ℕ, suc, Bool, true, false, cond, ◌&&◌, not, List, [], ◌∷◌}
+use Rattle.std.specs.Prelude.{◌≡◌, ◌+◌, ℕ, suc, Bool, cond, ◌&&◌, not, List, [], ◌∷◌}
 use Rattle.trick_model.specs.Beside.{has_round}
 use Rattle.trick_model.specs.Plan.{Plan, threads_beside}
 use Rattle.trick_model.specs.PlanOf.{plan_of}
@@ -8,9 +8,7 @@ use Rattle.trick_model.specs.Turn.{runs, turn}
 use Rattle.trick_model.specs.declared.entry.Entry.{Entry}
 use Rattle.trick_model.specs.declared.plan.Plan.{Plan as PlanValue}
 use Rattle.trick_model.specs.declared.thread.Thread.{Thread}
-use Rattle.trick_post.specs.Polls.{Poll}
-use Rattle.trick_post.specs.declared.posts.Posted.{Posted}
-use Rattle.trick_post.specs.declared.posts.Posted.TheVariants.{Ready, NotYet}
+use Rattle.trick_post.specs.Polls.{Poll, not_ready}
 use Rattle.trick_runs.specs.Rounds.{AreChosen, heard_state, is_published, publications}
 
 -- Of these threads, how many have a round in flight that no entry publishes; `place` is that of the first.
@@ -29,16 +27,6 @@ left_in p w entries =
 abbrev pub left_by : Plan → World → List (List Entry) → ℕ
 left_by p w [] = 0
 left_by p w (entries ∷ lists) = left_in p w entries + left_by p (turn p w entries).world lists
-
--- a poll found the round ready
-abbrev pub is_ready : Posted → Bool
-is_ready Ready = true
-is_ready NotYet = false
-
--- how many of these polls did not
-abbrev pub not_ready : List Poll → ℕ
-not_ready [] = 0
-not_ready (poll ∷ polls) = cond (is_ready poll.answer) (not_ready polls) (suc (not_ready polls))
 
 -- Turns whose publications were chosen by polls leave as many rounds unpublished as polls found not ready.
 abbrev pub LeftAreNotReady : Type 0

@@ -1,7 +1,7 @@
 //! Every schedule of a tic, and lists of steps that are none, played from a memory of zeros on.
 
 ghost use Rattle.std.specs.Prelude.{◌≤◌};
-ghost use Rattle.trick_model.specs.Time.{last_time};
+ghost use Rattle.trick_base.specs.Time.{tic_limit};
 
 use crate::models::{A_LAST, A_OFF, A_THEN_E_THEN_F, B_AFTER_A, FALLING, SIX, THREE};
 use crate::told::{Texts, plan_of, told};
@@ -117,7 +117,7 @@ fn folded<P: Phases<Memory>>(
     tic: u64,
 ) -> Result<String, AllocError>
     requires own { P.is_for phases.old accepted.now.plan }
-    requires tic { tic ≤ last_time }
+    requires tic { tic ≤ tic_limit }
 {
     let plan = accepted.plan();
     let mut faults = Faults::new(alloc)?;
@@ -137,7 +137,7 @@ fn is_folded<P: Phases<Memory>>(
     outcome: &str,
 ) -> Result<bool, AllocError>
     requires own { P.is_for phases.old accepted.now.plan }
-    requires tic { tic ≤ last_time }
+    requires tic { tic ≤ tic_limit }
 {
     let got = folded(alloc, accepted, phases, tic)?;
     Ok(got.as_str() == outcome)
@@ -150,7 +150,7 @@ fn is_of_one_phase(
     tic: u64,
     outcome: &str,
 ) -> Result<bool, AllocError>
-    requires { tic ≤ last_time }
+    requires { tic ≤ tic_limit }
 {
     let mut phases = OnePhase::new(alloc, accepted)?;
     is_folded(alloc, accepted, &mut phases, tic, outcome)
@@ -163,7 +163,7 @@ fn is_of_one_bench(
     tic: u64,
     outcome: &str,
 ) -> Result<bool, AllocError>
-    requires { tic ≤ last_time }
+    requires { tic ≤ tic_limit }
 {
     let mut phases = Single::new(alloc, accepted)?;
     is_folded(alloc, accepted, &mut phases, tic, outcome)
@@ -201,7 +201,7 @@ fn count_of_all(
     due: Due,
     outcome: &str,
 ) -> Result<u32, Fail>
-    requires { tic ≤ last_time }
+    requires { tic ≤ tic_limit }
 {
     if !is_of_one_phase(alloc, accepted, tic, outcome)? {
         return Ok(0);
@@ -214,7 +214,7 @@ fn count_of_all(
 
 /// The same for the plan of two texts.
 fn count_of(alloc: Global, texts: Texts, tic: u64, due: Due, outcome: &str) -> Result<u32, Fail>
-    requires { tic ≤ last_time }
+    requires { tic ≤ tic_limit }
 {
     let accepted = plan_of(alloc, texts)?;
     count_of_all(alloc, &accepted, tic, due, outcome)

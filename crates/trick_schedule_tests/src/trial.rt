@@ -1,7 +1,7 @@
 //! A board with two benches, and what its calls answer.
 
 ghost use Rattle.std.specs.Prelude.{◌≤◌, IfOk};
-ghost use Rattle.trick_model.specs.Time.{last_time};
+ghost use Rattle.trick_base.specs.Time.{tic_limit};
 ghost use Rattle.trick_schedule_tests.specs.Trial.{IsTrial};
 
 use crate::told::{Texts, plan_of, told};
@@ -42,7 +42,7 @@ impl Trial {
 
     fn open(&mut self, alloc: Global, accepted: &Accepted, tic: u64) -> Result<String, AllocError>
         requires right { IsTrial accepted.now.plan self.old.board self.old.is_open self.old.bench self.old.other }
-        requires tic { tic ≤ last_time }
+        requires tic { tic ≤ tic_limit }
         ensures { IsTrial accepted.now.plan self.new.board self.new.is_open self.new.bench self.new.other }
     {
         if self.is_open {

@@ -37,7 +37,7 @@ use Rattle.trick_lang.specs.SyntaxTree as tree
 use Rattle.trick_lang.specs.declared.class.Class.TheVariants as class
 use Rattle.trick_lang.specs.declared.scalar.Scalar.TheVariants as scalar
 use Rattle.trick_sdef.specs.Read.{AreRead, IsFile, at, declarator, item, job, members, method, scheduled_job, times}
-use Rattle.trick_text.specs.Seconds.{tic_limit}
+use Rattle.trick_base.specs.Time.{tic_limit}
 use Rattle.trick_text.specs.declared.token.TokenKind.TheVariants as kind
 use Rattle.trick_text.specs.declared.token.TokenKind.TheVariants.{Whole, Decimal, Text, Mark}
 

@@ -13,7 +13,7 @@ use Rattle.trick_lang.specs.declared.class.Class.TheVariants as class
 use Rattle.trick_lang.specs.declared.scalar.Scalar.TheVariants as scalar
 use Rattle.trick_sdef.specs.Files.{file}
 use Rattle.trick_sdef.specs.Jobs.{Times}
-use Rattle.trick_text.specs.Seconds.{tic_limit}
+use Rattle.trick_base.specs.Time.{tic_limit}
 use Rattle.trick_text.specs.Tokens.{spelling}
 use Rattle.trick_text.specs.declared.token.Token.{Token}
 use Rattle.trick_text.specs.declared.token.TokenKind.{TokenKind}

@@ -13,7 +13,7 @@ use trick_body::{NAMES, Source, Symbol, Token, name_of};
 use trick_grammar::{Refusal, Stop, next_is, next_is_one_of, reason_at, take, take_one_of};
 use trick_lang::Class;
 use trick_lang::syntax::JobLine;
-use trick_text::TIC_LIMIT;
+use trick_base::TIC_LIMIT;
 
 // The classes other than that of scheduled jobs.
 const OTHER_CLASSES: [Symbol; 9] = [

@@ -15,7 +15,7 @@ use Rattle.trick_grammar.specs.Gives.{class_of}
 use Rattle.trick_lang.specs.Names.{is_short}
 use Rattle.trick_lang.specs.Syntax.{sdefine_of}
 use Rattle.trick_lang.specs.SyntaxTree.{EnumItem, JobLine, Members, Name}
-use Rattle.trick_lang.specs.Valid.{last_tic}
+use Rattle.trick_base.specs.Time.{tic_limit}
 use Rattle.trick_sdef.specs.Answers.{file}
 use Rattle.trick_sdef.specs.Jobs.{Times, cycle_body, every, every_body, job, job_body, job_of, job_class_of, other_class_body, other_classes, phase, phase_body, phase_of, positive_times, span, span_of, thread_of, time_body, timed, timed_body, times_body, unscheduled}
 use Rattle.trick_sdef.specs.Members as members
@@ -30,7 +30,7 @@ use Rattle.trick_sdef_facts.specs.Facts.{EachPasses, are_right_lengths, has_no_t
 use Rattle.trick_sdef_facts.specs.Leaves.{Leaves, anything, file_passes}
 use Rattle.trick_text.specs.Numbers.{whole_limit}
 use Rattle.trick_text.specs.Pieces.{is_in_name}
-use Rattle.trick_text.specs.Seconds.{tic_limit}
+use Rattle.trick_base.specs.Time.{tic_limit}
 use Rattle.trick_text.specs.Tokens.{IsCut}
 use Rattle.trick_text.specs.declared.token.Style.TheVariants as style
 
@@ -295,7 +295,7 @@ module _ (text : List ℕ) where
   times_right x (inr (v, (cycle, (start_stop, class)), is)) =
       let c = every_right v.0 cycle in
       let s = span_right v.1.0 start_stop in
-      subst times_pass is (λ thread phase u. rw (le-leb 1 v.0 c.0, le-leb v.0 last_tic c.1, le-leb v.1.0.0 last_tic s.0, le-leb v.1.0.1 last_tic s.1) refl)
+      subst times_pass is (λ thread phase u. rw (le-leb 1 v.0 c.0, le-leb v.0 tic_limit c.1, le-leb v.1.0.0 tic_limit s.0, le-leb v.1.0.1 tic_limit s.1) refl)
 
   job_times_right : (j : JobLine) → Gives text (job text) j → has_right_times j.class j ≡ true
   unfolding Yields job_body

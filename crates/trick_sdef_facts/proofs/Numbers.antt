@@ -18,7 +18,8 @@ use Rattle.trick_sdef_facts.proofs.Words.{tics_are_few}
 use Rattle.trick_text.proofs.Fronts.{whole_is_small}
 use Rattle.trick_text.specs.Numbers.{is_plain_number, plain_number, whole_limit, whole_value}
 use Rattle.trick_text.specs.Pieces.{front}
-use Rattle.trick_text.specs.Seconds.{seconds_of, tic_limit}
+use Rattle.trick_base.specs.Time.{tic_limit}
+use Rattle.trick_text.specs.Seconds.{seconds_of}
 use Rattle.trick_text.specs.Tokens.{IsToken, spelling}
 use Rattle.trick_text.specs.Values as values
 use Rattle.trick_text.specs.Values.{number_or_0, tics_or_0}

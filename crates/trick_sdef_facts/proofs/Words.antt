@@ -8,7 +8,8 @@ use Rattle.std.specs.Char.{is_ascii_digit}
 use Rattle.std.specs.List.{list_all, prefix_len}
 use Rattle.std.specs.Prelude.{codes, ◌==◌}
 use Rattle.trick_text.specs.Pieces.{begins, is_white, is_in_line, begins_line_comment, begins_block_comment, block_comment, before_close, begins_name, is_in_name, name_front, begins_number, number_front, is_quote, is_in_text, text_front, begins_mark, front, whole_front, decimal_front, hexadecimal_digits, mark_len}
-use Rattle.trick_text.specs.Seconds.{seconds_of, tic_limit, time_answer, numerator, places}
+use Rattle.trick_base.specs.Time.{tic_limit}
+use Rattle.trick_text.specs.Seconds.{seconds_of, time_answer, numerator, places}
 use Rattle.trick_text.specs.declared.fault.TimeFault.{TimeFault}
 use Rattle.trick_text.specs.declared.fault.TimeFault.TheVariants.{InexactTime, TimeTooLarge}
 use Rattle.trick_text.specs.declared.piece.Piece.{Piece}

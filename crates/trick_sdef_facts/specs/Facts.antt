@@ -6,7 +6,7 @@ use Rattle.trick_lang.specs.Names.{is_short}
 use Rattle.trick_lang.specs.Syntax.{sdefine_of}
 use Rattle.trick_lang.specs.SyntaxTree.{JobLine, Name}
 use Rattle.trick_lang.specs.SyntaxTree as tree
-use Rattle.trick_lang.specs.Valid.{last_tic}
+use Rattle.trick_base.specs.Time.{tic_limit}
 use Rattle.trick_lang.specs.declared.class.Class.{Class}
 use Rattle.trick_lang.specs.declared.class.Class.TheVariants.{DefaultData, Initialization, Scheduled, TopOfFrame, EndOfFrame, Freeze, Unfreeze, Checkpoint, Restart, Shutdown}
 use Rattle.trick_lang.specs.declared.syntax.definition.SDefine.{SDefine}
@@ -92,7 +92,7 @@ have_right_values = file_passes (record anything { item = λ i. is_right_value i
 -- a scheduled job has a cycle from 1, and times up to the last tic
 abbrev pub is_scheduled_right : JobLine → Bool
 is_scheduled_right j =
-    nat_le 1 j.cycle && (nat_le j.cycle last_tic && (nat_le j.start last_tic && nat_le j.stop last_tic))
+    nat_le 1 j.cycle && (nat_le j.cycle tic_limit && (nat_le j.start tic_limit && nat_le j.stop tic_limit))
 
 -- a job of another class has no times
 abbrev pub has_no_times : JobLine → Bool

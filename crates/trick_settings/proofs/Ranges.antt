@@ -5,7 +5,7 @@ use Rattle.std.specs.Option.{ForSome}
 use Rattle.trick_input.specs.declared.call.Call.{Call}
 use Rattle.trick_input.specs.declared.call.Form.{Form}
 use Rattle.trick_input.specs.declared.call.Form.TheVariants as form
-use Rattle.trick_model.specs.Time.{last_time}
+use Rattle.trick_base.specs.Time.{tic_limit}
 use Rattle.trick_model.specs.Valid.{IsCycle, IsFrame}
 use Rattle.trick_settings.proofs.Lists.{Each, each_all}
 use Rattle.trick_settings.specs.Settings.{cycle_said, frame_of, frame_said, is_frame, later, latest, limit_of, limit_said, setting_of, settings_below, settings_by_number}
@@ -67,31 +67,31 @@ frame_right calls =
     or_else IsFrame (latest frame_said None calls) 1000000 (latest_there IsFrame frame_said frame_fits None tt calls) (record { some = omega arith; in_range = omega arith })
 
 abbrev IsLimit : ℕ → Type 0
-IsLimit limit = limit ≤ last_time + 1
+IsLimit limit = limit ≤ tic_limit + 1
 
 limit_fits : (f : Form) → IfThere IsLimit (limit_said f)
-limit_fits (form.Stop (Ok tics)) = by (nat_le tics last_time) refl
+limit_fits (form.Stop (Ok tics)) = by (nat_le tics tic_limit) refl
   where
-    by : (b : Bool) → nat_le tics last_time ≡ b → IfThere IsLimit (let none : Option ℕ = None in if b then Some (tics + 1) else none)
-    by true e = let few = at_most tics last_time e in omega (arith, few)
+    by : (b : Bool) → nat_le tics tic_limit ≡ b → IfThere IsLimit (let none : Option ℕ = None in if b then Some (tics + 1) else none)
+    by true e = let few = at_most tics tic_limit e in omega (arith, few)
     by false e = tt
 limit_fits other = tt
 
-pub limit_right : (calls : List Call) → limit_of calls ≤ last_time + 1
+pub limit_right : (calls : List Call) → limit_of calls ≤ tic_limit + 1
 limit_right calls =
-    or_else IsLimit (latest limit_said None calls) (last_time + 1) (latest_there IsLimit limit_said limit_fits None tt calls) (omega arith)
+    or_else IsLimit (latest limit_said None calls) (tic_limit + 1) (latest_there IsLimit limit_said limit_fits None tt calls) (omega arith)
 
 -- ---- threads
 
 cycle_fits : (number : ℕ) (f : Form) → IfThere IsCycle (cycle_said number f)
-cycle_fits number (form.AmfCycle thread (Ok tics)) = by ((thread == number) && (nat_lt 0 tics && nat_le tics last_time)) refl
+cycle_fits number (form.AmfCycle thread (Ok tics)) = by ((thread == number) && (nat_lt 0 tics && nat_le tics tic_limit)) refl
   where
-    by : (b : Bool) → ((thread == number) && (nat_lt 0 tics && nat_le tics last_time)) ≡ b → IfThere IsCycle (let none : Option ℕ = None in if b then Some tics else none)
+    by : (b : Bool) → ((thread == number) && (nat_lt 0 tics && nat_le tics tic_limit)) ≡ b → IfThere IsCycle (let none : Option ℕ = None in if b then Some tics else none)
     by true e =
-        let parts = and_parts (thread == number) (nat_lt 0 tics && nat_le tics last_time) e in
-        let rest = and_parts (nat_lt 0 tics) (nat_le tics last_time) parts.1 in
+        let parts = and_parts (thread == number) (nat_lt 0 tics && nat_le tics tic_limit) e in
+        let rest = and_parts (nat_lt 0 tics) (nat_le tics tic_limit) parts.1 in
         let some = less 0 tics rest.0 in
-        let few = at_most tics last_time rest.1 in
+        let few = at_most tics tic_limit rest.1 in
         record { some = omega (arith, some); in_range = few }
     by false e = tt
 cycle_fits number other = tt

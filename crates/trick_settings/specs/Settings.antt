@@ -5,7 +5,7 @@ use Rattle.trick_input.specs.declared.call.Call.{Call}
 use Rattle.trick_input.specs.declared.call.Form.{Form}
 use Rattle.trick_input.specs.declared.call.Form.TheVariants as form
 use Rattle.trick_lang.specs.declared.job.Job.{Job}
-use Rattle.trick_model.specs.Time.{last_time}
+use Rattle.trick_base.specs.Time.{tic_limit}
 use Rattle.trick_model.specs.declared.thread.Process.{Process}
 use Rattle.trick_settings.specs.declared.settings.Settings.{Settings}
 use Rattle.trick_threads.specs.Threads.{threads_of}
@@ -35,7 +35,7 @@ frame_said other = None
 
 -- the last tic is run
 abbrev pub limit_said : Form → Option ℕ
-limit_said (form.Stop (Ok tics)) = if nat_le tics last_time then Some (tics + 1) else None
+limit_said (form.Stop (Ok tics)) = if nat_le tics tic_limit then Some (tics + 1) else None
 limit_said other = None
 
 abbrev pub frozen_said : Form → Option Bool
@@ -48,7 +48,7 @@ frame_of calls = unwrap_or (latest frame_said None calls) 1000000
 
 -- The first tic that is not run is 10^15 + 1 where no line says otherwise.
 abbrev pub limit_of : List Call → ℕ
-limit_of calls = unwrap_or (latest limit_said None calls) (last_time + 1)
+limit_of calls = unwrap_or (latest limit_said None calls) (tic_limit + 1)
 
 abbrev pub frozen_of : List Call → Bool
 frozen_of calls = unwrap_or (latest frozen_said None calls) false
@@ -62,7 +62,7 @@ process_said number other = None
 -- a cycle has a tic at least
 abbrev pub cycle_said : ℕ → Form → Option ℕ
 cycle_said number (form.AmfCycle thread (Ok tics)) =
-    if (thread == number) && (nat_lt 0 tics && nat_le tics last_time) then Some tics else None
+    if (thread == number) && (nat_lt 0 tics && nat_le tics tic_limit) then Some tics else None
 cycle_said number other = None
 
 abbrev pub setting_of : List Call → ℕ → Setting

@@ -5,7 +5,7 @@ ghost use Rattle.trick_settings.specs.Settings.{cycle_said, frame_said, frozen_s
 
 use trick_input::Form;
 use trick_model::Process;
-use trick_text::TIC_LIMIT;
+use trick_base::TIC_LIMIT;
 
 // The frame that a line names.
 pub(crate) fn frame_said(form: &Form) -> Option<u64>

@@ -1,7 +1,7 @@
 //! What an input says of the run and of its threads, whatever the order of its lines.
 
 ghost use Rattle.std.specs.Prelude.{◌≡◌, ◌≤◌, ◌+◌, IfOk};
-ghost use Rattle.trick_model.specs.Time.{last_time};
+ghost use Rattle.trick_base.specs.Time.{tic_limit};
 ghost use Rattle.trick_model.specs.Valid.{IsFrame};
 ghost use Rattle.trick_settings.specs.Settings.{frame_of, frozen_of, limit_of, setting_of, settings_by_number, settings_in};
 ghost use Rattle.trick_threads.specs.Threads.{AreThreads};
@@ -12,7 +12,7 @@ use trick_base::Items;
 use trick_input::Call;
 use trick_lang::Program;
 use trick_model::Thread;
-use trick_text::TIC_LIMIT;
+use trick_base::TIC_LIMIT;
 use trick_threads::{Setting, threads};
 
 /// What an input says of the run and of its threads. Of two lines that say one thing the last counts,
@@ -89,7 +89,7 @@ pub fn settings_in(alloc: Global, program: &Program, calls: &[Call]) -> Result<S
     ensures settings { IfOk result (λ settings. settings ≡ settings_in program.now.jobs calls.now) }
     ensures threads { IfOk result (λ settings. AreThreads program.now.jobs settings.threads) }
     ensures frame { IfOk result (λ settings. IsFrame settings.frame) }
-    ensures limit { IfOk result (λ settings. settings.limit ≤ last_time + 1) }
+    ensures limit { IfOk result (λ settings. settings.limit ≤ tic_limit + 1) }
 {
     let frame = frame_of(calls);
     let by_number = settings_by_number(alloc, calls)?;

@@ -1,6 +1,6 @@
 -- A number of seconds in tics, before it is known to be a time.
 use Rattle.std.specs.Prelude.{◌≡◌, ℕ, ◌+◌, ◌*◌, ◌^◌, ◌<◌, Option, Some, None, ◌==◌}
-use Rattle.trick_text.specs.Seconds.{tic_limit}
+use Rattle.trick_base.specs.Time.{tic_limit}
 use Rattle.trick_text.specs.declared.time.Amount.{Amount}
 
 -- the whole tics in a numerator over ten to the power of its places, and whether no rest is left

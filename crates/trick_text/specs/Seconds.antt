@@ -2,6 +2,7 @@
 use Rattle.std.specs.List.{after_first, before_first, list_any}
 use Rattle.std.specs.Prelude.{◌≡◌, ℕ, ◌*◌, ◌/◌, ◌%◌, ◌^◌, ◌<◌, nat_lt, Bool, true, false, List, ◌++◌, length, ◌==◌, Result, Ok, Err, if◌then◌else◌}
 use Rattle.std.specs.Str.Parse.{digits_value}
+use Rattle.trick_base.specs.Time.{tic_limit}
 use Rattle.trick_text.specs.Numbers.{whole_value}
 use Rattle.trick_text.specs.declared.fault.TimeFault.{TimeFault}
 use Rattle.trick_text.specs.declared.fault.TimeFault.TheVariants.{InexactTime, TimeTooLarge}
@@ -32,10 +33,6 @@ numerator bytes =
 
 -- The value of a number is its numerator divided by ten to the power of its places. So that no
 -- fraction is left, both sides of a fact are given times that power.
-
--- how many tics a time may have: a thousand million seconds
-abbrev pub tic_limit : ℕ
-tic_limit = 10 ^ 15
 
 -- the value times one million is exactly n
 abbrev pub IsTics : List ℕ → ℕ → Type 0

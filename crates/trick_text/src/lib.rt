@@ -16,6 +16,6 @@ mod value;
 pub use fault::{FirstFault, TextFault, TimeFault};
 pub use number::{WHOLE_LIMIT, is_plain_number, plain_number, whole};
 pub use scan::{CutText, TEXT_LIMIT, cut, last_line, tokens};
-pub use time::{TIC_LIMIT, seconds};
+pub use time::seconds;
 pub use token::{Style, Token, TokenKind};
 pub use value::number_of;

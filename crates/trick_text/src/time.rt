@@ -9,9 +9,7 @@ ghost use Rattle.trick_text.specs.Tokens.{ReadsAsToken, spelling};
 use crate::fault::TimeFault;
 use crate::number::{digits_value, whole_value};
 use crate::token::Token;
-
-/// How many tics a time may have: a tic is a microsecond.
-pub const TIC_LIMIT: u64 = 1_000_000_000_000_000;
+use trick_base::TIC_LIMIT;
 
 const TICS_PER_SECOND: u64 = 1_000_000;
 

@@ -12,7 +12,8 @@ use Rattle.trick_model.specs.Plan.{Plan}
 use Rattle.trick_model.specs.PlanOf.{plan_of}
 use Rattle.trick_model.specs.State.{State}
 use Rattle.trick_model.specs.Tic.{Ticked, frame, tic, tic_below_limit, tics}
-use Rattle.trick_model.specs.Time.{frame_end, last_time}
+use Rattle.trick_base.specs.Time.{tic_limit}
+use Rattle.trick_model.specs.Time.{frame_end}
 use Rattle.trick_model.specs.declared.plan.Plan.{Plan as PlanValue}
 use Rattle.trick_model.specs.declared.state.State.{State as StateValue}
 use Rattle.trick_post.specs.Work.{Started}
@@ -53,7 +54,7 @@ jumped {M = M} numbers to old new asked state =
 
 -- A run stays under way where idle tics are left out.
 pub jump_under_way : {plan : PlanValue} {course : Course} {in_flight : ℕ → Option Started} {s : State} {scalars : List Scalar} (to : ℕ)
-    → s.tic ≤ to → to ≤ last_time + 1
+    → s.tic ≤ to → to ≤ tic_limit + 1
     → ((t : ℕ) → s.tic ≤ t → t < to → IsIdle (plan_of plan) (record s { tic = t }))
     → IsUnderWay plan course in_flight s scalars → IsUnderWay plan course in_flight (record s { tic = to }) scalars
 jump_under_way {plan = plan} {course = course} to later_tic fits idle way =

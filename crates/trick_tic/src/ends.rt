@@ -6,7 +6,7 @@ ghost use Rattle.trick_beside.specs.Stations.{AreStations};
 ghost use Rattle.trick_model.specs.Beside.{ends_at, must_finish as must_finish_of};
 ghost use Rattle.trick_model.specs.PlanOf.{plan_of};
 ghost use Rattle.trick_model.specs.State.{seen};
-ghost use Rattle.trick_model.specs.Time.{last_time};
+ghost use Rattle.trick_base.specs.Time.{tic_limit};
 ghost use Rattle.trick_model.specs.Valid.{IsCycle};
 ghost use Rattle.trick_model.specs.declared.plan.Plan.{Plan as PlanValue};
 ghost use Rattle.trick_tic.specs.Due.{AreEndsFor, HaveCycles, NoneEnds};
@@ -15,7 +15,8 @@ use crate::stirs::tic_or_never;
 use std::alloc::{AllocError, Global};
 use trick_base::Items;
 use trick_beside::{Station, must_finish, stations};
-use trick_cycle::{Due, MAX_TICS, next_due};
+use trick_base::TIC_LIMIT;
+use trick_cycle::{Due, next_due};
 use trick_lang::Cells;
 use trick_model::{Plan, Process, State, Thread};
 use trick_post::Posts;
@@ -32,7 +33,7 @@ pub(crate) struct Ends {
 // thread, or where there is none.
 fn end_of(thread: Thread, from: u64) -> u64
     requires { IsCycle thread.cycle }
-    ensures { (t : ℕ) → from ≤ t → t < result → t ≤ last_time → ends_at t thread ≡ false }
+    ensures { (t : ℕ) → from ≤ t → t < result → t ≤ tic_limit → ends_at t thread ≡ false }
 {
     match thread.process {
         Process::Scheduled | Process::Async => NEVER,
@@ -40,7 +41,7 @@ fn end_of(thread: Thread, from: u64) -> u64
             let times = Due {
                 start: 0,
                 cycle: thread.cycle,
-                stop: MAX_TICS,
+                stop: TIC_LIMIT,
             };
             tic_or_never(next_due(times, from))
         }
@@ -92,7 +93,7 @@ impl Ends {
         posts: &mut P,
     ) -> Result<(), AllocError>
         requires ends { AreEndsFor (P.plan posts.old) self.old tic }
-        requires tic { tic ≤ last_time }
+        requires tic { tic ≤ tic_limit }
         requires goes { GoesWith (P.plan posts.old) (P.in_flight posts.old) tic (seen M.numbers state.old)
             (M.scalars state.old.memory) }
         ensures state { OnOk result (seen M.numbers state.new

@@ -6,7 +6,8 @@ ghost use Rattle.trick_model.specs.Laws.{later};
 ghost use Rattle.trick_model.specs.PlanOf.{plan_of};
 ghost use Rattle.trick_model.specs.State.{seen};
 ghost use Rattle.trick_model.specs.Tic.{frame as frame_of};
-ghost use Rattle.trick_model.specs.Time.{frame_end, last_time};
+ghost use Rattle.trick_base.specs.Time.{tic_limit};
+ghost use Rattle.trick_model.specs.Time.{frame_end};
 ghost use Rattle.trick_outside.specs.Does.{Does};
 ghost use Rattle.trick_tic.specs.Course.{IsUnderWay};
 ghost use Rattle.trick_tic.specs.Current.{asking_of};
@@ -23,7 +24,7 @@ use trick_post::Posts;
 
 /// The first tic behind the frame that a tic is in.
 pub(crate) fn frame_end(plan: &Plan, tic: u64) -> u64
-    requires { tic ≤ last_time + 1 }
+    requires { tic ≤ tic_limit + 1 }
     ensures end { result ≡ frame_end (plan_of plan.now) tic }
     ensures later { tic < result }
 {

@@ -6,7 +6,7 @@ ghost use Rattle.trick_model.specs.Events.{Asking};
 ghost use Rattle.trick_model.specs.PlanOf.{plan_of};
 ghost use Rattle.trick_model.specs.State.{seen};
 ghost use Rattle.trick_model.specs.Tic.{frame as frame_of};
-ghost use Rattle.trick_model.specs.Time.{last_time};
+ghost use Rattle.trick_base.specs.Time.{tic_limit};
 ghost use Rattle.trick_post.specs.Work.{Started};
 ghost use Rattle.trick_tic.specs.Course.{IsCourseOf, IsUnderWay};
 
@@ -20,7 +20,7 @@ use trick_model::{Plan, State, laws};
 pub fn skip<M: Cells>(plan: &Plan, course: &Course, state: &mut State<M>) -> bool
     requires ready { IsCourseOf plan.now course.now (seen M.numbers state.old) }
     requires below { state.old.tic < state.old.limit }
-    requires limit { state.old.limit ≤ last_time + 1 }
+    requires limit { state.old.limit ≤ tic_limit + 1 }
     ensures frame { result ≡ true → (a : Asking) → a.state ≡ seen M.numbers state.old
         → frame_of (plan_of plan.now) a ≡ record { asking = record a { state = seen M.numbers state.new }; writes = [] } }
     ensures memory { state.new.memory ≡ state.old.memory }

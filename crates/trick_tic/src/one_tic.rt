@@ -6,7 +6,7 @@ ghost use Rattle.trick_job.specs.Belongs.{IsMemoryOf};
 ghost use Rattle.trick_model.specs.PlanOf.{plan_of};
 ghost use Rattle.trick_model.specs.State.{seen};
 ghost use Rattle.trick_model.specs.Tic.{jobs_done, tic as tic_of};
-ghost use Rattle.trick_model.specs.Time.{last_time};
+ghost use Rattle.trick_base.specs.Time.{tic_limit};
 ghost use Rattle.trick_outside.specs.Does.{Does};
 ghost use Rattle.trick_tic.specs.Course.{IsUnderWay};
 ghost use Rattle.trick_tic.specs.Current.{asking_of};
@@ -33,7 +33,7 @@ fn run_due<M: Cells, H: Phases<M>>(
     requires own { H.is_for phases.old accepted.now.plan }
     requires jobs { AreJobsFor accepted.now.plan queues.old tic }
     requires memory { IsMemoryOf accepted.now.plan.program (M.numbers state.memory) (M.scalars state.memory) }
-    requires tic { tic ≤ last_time }
+    requires tic { tic ≤ tic_limit }
     ensures done { seen M.numbers result ≡ jobs_done (plan_of accepted.now.plan) tic (seen M.numbers state) }
     ensures scalars { M.scalars result.memory ≡ M.scalars state.memory }
     ensures jobs { AreJobsFor accepted.now.plan queues.new (tic + 1) }

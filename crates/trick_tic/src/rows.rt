@@ -4,7 +4,7 @@ ghost use Rattle.std.specs.Prelude.{◌≡◌, ℕ, ◌+◌, ◌<◌, ◌≤◌,
 ghost use Rattle.trick_model.specs.Plan.{is_on as is_on_of};
 ghost use Rattle.trick_model.specs.Records.{row_kept, row_writes, rows as rows_of};
 ghost use Rattle.trick_model.specs.State.{seen};
-ghost use Rattle.trick_model.specs.Time.{last_time};
+ghost use Rattle.trick_base.specs.Time.{tic_limit};
 ghost use Rattle.trick_model.specs.Valid.{IsCycle};
 ghost use Rattle.trick_model.specs.declared.group.Group.{Group as GroupValue};
 ghost use Rattle.trick_outside.specs.Does.{Does};
@@ -16,7 +16,8 @@ use crate::logs::log_names;
 use crate::stirs::tic_or_never;
 use std::alloc::{AllocError, Global};
 use trick_base::{Items, Word};
-use trick_cycle::{Due, MAX_TICS, next_due};
+use trick_base::TIC_LIMIT;
+use trick_cycle::{Due, next_due};
 use trick_lang::Cells;
 use trick_model::{Flags, Group, Plan, State};
 use trick_outside::{Shelf, Stop, append};
@@ -34,7 +35,7 @@ pub(crate) struct Rows {
 // there is none.
 fn next_of(group: &Group, on: bool, from: u64) -> u64
     requires { IsCycle group.now.cycle }
-    ensures { (t : ℕ) → from ≤ t → t < result → t ≤ last_time → (on && ((t % group.now.cycle) == 0)) ≡ false }
+    ensures { (t : ℕ) → from ≤ t → t < result → t ≤ tic_limit → (on && ((t % group.now.cycle) == 0)) ≡ false }
 {
     if !on {
         return NEVER;
@@ -42,7 +43,7 @@ fn next_of(group: &Group, on: bool, from: u64) -> u64
     let times = Due {
         start: 0,
         cycle: group.cycle,
-        stop: MAX_TICS,
+        stop: TIC_LIMIT,
     };
     tic_or_never(next_due(times, from))
 }
@@ -163,7 +164,7 @@ impl Rows {
         shelf: &mut F,
     ) -> Result<(), Stop>
         requires rows { AreRowsFor plan.now self.old state.old.groups tic }
-        requires tic { tic ≤ last_time }
+        requires tic { tic ≤ tic_limit }
         ensures state { OnOk result (seen M.numbers state.new
             ≡ (rows_of tic 0 plan.now.groups (seen M.numbers state.old)).state) }
         ensures memory { state.new.memory ≡ state.old.memory }

@@ -10,7 +10,7 @@ use Rattle.trick_model.specs.PlanOf.{plan_of}
 use Rattle.trick_model.specs.Files.{turn_writes}
 use Rattle.trick_model.specs.Run.{is_over, opened, serial_entries}
 use Rattle.trick_model.specs.State.{State, World, seen}
-use Rattle.trick_model.specs.Time.{last_time}
+use Rattle.trick_base.specs.Time.{tic_limit}
 use Rattle.trick_model.specs.Turn.{turn}
 use Rattle.trick_model.specs.declared.state.State.{State as StateValue}
 use Rattle.trick_outside.proofs.DoesLemmas.{does_nothing}
@@ -74,7 +74,7 @@ turns-smaller g c =
     let passes = turn_passes plan (seen g.M.Cells.numbers c.pass_idle.new.state) (same_over g.M.Cells.numbers c.turns.state c.pass_idle.new.state (c.if-pass_idle.ensures.unchanged refl) (sym c.is_over.ensures ∙ c.turns-test.true)) in
     let begins : c.pass_idle.new.state.tic ≡ c.turns.state.tic = ap (λ (t : StateValue g.row.M.Denot). t.tic) (c.if-pass_idle.ensures.unchanged refl) in
     let same : c.in_ok-state.state.tic ≡ _ = ap (λ (w : World). w.state.tic) c.in_ok-state.ensures.state in
-    let fits : c.in_ok-state.state.tic ≤ last_time + 1 = c.in_ok-state.ensures.equipped.under_way.goes.valid.tic in
+    let fits : c.in_ok-state.state.tic ≤ tic_limit + 1 = c.in_ok-state.ensures.equipped.under_way.goes.valid.tic in
     omega (arith, passes, begins, same, fits)
 
 -- a turn that is passed at once
@@ -112,7 +112,7 @@ turns-smaller-then-pass_idle g c =
     let plan = c.args.accepted.now.plan in
     let passes = turn_passes plan (seen g.M.Cells.numbers c.turns.state) (sym c.is_over.ensures ∙ c.turns-test.true) in
     let same : c.pass_idle.new.state.tic ≡ _ = ap (λ (w : World). w.state.tic) (idled g c) in
-    let fits : c.pass_idle.new.state.tic ≤ last_time + 1 = c.pass_idle.ensures.equipped.under_way.goes.valid.tic in
+    let fits : c.pass_idle.new.state.tic ≤ tic_limit + 1 = c.pass_idle.ensures.equipped.under_way.goes.valid.tic in
     omega (arith, passes, same, fits)
 
 pub returns-clause-turns : goal.returns-clause-turns

@@ -4,7 +4,7 @@ use Rattle.trick_exec.proofs.AloneLemmas.{InRun}
 use Rattle.trick_exec.proofs.alone.turns.Given as goal
 use Rattle.trick_model.specs.PlanOf.{plan_of}
 use Rattle.trick_model.specs.State.{seen}
-use Rattle.trick_model.specs.Time.{last_time}
+use Rattle.trick_base.specs.Time.{tic_limit}
 use Rattle.trick_pass.specs.Pass.{IsEquipped}
 
 -- so many turns are done
@@ -20,4 +20,4 @@ invariant-turns g l =
 
 -- the tics that are left
 abbrev pub decreases-turns : goal.decreases-turns
-decreases-turns g l = (last_time + 1) - l.state.tic
+decreases-turns g l = (tic_limit + 1) - l.state.tic

@@ -4,7 +4,7 @@ use Rattle.trick_exec.proofs.lines.hear_lines.Goals as goal
 use Rattle.trick_exec.specs.Worlds.{world_of}
 use Rattle.trick_model.specs.PlanOf.{plan_of}
 use Rattle.trick_model.specs.State.{World, seen}
-use Rattle.trick_model.specs.Time.{last_time}
+use Rattle.trick_base.specs.Time.{tic_limit}
 use Rattle.trick_model.specs.Turn.{Hearing, begun}
 use Rattle.trick_runs.proofs.Times.{heard_time}
 
@@ -21,4 +21,4 @@ look_again-requires-clause-tic g c =
     let w : World = world_of g.M.Cells.numbers c.args.world in
     let same : c.hear.new.hearing.current.state.tic ≡ w.state.tic =
     ap (λ (h : Hearing). h.asking.state.tic) c.in-Ok.ensures.heard ∙ (heard_time (plan_of c.plan-plan.result.now) c.args.lines.now (begun w)).tic in
-    subst (λ (n : ℕ). n ≤ last_time + 1) (sym same) c.requires.valid.tic
+    subst (λ (n : ℕ). n ≤ tic_limit + 1) (sym same) c.requires.valid.tic

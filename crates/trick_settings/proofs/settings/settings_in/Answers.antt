@@ -1,5 +1,5 @@
 use Rattle.std.proofs.Common.{◌≡◌, ◌∙◌, ◌+◌, ◌≤◌, ℕ, Bool, List, All, length, ap, ap₂, subst, sym}
-use Rattle.trick_model.specs.Time.{last_time}
+use Rattle.trick_base.specs.Time.{tic_limit}
 use Rattle.trick_model.specs.Valid.{IsFrame}
 use Rattle.trick_settings.proofs.Ranges.{cycles_right, frame_right, limit_right, sixteen}
 use Rattle.trick_settings.proofs.settings.settings_in.Goals as goal
@@ -20,7 +20,7 @@ pub returns-clause-frame : goal.returns-clause-frame
 returns-clause-frame c = subst IsFrame (sym c.frame_of-frame.ensures) (frame_right c.args.calls.now)
 
 pub returns-clause-limit : goal.returns-clause-limit
-returns-clause-limit c = subst (λ (limit : ℕ). limit ≤ last_time + 1) (sym c.limit_of.ensures) (limit_right c.args.calls.now)
+returns-clause-limit c = subst (λ (limit : ℕ). limit ≤ tic_limit + 1) (sym c.limit_of.ensures) (limit_right c.args.calls.now)
 
 pub returns-clause-settings : goal.returns-clause-settings
 returns-clause-settings c =
