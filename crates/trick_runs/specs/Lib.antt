@@ -10,6 +10,8 @@ pub mod Goes
 pub mod Follows
 -- What a turn did.
 pub mod Turned
+-- Where a run stopped.
+pub mod Stops
 -- What a run did.
 pub mod Ran
 -- What the turns of a run came to.

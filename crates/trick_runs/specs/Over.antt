@@ -13,6 +13,7 @@ use Rattle.trick_runs.specs.Follows.{EndsElsewhere, Follows}
 use Rattle.trick_runs.specs.Goes.{goes_owing, left_of}
 use Rattle.trick_runs.specs.Hosts.{Hosts, Place}
 use Rattle.trick_runs.specs.Ran.{AreDone, last_answer}
+use Rattle.trick_runs.specs.Stops.{StopsAt}
 use Rattle.trick_tic.specs.Steps.{steps_of}
 use Rattle.trick_turns.specs.Turns.{Answer, Told}
 
@@ -41,6 +42,7 @@ pub record AreStopped {S U M Q T : Type 0} (h : Hosts S U M Q) (p : Plan) (s : S
   pub unsent : List Message
   pub handed : turns_said p (opened s) lists ≡ sent ++ unsent
   pub step : h.turns.went old.turns (answers (h.turns.decided old.turns) p (opened s) lists ++ last) sent new.turns
+  pub stops : StopsAt p s [] lists does.calls sent
 
 -- The turns of a run from a state came to the end of a journal, and the run goes on: where its source decides
 -- what is published, `kept` is the journal's end, and `given` tells where the run would end.

@@ -18,6 +18,7 @@ use Rattle.trick_runs.specs.Goes.{goes_owing, left_of}
 use Rattle.trick_runs.specs.Hosts.{Hosts, Place}
 use Rattle.trick_runs.specs.Rounds.{AreChosen}
 use Rattle.trick_tic.specs.Steps.{steps_of}
+use Rattle.trick_runs.specs.Stops.{StopsAt}
 use Rattle.trick_runs.specs.Turned.{Asks}
 use Rattle.trick_turns.specs.Turns.{Answer, Told}
 
@@ -95,3 +96,4 @@ pub record Stopped {S U M Q T : Type 0} (h : Hosts S U M Q) (p : Plan) (s : Stat
   pub unsent : List Message
   pub handed : turns_said p (opened s) lists ≡ sent ++ unsent
   pub step : h.turns.went old.turns (answers (h.turns.decided old.turns) p (opened s) lists ++ last) sent new.turns
+  pub stops : StopsAt p s (start_writes p s.turn) lists does.calls sent
