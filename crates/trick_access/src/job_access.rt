@@ -13,7 +13,8 @@ use trick_lang::{JobId, Program};
 pub fn access(alloc: Global, program: &Program, job: JobId) -> Result<Access, AllocError>
     requires { job.0 < length program.now.jobs }
     ensures reads { IfOk result (λ access. AreCellsOf (length program.now.cells) (reads program.now job) access.reads) }
-    ensures writes { IfOk result (λ access. AreCellsOf (length program.now.cells) (writes program.now job) access.writes) }
+    ensures writes { IfOk result (λ access. AreCellsOf (length program.now.cells)
+        (writes program.now job) access.writes) }
 {
     Ok(Access {
         reads: cells_of(alloc, program, job, Way::Reads)?,

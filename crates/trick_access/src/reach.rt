@@ -35,7 +35,8 @@ fn note_reached(
     requires block { block < length program.now.blocks }
     requires marks { marks.old ≡ replicate (length program.now.blocks) false }
     ensures reached { (c : ℕ) → c < length ends.old →
-        is_reached ends.new c ≡ (is_in (block_cells way base (codes_of program.now.blocks) block) c || is_reached ends.old c) }
+        is_reached ends.new c ≡ (is_in (block_cells way base (codes_of program.now.blocks) block) c
+        || is_reached ends.old c) }
     ensures length { length ends.new ≡ length ends.old }
 {
     let blocks = program.blocks.as_slice();

@@ -88,7 +88,8 @@ IsOver process.MustFinish cycle tic = (tic % cycle ≡ 0) × (tic ≤ tic_limit)
 
 -- all threads whose cycle ends at the tic have published
 abbrev pub ended_published : Plan → ℕ → State → State
-ended_published p tic s = each_thread (where_ends (λ place thread. publish p place thread tic) tic) 0 (threads_beside p) s
+ended_published p tic s = each_thread (where_ends (λ place thread. publish p place thread tic) tic) 0
+    (threads_beside p) s
 
 -- all threads whose cycle ends at the tic have taken
 abbrev pub ended_taken : Plan → ℕ → State → State

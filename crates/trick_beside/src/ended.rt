@@ -51,10 +51,12 @@ fn publish_ended<M: Cells, P: Posts>(
 )
     requires stations { AreStations (plan_of (P.plan posts.old)) stations.now }
     requires tic { tic ≤ tic_limit }
-    requires goes { GoesWith (P.plan posts.old) (P.in_flight posts.old) tic (seen M.numbers state.old) (M.scalars state.old.memory) }
+    requires goes { GoesWith (P.plan posts.old) (P.in_flight posts.old) tic (seen M.numbers state.old)
+        (M.scalars state.old.memory) }
     ensures state { seen M.numbers state.new
         ≡ ended_published (plan_of (P.plan posts.old)) tic (seen M.numbers state.old) }
-    ensures goes { GoesWith (P.plan posts.new) (P.in_flight posts.new) (tic + 1) (seen M.numbers state.new) (M.scalars state.new.memory) }
+    ensures goes { GoesWith (P.plan posts.new) (P.in_flight posts.new) (tic + 1) (seen M.numbers state.new)
+        (M.scalars state.new.memory) }
     ensures empty { HoldNothing (plan_of (P.plan posts.old)) tic 0
         (length (threads_beside (plan_of (P.plan posts.old)))) (seen M.numbers state.new) }
     ensures asks { AsksNothing P.Posts posts.old posts.new }
@@ -102,7 +104,8 @@ fn take_ended<M: Cells, P: Posts>(
 ) -> Result<(), AllocError>
     requires stations { AreStations (plan_of (P.plan posts.old)) stations.now }
     requires tic { tic ≤ tic_limit }
-    requires goes { GoesWith (P.plan posts.old) (P.in_flight posts.old) (tic + 1) (seen M.numbers state.old) (M.scalars state.old.memory) }
+    requires goes { GoesWith (P.plan posts.old) (P.in_flight posts.old) (tic + 1) (seen M.numbers state.old)
+        (M.scalars state.old.memory) }
     requires empty { HoldNothing (plan_of (P.plan posts.old)) tic 0
         (length (threads_beside (plan_of (P.plan posts.old)))) (seen M.numbers state.old) }
     ensures state { OnOk result (seen M.numbers state.new
@@ -131,7 +134,8 @@ pub fn must_finish<M: Cells, P: Posts>(
 ) -> Result<(), AllocError>
     requires stations { AreStations (plan_of (P.plan posts.old)) stations.now }
     requires tic { tic ≤ tic_limit }
-    requires goes { GoesWith (P.plan posts.old) (P.in_flight posts.old) tic (seen M.numbers state.old) (M.scalars state.old.memory) }
+    requires goes { GoesWith (P.plan posts.old) (P.in_flight posts.old) tic (seen M.numbers state.old)
+        (M.scalars state.old.memory) }
     ensures state { OnOk result (seen M.numbers state.new
         ≡ must_finish_of (plan_of (P.plan posts.old)) tic (seen M.numbers state.old)) }
     ensures goes { OnOk result (GoesWith (P.plan posts.new) (P.in_flight posts.new) (tic + 1) (seen M.numbers state.new)

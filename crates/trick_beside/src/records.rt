@@ -40,7 +40,8 @@ fn put_numbers<M: Cells>(
     cells: &[Cell],
     numbers: &mut Items<i64>,
 ) -> Result<(), AllocError>
-    ensures { OnOk result (numbers.new ≡ map (λ (cell : CellValue). number_at (M.numbers memory.now) cell.0) cells.now) }
+    ensures { OnOk result (numbers.new ≡ map
+        (λ (cell : CellValue). number_at (M.numbers memory.now) cell.0) cells.now) }
 {
     numbers.clear();
     for cell in cells {

@@ -122,7 +122,8 @@ fn start_round<M: Cells, P: Posts>(
         (M.scalars state.old.memory) }
     ensures state { OnOk result (seen M.numbers state.new ≡ start_round_of (plan_of (P.plan posts.old))
         seat.entry.place seat.entry.station.now.thread (seen M.numbers state.old)) }
-    ensures goes { OnOk result (GoesWith (P.plan posts.new) (P.in_flight posts.new) state.new.tic (seen M.numbers state.new)
+    ensures goes { OnOk result (GoesWith (P.plan posts.new) (P.in_flight posts.new) state.new.tic
+        (seen M.numbers state.new)
         (M.scalars state.new.memory)) }
     ensures asks { AsksNothing P.Posts posts.old posts.new }
 {
@@ -151,7 +152,8 @@ pub fn start_rounds<M: Cells, P: Posts>(
         (M.scalars state.old.memory) }
     ensures state { OnOk result (seen M.numbers state.new
         ≡ start_rounds_of (plan_of (P.plan posts.old)) (seen M.numbers state.old)) }
-    ensures goes { OnOk result (GoesWith (P.plan posts.new) (P.in_flight posts.new) state.new.tic (seen M.numbers state.new)
+    ensures goes { OnOk result (GoesWith (P.plan posts.new) (P.in_flight posts.new) state.new.tic
+        (seen M.numbers state.new)
         (M.scalars state.new.memory)) }
     ensures asks { AsksNothing P.Posts posts.old posts.new }
 {

@@ -76,10 +76,12 @@ pub(crate) fn publish<M: Cells, P: Posts>(
     requires seat { IsSeat (plan_of (P.plan posts.old)) seat.place seat.station.now }
     requires over { IsOver seat.station.now.thread.process seat.station.now.thread.cycle tic }
     requires tic { tic ≤ tic_limit + 1 }
-    requires goes { GoesWith (P.plan posts.old) (P.in_flight posts.old) tic (seen M.numbers state.old) (M.scalars state.old.memory) }
+    requires goes { GoesWith (P.plan posts.old) (P.in_flight posts.old) tic (seen M.numbers state.old)
+        (M.scalars state.old.memory) }
     ensures state { seen M.numbers state.new ≡ publish_of (plan_of (P.plan posts.old)) seat.entry.place
         seat.entry.station.now.thread tic (seen M.numbers state.old) }
-    ensures goes { GoesWith (P.plan posts.new) (P.in_flight posts.new) tic (seen M.numbers state.new) (M.scalars state.new.memory) }
+    ensures goes { GoesWith (P.plan posts.new) (P.in_flight posts.new) tic (seen M.numbers state.new)
+        (M.scalars state.new.memory) }
     ensures asks { AsksNothing P.Posts posts.old posts.new }
 {
     laws::plans_are_sound();
@@ -105,7 +107,8 @@ pub(crate) fn take<M: Cells, P: Posts>(
     requires seat { IsSeat (plan_of (P.plan posts.old)) seat.place seat.station.now }
     requires empty { (taken_at (seen M.numbers state.old) seat.place).held ≡ false }
     requires tic { tic ≤ tic_limit + 1 }
-    requires goes { GoesWith (P.plan posts.old) (P.in_flight posts.old) tic (seen M.numbers state.old) (M.scalars state.old.memory) }
+    requires goes { GoesWith (P.plan posts.old) (P.in_flight posts.old) tic (seen M.numbers state.old)
+        (M.scalars state.old.memory) }
     ensures state { OnOk result (seen M.numbers state.new ≡ take_of (plan_of (P.plan posts.old)) seat.entry.place
         seat.entry.station.now.thread (seen M.numbers state.old)) }
     ensures goes { OnOk result (GoesWith (P.plan posts.new) (P.in_flight posts.new) tic (seen M.numbers state.new)

@@ -70,7 +70,8 @@ impl<M: Cells> Model for Board<M> {
       jobs = length b.stages.items;
     } };
 
-    ghost invariant = { λ b. IsRoomy (length b.stages.items) (length b.on.items) (length b.due.items) (vec_capacity b.due)
+    ghost invariant = { λ b. IsRoomy (length b.stages.items) (length b.on.items) (length b.due.items)
+        (vec_capacity b.due)
         × ArePassed b.tables b.stages.items b.passed.items
         × AreDueAmong (ids b.due.items) b.stages.items };
 }
@@ -224,7 +225,8 @@ impl<M: Cells> Board<M> {
         requires filled { IsFilled plan.now.program bench.now }
         ensures { IfSome self.now.opened (λ o. MatchOption result
             (AgreeOn (reads plan.now.program (the_job bench.now.job)) o.progress.memory bench.now.inputs)
-            (λ d. IsFirstDifference (reads plan.now.program (the_job bench.now.job)) o.progress.memory bench.now.inputs (d.0).0 d.1 d.2)) }
+            (λ d. IsFirstDifference (reads plan.now.program (the_job bench.now.job)) o.progress.memory
+            bench.now.inputs (d.0).0 d.1 d.2)) }
     {
         match &self.memory {
             Some(memory) => bench.differs(&plan.program, memory),
@@ -344,7 +346,8 @@ impl<M: Cells> Board<M> {
         ensures serial { (plan : PlanValue) → ∥ IsAccepted (plan_of plan) ∥₁ → IsBoardOf plan self.old
             → (first : List ℤ) (steps : List Step)
             → IfSome self.old.opened (λ o. IsLeftBy (tic_at plan o) first steps o.progress
-            → IfMemory result (λ m. ComesTo (serial (plan_of plan) o.on o.tic first) (M.numbers m) faults.old faults.new)) }
+            → IfMemory result (λ m. ComesTo (serial (plan_of plan) o.on o.tic first)
+            (M.numbers m) faults.old faults.new)) }
     {
         every_schedule_is_serial();
         boards_need_no_copies();

@@ -115,7 +115,8 @@ fn lines(alloc: Global, plan: &Plan) -> Result<Items<Items<JobId>>, AllocError>
 
 // The jobs that each job depends on.
 fn all_depended(alloc: Global, plan: &Plan) -> Result<Items<Items<JobId>>, AllocError>
-    ensures { IfOk result (λ all. (k : ℕ) → k < length plan.now.program.jobs → ids_at all k ≡ depended_of (plan_of plan.now) k) }
+    ensures { IfOk result (λ all. (k : ℕ) → k < length plan.now.program.jobs
+        → ids_at all k ≡ depended_of (plan_of plan.now) k) }
 {
     let mut all = Items::new(alloc);
     for number in 0..plan.program.jobs.len() {

@@ -62,7 +62,8 @@ pub fn add_class(
     requires home { size_at bodies.old.world.layout.sizes class ≤ 65536 }
     requires order { (k : ℕ) → k < length parts.now → IsTrue (is_one_of order.now k) }
     requires whole { AreWhole (made bodies.old) }
-    ensures made { OnOk result (made bodies.new ≡ with_class class order.now (class_parts_of parts.now) (made bodies.old)) }
+    ensures made { OnOk result (made bodies.new
+        ≡ with_class class order.now (class_parts_of parts.now) (made bodies.old)) }
     ensures whole { OnOk result (AreWhole (made bodies.new)) }
 {
     enter(alloc, class, &mut bodies.world);

@@ -10,10 +10,9 @@ ghost use Rattle.trick_lang.specs.Valid.{has_no_times, has_right_times, have_rig
 
 use crate::title::job_name;
 use std::alloc::{AllocError, Global as Memory};
-use trick_base::Word;
+use trick_base::{TIC_LIMIT, Word};
 use trick_lang::{Class, EnumItem, Job, Method, Object, Variable};
 use trick_names::Names;
-use trick_base::TIC_LIMIT;
 
 // ---- names
 

@@ -14,7 +14,8 @@ use trick_model::Plan;
 
 // The name and the instance of a job, each with a space behind it.
 fn job_text(alloc: Global, program: &Program, job: &Job) -> Result<Word, AllocError>
-    ensures { IfOk result (λ text. text ≡ job_text_of (job_name program.now.objects program.now.methods job.now) job.now.instance) }
+    ensures { IfOk result (λ text. text ≡ job_text_of
+        (job_name program.now.objects program.now.methods job.now) job.now.instance) }
 {
     let mut text = Vec::new(alloc);
     push_name_of(&mut text, program, job)?;

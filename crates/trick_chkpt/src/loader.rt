@@ -52,7 +52,8 @@ struct Head {
 
 #[tactic(auto, unfolding(crate::specs::CheckpointLines::head_lines))]
 fn read_head(rest: &[u8]) -> Result<(Head, &[u8]), Stop>
-    ensures { Gives (λ x. ((x.0.turn, (x.0.tic, (x.0.limit, x.0.mode))), x.1.now)) result (read_lines head_lines rest.now) }
+    ensures { Gives (λ x. ((x.0.turn, (x.0.tic, (x.0.limit, x.0.mode))), x.1.now)) result
+        (read_lines head_lines rest.now) }
 {
     let (_, rest) = number_line(b"checkpoint", 1, 1, rest)?;
     let (turn, rest) = number_line(b"turn", 0, LAST_TURN, rest)?;
@@ -114,7 +115,8 @@ pub fn load<M: Cells + Drop>(
     into: M,
 ) -> Result<State<M>, LoadFault>
     requires { M.scalars into ≡ scalars_of plan.now.program.cells }
-    ensures loaded { HasPlainNames plan.now → HasInstances plan.now → Loads (seen M.numbers) (checkpoint plan.now) text.now result }
+    ensures loaded { HasPlainNames plan.now → HasInstances plan.now
+        → Loads (seen M.numbers) (checkpoint plan.now) text.now result }
     ensures scalars { IfOk result (λ state. M.scalars state.memory ≡ scalars_of plan.now.program.cells) }
 {
     whole(text, read_state(alloc, plan, into, text))

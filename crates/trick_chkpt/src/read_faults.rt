@@ -146,7 +146,8 @@ fn read_kept<'a>(
     rest: &'a [u8],
 ) -> Result<(Faults, &'a [u8]), Stop<'a>>
     requires { length words.now ≤ 512 }
-    ensures told { Gives (λ x. (x.0.first, x.1.now)) result (read_lines (faults_of (bytes_of words.now) count) rest.now) }
+    ensures told { Gives (λ x. (x.0.first, x.1.now)) result
+        (read_lines (faults_of (bytes_of words.now) count) rest.now) }
     ensures count { IfOk result (λ x. x.0.count ≡ min count kept) }
 {
     read_fault_lines(alloc, words, count.min(KEPT_FAULTS as u64) as usize, rest)

@@ -44,7 +44,8 @@ fn read_held<'a>(
     thread: Thread,
     rest: &'a [u8],
 ) -> Result<(Taken, &'a [u8]), Stop<'a>>
-    ensures told { Gives (λ x. ((x.0.cells, x.0.on.on), x.1.now)) result (read_lines (held_of plan.now thread) rest.now) }
+    ensures told { Gives (λ x. ((x.0.cells, x.0.on.on), x.1.now)) result
+        (read_lines (held_of plan.now thread) rest.now) }
     ensures held { IfOk result (λ x. x.0.held ≡ true) }
 {
     let scope = cells_of(alloc, plan, thread)?;

@@ -39,11 +39,13 @@ pub fn reading_is_exact<F: LineFile>()
 
 /// The refusal of a text at which reading stopped is exact.
 pub fn refusals_are_exact<F: LineFile>()
-    ensures { (ts : List ℕ) → (stop : Stop) → Stops stop (read_lines F.lines ts) → Refuses F.lines ts (fault_of ts stop) }
+    ensures { (ts : List ℕ) → (stop : Stop) → Stops stop (read_lines F.lines ts)
+        → Refuses F.lines ts (fault_of ts stop) }
 {}
 
 /// Behind each front of a text one line at most is due, so that what is wrong with another line in
 /// its place is one thing.
 pub fn one_line_is_due<F: LineFile>()
-    ensures { (front : List ℕ) → (k : List ℕ → Kind) → (j : List ℕ → Kind) → IsDue F.lines front k → IsDue F.lines front j → k ≡ j }
+    ensures { (front : List ℕ) → (k : List ℕ → Kind) → (j : List ℕ → Kind) → IsDue F.lines front k
+        → IsDue F.lines front j → k ≡ j }
 {}

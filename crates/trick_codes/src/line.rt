@@ -73,7 +73,8 @@ pub fn number_line<'a>(
 }
 
 fn integer_bytes<'a>(name: &[u8], range: Range, rest: &'a [u8]) -> Result<(i64, &'a [u8]), Miss>
-    ensures told { Reads beside result (read (fed (named name.now (integer_code range.below range.above 59))) rest.now) }
+    ensures told { Reads beside result (read
+        (fed (named name.now (integer_code range.below range.above 59))) rest.now) }
     ensures range { IfOk result (λ x. IsWithin range.below range.above x.0) }
 {
     let rest = title(name, rest)?;

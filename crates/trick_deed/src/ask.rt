@@ -12,9 +12,9 @@ ghost use Rattle.trick_model.specs.Valid.{cell_names, names_in};
 use crate::Deed;
 use crate::find::{find_cell, find_job};
 use crate::named::place_of;
+use trick_base::TIC_LIMIT;
 use trick_lang::{Cell, Program, Scalar, wrap};
 use trick_model::{Action, Event, Group, Plan};
-use trick_base::TIC_LIMIT;
 
 fn scalar_at(program: &Program, cell: Cell) -> Scalar
     requires { cell.0 < length program.now.cells }

@@ -9,11 +9,10 @@ ghost use Rattle.trick_model.specs.Names.{find_name, set_in_range, stop_after};
 
 use crate::jobs::job_of;
 use crate::{Draft, KnownCells};
-use trick_base::Word;
+use trick_base::{TIC_LIMIT, Word};
 use trick_lang::Program;
 use trick_model::Action;
 use trick_names::Names;
-use trick_base::TIC_LIMIT;
 
 impl KnownCells {
     // Whether a cell of this name can get a number.

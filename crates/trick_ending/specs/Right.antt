@@ -33,7 +33,8 @@ pub record AreRight (p : Program) (parts : Parts) : Type 0 where
   pub group_cells : All (λ (group : Group). All (IsCell (length p.cells)) group.cells) parts.groups
   pub assigns_right : All (IsAssignment p.cells) parts.assigns
   pub event_actions : All (AreDoable (names_in p parts.groups parts.events)) parts.events
-  pub read_actions : All (λ (read : ReadAt). All (IsDoable (names_in p parts.groups parts.events)) read.actions) parts.reads
+  pub read_actions : All (λ (read : ReadAt). All (IsDoable (names_in p parts.groups parts.events)) read.actions)
+      parts.reads
   pub conditions_right : All (λ (event : Event). IsTrue (is_condition_of (length p.cells) event.condition)) parts.events
   pub actions_numbered : All AreNumbered parts.events
   pub jobs_flagged : length parts.jobs.on ≡ length p.jobs

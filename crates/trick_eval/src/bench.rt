@@ -51,7 +51,8 @@ impl Model for Bench {
       };
     } };
 
-    ghost invariant = { λ b. IsClean b.outcome (length b.inputs.items) b.working b.stack.frames × IsEmpty b.job b.phase b.outcome };
+    ghost invariant = { λ b. IsClean b.outcome (length b.inputs.items) b.working b.stack.frames
+        × IsEmpty b.job b.phase b.outcome };
 }
 
 fn larger(a: u64, b: u64) -> u64

@@ -13,8 +13,10 @@ use trick_lang::{Cell, CellRange, Cells};
 
 // Gives a cell the number that was stored there, if one was.
 fn put<M: Cells>(working: &Working, cell: u32, into: &mut M)
-    requires range { (c : ℕ) → (n : ℤ) → slice_index_or working.now.stored c None ≡ Some n → IsInRange (M.scalars into.old) c n }
-    ensures numbers { M.numbers into.new ≡ with_number (slice_index_or working.now.stored cell None) cell (M.numbers into.old) }
+    requires range { (c : ℕ) → (n : ℤ) → slice_index_or working.now.stored c None ≡ Some n
+        → IsInRange (M.scalars into.old) c n }
+    ensures numbers { M.numbers into.new ≡ with_number (slice_index_or working.now.stored cell None) cell
+        (M.numbers into.old) }
     ensures scalars { M.scalars into.new ≡ M.scalars into.old }
 {
     if cell >= into.len() {
@@ -28,7 +30,8 @@ fn put<M: Cells>(working: &Working, cell: u32, into: &mut M)
 /// Overwrites a memory by what was stored.
 pub fn overwrite<M: Cells>(working: &Working, into: &mut M)
     requires length { length working.now.stored ≡ length (M.numbers into.old) }
-    requires range { (c : ℕ) → (n : ℤ) → slice_index_or working.now.stored c None ≡ Some n → IsInRange (M.scalars into.old) c n }
+    requires range { (c : ℕ) → (n : ℤ) → slice_index_or working.now.stored c None ≡ Some n
+        → IsInRange (M.scalars into.old) c n }
     ensures numbers { M.numbers into.new ≡ overwritten working.now.stored (M.numbers into.old) }
     ensures scalars { M.scalars into.new ≡ M.scalars into.old }
 {

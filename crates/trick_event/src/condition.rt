@@ -76,7 +76,8 @@ fn chain<M: Cells>(first: i64, links: &[Link], memory: &M) -> i64
 // The value of a `?:` chain.
 #[cycle(condition)]
 fn choose<M: Cells>(choices: &[Choice], last: &Expr, memory: &M) -> i64
-    requires { IsTrue (are_all_conditions (length (M.numbers memory.now)) (choices_of_list choices.now (term_of last.now))) }
+    requires { IsTrue (are_all_conditions (length (M.numbers memory.now))
+        (choices_of_list choices.now (term_of last.now))) }
     ensures { chosen (choices_of_list choices.now (term_of last.now)) (sight_of (M.numbers memory.now)) ≡ Ok result }
 {
     for choice in choices {

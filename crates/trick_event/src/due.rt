@@ -125,7 +125,8 @@ pub(crate) fn read_done<M: Cells>(
     requires place { place < length plan.now.reads }
     requires tic { tic ≤ tic_limit }
     ensures done { (none : ReadAt) → asking M.numbers state.new asked.new
-        ≡ read_done (plan_of plan.now) tic (slice_index_or plan.now.reads place none) (asking M.numbers state.old asked.old) }
+        ≡ read_done (plan_of plan.now) tic (slice_index_or plan.now.reads place none)
+        (asking M.numbers state.old asked.old) }
     ensures memory { IsMemoryOf plan.now.program (M.numbers state.new.memory) (M.scalars state.new.memory) }
 {
     let read = &plan.reads.as_slice()[place];

@@ -26,12 +26,14 @@ pub record HasGiven (p : Plan) (decides : Bool) (w : World) (list : List Entry) 
 
 -- A world's turn that was given a list came to this: the turn with these entries, of which the source gave
 -- the list. At `Ok` the world is that after it, and the publications were chosen.
-pub record CameTo {S U M Q D : Type 0} (h : Hosts S U M Q) (numbers : D → List ℤ) (p : Plan) (decides : Bool) (w : World)
-    (list : List Entry) (waits now : List ℕ) (old new : Place S U Q) (result : Result (WorldValue D) Stop) : Type 0 where
+pub record CameTo {S U M Q D : Type 0} (h : Hosts S U M Q) (numbers : D → List ℤ) (p : Plan) (decides : Bool)
+    (w : World) (list : List Entry) (waits now : List ℕ) (old new : Place S U Q)
+    (result : Result (WorldValue D) Stop) : Type 0 where
   pub entries : List Entry
   pub gave : given decides entries ≡ list
   pub turned : Turned h p w entries old new result
   pub world : IfOk result (λ after. world_of numbers after ≡ (turn p w entries).world)
   pub asks : IsOk result
-      → Asks decides h.posts.asked (IsChosen p (heard_state p w entries) waits (publications entries)) old.posts new.posts
+      → Asks decides h.posts.asked (IsChosen p (heard_state p w entries) waits (publications entries)) old.posts
+      new.posts
   pub waited_so : IsOk result → decides ≡ false → now ≡ waited p (heard_state p w entries) waits (publications entries)

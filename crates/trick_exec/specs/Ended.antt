@@ -46,7 +46,8 @@ IsRun {D = D} h numbers p s old new (Err e) =
 
 -- The memory of the world in which a run is over has the cells of a program.
 abbrev pub HasMemory : {D : Type 0} → Program → (D → List ℤ) → (D → List Scalar) → EndedValue D → Type 0
-HasMemory program numbers scalars (ended.Done world) = IsMemoryOf program (numbers world.state.memory) (scalars world.state.memory)
+HasMemory program numbers scalars (ended.Done world) = IsMemoryOf program (numbers world.state.memory)
+    (scalars world.state.memory)
 HasMemory program numbers scalars (ended.Length kept given) = Unit {0}
 
 -- What the end of a run comes to that is over in a world: its last files are written and the world is shut,

@@ -55,7 +55,8 @@ pub(crate) fn go<M: Cells + Drop, F: Shelf, H: Phases<M>, P: Posts, T: Turns<M>>
     requires sessions { world.sessions.items ≡ [] }
     requires unknown { T.sessions turns.old ≡ no_sessions }
     requires paid { T.owes turns.old ≡ false }
-    ensures turns { AreTurns (hosts F.Shelf T.Turns P.Posts) M.numbers (plan_of accepted.now.plan) (seen M.numbers world.state)
+    ensures turns { AreTurns (hosts F.Shelf T.Turns P.Posts) M.numbers (plan_of accepted.now.plan)
+        (seen M.numbers world.state)
         (at shelf.old turns.old workers.old.posts) (at shelf.new turns.new workers.new.posts) result }
     ensures bench { IfOk result (λ ended. IsFor accepted.now.plan.program keeping.new.equipment.bench.parts) }
     ensures memory { IfOk result (λ ended. HasMemory accepted.now.plan.program M.numbers M.scalars ended) }

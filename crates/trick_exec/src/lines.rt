@@ -87,7 +87,8 @@ pub(crate) fn hear_lines<M: Cells + Drop, F: Shelf>(
     shelf: &mut F,
 ) -> Result<Heard<M>, Stop>
     requires valid { IsStateOf (plan_of accepted.now.plan) (seen M.numbers world.state) }
-    requires memory { IsMemoryOf accepted.now.plan.program (M.numbers world.state.memory) (M.scalars world.state.memory) }
+    requires memory { IsMemoryOf accepted.now.plan.program (M.numbers world.state.memory)
+        (M.scalars world.state.memory) }
     requires course { IsCourseOf accepted.now.plan equipment.old.course (seen M.numbers world.state) }
     requires bench { IsFor accepted.now.plan.program equipment.old.bench.parts }
     requires entries { All (λ (entry : EntryValue). IsTrue (is_entry entry)) lines.now }

@@ -52,14 +52,18 @@ pub(crate) fn turn<M: Cells + Drop, F: Shelf, H: Phases<M>, P: Posts, T: Turns<M
     requires equipped { IsEquipped accepted.now.plan keeping.old.equipment (P.in_flight workers.old.posts)
         (seen M.numbers world.state) (M.scalars world.state.memory) }
     requires waits { length keeping.old.waits.items ≡ length (threads_beside (plan_of accepted.now.plan)) }
-    requires given { HasGiven (plan_of accepted.now.plan) decides (world_of M.numbers world) entries.now (T.sessions turns.old) }
+    requires given { HasGiven (plan_of accepted.now.plan) decides (world_of M.numbers world) entries.now
+        (T.sessions turns.old) }
     ensures came_to { CameTo (hosts F.Shelf T.Turns P.Posts) M.numbers (plan_of accepted.now.plan) decides
         (world_of M.numbers world) entries.now keeping.old.waits.items keeping.new.waits.items
         (at shelf.old turns.old workers.old.posts) (at shelf.new turns.new workers.new.posts) result }
-    ensures known { IfOk result (λ after. AreKnown (plan_of accepted.now.plan) (T.sessions turns.new) after.sessions.items) }
-    ensures equipped { IfOk result (λ after. IsEquipped accepted.now.plan keeping.new.equipment (P.in_flight workers.new.posts)
+    ensures known { IfOk result (λ after. AreKnown (plan_of accepted.now.plan)
+        (T.sessions turns.new) after.sessions.items) }
+    ensures equipped { IfOk result (λ after. IsEquipped accepted.now.plan keeping.new.equipment
+        (P.in_flight workers.new.posts)
         (seen M.numbers after.state) (M.scalars after.state.memory)) }
-    ensures waits { IfOk result (λ after. length keeping.new.waits.items ≡ length (threads_beside (plan_of accepted.now.plan))) }
+    ensures waits { IfOk result (λ after. length keeping.new.waits.items
+        ≡ length (threads_beside (plan_of accepted.now.plan))) }
     ensures own { IfOk result (λ after. H.is_for workers.new.phases accepted.now.plan) }
     ensures posts { IfOk result (λ after. P.plan workers.new.posts ≡ accepted.now.plan) }
 {

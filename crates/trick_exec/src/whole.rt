@@ -70,7 +70,8 @@ fn close<M: Cells + Drop, F: Shelf>(
 ) -> Result<World<M>, Stop>
     requires bench { IsFor plan.now.program bench.old.parts }
     requires memory { IsMemoryOf plan.now.program (M.numbers world.state.memory) (M.scalars world.state.memory) }
-    ensures shut { IfOk result (λ after. seen M.numbers after.state ≡ shut_of (plan_of plan.now) (seen M.numbers world.state)) }
+    ensures shut { IfOk result (λ after. seen M.numbers after.state
+        ≡ shut_of (plan_of plan.now) (seen M.numbers world.state)) }
     ensures sessions { IfOk result (λ after. after.sessions ≡ world.sessions) }
     ensures does { Does F.Shelf shelf.old shelf.new result
         (steps_of (end_writes (plan_of plan.now) (shut_of (plan_of plan.now) (seen M.numbers world.state)))) }
@@ -93,7 +94,8 @@ fn end_run<M: Cells + Drop, F: Shelf, T: Turns<M>>(
 ) -> Result<Ended<M>, Stop>
     requires bench { IsFor plan.now.program bench.old.parts }
     requires memory { IsMemoryOf plan.now.program (M.numbers world.state.memory) (M.scalars world.state.memory) }
-    ensures { Closes F.Shelf T.Turns M.numbers (plan_of plan.now) (world_of M.numbers world) shelf.old shelf.new turns.old turns.new result }
+    ensures { Closes F.Shelf T.Turns M.numbers (plan_of plan.now)
+        (world_of M.numbers world) shelf.old shelf.new turns.old turns.new result }
 {
     if let Some((kept, given)) = turns.ends(world.state.turn) {
         return Ok(Ended::Length { kept, given });

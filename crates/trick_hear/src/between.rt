@@ -21,10 +21,13 @@ use trick_tic::Current;
 // Does an action of a client between two tics. Freeze is entered at once.
 fn act_between<M: Cells>(plan: &Plan, action: &Action, current: &mut Current<M>, bench: &mut Bench)
     requires bench { IsFor plan.now.program bench.old.parts }
-    requires memory { IsMemoryOf plan.now.program (M.numbers current.old.state.memory) (M.scalars current.old.state.memory) }
+    requires memory { IsMemoryOf plan.now.program (M.numbers current.old.state.memory)
+        (M.scalars current.old.state.memory) }
     ensures acted { asking_of M.numbers current.new
-        ≡ do_between (plan_of plan.now) (deed_of (names_of (plan_of plan.now)) action.now) (asking_of M.numbers current.old) }
-    ensures memory { IsMemoryOf plan.now.program (M.numbers current.new.state.memory) (M.scalars current.new.state.memory) }
+        ≡ do_between (plan_of plan.now) (deed_of (names_of (plan_of plan.now)) action.now)
+        (asking_of M.numbers current.old) }
+    ensures memory { IsMemoryOf plan.now.program (M.numbers current.new.state.memory)
+        (M.scalars current.new.state.memory) }
     ensures bench { bench.new.parts ≡ bench.old.parts }
 {
     match action {
@@ -47,10 +50,13 @@ fn act_asked<M: Cells>(
     bench: &mut Bench,
 )
     requires bench { IsFor plan.now.program bench.old.parts }
-    requires memory { IsMemoryOf plan.now.program (M.numbers current.old.state.memory) (M.scalars current.old.state.memory) }
+    requires memory { IsMemoryOf plan.now.program (M.numbers current.old.state.memory)
+        (M.scalars current.old.state.memory) }
     ensures acted { asking_of M.numbers current.new
-        ≡ do_between (plan_of plan.now) (asked (names_of (plan_of plan.now)) action.now) (asking_of M.numbers current.old) }
-    ensures memory { IsMemoryOf plan.now.program (M.numbers current.new.state.memory) (M.scalars current.new.state.memory) }
+        ≡ do_between (plan_of plan.now) (asked (names_of (plan_of plan.now)) action.now)
+        (asking_of M.numbers current.old) }
+    ensures memory { IsMemoryOf plan.now.program (M.numbers current.new.state.memory)
+        (M.scalars current.new.state.memory) }
     ensures bench { bench.new.parts ≡ bench.old.parts }
 {
     if let Some(action) = action {
@@ -61,10 +67,12 @@ fn act_asked<M: Cells>(
 // Leaves Freeze where a reply asks for it.
 fn resume<M: Cells>(plan: &Plan, run: bool, current: &mut Current<M>, bench: &mut Bench)
     requires bench { IsFor plan.now.program bench.old.parts }
-    requires memory { IsMemoryOf plan.now.program (M.numbers current.old.state.memory) (M.scalars current.old.state.memory) }
+    requires memory { IsMemoryOf plan.now.program (M.numbers current.old.state.memory)
+        (M.scalars current.old.state.memory) }
     ensures resumed { asking_of M.numbers current.new
         ≡ resumed (plan_of plan.now) run (asking_of M.numbers current.old) }
-    ensures memory { IsMemoryOf plan.now.program (M.numbers current.new.state.memory) (M.scalars current.new.state.memory) }
+    ensures memory { IsMemoryOf plan.now.program (M.numbers current.new.state.memory)
+        (M.scalars current.new.state.memory) }
     ensures bench { bench.new.parts ≡ bench.old.parts }
 {
     if run {
@@ -80,11 +88,14 @@ pub(crate) fn follow<M: Cells>(
     bench: &mut Bench,
 )
     requires bench { IsFor plan.now.program bench.old.parts }
-    requires memory { IsMemoryOf plan.now.program (M.numbers current.old.state.memory) (M.scalars current.old.state.memory) }
+    requires memory { IsMemoryOf plan.now.program (M.numbers current.old.state.memory)
+        (M.scalars current.old.state.memory) }
     ensures followed { asking_of M.numbers current.new
         ≡ resumed (plan_of plan.now) reply.now.run
-        (do_between (plan_of plan.now) (asked (names_of (plan_of plan.now)) reply.now.act) (asking_of M.numbers current.old)) }
-    ensures memory { IsMemoryOf plan.now.program (M.numbers current.new.state.memory) (M.scalars current.new.state.memory) }
+        (do_between (plan_of plan.now) (asked (names_of (plan_of plan.now)) reply.now.act)
+        (asking_of M.numbers current.old)) }
+    ensures memory { IsMemoryOf plan.now.program (M.numbers current.new.state.memory)
+        (M.scalars current.new.state.memory) }
     ensures bench { bench.new.parts ≡ bench.old.parts }
 {
     act_asked(plan, &reply.act, current, bench);

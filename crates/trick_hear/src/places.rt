@@ -23,7 +23,8 @@ pub(crate) fn place(sessions: &[Session], number: u32) -> Option<usize>
 /// The session of a number is leaving.
 pub(crate) fn leave(sessions: &mut [Session], number: u32)
     requires { IsTrue (rises (numbers_of sessions.old)) }
-    ensures { sessions.new ≡ changed (λ (session : SessionValue). record session { leaving = true }) number sessions.old }
+    ensures { sessions.new ≡ changed (λ (session : SessionValue). record session { leaving = true }) number
+        sessions.old }
 {
     if let Some(place) = place(sessions, number) {
         sessions[place].leaving = true;

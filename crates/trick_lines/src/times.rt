@@ -3,8 +3,8 @@
 ghost use Rattle.std.specs.Prelude.{◌≡◌};
 ghost use Rattle.trick_lines.specs.Times.{fault_of_time, tics_of, time_fault, time_in};
 
-use trick_input::{Call, Form, Time};
 use trick_base::TIC_LIMIT;
+use trick_input::{Call, Form, Time};
 use trick_text::TimeFault;
 
 // The time of a line, where it has one.

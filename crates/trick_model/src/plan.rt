@@ -67,9 +67,11 @@ pub struct Plan {
     pub ghost group_cells: { All (λ (group : Group). All (IsCell (length program.cells)) group.cells) groups },
     pub ghost assigns_right: { All (IsAssignment program.cells) assigns },
     pub ghost event_actions: { All (AreDoable (names_in program groups events)) events },
-    pub ghost read_actions: { All (λ (read : ReadAt). All (IsDoable (names_in program groups events)) read.actions) reads },
+    pub ghost read_actions: { All (λ (read : ReadAt). All (IsDoable (names_in program groups events)) read.actions)
+        reads },
     // A condition cannot fault.
-    pub ghost conditions_right: { All (λ (event : Event). IsTrue (is_condition_of (length program.cells) event.condition)) events },
+    pub ghost conditions_right: { All (λ (event : Event). IsTrue
+        (is_condition_of (length program.cells) event.condition)) events },
     // The lists of an event's actions have rising numbers, up to 15.
     pub ghost actions_numbered: { All AreNumbered events },
     // There is one flag per job, event and group.

@@ -29,6 +29,7 @@ pub trait Phases<M: Cells> {
         requires given { IsGiven accepted.now.plan (M.numbers memory) (M.scalars memory) on.now due.now tic }
         ensures memory { M.numbers result ≡ (serial (plan_of accepted.now.plan) on.now tic (M.numbers memory)).memory }
         ensures scalars { M.scalars result ≡ M.scalars memory }
-        ensures faults { faults.new ≡ with_faults (serial (plan_of accepted.now.plan) on.now tic (M.numbers memory)).faults faults.old }
+        ensures faults { faults.new ≡ with_faults
+            (serial (plan_of accepted.now.plan) on.now tic (M.numbers memory)).faults faults.old }
         ensures own { is_for self.new accepted.now.plan };
 }

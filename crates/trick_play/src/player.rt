@@ -12,8 +12,8 @@ ghost use Rattle.trick_schedule.specs.Tics.{tic_of};
 
 use crate::steps::{commit_job, take_job, thread_at};
 use std::alloc::{AllocError, Global};
-use trick_board::{Board, Closed};
 use trick_base::TIC_LIMIT;
+use trick_board::{Board, Closed};
 use trick_cycle::laws::due_test_is_exact;
 use trick_eval::Bench;
 use trick_lang::laws::{frame_law, write_law};

@@ -74,7 +74,8 @@ pub trait Posts {
         requires memory { IsMemoryOf (plan self.old).program (M.numbers memory.old) (M.scalars memory.old) }
         requires tic { tic ≤ tic_limit + 1 }
         ensures memory { M.numbers memory.new
-            ≡ (finished (plan_of (plan self.old)) thread (in_flight self.old thread) tic (M.numbers memory.old)).memory }
+            ≡ (finished (plan_of (plan self.old)) thread (in_flight self.old thread) tic
+            (M.numbers memory.old)).memory }
         ensures scalars { M.scalars memory.new ≡ M.scalars memory.old }
         ensures faults { faults.new
             ≡ with_faults (finished (plan_of (plan self.old)) thread (in_flight self.old thread) tic

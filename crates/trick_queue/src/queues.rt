@@ -34,7 +34,13 @@ impl Model for Queues {
 
     ghost Value = { QueuesView };
 
-    ghost view = { λ q. record { jobs = q.jobs.items; tics = q.tics; from = q.from; asked = q.asked; due = q.due.items } };
+    ghost view = { λ q. record {
+      jobs = q.jobs.items;
+      tics = q.tics;
+      from = q.from;
+      asked = q.asked;
+      due = q.due.items;
+    } };
 
     ghost invariant = { λ q. IsRoomy q.jobs.items q.tics (vec_capacity q.due) };
 }
@@ -158,7 +164,8 @@ impl Queues {
 
     /// The least tic that is not passed at which a job is due. `None` where there is none.
     pub fn next(&self) -> Option<u64>
-        ensures { (plan : PlanValue) (on : Flags) → IsFor plan self.now → FindsLeast (IsBusy plan on self.now.from) result }
+        ensures { (plan : PlanValue) (on : Flags) → IsFor plan self.now
+            → FindsLeast (IsBusy plan on self.now.from) result }
     {
         laws::due_test_is_exact();
         let least = self.tics.least();

@@ -63,7 +63,8 @@ pub fn row<M: Cells>(
     tic: u64,
 ) -> Result<Option<Vec<u8>>, AllocError>
     requires group { group < length plan.now.groups }
-    ensures row { IfOk result (λ row. added (log_name (group_at plan.now.groups group)) (option_map (λ text. text.items) row)
+    ensures row { IfOk result (λ row. added (log_name (group_at plan.now.groups group))
+        (option_map (λ text. text.items) row)
         ≡ row_writes tic group (group_at plan.now.groups group) (seen M.numbers state.old)) }
     ensures kept { OnOk result (seen M.numbers state.new
         ≡ row_kept tic group (group_at plan.now.groups group) (seen M.numbers state.old)) }

@@ -27,7 +27,8 @@ pub(crate) fn numbers<M: Cells>(
     memory: &M,
     cells: &[Cell],
 ) -> Result<Vec<i64>, AllocError>
-    ensures { IfOk result (λ row. row.items ≡ map (λ (cell : Cell). number_at (M.numbers memory.now) cell.0) cells.now) }
+    ensures { IfOk result (λ row. row.items
+        ≡ map (λ (cell : Cell). number_at (M.numbers memory.now) cell.0) cells.now) }
 {
     let mut row = Vec::with_capacity(alloc, cells.len())?;
     for cell in cells {

@@ -85,7 +85,8 @@ pub record IsJournalRest (p : Plan) (s : State) (entries : List Noted) (end turn
       ++ (added journal_name (late_writes p s entries end turn)
       ++ last_line (final p s (lists_of entries end s.turn)).turn)))
   pub resumed : (before : Option (List ℕ)) → resumed_file p s entries end turn journal_name before
-      ≡ Some (first_lines (state_at p s entries turn).turn ++ (join_lines entries end turn (state_at p s entries turn).turn
+      ≡ Some (first_lines (state_at p s entries turn).turn
+      ++ (join_lines entries end turn (state_at p s entries turn).turn
       ++ (added journal_name (late_writes p s entries end turn)
       ++ last_line (final p s (lists_of entries end s.turn)).turn)))
 

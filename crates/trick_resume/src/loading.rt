@@ -23,7 +23,8 @@ use trick_model::{Plan, State};
 /// as want of memory.
 pub fn resume(alloc: Global, plan: &Plan, text: &[u8]) -> Result<State<Memory>, LoadFault>
     ensures loaded { Loads (seen (λ memory. memory.numbers)) (checkpoint plan.now) text.now result }
-    ensures checkpoint { IfOk result (λ state. IsCheckpointOf plan.now text.now (seen (λ memory. memory.numbers) state)) }
+    ensures checkpoint { IfOk result (λ state. IsCheckpointOf plan.now text.now
+        (seen (λ memory. memory.numbers) state)) }
     ensures same { (s : StateOf) → IsCheckpointOf plan.now text.now s
         → IsLoadedAs (seen (λ memory. memory.numbers)) s result }
     ensures memory { IfOk result (λ state. IsMemoryOf plan.now.program state.memory.numbers state.memory.scalars) }

@@ -43,7 +43,8 @@ pub record IsKept {U M : Type 0} (turns : Ghosts U M) (old new : U) : Type 0 whe
 
 -- The first of these messages were handed to a source, and all of them at `Ok`; nothing else of it has
 -- changed.
-pub record Says {U M T E : Type 0} (turns : Ghosts U M) (old new : U) (result : Result T E) (messages : List Message) : Type 0 where
+pub record Says {U M T E : Type 0} (turns : Ghosts U M) (old new : U) (result : Result T E)
+    (messages : List Message) : Type 0 where
   pub sent : List Message
   pub rest : List Message
   pub all : messages ≡ sent ++ rest

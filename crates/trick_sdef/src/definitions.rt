@@ -144,7 +144,8 @@ fn read_definitions<'a>(
 ) -> Result<(Vec<Definition>, &'a [Token]), Stop<'a, Symbol>>
     requires { 1 ≤ source.limit }
     ensures { Gives (λ x. (map definition_of x.0.items, x.1.now)) result
-        (read number_of class_of [] (repetition source.entry.limit (definition source.entry.text.now source.entry.limit depth)) rest.now) }
+        (read number_of class_of [] (repetition source.entry.limit
+        (definition source.entry.text.now source.entry.limit depth)) rest.now) }
 {
     let mut found = Vec::new(alloc);
     let mut left = source.limit;

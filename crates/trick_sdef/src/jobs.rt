@@ -9,11 +9,11 @@ ghost use Rattle.trick_sdef.specs.Jobs.{called, cycle, every, job, job_class_of,
 ghost use Rattle.trick_sdef.specs.Trees.{job_line_of, times_of};
 
 use std::alloc::Global;
+use trick_base::TIC_LIMIT;
 use trick_body::{NAMES, Source, Symbol, Token, name_of};
 use trick_grammar::{Refusal, Stop, next_is, next_is_one_of, reason_at, take, take_one_of};
 use trick_lang::Class;
 use trick_lang::syntax::JobLine;
-use trick_base::TIC_LIMIT;
 
 // The classes other than that of scheduled jobs.
 const OTHER_CLASSES: [Symbol; 9] = [

@@ -162,7 +162,8 @@ fn read_next_declarators<'a>(
     rest: &'a [Token],
 ) -> Result<(Vec<Declarator>, &'a [Token]), Stop<'a, Symbol>>
     ensures { Gives (λ x. (map declarator_of x.0.items, x.1.now)) result
-        (read number_of class_of [] (repetition (source.entry.limit - 1) (next_declarator source.entry.text.now)) rest.now) }
+        (read number_of class_of [] (repetition (source.entry.limit - 1) (next_declarator source.entry.text.now))
+        rest.now) }
 {
     let mut found = Vec::new(alloc);
     let mut left = source.limit.saturating_sub(1);
@@ -247,7 +248,8 @@ fn read_members<'a>(
     rest: &'a [Token],
 ) -> Result<(Vec<Members>, &'a [Token]), Stop<'a, Symbol>>
     ensures { Gives (λ x. (map members_of x.0.items, x.1.now)) result
-        (read number_of class_of [] (repetition source.entry.limit (member source.entry.text.now source.entry.limit)) rest.now) }
+        (read number_of class_of [] (repetition source.entry.limit
+        (member source.entry.text.now source.entry.limit)) rest.now) }
 {
     let mut found = Vec::new(alloc);
     let mut left = source.limit;

@@ -30,13 +30,15 @@ pub fn cells_have_names_of_their_own()
 /// Of each simulation definition that is read from a text and whose names are right, no two jobs have one name and
 /// instance. Whether it was read from a text or not, no two jobs of one object have one number in their constructor.
 pub fn jobs_have_names_of_their_own()
-    ensures instances { (text : List ℕ) (s : _) → IsSDefine text (Ok s) → NamesAreRight (sdefine_of s) → JobsAreApart (sdefine_of s) }
+    ensures instances { (text : List ℕ) (s : _) → IsSDefine text (Ok s) → NamesAreRight (sdefine_of s)
+        → JobsAreApart (sdefine_of s) }
     ensures numbers { (ds : SDefine) → JobNumbersAreApart ds }
 {}
 
 /// So the parts of the program that a text names pass each test that `trick_check::resolve` makes of them.
 pub fn texts_pass_all_tests()
-    ensures { (text : List ℕ) (s : _) → IsSDefine text (Ok s) → NamesAreRight (sdefine_of s) → PassesAllTests (sdefine_of s) }
+    ensures { (text : List ℕ) (s : _) → IsSDefine text (Ok s) → NamesAreRight (sdefine_of s)
+        → PassesAllTests (sdefine_of s) }
 {
     programs_pass_tests();
     jobs_have_methods();

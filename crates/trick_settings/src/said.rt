@@ -3,9 +3,9 @@
 ghost use Rattle.std.specs.Prelude.{◌≡◌, ◌+◌};
 ghost use Rattle.trick_settings.specs.Settings.{cycle_said, frame_said, frozen_said, later, limit_said, process_said};
 
+use trick_base::TIC_LIMIT;
 use trick_input::Form;
 use trick_model::Process;
-use trick_base::TIC_LIMIT;
 
 // The frame that a line names.
 pub(crate) fn frame_said(form: &Form) -> Option<u64>

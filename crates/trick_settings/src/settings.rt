@@ -8,11 +8,10 @@ ghost use Rattle.trick_threads.specs.Threads.{AreThreads};
 
 use crate::said::{cycle_said, frame_said, frozen_said, later, limit_said, process_said};
 use std::alloc::{AllocError, Global};
-use trick_base::Items;
+use trick_base::{Items, TIC_LIMIT};
 use trick_input::Call;
 use trick_lang::Program;
 use trick_model::Thread;
-use trick_base::TIC_LIMIT;
 use trick_threads::{Setting, threads};
 
 /// What an input says of the run and of its threads. Of two lines that say one thing the last counts,

@@ -40,8 +40,8 @@ impl<B: Keeps> TurnLock<B> {
     ghost use Rattle.trick_turn.specs.Passes.{IsPassOf, IsSamePass, Rests, IsDealt, AreDealt, Joins, Looks};
     ghost use Rattle.trick_turn.specs.Passes.{view, number_of, made, seen};
 
-    /// A lock with `seats` passes, which have the numbers from 1 on, in this order. The value has to stand for the empty
-    /// list.
+    /// A lock with `seats` passes, which have the numbers from 1 on, in this order. The value has to stand for the
+    /// empty list.
     ///
     /// Where memory runs out the value is lost.
     pub fn new(
@@ -115,8 +115,8 @@ impl<B: Keeps> TurnLock<B> {
         Pass { seat }
     }
 
-    /// Takes in a pass whose work is done: what both passes have seen is of one history, and the first pass has now seen
-    /// the longer part.
+    /// Takes in a pass whose work is done: what both passes have seen is of one history, and the first pass has now
+    /// seen the longer part.
     pub fn join(&self, first: &mut Pass<B>, other: Pass<B>)
         requires first { IsPassOf self.now first.old × Rests first.old × (number_of first.old ≡ 1) }
         requires other { IsPassOf self.now other × Rests other }
@@ -204,9 +204,10 @@ impl<B: Keeps> TurnLock<B> {
 
     // Sleeps while the word is the number that the last of some looks found. Numbers fit in 32 bits.
     //
-    // No wake is lost. `sleepers` is raised before the park, and the park sleeps only while the turn is held. A release
-    // frees the turn first and reads `sleepers` after that. So where a park still finds the turn held, the release reads
-    // that somebody sleeps, and wakes one. If another one is woken, it claims, and the next release wakes again.
+    // No wake is lost. `sleepers` is raised before the park, and the park sleeps only while the turn is held. A
+    // release frees the turn first and reads `sleepers` after that. So where a park still finds the turn held, the
+    // release reads that somebody sleeps, and wakes one. If another one is woken, it claims, and the next release
+    // wakes again.
     fn sleep<R: Wait>(&self, rt: &R) {
         let held = self.look_some_times();
         if held != FREE {

@@ -1,6 +1,6 @@
-//! A small board behind a turn lock, generic in its memory, to try what the layers over `trick_turn` need: a chief opens
-//! the board with a memory and closes it again, hands store numbers into it, and a close gives the memory of the open with
-//! what was stored since then.
+//! A small board behind a turn lock, generic in its memory, to try what the layers over `trick_turn` need: a chief
+//! opens the board with a memory and closes it again, hands store numbers into it, and a close gives the memory of
+//! the open with what was stored since then.
 #![tactic(auto)]
 
 mod board;

@@ -75,12 +75,14 @@ pub trait Turns<M: Cells> {
         ensures sessions { sessions self.new ≡ sessions self.old };
 
     /// It takes messages to each session that joined and had not left before the last list.
-    ghost reaches: { (turns : Self) (session : ℕ) → IsTrue (is_among session (sessions turns).reached) → takes turns session };
+    ghost reaches: { (turns : Self) (session : ℕ) → IsTrue (is_among session (sessions turns).reached)
+        → takes turns session };
 
     /// From a value to itself nothing is answered and nothing handed over.
     ghost went_none: { (turns : Self) → went turns [] [] turns };
 
     /// Steps join.
     ghost went_join: { (first second third : Self) (early late : List Answer) (some more : List Message)
-        → went first early some second → went second late more third → went first (early ++ late) (some ++ more) third };
+        → went first early some second → went second late more third
+        → went first (early ++ late) (some ++ more) third };
 }
