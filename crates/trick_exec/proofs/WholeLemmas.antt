@@ -33,7 +33,7 @@ waits_of p one other same are = ap (map {B = ℕ} (λ (station : Station). 0)) s
 -- where it stopped no posts count
 pub moved : {S U M Q T : Type 0} {h : Hosts S U M Q} {p : Plan} {s : State} {lists : List (List Entry)} {old new : Place S U Q} {result : Result T Stop} (first last : Q)
     → Stopped h p s lists old new result → Stopped h p s lists (at old.shelf old.turns first) (at new.shelf new.turns last) result
-moved first last so = record { owed = so.owed; goes = so.goes; follows = so.follows; does = so.does; last = so.last; sent = so.sent; unsent = so.unsent; handed = so.handed; step = so.step }
+moved first last so = record { owed = so.owed; goes = so.goes; follows = so.follows; does = so.does; last = so.last; sent = so.sent; unsent = so.unsent; handed = so.handed; step = so.step; stops = so.stops }
 
 module _ {S U M Q D : Type 0} (h : Hosts S U M Q) (laws : Laws h) (numbers : D → List ℤ) (p : Plan) (start : State) where
   -- a run whose turns are over comes to what its end comes to

@@ -2,7 +2,7 @@
 use Rattle.std.proofs.Common.{◌≡◌, ◌∙◌, ℕ, ◌≤◌, List, [], ◌∷◌, ◌++◌, Bool, true, false, not, ◌&&◌, Err, IsOk, Some, None, ap, append-nil, append_assoc, arith, inr, refl, subst, sym}
 use Rattle.std.proofs.lemmas.Bool.Decides.{nat_tests}
 use Rattle.std.specs.Prelude.{◌||◌, ◌+◌, max, Result, IsErrOf, nat_le, nat_lt}
-use Rattle.trick_model.specs.Files.{turns_said}
+use Rattle.trick_model.specs.Files.{turns_said, turns_writes}
 use Rattle.trick_model.specs.Plan.{Plan}
 use Rattle.trick_model.specs.Run.{goes_on, has_session_entry, is_over, is_shut, opened}
 use Rattle.trick_model.specs.Session.{Message}
@@ -11,20 +11,23 @@ use Rattle.trick_model.specs.Turn.{is_frozen}
 use Rattle.trick_model.specs.declared.entry.Entry.{Entry}
 use Rattle.trick_model.specs.declared.mode.Mode.{Mode}
 use Rattle.trick_model.specs.declared.mode.Mode.TheVariants as mode
-use Rattle.trick_outside.proofs.DoesLemmas.{does_as, does_fail}
+use Rattle.trick_outside.specs.Calls.{Call}
 use Rattle.trick_outside.specs.declared.stop.Stop.{Stop}
 use Rattle.trick_outside.specs.declared.stop.Stop.TheVariants.{Shelf}
 use Rattle.trick_post.specs.Polls.{Poll}
 use Rattle.trick_post.specs.declared.posts.Posts.{Ghosts as PostsGhosts}
+use Rattle.trick_runs.proofs.DidLemmas.{did_as, did_fail}
 use Rattle.trick_runs.proofs.Goes.{given_lines, goes_given, goes_paid, goes_yet, paid_over}
-use Rattle.trick_runs.proofs.Going.{Gave, IsGoing, Laws, PollsJoin, does_more, rest_more, said_more, step_more}
+use Rattle.trick_runs.proofs.Going.{Gave, IsGoing, Laws, PollsJoin, did_more, rest_more, said_more, step_more}
 use Rattle.trick_runs.specs.Answers.{answers, given, no_more}
 use Rattle.trick_runs.specs.Goes.{goes_owing, left_of}
 use Rattle.trick_runs.specs.Hosts.{Hosts, Place, at}
 use Rattle.trick_runs.specs.Over.{AreOver, AreShort, AreStopped}
 use Rattle.trick_runs.specs.Ran.{last_answer}
 use Rattle.trick_runs.specs.Rounds.{AreChosen}
+use Rattle.trick_runs.specs.Stops.{StopsAt, StopsInTurn, between, in_turn}
 use Rattle.trick_runs.specs.Turned.{Asks, Turned}
+use Rattle.trick_tic.specs.Steps.{steps_of}
 use Rattle.trick_turns.specs.Turns.{Answer, Told, owes_after}
 
 -- ---- how a run is over
@@ -132,17 +135,19 @@ module _ {S U M Q : Type 0} (h : Hosts S U M Q) (laws : Laws h) (p : Plan) (star
   stops_between {old = old} {now = now} {lists = lists} result end last so went never clean =
       let d = h.turns.decided old.turns in
       let said = turns_said p (opened start) lists in
+      let all = did_as result so.does (λ ok. refl) (λ f. absurd (clean f)) (λ f. cc) in
       record {
         owed = h.turns.owes now.turns;
         goes = so.goes;
         follows = λ decides told is. (so.rest decides told is).0;
-        does = does_as result so.does (λ ok. refl) (λ f. absurd (clean f)) (λ f. cc);
+        does = all.0;
         last = last;
         sent = said;
         unsent = [];
         handed = sym (append-nil said);
         step = subst (λ (s : List Message). h.turns.went old.turns (answers d p (opened start) lists ++ last) s end) (append-nil said)
             (laws.turns old.turns now.turns end (answers d p (opened start) lists) last said [] so.step went);
+        stops = subst (λ (calls : List Call). StopsAt p start [] lists calls said) (sym (all.1 ∙ so.does.whole refl)) (between lists);
       }
 
   -- it stopped in a turn
@@ -158,17 +163,25 @@ module _ {S U M Q : Type 0} (h : Hosts S U M Q) (laws : Laws h) (p : Plan) (star
       let all = answers d p (opened start) (lists ++ entries ∷ []) in
       let list = given d entries in
       let owed = h.turns.owes mid.turns in
+      let begun = steps_of (turns_writes p (opened start) lists) in
+      let failed = did_fail result e f did.does at_first is same in
+      let made = did_more h laws p start w lists entries so.is so.does failed.0 in
+      let place : StopsInTurn p w entries did.does.calls did.says.sent =
+      record { part = did.does.part; rest = did.says.rest; front = did.says.all; prompt = did.prompt } in
       record {
         owed = owes_after w.state.mode list owed;
         goes = goes_given p (opened start) w lists entries list owed (owes_after w.state.mode list owed) so.is so.goes alive below (given_lines d entries) refl;
         follows = λ decides told tells. (rest_more h laws p start old.turns mid.turns gave gave w lists entries so.is alive below so.rest gives refl decides told tells).0;
-        does = does_more h laws p start result w lists entries so.is so.does (does_fail result e f did.does at_first is same);
+        does = made.0;
         last = [];
         sent = early ++ did.says.sent;
         unsent = did.says.rest;
         handed = said_more h laws p start w lists entries so.is ∙ ap (λ more. early ++ more) did.says.all ∙ sym (append_assoc early did.says.sent did.says.rest);
         step = subst (λ (l : List Answer). h.turns.went old.turns l (early ++ did.says.sent) new.turns) (sym (append-nil all))
             (step_more h laws p start d old.turns mid.turns gave new.turns w lists entries did.says.sent so.is so.step gives.step did.says.step);
+        stops = subst (λ (calls : List Call). StopsAt p start [] (lists ++ entries ∷ []) calls (early ++ did.says.sent))
+            (sym (made.1 ∙ ap (λ (calls : List Call). begun ++ calls) failed.1))
+            (in_turn lists entries did.does.calls did.says.sent (subst (λ (v : World). StopsInTurn p v entries did.does.calls did.says.sent) so.is place));
       }
 
   -- the journal ends before the run does

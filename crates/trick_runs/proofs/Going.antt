@@ -9,12 +9,13 @@ use Rattle.trick_model.specs.Session.{Message}
 use Rattle.trick_model.specs.State.{State, World}
 use Rattle.trick_model.specs.Turn.{is_frozen, turn}
 use Rattle.trick_model.specs.declared.entry.Entry.{Entry}
-use Rattle.trick_outside.proofs.DoesLemmas.{Joins, does_nothing, does_ok, does_then}
+use Rattle.trick_outside.proofs.DoesLemmas.{Joins, does_nothing, does_ok}
 use Rattle.trick_outside.specs.Does.{Does}
 use Rattle.trick_outside.specs.declared.stop.Stop.TheVariants.{Shelf}
 use Rattle.trick_outside.specs.declared.stop.Stop.{Stop}
 use Rattle.trick_post.specs.Polls.{Poll}
 use Rattle.trick_post.specs.declared.posts.Posts.{Ghosts as PostsGhosts}
+use Rattle.trick_runs.proofs.DidLemmas.{did_of, did_then}
 use Rattle.trick_runs.proofs.Goes.{follows_more, given_lines, goes_given, goes_yet, left_more}
 use Rattle.trick_runs.proofs.Idle.{waits_more}
 use Rattle.trick_tic.proofs.Doing.{fine}
@@ -149,19 +150,20 @@ module _ {S U M Q : Type 0} (h : Hosts S U M Q) (laws : Laws h) (p : Plan) (star
       said_one laws.runs p (opened start) lists entries
       ∙ ap (λ (v : World). turns_said p (opened start) lists ++ (turn p v entries).said) (sym is)
 
-  pub does_more : {T : Type 0} {old mid new : S} (result : Result T Stop) (w : World) (lists : List (List Entry)) (entries : List Entry)
+  pub did_more : {T : Type 0} {old mid new : S} {result : Result T Stop} (w : World) (lists : List (List Entry)) (entries : List Entry)
       → w ≡ after_turns p (opened start) lists
       → Does h.shelf old mid fine (steps_of (turns_writes p (opened start) lists))
-      → Does h.shelf mid new result (steps_of (turn_writes w.state.turn (turn p w entries)))
-      → Does h.shelf old new result (steps_of (turns_writes p (opened start) (lists ++ entries ∷ [])))
-  does_more {old = old} {new = new} result w lists entries is did more =
+      → (more : Does h.shelf mid new result (steps_of (turn_writes w.state.turn (turn p w entries))))
+      → (does : Does h.shelf old new result (steps_of (turns_writes p (opened start) (lists ++ entries ∷ []))))
+      × (does.calls ≡ steps_of (turns_writes p (opened start) lists) ++ more.calls)
+  did_more w lists entries is did more =
       let early = turns_writes p (opened start) lists in
       let step = turn_writes w.state.turn (turn p w entries) in
-      subst (λ calls. Does h.shelf old new result calls)
+      did_of
       (sym (steps_of-append early step)
       ∙ ap (λ (v : World). steps_of (early ++ turn_writes v.state.turn (turn p v entries))) is
       ∙ sym (ap steps_of (writes_one laws.runs p (opened start) lists entries)))
-      (does_then laws.shelf did refl more)
+      (did_then laws.shelf did refl more)
 
   pub rest_more : (old mid gave now : U) (w : World) (lists : List (List Entry)) (entries : List Entry)
       → w ≡ after_turns p (opened start) lists → is_shut w.state.mode ≡ false → nat_le w.state.limit w.state.tic ≡ false
@@ -210,7 +212,7 @@ module _ {S U M Q : Type 0} (h : Hosts S U M Q) (laws : Laws h) (p : Plan) (star
         untold = λ silent. did.says.kept.journal ∙ gives.untold (so.untold silent);
         rest = rest_more old.turns mid.turns gave new.turns w lists entries so.is alive below so.rest gives did.says.kept.journal;
         is = is ∙ ap (λ (v : World). (turn p v entries).world) so.is ∙ sym (laws.runs.worlds p (opened start) lists (entries ∷ []));
-        does = does_more fine w lists entries so.is so.does (does_ok (tt {0}) did.does ok);
+        does = (did_more w lists entries so.is so.does (does_ok (tt {0}) did.does ok)).0;
         step = subst (λ (said : List Message). h.turns.went old.turns (answers d p (opened start) (lists ++ entries ∷ [])) said new.turns)
             (ap (λ more. early ++ more) (sym all) ∙ sym (said_more w lists entries so.is))
             (step_more d old.turns mid.turns gave new.turns w lists entries did.says.sent so.is so.step gives.step did.says.step);

@@ -6,6 +6,10 @@ pub mod Counts
 pub mod Fitting
 -- A run goes on by one turn more, and is that of a journal that is told.
 pub mod Goes
+-- Steps that were taken, with the calls that were made for them.
+pub mod DidLemmas
+-- Where a run stopped.
+pub mod StopLemmas
 -- Turns, one after another.
 pub mod Going
 -- The turns of a run are over, or stop.

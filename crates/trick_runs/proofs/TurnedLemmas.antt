@@ -1,6 +1,6 @@
 -- What a turn did, by its parts.
-use Rattle.std.proofs.Common.{◌≡◌, ◌∙◌, List, [], ◌++◌, false, not, Err, Ok, IsOk, ap, append_assoc, inl, inr, subst, sym}
-use Rattle.std.specs.Prelude.{filter, Result, IsErrOf}
+use Rattle.std.proofs.Common.{◌≡◌, ◌∙◌, List, [], ◌++◌, not, Err, IsOk, ap, append_assoc, inl, inr, subst, sym}
+use Rattle.std.specs.Prelude.{filter, Result}
 use Rattle.trick_base.specs.Files.{Write}
 use Rattle.trick_model.specs.Files.{note, turn_writes}
 use Rattle.trick_model.specs.Journal.{is_of_session}
@@ -9,13 +9,10 @@ use Rattle.trick_model.specs.Session.{samples}
 use Rattle.trick_model.specs.State.{World}
 use Rattle.trick_model.specs.Turn.{Hearing, begun, replies, turn}
 use Rattle.trick_model.specs.declared.entry.Entry.{Entry}
-use Rattle.trick_outside.proofs.CallLemmas.{ends-append, fails-late, part_of_late, true_or_false}
-use Rattle.trick_outside.proofs.DoesLemmas.{Joins, does_err, does_then, went_then}
-use Rattle.trick_outside.specs.Calls.{Call, fails}
-use Rattle.trick_outside.specs.Does.{Does, IsPartOf}
-use Rattle.trick_outside.specs.declared.shelf.Shelf.{Ghosts}
-use Rattle.trick_outside.specs.declared.stop.Stop.TheVariants.{Shelf}
+use Rattle.trick_outside.proofs.DoesLemmas.{does_err, does_then}
+use Rattle.trick_outside.specs.Does.{Does}
 use Rattle.trick_outside.specs.declared.stop.Stop.{Stop}
+use Rattle.trick_runs.proofs.DidLemmas.{did_of, did_then}
 use Rattle.trick_runs.proofs.Going.{Laws}
 use Rattle.trick_runs.proofs.PartLemmas.{IsMade}
 use Rattle.trick_runs.proofs.SayLemmas.{says_as, says_none}
@@ -25,31 +22,6 @@ use Rattle.trick_runs.specs.Hosts.{Hosts, Place, at}
 use Rattle.trick_runs.specs.Parts.{counting, state_after, writes_after}
 use Rattle.trick_tic.specs.Steps.{steps_of}
 use Rattle.trick_runs.specs.Turned.{Turned, notes}
-
-ok_no_fault : {T : Type 0} (result : Result T Stop) → IsOk result → IsErrOf result Shelf → ⊥
-ok_no_fault (Ok x) ok is = cc
-ok_no_fault (Err f) ok is = cc
-
--- the first steps were taken, and the others after them; the calls begin with the first
-does_behind : {S T U : Type 0} {shelf : Ghosts S} {old mid new : S} {first : Result T Stop} {result : Result U Stop} (early late steps : List Call)
-    → Joins shelf → Does shelf old mid first early → IsOk first → Does shelf mid new result late → steps ≡ early ++ late
-    → (does : Does shelf old new result steps) × (later : List Call) × (does.calls ≡ early ++ later)
-does_behind {first = first} {result = result} early late steps join did ok more is =
-    let quiet : fails did.calls ≡ false = true_or_false (fails did.calls) (λ e. ok_no_fault first ok (did.fault e)) in
-    let same : fails (did.calls ++ more.calls) ≡ fails more.calls = fails-late did.calls more.calls quiet in
-    let begins : did.calls ++ more.calls ≡ early ++ more.calls = ap (λ c. c ++ more.calls) (did.whole ok) in (
-      record {
-        calls = did.calls ++ more.calls;
-        went = went_then join did.went more.went;
-        part = subst (λ c. IsPartOf c steps) (sym begins) (subst (λ w. IsPartOf (early ++ more.calls) w) (sym is) (part_of_late early more.calls late more.part));
-        whole = λ d. begins ∙ ap (λ c. early ++ c) (more.whole d) ∙ sym is;
-        failed = λ f. same ∙ more.failed f;
-        fault = λ e. more.fault (sym same ∙ e);
-        ends = ends-append did.calls more.calls quiet more.ends;
-      },
-      more.calls,
-      begins,
-    )
 
 module _ {S U M Q : Type 0} (h : Hosts S U M Q) (laws : Laws h) (p : Plan) (w : World) (entries lines publications : List Entry) (heard : Hearing)
     (made : IsMade p w entries lines publications heard) where
@@ -75,12 +47,11 @@ module _ {S U M Q : Type 0} (h : Hosts S U M Q) (laws : Laws h) (p : Plan) (w : 
   turned {old = old} {bottom = bottom} {new = new} {second = second} {result = result} one ok two fine rest says =
       let noted : Does h.shelf old.shelf bottom second (steps_of (notes w.state.turn (turn p w entries))) =
       subst (λ c. Does h.shelf old.shelf bottom second c) (sym notes_are) (does_then laws.shelf one ok two) in
-      let all = does_behind (steps_of (notes w.state.turn (turn p w entries))) (steps_of (writes_after p publications heard.asking))
-      (steps_of (turn_writes w.state.turn (turn p w entries))) laws.shelf noted fine rest steps_are in
+      let all = did_of (sym steps_are) (did_then laws.shelf noted fine rest) in
       record {
         does = all.0;
         says = says_as result (turn p w entries).said made.said says (λ d. d);
-        prompt = inr (all.1, all.2);
+        prompt = inr (rest.calls, all.1);
       }
 
   -- it stopped before its notes were made

@@ -12,15 +12,18 @@ use Rattle.trick_model.specs.Run.{final, is_over, opened, shut}
 use Rattle.trick_model.specs.Session.{Message}
 use Rattle.trick_model.specs.State.{State, World}
 use Rattle.trick_model.specs.declared.entry.Entry.{Entry}
-use Rattle.trick_outside.proofs.DoesLemmas.{does_err, does_fail, does_none, does_ok, does_then}
+use Rattle.trick_outside.proofs.DoesLemmas.{does_fail, does_ok, does_then}
 use Rattle.trick_outside.proofs.WriteLemmas.{does_all}
+use Rattle.trick_outside.specs.Calls.{Call}
 use Rattle.trick_outside.specs.Does.{Does}
 use Rattle.trick_outside.specs.declared.shelf.Shelf.{Ghosts}
 use Rattle.trick_outside.specs.declared.stop.Stop.TheVariants.{Shelf}
 use Rattle.trick_outside.specs.declared.stop.Stop.{Stop}
+use Rattle.trick_runs.proofs.DidLemmas.{did_err, did_none, did_of, did_then}
 use Rattle.trick_runs.proofs.Ending.{asks_behind}
 use Rattle.trick_runs.proofs.Goes.{follows_lasts, goes_paid}
 use Rattle.trick_runs.proofs.Going.{Laws, PollsJoin}
+use Rattle.trick_runs.proofs.StopLemmas.{parts_of, stops_behind}
 use Rattle.trick_tic.proofs.Doing.{fine}
 use Rattle.trick_tic.proofs.StepLemmas.{all_done, steps_of-append, writes_of-steps_of}
 use Rattle.trick_runs.specs.Answers.{answers}
@@ -30,6 +33,8 @@ use Rattle.trick_runs.specs.Hosts.{Hosts, Place, at}
 use Rattle.trick_runs.specs.Over.{AreOver, AreShort, AreStopped}
 use Rattle.trick_runs.specs.Rounds.{AreChosen}
 use Rattle.trick_runs.specs.Ran.{Missed, Ran, Stopped, last_answer, writes_so_far}
+use Rattle.trick_runs.specs.Stops as place
+use Rattle.trick_runs.specs.Stops.{StopsAt}
 use Rattle.trick_tic.specs.Steps.{steps_of}
 use Rattle.trick_turns.specs.Turns.{Answer, EndsAt, Told}
 
@@ -124,51 +129,62 @@ module _ {S U M Q : Type 0} (h : Hosts S U M Q) (laws : Laws h) (p : Plan) (star
       → h.turns.went old.turns [] [] old.turns
       → Does h.shelf old.shelf new begun (steps_of (start_writes p start.turn)) → begun ≡ Err e → result ≡ Err f → f ≡ e
       → Stopped h p start [] old (at new old.turns old.posts) result
-  stopped_first {old = old} {new = new} result e f nothing did at_first is same = record {
-    owed = false;
-    goes = refl;
-    follows = λ decides told tells. tt;
-    does = subst (λ calls. Does h.shelf old.shelf new result calls) (sym (whole p start []))
-        (does_err result e f (steps_of (turns_writes p (opened start) []) ++ steps_of (end_writes p (final p start []))) did at_first is same);
-    last = [];
-    sent = [];
-    unsent = [];
-    handed = refl;
-    step = nothing;
-  }
+  stopped_first result e f nothing did at_first is same =
+      let rest = steps_of (turns_writes p (opened start) []) ++ steps_of (end_writes p (final p start [])) in
+      let all = did_of (sym (whole p start [])) (did_err result e f rest did at_first is same) in
+      record {
+        owed = false;
+        goes = refl;
+        follows = λ decides told tells. tt;
+        does = all.0;
+        last = [];
+        sent = [];
+        unsent = [];
+        handed = refl;
+        step = nothing;
+        stops = subst (λ (calls : List Call). StopsAt p start (start_writes p start.turn) [] calls []) (sym all.1) (place.before did.calls did.part);
+      }
 
   -- there was no memory for what it keeps
   pub stopped_at_once : {T : Type 0} (old : Place S U Q) (result : Result T Stop) → h.shelf.called old.shelf [] old.shelf
       → h.turns.went old.turns [] [] old.turns → (IsOk result → ⊥) → (IsErrOf result Shelf → ⊥) → Stopped h p start [] old old result
-  stopped_at_once old result called nothing not_done never = record {
-    owed = false;
-    goes = refl;
-    follows = λ decides told tells. tt;
-    does = does_none old.shelf result (steps_of (run_writes p start [])) called not_done never;
-    last = [];
-    sent = [];
-    unsent = [];
-    handed = refl;
-    step = nothing;
-  }
+  stopped_at_once old result called nothing not_done never =
+      let none = did_none old.shelf result (steps_of (run_writes p start [])) called not_done never in
+      record {
+        owed = false;
+        goes = refl;
+        follows = λ decides told tells. tt;
+        does = none.0;
+        last = [];
+        sent = [];
+        unsent = [];
+        handed = refl;
+        step = nothing;
+        stops = subst (λ (calls : List Call). StopsAt p start (start_writes p start.turn) [] calls []) (sym none.1) (place.before [] tt);
+      }
 
   -- it stopped in its turns
   pub stopped_in_turns : {A T V : Type 0} {old : Place S U Q} {mid : S} {now : Place S U Q} {begun : Result A Stop} {first : Result T Stop} {lists : List (List Entry)}
       (result : Result V Stop) (e f : Stop) → Does h.shelf old.shelf mid begun (steps_of (start_writes p start.turn)) → IsOk begun
       → AreStopped h p start lists (at mid old.turns old.posts) now first → first ≡ Err e → result ≡ Err f → f ≡ e
       → Stopped h p start lists old now result
-  stopped_in_turns {old = old} {now = now} {lists = lists} result e f begun ok turns at_first is same = record {
-    owed = turns.owed;
-    goes = turns.goes;
-    follows = turns.follows;
-    does = subst (λ calls. Does h.shelf old.shelf now.shelf result calls) (sym (whole p start lists))
-        (does_then laws.shelf begun ok (does_err result e f (steps_of (end_writes p (final p start lists))) turns.does at_first is same));
-    last = turns.last;
-    sent = turns.sent;
-    unsent = turns.unsent;
-    handed = turns.handed;
-    step = turns.step;
-  }
+  stopped_in_turns {lists = lists} result e f begun ok turns at_first is same =
+      let head = start_writes p start.turn in
+      let failed = did_err result e f (steps_of (end_writes p (final p start lists))) turns.does at_first is same in
+      let all = did_of (sym (whole p start lists)) (did_then laws.shelf begun ok failed.0) in
+      record {
+        owed = turns.owed;
+        goes = turns.goes;
+        follows = turns.follows;
+        does = all.0;
+        last = turns.last;
+        sent = turns.sent;
+        unsent = turns.unsent;
+        handed = turns.handed;
+        step = turns.step;
+        stops = subst (λ (calls : List Call). StopsAt p start head lists calls turns.sent)
+            (sym (all.1 ∙ ap (λ (calls : List Call). steps_of head ++ calls) failed.1)) (stops_behind head turns.stops);
+      }
 
   -- it was over, and stopped among its last files
   pub stopped_at_end : {A B T : Type 0} {old : Place S U Q} {mid new : S} {end : U} {over : Place S U Q} {begun : Result A Stop} {ended : Result B Stop} {w : World} {lists : List (List Entry)}
@@ -183,12 +199,15 @@ module _ {S U M Q : Type 0} (h : Hosts S U M Q) (laws : Laws h) (p : Plan) (star
       let final_is : last ≡ final p start lists = is ∙ ap (λ (v : World). shut p v.state) turns.is in
       let wrote : Does h.shelf over.shelf new result (steps_of (end_writes p (final p start lists))) =
       subst (λ (s : State). Does h.shelf over.shelf new result (steps_of (end_writes p s))) final_is (does_fail result e f did at_end fails same) in
+      let head = start_writes p start.turn in
+      let writes = turns_writes p (opened start) lists in
+      let late = did_then laws.shelf turns.does refl wrote in
+      let all = did_of (sym (whole p start lists)) (did_then laws.shelf begun ok late.0) in
       record {
         owed = false;
         goes = goes_paid p (opened start) lists ∙ turns.fits.goes;
         follows = λ decides told tells. (turns.told decides told tells).0;
-        does = subst (λ calls. Does h.shelf old.shelf new result calls) (sym (whole p start lists))
-            (does_then laws.shelf begun ok (does_then laws.shelf turns.does refl wrote));
+        does = all.0;
         last = last_answer w.state;
         sent = said;
         unsent = [];
@@ -196,6 +215,9 @@ module _ {S U M Q : Type 0} (h : Hosts S U M Q) (laws : Laws h) (p : Plan) (star
         step = subst (λ (a : List Answer). h.turns.went old.turns a said end) (append-nil (answers d p (opened start) lists ++ last_answer w.state))
             (subst (λ (m : List Message). h.turns.went old.turns ((answers d p (opened start) lists ++ last_answer w.state) ++ []) m end) (append-nil said)
             (laws.turns old.turns over.turns end (answers d p (opened start) lists ++ last_answer w.state) [] said [] turns.done.step went));
+        stops = subst (λ (calls : List Call). StopsAt p start head lists calls said)
+            (parts_of head writes wrote.calls ∙ sym (all.1 ∙ ap (λ (calls : List Call). steps_of head ++ calls) late.1))
+            (place.at_end lists wrote.calls turns.fits wrote.part);
       }
 
   -- ---- a journal that has another end
