@@ -1,4 +1,4 @@
-//! The rest of a turn, behind its notes: its replies, its frame, and its samples.
+//! The rest of a turn, after its notes: its replies, its frame, and its samples.
 
 ghost use Rattle.std.specs.Prelude.{◌≡◌, ◌++◌, [], All, IfOk, IsTrue, length};
 ghost use Rattle.trick_beside.specs.Flight.{AsksNothing};
@@ -47,7 +47,7 @@ fn send_samples<M: Cells, T: Turns<M>>(
     Ok(())
 }
 
-/// The rest of a turn behind its notes: its replies are handed over, its frame passes with the publications
+/// The rest of a turn after its notes: its replies are handed over, its frame passes with the publications
 /// that it was given or that were chosen, and its samples are handed over. It stops where the shelf failed,
 /// or where there was no memory; the world is gone then.
 pub(crate) fn finish_turn<M: Cells + Drop, F: Shelf, H: Phases<M>, P: Posts, T: Turns<M>>(

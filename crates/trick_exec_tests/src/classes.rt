@@ -71,7 +71,7 @@ const TRACED: [Traced<'static>; 6] = [
         tic: 1_000_001,
         trace: 12_345_673_450,
     },
-    // frozen by a client before the first frame: that one comes behind the line that ends it
+    // frozen by a client before the first frame: that one comes after the line that ends it
     Traced {
         lines: "0 cmd 1 trick.exec_freeze()
 1 cmd 1 trick.exec_run()
@@ -102,7 +102,7 @@ const TRACED: [Traced<'static>; 6] = [
     },
 ];
 
-/// The state behind a turn with this trace.
+/// The state after a turn with this trace.
 fn state(rt: &impl AllocGlobal, run: &Traced, mode: &str, trace: u64) -> Result<String, Fail> {
     let Traced { turns, tic, .. } = run;
     let mut text = format!(in rt.alloc();

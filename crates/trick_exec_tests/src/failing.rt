@@ -89,7 +89,7 @@ fault[0] = 0 o.ratio 1 DivideByZero 5;
 end;
 ";
 
-/// A call of the shelf behind the three texts: what is appended to a file, or nothing where it is created.
+/// A call of the shelf after those of the three texts: what is appended to a file, or nothing where it is created.
 type Call<'a> = (&'a str, &'a str);
 
 const CALLS: [Call<'static>; 20] = [
@@ -115,8 +115,8 @@ const CALLS: [Call<'static>; 20] = [
     ("journal.txt", "end 2\n"),
 ];
 
-/// The text of a file behind these calls.
-fn text_behind(alloc: Global, name: &str, calls: &[Call]) -> Result<String, AllocError> {
+/// The text of a file after these calls.
+fn text_after(alloc: Global, name: &str, calls: &[Call]) -> Result<String, AllocError> {
     let mut text = String::new(alloc);
     for (file, piece) in calls {
         if *file == name {
@@ -127,14 +127,14 @@ fn text_behind(alloc: Global, name: &str, calls: &[Call]) -> Result<String, Allo
 }
 
 /// Whether a shelf holds what these calls leave, and nothing else but the three texts.
-fn holds_behind(
+fn holds_after(
     rt: &(impl Abort + AllocGlobal),
     shelf: &MemoryShelf,
     calls: &[Call],
 ) -> Result<(), Fail> {
     let mut count: usize = 3;
     for (name, piece) in calls {
-        let text = text_behind(rt.alloc(), name, calls)?;
+        let text = text_after(rt.alloc(), name, calls)?;
         let held = shelf.file(name.as_bytes()).ok_or("a file is missing")?;
         assert_eq!(rt; str::from_utf8(held)?, text.as_str(), "{name}");
         if piece.is_empty() {
@@ -160,7 +160,7 @@ fn fails_at(
     let failing = vec![in rt.alloc(); number as u64]?;
     let mut shelf = with_texts(MemoryShelf::failing(rt.alloc(), failing), texts)?;
     tells(rt, &REPLAY, &mut shelf, told)?;
-    holds_behind(rt, &shelf, calls)
+    holds_after(rt, &shelf, calls)
 }
 
 #[test]

@@ -15,7 +15,7 @@ const COUNTER: &str = "class Counter : public Trick::SimObject {
 Counter o;
 ";
 
-/// A run of four turns with a log, and with a checkpoint behind the second turn.
+/// A run of four turns with a log, and with a checkpoint after the second turn.
 const LOGGED: &str = "g = trick.DRAscii(\"g\")
 g.set_cycle(1.0)
 g.add_variable(\"o.n\")

@@ -45,7 +45,7 @@ pub record RunsWhole {S : Type 0} (shelf : Ghosts S) (p : Plan) (s : State) (jou
   pub joins_so : joins ≡ joins_of (lists_for journal s)
 
 -- The journal does not fit. The turns were done up to that at which the run is over, or up to the journal's
--- end, and nothing was written behind them. The numbers are the journal's end, and the turn at which the run
+-- end, and nothing was written after them. The numbers are the journal's end, and the turn at which the run
 -- is over, or one past the end.
 pub record RunsShort {S : Type 0} (shelf : Ghosts S) (p : Plan) (s : State) (journal : Journal) (old new : S)
     (kept given : ℕ) : Type 0 where

@@ -1,5 +1,5 @@
-//! `replay` behind its texts: the run of an accepted plan under a journal, on one thread. `docs/RULES.md`
-//! says what a replay is.
+//! What `replay` does once its texts were read: the run of an accepted plan under a journal, on one thread.
+//! `docs/RULES.md` says what a replay is.
 #![tactic(auto)]
 
 pub mod laws;

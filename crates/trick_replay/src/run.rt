@@ -59,7 +59,7 @@ fn replay_by<M: Cells + Drop, F: Shelf, H: Phases<M> + Drop, P: Posts + Drop>(
 /// are there then join first at its turn. It writes the files of the run, and where it stops a part of them:
 /// at `Stop::Shelf` the shelf failed, and at `Stop::Memory` there was no memory. Where the run is over at
 /// another turn than the journal's end, or would go on there, the journal does not fit: what was written so
-/// far stays, and nothing is written behind it.
+/// far stays, and nothing is written after it.
 pub fn replay_from<M: Cells + Drop, F: Shelf>(
     alloc: Global,
     accepted: Accepted,
@@ -84,7 +84,7 @@ pub fn replay_from<M: Cells + Drop, F: Shelf>(
 /// Runs an accepted plan from its start under a journal, on the caller's thread, until the run is over. It
 /// writes the files of the run, and where it stops a part of them: at `Stop::Shelf` the shelf failed, and at
 /// `Stop::Memory` there was no memory. Where the journal does not fit, what was written so far stays, and
-/// nothing is written behind it.
+/// nothing is written after it.
 pub fn replay<F: Shelf>(
     alloc: Global,
     accepted: Accepted,

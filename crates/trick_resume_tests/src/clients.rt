@@ -67,7 +67,7 @@ end 6
 }
 
 #[test]
-fn threads_and_events_go_on_behind_a_freeze(rt: HostRuntime) -> Result<(), Fail> {
+fn threads_and_events_go_on_after_a_freeze(rt: HostRuntime) -> Result<(), Fail> {
     // Frames of two seconds, of which the third and the fourth are in Freeze. A job faults from second 2 on, one
     // where it takes 4 at second 4, and the first round faults too.
     let journal = "tricks journal 1

@@ -56,7 +56,7 @@ trick.exec_set_thread_amf_cycle_time(1, 4.0)
 trick.stop(9.0)
 ";
 
-/// The checkpoint behind second 5: what was taken at second 4 is not published yet.
+/// The checkpoint after second 5: what was taken at second 4 is not published yet.
 pub(crate) const UNDER_WAY: &str = "checkpoint = 1;
 turn = 6;
 tic = 6000000;

@@ -172,7 +172,7 @@ total 3
     )
 }
 
-/// The checkpoint behind the turn that froze, and the last state: the jobs of class shutdown ran behind it.
+/// The checkpoint after the turn that froze, and the last state: the jobs of class shutdown ran after it.
 const CLASSES_FROZEN: &str = "checkpoint = 1;
 turn = 3;
 tic = 3000000;

@@ -22,7 +22,7 @@ goes_owing owed p w (entries ∷ lists) =
 abbrev pub Waits : Bool → State → Type 0
 Waits owed s = owed ≡ true → IsTrue (is_frozen s.mode) × (s.tic < s.limit)
 
--- the lists of a journal that are left behind these; behind its last list a journal has empty ones
+-- the lists of a journal that are left after these; after its last list a journal has empty ones
 abbrev pub left_of : List (List Entry) → List (List Entry) → List (List Entry)
 left_of [] journal = journal
 left_of (entries ∷ lists) journal = left_of lists (rest_of journal)

@@ -10,7 +10,7 @@ use Rattle.trick_model.specs.Turn.{checkpoint_jobs, checkpoint_writes, counted, 
 use Rattle.trick_model.specs.declared.entry.Entry.{Entry}
 use Rattle.trick_turns.specs.Turns.{has_line}
 
--- Entries are lines with publications behind them: joins, lines and leaves first.
+-- Entries are lines, which are joins, lines and leaves, and then publications.
 pub record AreApart (entries lines publications : List Entry) : Type 0 where
   pub all : entries ≡ lines ++ publications
   pub no_publication : list_any (λ entry. not (is_of_session entry)) lines ≡ false
@@ -20,7 +20,7 @@ pub record AreApart (entries lines publications : List Entry) : Type 0 where
 abbrev pub counting : Plan → State → List Entry → List Entry
 counting p s publications = filter (publishes p s) publications
 
--- the state after the rest of a turn, behind its lines
+-- the state after the rest of a turn, whose lines were heard before
 abbrev pub state_after : Plan → List Entry → Asking → State
 state_after p publications a =
     let asked = (framed p (runs a.state) publications a).asking in

@@ -31,8 +31,8 @@ last_answer s = elim (is_frozen s.mode && nat_lt s.tic s.limit) [ true ↦ no_mo
 abbrev pub last_world : Plan → State → List (List Entry) → World
 last_world p s lists = record { state = final p s lists; sessions = (after_turns p (opened s) lists).sessions }
 
--- What turns came to, from a state on, that are those of these lists: the source gave them and was handed
--- their messages, and the publications were chosen by polls, or the source decided them.
+-- The turns of these lists were done, from a state on: the source gave the lists and was handed the messages of
+-- their turns, and the publications were chosen by polls, or the source decided them.
 pub record AreDone {S U M Q : Type 0} (h : Hosts S U M Q) (p : Plan) (s : State) (lists : List (List Entry))
     (last : List Answer) (old new : Place S U Q) : Type 0 where
   pub step : h.turns.went old.turns (answers (h.turns.decided old.turns) p (opened s) lists ++ last)
@@ -62,7 +62,7 @@ abbrev pub writes_so_far : Plan → State → List (List Entry) → List Write
 writes_so_far p s lists = start_writes p s.turn ++ turns_writes p (opened s) lists
 
 -- A run from a state missed the end of the journal that its source tells. Its turns were those of these
--- lists, and nothing was written behind them. Where the source decides what is published, the lists are the
+-- lists, and nothing was written after them. Where the source decides what is published, the lists are the
 -- journal's first ones, and the numbers are the journal's end and the turn at which the run ends, or would.
 pub record Missed {S U M Q : Type 0} (h : Hosts S U M Q) (p : Plan) (s : State) (lists : List (List Entry))
     (old new : Place S U Q) (kept given : ℕ) : Type 0 where
@@ -70,7 +70,7 @@ pub record Missed {S U M Q : Type 0} (h : Hosts S U M Q) (p : Plan) (s : State) 
   pub told : h.turns.decided old.turns ≡ true → (told : Told) → h.turns.journal old.turns ≡ Some told
       → Follows p (opened s) told lists × (kept ≡ told.end)
       × EndsElsewhere told (after_turns p (opened s) lists).state (left_of lists told.lists) given
-  -- it was asked for nothing behind these lists, or, where the run is over, as at the end of a run
+  -- it was asked for nothing after these lists, or, where the run is over, as at the end of a run
   pub last : List Answer
   pub asked : (last ≡ []) ⊎ (last ≡ last_answer (after_turns p (opened s) lists).state)
   pub done : AreDone h p s lists last old new

@@ -1,4 +1,4 @@
--- Which rounds of asynchronous threads a run publishes that is not told.
+-- Which rounds of asynchronous threads a run publishes where its source leaves the choice to it.
 use Rattle.std.specs.List.{list_any, slice_index_or}
 use Rattle.std.specs.Prelude.{◌≡◌, ◌+◌, ◌<◌, ◌≤◌, min, ◌==◌, ◌&&◌, not, ℕ, Bool, true, false, List, [], ◌∷◌, ◌++◌, filter, length, map}
 use Rattle.trick_model.specs.Beside.{has_round}

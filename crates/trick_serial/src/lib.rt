@@ -1,4 +1,4 @@
-//! `serial` behind its texts: the whole run of an accepted plan on one thread, without clients.
+//! What `serial` does once its texts were read: the whole run of an accepted plan on one thread, without clients.
 //! `docs/RULES.md` has the rules of a run and `docs/FORMATS.md` its files.
 #![tactic(auto)]
 

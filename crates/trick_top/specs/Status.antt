@@ -267,7 +267,7 @@ pub record IsMisfitIn (given : Sources) : Type 0 where
   pub misfit : HasJournal given (λ plan first journal. IsFitting plan first journal → ⊥)
 
 -- What may have been written: nothing, or a front of the texts of a generated simulation; or a front of what the
--- run writes that the texts describe, or all of it, behind what was written before it; or what a run writes whose
+-- run writes that the texts describe, or all of it, after what was written before it; or what a run writes whose
 -- journal does not fit.
 pub data MayWrite {S : Type 0} (shelf : Ghosts S) (old : S) (words : List (List ℕ)) : List Write → Type 0 where
   nothing : MayWrite shelf old words []

@@ -117,7 +117,7 @@ fn answer<F: Shelf, O: Sink>(alloc: Global, words: &[Word], shelf: &mut F, out: 
 
 /// Does what the words of a command line ask for, but for the command that runs threads: it waits
 /// for nobody. The words come without the program's name. Answers the status of the program (see
-/// docs/RULES.md); the sink is given one line, last of all.
+/// docs/RULES.md); the sink is given one line, last of all, and before it one more by `gen`.
 ///
 /// The commands are `serial`, `check` and `list`, each followed by the names of an S_define and of an input,
 /// `replay`, followed by these and the name of a journal, and `gen`, followed by a number of objects. `serial`
