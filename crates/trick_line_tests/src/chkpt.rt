@@ -2,13 +2,14 @@
 
 ghost use Rattle.std.specs.Prelude.{◌≡◌, [], ◌∷◌, IfOk};
 
+use crate::parts::{empty_program, no_flags, queues};
 use std::alloc::{AllocError, Global};
 use std::test::Fail;
 use trick_base::Items;
 use trick_chkpt::*;
 use trick_codes::LoadFault;
-use trick_lang::{Cell, Cells, JobId, Program};
-use trick_model::{Faults, Flags, Mode, Plan, Process, State, Taken, Thread};
+use trick_lang::{Cell, Cells};
+use trick_model::{Faults, Mode, Plan, Process, State, Taken, Thread};
 
 // A memory of one cell or of none.
 #[derive(Debug, Drop)]
@@ -64,54 +65,12 @@ fn threads(alloc: Global) -> Result<Items<Thread>, AllocError>
     Ok(threads)
 }
 
-// One queue for each of the ten classes.
-fn queues(alloc: Global) -> Result<Items<Items<JobId>>, AllocError>
-    ensures { IfOk result (λ queues. queues ≡ [] ∷ [] ∷ [] ∷ [] ∷ [] ∷ [] ∷ [] ∷ [] ∷ [] ∷ [] ∷ []) }
-{
-    let mut queues = Items::new(alloc);
-    queues.push(Items::new(alloc))?;
-    queues.push(Items::new(alloc))?;
-    queues.push(Items::new(alloc))?;
-    queues.push(Items::new(alloc))?;
-    queues.push(Items::new(alloc))?;
-    queues.push(Items::new(alloc))?;
-    queues.push(Items::new(alloc))?;
-    queues.push(Items::new(alloc))?;
-    queues.push(Items::new(alloc))?;
-    queues.push(Items::new(alloc))?;
-    Ok(queues)
-}
-
-fn program(alloc: Global) -> Program
-    ensures jobs { result.jobs ≡ [] }
-    ensures cells { result.cells ≡ [] }
-{
-    Program {
-        cells: Items::new(alloc),
-        items: Items::new(alloc),
-        sizes: Items::new(alloc),
-        objects: Items::new(alloc),
-        blocks: Items::new(alloc),
-        methods: Items::new(alloc),
-        jobs: Items::new(alloc),
-        slots: 0,
-    }
-}
-
-fn no_flags(alloc: Global) -> Flags
-    ensures { result.on ≡ [] }
-{
-    Flags {
-        on: Items::new(alloc),
-    }
-}
-
 // A plan whose only thread works beside the tics.
 fn plan(alloc: Global) -> Result<Plan, AllocError>
     ensures { IfOk result (λ plan. plan.program.cells ≡ []) }
 {
     Ok(Plan {
-        program: program(alloc),
+        program: empty_program(alloc),
         frame: 1_000_000,
         limit: 5,
         frozen: false,

@@ -2,12 +2,12 @@
 
 ghost use Rattle.std.specs.Prelude.{◌≡◌, [], ◌∷◌, IfOk};
 
+use crate::parts::{empty_program, no_flags, queues};
 use std::alloc::{AllocError, Global};
 use std::test::Fail;
 use trick_base::Items;
 use trick_journal::*;
-use trick_lang::{JobId, Program};
-use trick_model::{Flags, Plan, Process, Thread};
+use trick_model::{Plan, Process, Thread};
 
 const MAIN: Thread = Thread {
     number: 0,
@@ -48,51 +48,10 @@ fn threads(alloc: Global) -> Result<Items<Thread>, AllocError>
     Ok(threads)
 }
 
-// One queue for each of the ten classes.
-fn queues(alloc: Global) -> Result<Items<Items<JobId>>, AllocError>
-    ensures { IfOk result (λ queues. queues ≡ [] ∷ [] ∷ [] ∷ [] ∷ [] ∷ [] ∷ [] ∷ [] ∷ [] ∷ [] ∷ []) }
-{
-    let mut queues = Items::new(alloc);
-    queues.push(Items::new(alloc))?;
-    queues.push(Items::new(alloc))?;
-    queues.push(Items::new(alloc))?;
-    queues.push(Items::new(alloc))?;
-    queues.push(Items::new(alloc))?;
-    queues.push(Items::new(alloc))?;
-    queues.push(Items::new(alloc))?;
-    queues.push(Items::new(alloc))?;
-    queues.push(Items::new(alloc))?;
-    queues.push(Items::new(alloc))?;
-    Ok(queues)
-}
-
-fn program(alloc: Global) -> Program
-    ensures { result.jobs ≡ [] }
-{
-    Program {
-        cells: Items::new(alloc),
-        items: Items::new(alloc),
-        sizes: Items::new(alloc),
-        objects: Items::new(alloc),
-        blocks: Items::new(alloc),
-        methods: Items::new(alloc),
-        jobs: Items::new(alloc),
-        slots: 0,
-    }
-}
-
-fn no_flags(alloc: Global) -> Flags
-    ensures { result.on ≡ [] }
-{
-    Flags {
-        on: Items::new(alloc),
-    }
-}
-
 // A plan whose threads 1 and 3 are asynchronous, while 2 must finish.
 fn plan(alloc: Global) -> Result<Plan, AllocError> {
     Ok(Plan {
-        program: program(alloc),
+        program: empty_program(alloc),
         frame: 1_000_000,
         limit: 5,
         frozen: false,

@@ -5,18 +5,13 @@ ghost use Rattle.trick_model.specs.declared.entry.Cause.TheVariants.{Exit};
 ghost use Rattle.trick_model.specs.declared.entry.Entry.TheVariants.{Join, Leave, Publish, Said};
 
 use crate::chkpt::Few;
+use crate::parts::no_flags;
 use std::alloc::{AllocError, Global};
 use std::test::Fail;
 use trick_base::{Items, Line};
 use trick_journal_turns::JournalTurns;
-use trick_model::{Cause, Entry, Faults, Flags, Journal, Mode, State};
+use trick_model::{Cause, Entry, Faults, Journal, Mode, State};
 use trick_turns::{Next, Turns};
-
-fn no_flags(alloc: Global) -> Flags {
-    Flags {
-        on: Items::new(alloc),
-    }
-}
 
 // A state at a turn.
 fn state(alloc: Global, turn: u64, mode: Mode) -> Result<State<Few>, AllocError> {

@@ -12,4 +12,6 @@ mod journal;
 #[cfg(test)]
 mod journal_turns;
 #[cfg(test)]
+mod parts;
+#[cfg(test)]
 mod session;

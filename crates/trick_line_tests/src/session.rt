@@ -6,12 +6,13 @@ ghost use Rattle.trick_lang.specs.declared.scalar.Scalar.TheVariants.{Long};
 ghost use Rattle.trick_model.specs.declared.thread.Process.TheVariants.{Scheduled};
 ghost use Rattle.trick_session.specs.Kept.{AreThere};
 
+use crate::parts::{no_flags, queues};
 use std::alloc::{AllocError, Global};
 use std::test::Fail;
 use trick_base::{Items, Word};
 use trick_lang::laws::wrap_law;
-use trick_lang::{Cell, Cells, JobId, Program, Scalar, Variable, wrap};
-use trick_model::{Action, Command, Faults, Flags, Mode, Plan, Process, Session, State, Thread};
+use trick_lang::{Cell, Cells, Program, Scalar, Variable, wrap};
+use trick_model::{Action, Command, Faults, Mode, Plan, Process, Session, State, Thread};
 use trick_session::{apply, join, sample};
 
 // A memory of one cell.
@@ -78,24 +79,6 @@ fn threads(alloc: Global) -> Result<Items<Thread>, AllocError>
     Ok(all)
 }
 
-// One queue for each of the ten classes.
-fn queues(alloc: Global) -> Result<Items<Items<JobId>>, AllocError>
-    ensures { IfOk result (λ queues. queues ≡ [] ∷ [] ∷ [] ∷ [] ∷ [] ∷ [] ∷ [] ∷ [] ∷ [] ∷ [] ∷ []) }
-{
-    let mut queues = Items::new(alloc);
-    queues.push(Items::new(alloc))?;
-    queues.push(Items::new(alloc))?;
-    queues.push(Items::new(alloc))?;
-    queues.push(Items::new(alloc))?;
-    queues.push(Items::new(alloc))?;
-    queues.push(Items::new(alloc))?;
-    queues.push(Items::new(alloc))?;
-    queues.push(Items::new(alloc))?;
-    queues.push(Items::new(alloc))?;
-    queues.push(Items::new(alloc))?;
-    Ok(queues)
-}
-
 fn program(alloc: Global) -> Result<Program, AllocError>
     ensures jobs { IfOk result (λ p. p.jobs ≡ []) }
     ensures cells { IfOk result (λ p. p.cells ≡ record { name = codes "counter.n"; scalar = Long } ∷ []) }
@@ -111,14 +94,6 @@ fn program(alloc: Global) -> Result<Program, AllocError>
         jobs: Items::new(alloc),
         slots: 0,
     })
-}
-
-fn no_flags(alloc: Global) -> Flags
-    ensures { result.on ≡ [] }
-{
-    Flags {
-        on: Items::new(alloc),
-    }
 }
 
 fn plan(alloc: Global) -> Result<Plan, AllocError> {
