@@ -129,6 +129,8 @@ fn files_and_their_parts(rt: HostRuntime) -> Result<(), Fail> {
         ("struct S { long a[2.0]; };", "Expected S_define 1"),
         ("struct S { long a[\n0]; };", "NotInProfile S_define 2"),
         ("struct S { long a[2][0]; };", "NotInProfile S_define 1"),
+        ("struct S { long a[00]; };", "NotInProfile S_define 1"),
+        ("struct S { long a[0x0]; };", "NotInProfile S_define 1"),
         ("struct S { long *p; };", "NotInProfile S_define 1"),
         (
             "struct T { }; struct S { T &t; };",
@@ -139,6 +141,7 @@ fn files_and_their_parts(rt: HostRuntime) -> Result<(), Fail> {
         ("struct S { long a[2 &]; };", "NotInProfile S_define 1"),
         ("struct S { long a * b; };", "Expected S_define 1"),
         ("struct S { long\ntrick; };", "NotInProfile S_define 2"),
+        ("struct S { long a,\ntrick; };", "NotInProfile S_define 2"),
         ("struct trick { };", "NotInProfile S_define 1"),
         ("struct S { void f() { } };", "Expected S_define 1"),
         // classes and objects
@@ -191,6 +194,8 @@ fn parts_of_a_class(rt: HostRuntime) -> Result<(), Fail> {
         ("void f(int x) { }", "Expected S_define 2"),
         ("void *f() { }", "Expected S_define 2"),
         ("int *f() { }", "NotInProfile S_define 2"),
+        ("long\n*p;", "NotInProfile S_define 3"),
+        ("T\n&r;", "NotInProfile S_define 3"),
         ("int trick() { return 0; }", ""),
         ("void trick() { }", ""),
         ("int\ntrick\n;", "NotInProfile S_define 3"),
@@ -218,6 +223,14 @@ fn parts_of_a_class(rt: HostRuntime) -> Result<(), Fail> {
             "NotInProfile S_define 2",
         ),
         ("K() { (0, \"scheduled\") f(); }", "NotInProfile S_define 2"),
+        (
+            "K() { (\n0.0, \"scheduled\") f(); }",
+            "NotInProfile S_define 3",
+        ),
+        (
+            "K() { (1.0, 2.0, 3.0,\n\"freeze\") f(); }",
+            "NotInProfile S_define 3",
+        ),
         (
             "K() { (1.0, 0, 0, \"scheduled\") f(); }",
             "Unknown S_define 2",
@@ -251,6 +264,10 @@ fn parts_of_a_class(rt: HostRuntime) -> Result<(), Fail> {
         ("K() { C0 (\"freeze\") f(); }", "NotInProfile S_define 2"),
         ("K() { C16 (\"freeze\") f(); }", "NotInProfile S_define 2"),
         ("K() { P0 (\"freeze\") f(); }", "NotInProfile S_define 2"),
+        (
+            "K() { C15\nP0 (\"freeze\") f(); }",
+            "NotInProfile S_define 3",
+        ),
         (
             "K() { P65535 (\"freeze\") f(); }",
             "NotInProfile S_define 2",
