@@ -14,6 +14,7 @@ use crate::read_faults::read_faults;
 use crate::read_groups::read_groups;
 use crate::read_records::read_records;
 use std::alloc::Global;
+use trick_base::TIC_LIMIT;
 use trick_codes::{LoadFault, Stop, end_line, number_line, whole, word_line};
 use trick_lang::Cells;
 use trick_model::{Mode, Plan, State};
@@ -21,7 +22,7 @@ use trick_model::{Mode, Plan, State};
 // The last turn, and the first tic that no run reaches.
 const LAST_TURN: u64 = 9_223_372_036_854_775_807;
 
-const LAST_TIC: u64 = 1_000_000_000_000_001;
+const LAST_TIC: u64 = TIC_LIMIT + 1;
 
 fn mode_of_word(place: usize) -> Mode
     ensures { result ≡ mode_at place }

@@ -11,6 +11,7 @@ ghost use Rattle.trick_model.specs.FaultList.{kept};
 use crate::fault_kind::fault_kind;
 use crate::job_texts::{job_texts, slices};
 use std::alloc::Global;
+use trick_base::TIC_LIMIT;
 use trick_codes::{Miss, Stop, feed, number, number_line, one_of, set_indexed, title};
 use trick_lang::{FaultKind, JobFault, JobId};
 use trick_model::{Faults, KEPT_FAULTS, Plan};
@@ -54,7 +55,7 @@ fn fault<'a>(words: &[&[u8]], rest: &'a [u8]) -> Result<(JobFault, &'a [u8]), Mi
     requires { length words.now ≤ 512 }
     ensures { Reads beside result (read (fault_code (bytes_of words.now)) rest.now) }
 {
-    let (tic, rest) = number(0, 1_000_000_000_000_001, b' ', rest)?;
+    let (tic, rest) = number(0, TIC_LIMIT + 1, b' ', rest)?;
     let (job, rest) = job(words, rest)?;
     let (kind, rest) = kind(rest)?;
     let (line, rest) = line(rest)?;
