@@ -20,3 +20,5 @@ pub mod Leaves
 pub mod Once
 -- As many rounds are left unpublished as polls found not ready.
 pub mod Counts
+-- `late` rises for each round that is left unpublished.
+pub mod Late

@@ -1,15 +1,20 @@
 -- How often rounds of asynchronous threads stay unpublished.
-use Rattle.std.specs.Prelude.{◌≡◌, ◌+◌, ℕ, suc, Bool, cond, ◌&&◌, not, List, [], ◌∷◌}
+use Rattle.std.specs.Prelude.{◌≡◌, ◌+◌, ℕ, suc, cond, ◌&&◌, false, not, List, [], ◌∷◌}
 use Rattle.trick_model.specs.Beside.{has_round}
 use Rattle.trick_model.specs.Plan.{Plan, threads_beside}
 use Rattle.trick_model.specs.PlanOf.{plan_of}
+use Rattle.trick_model.specs.Run.{opened}
 use Rattle.trick_model.specs.State.{State, World}
 use Rattle.trick_model.specs.Turn.{runs, turn}
 use Rattle.trick_model.specs.declared.entry.Entry.{Entry}
 use Rattle.trick_model.specs.declared.plan.Plan.{Plan as PlanValue}
 use Rattle.trick_model.specs.declared.thread.Thread.{Thread}
+use Rattle.trick_outside.specs.Causes.{RoseBy}
 use Rattle.trick_post.specs.Polls.{Poll, not_ready}
+use Rattle.trick_runs.specs.Hosts.{Hosts, Place}
+use Rattle.trick_runs.specs.Ran.{AreDone}
 use Rattle.trick_runs.specs.Rounds.{AreChosen, heard_state, is_published, publications}
+use Rattle.trick_turns.specs.Turns.{Answer}
 
 -- Of these threads, how many have a round in flight that no entry publishes; `place` is that of the first.
 abbrev pub left_among : State → List Entry → ℕ → List Thread → ℕ
@@ -33,3 +38,11 @@ abbrev pub LeftAreNotReady : Type 0
 LeftAreNotReady =
     (plan : PlanValue) (w : World) (lists : List (List Entry)) (polls : List Poll) (waits : List ℕ)
     → AreChosen (plan_of plan) w lists polls waits → left_by (plan_of plan) w lists ≡ not_ready polls
+
+-- Where the turns of a run were done, to its end or to that of a journal, and its source does not decide what is
+-- published, `late` of its posts has risen by as many at least as they leave rounds unpublished.
+abbrev pub LeftAreLate : {S U M Q : Type 0} → Hosts S U M Q → Type 0
+LeftAreLate {S} {U} {M} {Q} h =
+    (plan : PlanValue) (s : State) (lists : List (List Entry)) (last : List Answer) (old new : Place S U Q)
+    → AreDone h (plan_of plan) s lists last old new → h.turns.decided old.turns ≡ false
+    → RoseBy (h.posts.lateness old.posts) (left_by (plan_of plan) (opened s) lists) (h.posts.lateness new.posts)

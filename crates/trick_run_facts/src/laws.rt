@@ -1,7 +1,7 @@
 //! What follows from what `trick_exec::run` says. A function that calls one of these may rest on what it says; the
 //! call itself does nothing.
 
-ghost use Rattle.trick_run_facts.specs.Counted.{LeftAreNotReady};
+ghost use Rattle.trick_run_facts.specs.Counted.{LeftAreLate, LeftAreNotReady};
 ghost use Rattle.trick_run_facts.specs.Noting.{NotedDoSame};
 ghost use Rattle.trick_run_facts.specs.Once.{FilesAreMadeOnce};
 ghost use Rattle.trick_run_facts.specs.Own.{IsAlone, RunsAreOwn};
@@ -55,4 +55,10 @@ pub fn rounds_are_bounded()
 /// As many rounds are left unpublished, counted at each run frame, as polls found not ready.
 pub fn left_rounds_are_not_ready()
     ensures { LeftAreNotReady }
+{}
+
+/// `late` has risen for each of them, where a run is done, or missed the end of a journal, and its source does not
+/// decide what is published.
+pub fn left_rounds_are_late<M: Cells, F: Shelf, P: Posts, T: Turns<M>>()
+    ensures { LeftAreLate (hosts F.Shelf T.Turns P.Posts) }
 {}
