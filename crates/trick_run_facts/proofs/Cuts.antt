@@ -1,194 +1,91 @@
--- Turns whose writes were done in part, and the run under the lines that were noted.
-use Rattle.std.proofs.Common.{◌≡◌, ◌∙◌, ℕ, List, [], ◌∷◌, ◌++◌, Bool, true, false, not, ◌&&◌, ap, append-nil, append_assoc, inl, inr, refl, subst, sym}
-use Rattle.std.specs.List.{list_any}
-use Rattle.std.specs.Prelude.{◌||◌, ◌⊎◌, IsTrue, Option, cond, filter, nat_le, nat_lt}
+-- Turns that were done in part.
+use Rattle.std.proofs.Common.{◌≡◌, ◌∙◌, ℕ, List, [], ◌∷◌, ◌++◌, false, ap, append-nil, append_assoc, inl, inr, refl, subst, sym}
+use Rattle.std.specs.Prelude.{◌⊎◌, Option}
 use Rattle.trick_base.proofs.ContentLemmas.{content-append}
-use Rattle.trick_base.proofs.WriteLemmas.{front_of_early, front_of_late}
+use Rattle.trick_base.proofs.WriteLemmas.{front_of_all, front_of_early, front_of_late}
 use Rattle.trick_base.specs.Content.{IsKept, content, same_name}
 use Rattle.trick_base.specs.Files.{Write}
 use Rattle.trick_base.specs.Fronts.{IsFrontOf}
-use Rattle.trick_model.specs.Events.{Asking}
-use Rattle.trick_model.specs.Files.{journal_name, note, turn_writes, turns_writes}
-use Rattle.trick_model.specs.Journal.{is_of_session}
+use Rattle.trick_model.specs.Files.{journal_name, turn_writes, turns_said, turns_writes}
 use Rattle.trick_model.specs.Plan.{Plan}
-use Rattle.trick_model.specs.Run.{Lasts, after_turns, has_session_entry, is_shut, on, over}
-use Rattle.trick_model.specs.State.{State, World}
-use Rattle.trick_model.specs.Turn.{Hearing, begun, checkpoint_jobs, checkpoint_writes, counted, framed, is_frozen, noted, rounds, runs, turn}
+use Rattle.trick_model.specs.Run.{after_turns}
+use Rattle.trick_model.specs.Session.{Message}
+use Rattle.trick_model.specs.State.{World}
+use Rattle.trick_model.specs.Turn.{turn}
 use Rattle.trick_model.specs.declared.entry.Entry.{Entry}
-use Rattle.trick_model.specs.declared.entry.Entry.TheVariants.{Join, Said, Leave, Publish}
 use Rattle.trick_remainder.proofs.Contents.{added_append, kept_append}
 use Rattle.trick_remainder.proofs.Ends.{journal_is_no_checkpoint}
 use Rattle.trick_remainder.proofs.Turns.{turns_kept}
 use Rattle.trick_remainder.specs.Remainder.{added}
-use Rattle.trick_run_facts.proofs.Fronts.{InTwo, NoneOf, in_two, none_added, none_content, none_front, none_kept, kept_front}
+use Rattle.trick_run_facts.proofs.Lasting.{AllOn, IsOn}
+use Rattle.trick_run_facts.proofs.Fronts.{NoneOf, none_added, none_content, none_front, none_kept, kept_front}
 use Rattle.trick_run_facts.proofs.Notes.{front_adds, front_order, notes, notes_add, notes_cut, notes_kept, notes_none, no_journal, turn_adds, turn_is}
 use Rattle.trick_run_facts.proofs.Same.{worlds_same}
 use Rattle.trick_run_facts.specs.Left.{IsCutOf, IsTorn, in_note_order, journal_lists, one_of}
-use Rattle.trick_runs.proofs.Idle.{heard_nothing, idle_turn}
-use Rattle.trick_runs.specs.Goes.{goes_owing, is_over_owing}
-
--- ---- turns before the run was over
-
--- A world is not shut, and is below its limit.
-abbrev pub IsOn : World → Type 0
-IsOn w = (is_shut w.state.mode || nat_le w.state.limit w.state.tic) ≡ false
-
--- So is the world before each of these turns.
-abbrev pub AllOn : Plan → World → List (List Entry) → Type 0
-AllOn p w [] = Unit {0}
-AllOn p w (entries ∷ lists) = IsOn w × AllOn p (turn p w entries).world lists
-
-on_by : (shut out frozen : Bool) → not (shut || (out || frozen)) ≡ true → (shut || out) ≡ false
-on_by true out frozen e = cc e
-on_by false true frozen e = cc e
-on_by false false frozen e = refl
-
-both : (a b : Bool) → (a && b) ≡ true → (a ≡ true) × (b ≡ true)
-both true b e = (refl, e)
-both false b e = cc e
-
-goes_on_here : (p : Plan) (w : World) (owed : Bool) (entries : List Entry) (lists : List (List Entry)) → IsTrue (goes_owing owed p w (entries ∷ lists))
-    → IsOn w × IsTrue (goes_owing owed p (turn p w entries).world lists)
-goes_on_here p w owed entries lists goes =
-    let parts = both (not (is_over_owing owed w.state (entries ∷ lists))) (goes_owing owed p (turn p w entries).world lists) goes in
-    (on_by (is_shut w.state.mode) (nat_le w.state.limit w.state.tic) (is_frozen w.state.mode && not (owed || has_session_entry (entries ∷ lists))) parts.0, parts.1)
-
-pub all_on : (p : Plan) (w : World) (owed : Bool) (lists : List (List Entry)) → IsTrue (goes_owing owed p w lists) → AllOn p w lists
-all_on p w owed [] goes = tt
-all_on p w owed (entries ∷ lists) goes =
-    let parts = goes_on_here p w owed entries lists goes in (parts.0, all_on p (turn p w entries).world owed lists parts.1)
-
--- ---- the run under these lines
-
-none_noted : (p : Plan) (s : State) (entries : List Entry) → runs s ≡ false → list_any is_of_session entries ≡ false → noted p s entries ≡ []
-none_noted p s [] still none = refl
-none_noted p s (Join session ∷ entries) still none = cc none
-none_noted p s (Said session line ∷ entries) still none = cc none
-none_noted p s (Leave session cause ∷ entries) still none = cc none
-none_noted p s (Publish thread ∷ entries) still none =
-    ap (λ (b : Bool). cond b (Publish thread ∷ noted p s entries) (noted p s entries)) (counts_not (runs s) _ still)
-    ∙ none_noted p s entries still none
-  where
-    counts_not : (a b : Bool) → a ≡ false → (a && b) ≡ false
-    counts_not true b e = cc e
-    counts_not false b e = refl
-
--- the rows and the checkpoint of a turn whose entries were heard
-rest_of_turn : Plan → List Entry → Bool → Asking → List Write
-rest_of_turn p entries ran a =
-    let t = framed p ran entries a in
-    let asked = t.asking in
-    t.writes ++ checkpoint_writes p asked.checkpoint (counted (rounds p ran (checkpoint_jobs p asked.checkpoint asked.state)))
-
--- what a turn writes, by how its entries were heard
-writes_by : Plan → ℕ → List Entry → Hearing → List Write
-writes_by p number entries h =
-    note number (filter is_of_session (noted p h.asking.state entries))
-    ++ note number (filter (λ (entry : Entry). not (is_of_session entry)) (noted p h.asking.state entries))
-    ++ rest_of_turn p entries (runs h.asking.state) h.asking
-
-idle_writes : (p : Plan) (w : World) (entries : List Entry) → is_frozen w.state.mode ≡ true → list_any is_of_session entries ≡ false
-    → turn_writes w.state.turn (turn p w entries) ≡ []
-unfolding rest_of_turn writes_by
-idle_writes p w entries frozen none =
-    let number = w.state.turn in
-    let still : runs w.state ≡ false = ap (λ (b : Bool). cond b false (nat_lt w.state.tic w.state.limit)) frozen in
-    ap (writes_by p number entries) (heard_nothing p entries (begun w) none)
-    ∙ ap (λ (es : List Entry). note number (filter is_of_session es) ++ note number (filter (λ (entry : Entry). not (is_of_session entry)) es)
-    ++ rest_of_turn p entries (runs w.state) (begun w).asking) (none_noted p w.state entries still none)
-    ∙ ap (λ (b : Bool). rest_of_turn p entries b (begun w).asking) still
-
-neither : (a b : Bool) → (a || b) ≡ false → (a ≡ false) × (b ≡ false)
-neither true b e = cc e
-neither false b e = (refl, e)
-
-all_idle : (p : Plan) (w : World) (lists : List (List Entry)) → is_frozen w.state.mode ≡ true → has_session_entry lists ≡ false → turns_writes p w lists ≡ []
-all_idle p w [] frozen none = refl
-all_idle p w (entries ∷ lists) frozen none =
-    let parts = neither (list_any is_of_session entries) (has_session_entry lists) none in
-    ap (λ (ws : List Write). ws ++ turns_writes p (turn p w entries).world lists) (idle_writes p w entries frozen parts.0)
-    ∙ all_idle p (turn p w entries).world lists (ap (λ (s : State). is_frozen s.mode) (idle_turn p w entries parts.0 frozen) ∙ frozen) parts.1
-
--- where a world that is on is over, it is frozen, and no line is left
-over_frozen : (shut out frozen has : Bool) → (shut || out) ≡ false → (shut || (out || (frozen && not has))) ≡ true → (frozen ≡ true) × (has ≡ false)
-over_frozen true out frozen has e so = cc e
-over_frozen false true frozen has e so = cc e
-over_frozen false false true true e so = cc so
-over_frozen false false true false e so = (refl, refl)
-over_frozen false false false has e so = cc so
-
--- a run under lists writes what their turns write, and more
-pub lasts_front : (p : Plan) (w : World) (cut more : List (List Entry)) (end : World) → AllOn p w cut → Lasts p w cut more end
-    → (rest : List Write) × (turns_writes p w more ≡ turns_writes p w cut ++ rest)
-lasts_front p w [] more end goes lasts = (turns_writes p w more, refl)
-lasts_front p w (entries ∷ cut) more end goes (over is) =
-    let parts = over_frozen (is_shut w.state.mode) (nat_le w.state.limit w.state.tic) (is_frozen w.state.mode) (has_session_entry (entries ∷ cut)) goes.0 is in
-    ([], sym (all_idle p w (entries ∷ cut) parts.0 parts.1) ∙ sym (append-nil (turns_writes p w (entries ∷ cut))))
-lasts_front p w (entries ∷ cut) more end goes (on {lists = lists} is later) =
-    let so = lasts_front p (turn p w entries).world cut lists end goes.1 later in
-    let first = turn_writes w.state.turn (turn p w entries) in
-    (so.0, ap (λ (ws : List Write). first ++ ws) so.1 ∙ sym (append_assoc first (turns_writes p (turn p w entries).world cut) so.0))
 
 -- ---- turns whose writes were done in part
 
--- Of lists that turns were given these are the first; or the first, and for the next turn some of the entries that it
--- noted first.
-abbrev pub IsGivenCut : Plan → World → List (List Entry) → List (List Entry) → Type 0
-IsGivenCut p w cut lists =
-    ((late : List (List Entry)) × (lists ≡ cut ++ late))
-    ⊎ ((early late : List (List Entry)) × (entries front rest : List Entry) × (lists ≡ early ++ entries ∷ late)
-    × (in_note_order (turn p (after_turns p w early) entries).noted ≡ front ++ rest) × (cut ≡ early ++ one_of front))
+-- Of lists that turns were given these are all, and nothing is torn; or all but the last, and of the last turn some of
+-- the entries that it noted first, with the next one torn.
+abbrev pub IsGivenCut : Plan → World → List (List Entry) → List ℕ → List (List Entry) → Type 0
+IsGivenCut p w cut torn lists =
+    ((cut ≡ lists) × (torn ≡ []))
+    ⊎ ((most : List (List Entry)) × (entries front rest : List Entry) × (lists ≡ most ++ entries ∷ [])
+    × (in_note_order (turn p (after_turns p w most) entries).noted ≡ front ++ rest) × (cut ≡ most ++ one_of front)
+    × IsTorn (after_turns p w most).state.turn rest torn)
 
--- A part of what turns write was done. The journal's whole lines are those of a cut, and all else is as after a part
--- of what the turns under the cut write.
-pub record InTurns (p : Plan) (w : World) (lists : List (List Entry)) (part : List Write) : Type 0 where
+-- A part of what turns write was done, and these messages of theirs were handed over. The journal's whole lines are
+-- those of a cut, all else is as after a part of what the turns under the cut write, and the messages are the first
+-- that these turns say.
+pub record InTurns (p : Plan) (w : World) (lists : List (List Entry)) (sent : List Message) (part : List Write) : Type 0 where
   pub cut : List (List Entry)
-  pub is_cut : IsGivenCut p w cut lists
+  pub torn : List ℕ
+  pub is_cut : IsGivenCut p w cut torn lists
   pub goes : AllOn p w cut
   pub same : List Write
   pub is_same : IsFrontOf same (turns_writes p w cut)
   pub others : (name : List ℕ) (before : Option (List ℕ)) → same_name name journal_name ≡ false → content name part before ≡ content name same before
   pub kept : IsKept journal_name part
-  pub torn : List ℕ
-  pub is_torn : IsTorn torn
   pub adds : added journal_name part ≡ added journal_name (turns_writes p w cut) ++ torn
+  pub unsent : List Message
+  pub said : turns_said p w cut ≡ sent ++ unsent
 
--- a part of what a turn notes
-in_notes : (p : Plan) (w : World) (entries : List Entry) (lists : List (List Entry)) (part : List Write) → IsOn w
-    → IsFrontOf part (notes w.state.turn (turn p w entries).noted) → InTurns p w (entries ∷ lists) part
-in_notes p w entries lists part goes is =
+-- a part of what a turn notes, and nothing said
+pub in_notes : (p : Plan) (w : World) (entries : List Entry) (part : List Write) → IsOn w
+    → IsFrontOf part (notes w.state.turn (turn p w entries).noted) → InTurns p w (entries ∷ []) [] part
+in_notes p w entries part goes is =
     let so = notes_cut w.state.turn (turn p w entries).noted part is in
     record {
       cut = one_of so.front;
-      is_cut = inr ([], lists, entries, so.front, so.rest, refl, so.all, refl);
+      torn = so.torn;
+      is_cut = inr ([], entries, so.front, so.rest, refl, so.all, refl, so.is_torn);
       goes = on_one so.front;
       same = [];
       is_same = tt;
       others = λ name before other. none_content name part before
           (none_front name part (notes w.state.turn (turn p w entries).noted) is (notes_none name w.state.turn (turn p w entries).noted other));
-      kept = front_kept part is;
-      torn = so.torn;
-      is_torn = so.is_torn;
+      kept = kept_front journal_name part (notes w.state.turn (turn p w entries).noted) is (notes_kept w.state.turn (turn p w entries).noted);
       adds = so.are ∙ ap (λ (bs : List ℕ). bs ++ so.torn) (sym (front_adds p w entries so.front so.rest so.all));
+      unsent = turns_said p w (one_of so.front);
+      said = refl;
     }
   where
     on_one : (front : List Entry) → AllOn p w (one_of front)
     on_one [] = tt
     on_one (entry ∷ front) = (goes, tt)
 
-    front_kept : (part : List Write) → IsFrontOf part (notes w.state.turn (turn p w entries).noted) → IsKept journal_name part
-    front_kept part is = kept_front journal_name part (notes w.state.turn (turn p w entries).noted) is (notes_kept w.state.turn (turn p w entries).noted)
-
--- all that a turn notes, and a part of the rest
-behind_notes : (p : Plan) (w : World) (entries : List Entry) (lists : List (List Entry)) (part rest : List Write) → IsOn w
-    → part ≡ notes w.state.turn (turn p w entries).noted ++ rest → IsFrontOf rest (turn p w entries).writes → InTurns p w (entries ∷ lists) part
-behind_notes p w entries lists part rest goes all is =
+-- all that a turn notes, a part of the rest, and the first of its messages
+pub behind_notes : (p : Plan) (w : World) (entries : List Entry) (said unsaid : List Message) (part rest : List Write) → IsOn w
+    → part ≡ notes w.state.turn (turn p w entries).noted ++ rest → IsFrontOf rest (turn p w entries).writes → (turn p w entries).said ≡ said ++ unsaid
+    → InTurns p w (entries ∷ []) said part
+behind_notes p w entries said unsaid part rest goes all is front =
     let number = w.state.turn in
     let t = turn p w entries in
     let none : NoneOf journal_name rest = none_front journal_name rest t.writes is (no_journal p w entries) in
     record {
       cut = entries ∷ [];
-      is_cut = inl (lists, refl);
+      torn = [];
+      is_cut = inl (refl, refl);
       goes = (goes, tt);
       same = part;
       is_same = front_of_early part (turn_writes number t) []
@@ -196,29 +93,29 @@ behind_notes p w entries lists part rest goes all is =
           (subst (λ (ws : List Write). IsFrontOf ws (notes number t.noted ++ t.writes)) (sym all) (front_of_late (notes number t.noted) rest t.writes is)));
       others = λ name before other. refl;
       kept = subst (IsKept journal_name) (sym all) (kept_append journal_name (notes number t.noted) rest (notes_kept number t.noted) (none_kept journal_name rest none));
-      torn = [];
-      is_torn = inl refl;
       adds = ap (added journal_name) all ∙ added_append journal_name (notes number t.noted) rest
           ∙ ap (λ (bs : List ℕ). added journal_name (notes number t.noted) ++ bs) (none_added journal_name rest none)
           ∙ append-nil (added journal_name (notes number t.noted)) ∙ notes_add number t.noted ∙ sym (turn_adds p w entries)
           ∙ sym (ap (added journal_name) (append-nil (turn_writes number t)))
           ∙ sym (append-nil (added journal_name (turns_writes p w (entries ∷ []))));
+      unsent = unsaid;
+      said = append-nil (turn p w entries).said ∙ front;
     }
 
 -- a cut of later turns
-cut_later : (p : Plan) (w : World) (entries : List Entry) (cut lists : List (List Entry)) → IsGivenCut p (turn p w entries).world cut lists
-    → IsGivenCut p w (entries ∷ cut) (entries ∷ lists)
-cut_later p w entries cut lists (inl (late, is)) = inl (late, ap (λ (ls : List (List Entry)). entries ∷ ls) is)
-cut_later p w entries cut lists (inr (early, late, given, front, rest, is, noted_so, cut_so)) =
+cut_later : (p : Plan) (w : World) (entries : List Entry) (cut lists : List (List Entry)) (torn : List ℕ)
+    → IsGivenCut p (turn p w entries).world cut torn lists → IsGivenCut p w (entries ∷ cut) torn (entries ∷ lists)
+cut_later p w entries cut lists torn (inl is) = inl (ap (λ (ls : List (List Entry)). entries ∷ ls) is.0, is.1)
+cut_later p w entries cut lists torn (inr (most, given, front, rest, is, noted_so, cut_so, torn_so)) =
     inr (
-      entries ∷ early,
-      late,
+      entries ∷ most,
       given,
       front,
       rest,
       ap (λ (ls : List (List Entry)). entries ∷ ls) is,
       noted_so,
       ap (λ (ls : List (List Entry)). entries ∷ ls) cut_so,
+      torn_so,
     )
 
 kept_of_one : (p : Plan) (w : World) (entries : List Entry) → IsKept journal_name (turn_writes w.state.turn (turn p w entries))
@@ -226,15 +123,18 @@ kept_of_one p w entries =
     subst (IsKept journal_name) (append-nil (turn_writes w.state.turn (turn p w entries)))
     (turns_kept journal_name p w (entries ∷ []) journal_is_no_checkpoint)
 
--- turns behind one whose writes were all done
-later_turn : (p : Plan) (w : World) (entries : List Entry) (lists : List (List Entry)) (part rest : List Write) → IsOn w
-    → part ≡ turn_writes w.state.turn (turn p w entries) ++ rest → InTurns p (turn p w entries).world lists rest → InTurns p w (entries ∷ lists) part
-later_turn p w entries lists part rest goes all so =
+-- turns after one whose writes were all done, and whose messages were all handed over
+later_turn : (p : Plan) (w : World) (entries : List Entry) (lists : List (List Entry)) (sent more : List Message) (part rest : List Write) → IsOn w
+    → sent ≡ (turn p w entries).said ++ more → part ≡ turn_writes w.state.turn (turn p w entries) ++ rest
+    → InTurns p (turn p w entries).world lists more rest → InTurns p w (entries ∷ lists) sent part
+later_turn p w entries lists sent more part rest goes all_said all so =
     let first = turn_writes w.state.turn (turn p w entries) in
     let next = (turn p w entries).world in
+    let says = (turn p w entries).said in
     record {
       cut = entries ∷ so.cut;
-      is_cut = cut_later p w entries so.cut lists so.is_cut;
+      torn = so.torn;
+      is_cut = cut_later p w entries so.cut lists so.torn so.is_cut;
       goes = (goes, so.goes);
       same = first ++ so.same;
       is_same = front_of_late first so.same (turns_writes p next so.cut) so.is_same;
@@ -242,45 +142,43 @@ later_turn p w entries lists part rest goes all so =
           ap (λ (ws : List Write). content name ws before) all ∙ content-append name first rest before
           ∙ so.others name (content name first before) other ∙ sym (content-append name first so.same before);
       kept = subst (IsKept journal_name) (sym all) (kept_append journal_name first rest (kept_of_one p w entries) so.kept);
-      torn = so.torn;
-      is_torn = so.is_torn;
       adds = ap (added journal_name) all ∙ added_append journal_name first rest
           ∙ ap (λ (bs : List ℕ). added journal_name first ++ bs) so.adds
           ∙ sym (append_assoc (added journal_name first) (added journal_name (turns_writes p next so.cut)) so.torn)
           ∙ ap (λ (bs : List ℕ). bs ++ so.torn) (sym (added_append journal_name first (turns_writes p next so.cut)));
+      unsent = so.unsent;
+      said = ap (λ (said : List Message). says ++ said) so.said ∙ sym (append_assoc says more so.unsent)
+          ∙ ap (λ (said : List Message). said ++ so.unsent) (sym all_said);
     }
 
-pub in_turns : (p : Plan) (w : World) (owed : Bool) (lists : List (List Entry)) (part : List Write) → IsTrue (goes_owing owed p w lists)
-    → IsFrontOf part (turns_writes p w lists) → InTurns p w lists part
-in_turns p w owed [] [] goes is = record {
-  cut = [];
-  is_cut = inl ([], refl);
-  goes = tt;
-  same = [];
-  is_same = tt;
-  others = λ name before other. refl;
-  kept = tt;
+-- turns whose writes were all done, and whose messages were all handed over
+pub all_turns : (p : Plan) (w : World) (lists : List (List Entry)) → AllOn p w lists → InTurns p w lists (turns_said p w lists) (turns_writes p w lists)
+all_turns p w lists goes = record {
+  cut = lists;
   torn = [];
-  is_torn = inl refl;
-  adds = refl;
+  is_cut = inl (refl, refl);
+  goes = goes;
+  same = turns_writes p w lists;
+  is_same = front_of_all (turns_writes p w lists);
+  others = λ name before other. refl;
+  kept = turns_kept journal_name p w lists journal_is_no_checkpoint;
+  adds = sym (append-nil (added journal_name (turns_writes p w lists)));
+  unsent = [];
+  said = sym (append-nil (turns_said p w lists));
 }
-in_turns p w owed [] (write ∷ part) goes is = absurd is
-in_turns p w owed (entries ∷ lists) part goes is =
-    by (λ rest later. in_turns p (turn p w entries).world owed lists rest (goes_on_here p w owed entries lists goes).1 later)
-    (in_two part (turn_writes w.state.turn (turn p w entries)) (turns_writes p (turn p w entries).world lists) is)
-  where
-    here : IsOn w × IsTrue (goes_owing owed p (turn p w entries).world lists)
-    here = goes_on_here p w owed entries lists goes
 
-    by_part : InTwo part (notes w.state.turn (turn p w entries).noted) (turn p w entries).writes → InTurns p w (entries ∷ lists) part
-    by_part (inl noting) = in_notes p w entries lists part here.0 noting
-    by_part (inr (rest, all, behind)) = behind_notes p w entries lists part rest here.0 all behind
-
-    by : ((rest : List Write) → IsFrontOf rest (turns_writes p (turn p w entries).world lists) → InTurns p (turn p w entries).world lists rest)
-        → InTwo part (turn_writes w.state.turn (turn p w entries)) (turns_writes p (turn p w entries).world lists) → InTurns p w (entries ∷ lists) part
-    by later (inl first) =
-        by_part (in_two part (notes w.state.turn (turn p w entries).noted) (turn p w entries).writes (subst (IsFrontOf part) (turn_is p w entries) first))
-    by later (inr (rest, all, is)) = later_turn p w entries lists part rest here.0 all (later rest is)
+-- such turns, and then one that was done in part
+pub in_last : (p : Plan) (w : World) (most : List (List Entry)) (entries : List Entry) (said : List Message) (part : List Write) → AllOn p w (most ++ entries ∷ [])
+    → (IsOn (after_turns p w most) → InTurns p (after_turns p w most) (entries ∷ []) said part)
+    → InTurns p w (most ++ entries ∷ []) (turns_said p w most ++ said) (turns_writes p w most ++ part)
+in_last p w [] entries said part goes so = so goes.0
+in_last p w (first ∷ most) entries said part goes so =
+    let next = (turn p w first).world in
+    later_turn p w first (most ++ entries ∷ []) (turns_said p w (first ∷ most) ++ said) (turns_said p next most ++ said)
+    (turns_writes p w (first ∷ most) ++ part) (turns_writes p next most ++ part) goes.0
+    (append_assoc (turn p w first).said (turns_said p next most) said)
+    (append_assoc (turn_writes w.state.turn (turn p w first)) (turns_writes p next most) part)
+    (in_last p next most entries said part goes.1 so)
 
 -- ---- the same, by what was noted
 
@@ -294,19 +192,20 @@ noted_front : (p : Plan) (w : World) (entries front rest : List Entry) → in_no
 noted_front p w entries [] rest is = refl
 noted_front p w entries (entry ∷ front) rest is = ap (λ (es : List Entry). es ∷ []) (front_order p w entries (entry ∷ front) rest is)
 
-pub cut_noted : (p : Plan) (w : World) (cut lists : List (List Entry)) → IsGivenCut p w cut lists → IsCutOf p w (journal_lists p w cut) lists
-cut_noted p w cut lists (inl (late, is)) = inl (cut, late, is, refl)
-cut_noted p w cut lists (inr (early, late, entries, front, rest, is, noted_so, cut_so)) =
+pub cut_noted : (p : Plan) (w : World) (cut lists : List (List Entry)) (torn : List ℕ) → IsGivenCut p w cut torn lists
+    → IsCutOf p w (journal_lists p w cut) torn lists
+cut_noted p w cut lists torn (inl is) = inl (ap (journal_lists p w) is.0, is.1)
+cut_noted p w cut lists torn (inr (most, entries, front, rest, is, noted_so, cut_so, torn_so)) =
     inr (
-      early,
-      late,
+      most,
       entries,
       front,
       rest,
       is,
       noted_so,
-      ap (journal_lists p w) cut_so ∙ noted_append p w early (one_of front)
-          ∙ ap (λ (ls : List (List Entry)). journal_lists p w early ++ ls) (noted_front p (after_turns p w early) entries front rest noted_so),
+      ap (journal_lists p w) cut_so ∙ noted_append p w most (one_of front)
+          ∙ ap (λ (ls : List (List Entry)). journal_lists p w most ++ ls) (noted_front p (after_turns p w most) entries front rest noted_so),
+      torn_so,
     )
 
 pub noted_on : (p : Plan) (w : World) (cut : List (List Entry)) → AllOn p w cut → AllOn p w (journal_lists p w cut)

@@ -113,7 +113,7 @@ pub record InLines (turn : ℕ) (entries : List Entry) (bytes : List ℕ) : Type
   pub torn : List ℕ
   pub all : entries ≡ front ++ rest
   pub are : bytes ≡ entry_lines turn front ++ torn
-  pub is_torn : IsTorn torn
+  pub is_torn : IsTorn turn rest torn
 
 pub in_lines : (turn : ℕ) (entries : List Entry) (bytes : List ℕ) → IsPrefix bytes (entry_lines turn entries) → InLines turn entries bytes
 in_lines turn [] bytes (rest, e) = record { front = []; rest = []; torn = []; all = refl; are = empty_of bytes rest e; is_torn = inl refl }
@@ -122,7 +122,7 @@ in_lines turn (entry ∷ entries) bytes is =
   where
     by : ((rest : List ℕ) → IsPrefix rest (entry_lines turn entries) → InLines turn entries rest)
         → Parted bytes (entry_line turn entry) (entry_lines turn entries) → InLines turn (entry ∷ entries) bytes
-    by later (inl short) = record { front = []; rest = entry ∷ entries; torn = bytes; all = refl; are = refl; is_torn = inr (turn, entry, short) }
+    by later (inl short) = record { front = []; rest = entry ∷ entries; torn = bytes; all = refl; are = refl; is_torn = inr (entry, entries, refl, short) }
     by later (inr (rest, e, more)) =
         let so = later rest more in
         record {

@@ -12,10 +12,16 @@ pub mod Others
 pub mod Notes
 -- Turns do the same under what they note.
 pub mod Same
--- Turns whose writes were done in part.
+-- Frozen frames without lines do nothing, and a run under lists goes on after their turns.
+pub mod Lasting
+-- Turns that were done in part.
 pub mod Cuts
--- What a run leaves of its files whose writes were done in part.
+-- What the calls of a turn leave that stopped.
+pub mod Stops
+-- What the calls of a run leave that stopped.
 pub mod Leaves
+-- Cuts of two turns.
+pub mod Examples
 -- A run makes its files once at most.
 pub mod Once
 -- As many rounds are left unpublished as polls found not ready.

@@ -9,7 +9,7 @@ use Rattle.trick_model.specs.Files.{journal_name, note, turn_writes, turns_write
 use Rattle.trick_model.specs.Journal.{entry_lines, is_of_session}
 use Rattle.trick_model.specs.Plan.{Plan}
 use Rattle.trick_model.specs.State.{State, World}
-use Rattle.trick_model.specs.Turn.{Hearing, begun, hear, heard, noted, publishes, turn}
+use Rattle.trick_model.specs.Turn.{Hearing, Turned, begun, hear, heard, noted, publishes, turn}
 use Rattle.trick_model.specs.declared.entry.Entry.{Entry}
 use Rattle.trick_model.specs.declared.entry.Entry.TheVariants.{Join, Said, Leave, Publish}
 use Rattle.trick_remainder.proofs.Contents.{added_append, kept_append}
@@ -17,9 +17,10 @@ use Rattle.trick_remainder.proofs.Turns.{note_kept}
 use Rattle.trick_remainder.specs.Remainder.{added}
 use Rattle.trick_run_facts.proofs.Fronts.{InLines, InTwo, NoneOf, in_two, lines_append, none_added, none_append, note_adds, note_cut, note_none}
 use Rattle.trick_run_facts.proofs.Others.{IsNoLog, rest_none}
-use Rattle.trick_run_facts.specs.Left.{in_note_order, one_of}
+use Rattle.trick_run_facts.specs.Left.{IsTorn, in_note_order, one_of}
 use Rattle.trick_runs.proofs.PartLemmas.{heard_apart, lines_of, publications_of}
 use Rattle.trick_runs.specs.Parts.{AreApart, counting}
+use Rattle.trick_runs.specs.Turned.{notes as turn_notes}
 use Rattle.trick_turns.specs.Turns.{has_line}
 
 -- ---- lines and publications among what is noted
@@ -168,7 +169,7 @@ front_order p w entries front rest is = by (in_parts front rest (lines_in whole)
         order_apart p (heard p front (begun w)).asking.state front lines more apart
         (ap (λ (h : Hearing). counting p h.asking.state more) same ∙ all_counting p before more counts)
 
--- ---- what a turn writes behind its notes
+-- ---- what a turn writes after its notes
 
 pub journal_is_no_log : IsNoLog journal_name
 journal_is_no_log group = refl
@@ -197,6 +198,11 @@ notes_none name number entries other =
     none_append name (note number (lines_in entries)) (note number (others_in entries))
     (note_none name number (lines_in entries) other) (note_none name number (others_in entries) other)
 
+-- what is torn is so where more is left
+torn_more : (number : ℕ) (rest more : List Entry) (torn : List ℕ) → IsTorn number rest torn → IsTorn number (rest ++ more) torn
+torn_more number rest more torn (inl none) = inl none
+torn_more number rest more torn (inr (entry, later, is, short)) = inr (entry, later ++ more, ap (λ (es : List Entry). es ++ more) is, short)
+
 -- a part of them adds the first of their lines
 pub notes_cut : (number : ℕ) (entries : List Entry) (front : List Write) → IsFrontOf front (notes number entries)
     → InLines number (in_note_order entries) (added journal_name front)
@@ -212,7 +218,7 @@ notes_cut number entries front is = by (in_two front (note number (lines_in entr
           torn = so.torn;
           all = ap (λ (es : List Entry). es ++ others_in entries) so.all ∙ append_assoc so.front so.rest (others_in entries);
           are = so.are;
-          is_torn = so.is_torn;
+          is_torn = torn_more number so.rest (others_in entries) so.torn so.is_torn;
         }
     by (inr (rest, all, second)) =
         let so = note_cut number (others_in entries) rest second in
@@ -235,6 +241,11 @@ pub turn_is : (p : Plan) (w : World) (entries : List Entry) → turn_writes w.st
     ≡ notes w.state.turn (turn p w entries).noted ++ (turn p w entries).writes
 unfolding notes
 turn_is p w entries = refl
+
+-- what a turn notes, as `trick_runs` says it
+pub notes_are : (number : ℕ) (t : Turned) → turn_notes number t ≡ notes number t.noted
+unfolding notes
+notes_are number t = refl
 
 -- a turn adds to the journal the lines of what it notes
 pub turn_adds : (p : Plan) (w : World) (entries : List Entry)

@@ -147,7 +147,7 @@ logs_tidy p (group ∷ groups) rest apart kept (suc k) d less =
 all_later : (P Q : Group → Type 0) → ((group : Group) → P group → Q group) → (groups : List Group) → All P groups → All Q groups
 all_later P Q step groups all k d less = step _ (all k d less)
 
--- behind the headers no log is made anew
+-- after the headers no log is made anew
 behind_kept : (p : Plan) (s : State) (lists : List (List Entry)) (group : Group)
     → IsKept (log_name group) (turns_writes p (opened s) lists ++ end_writes p (final p s lists))
 behind_kept p s lists group =

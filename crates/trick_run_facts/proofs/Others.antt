@@ -53,7 +53,7 @@ checkpoint_none : (name : List ℕ) (p : Plan) (b : Bool) (s : State) → same_n
 checkpoint_none name p false s other = tt
 checkpoint_none name p true s other = (other, (other, tt))
 
--- What a turn writes behind its notes is rows and a checkpoint.
+-- What a turn writes after its notes is rows and a checkpoint.
 pub rest_none : (name : List ℕ) → IsNoLog name → (p : Plan) (w : World) (entries : List Entry)
     → same_name name (checkpoint_name (turn p w entries).world.state.turn) ≡ false → NoneOf name (turn p w entries).writes
 rest_none name no_log p w entries other =

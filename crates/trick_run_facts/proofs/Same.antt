@@ -116,7 +116,7 @@ published_same p s (Publish number ∷ entries) t ran within =
     by later true e = later (publish_round p number t) (within_more p t s number within)
     by later false e = later t within ∙ ap (publish_all p entries) (sym (not_in_flight p t s number ran within e))
 
--- a run frame behind its publications
+-- a run frame after its publications
 abbrev frame_from : Plan → State → Asking → Ticked
 frame_from p s a =
     let top = run_class p class.TopOfFrame s in
@@ -204,7 +204,7 @@ writes_same p w (entries ∷ lists) =
     ∙ ap (λ (v : World). turn_writes w.state.turn (turn p w entries) ++ turns_writes p v (journal_lists p next lists)) same.world
     ∙ ap (λ (ws : List Write). turn_writes w.state.turn (turn p w entries) ++ ws) (writes_same p next lists)
 
-said_same : (p : Plan) (w : World) (lists : List (List Entry)) → turns_said p w (journal_lists p w lists) ≡ turns_said p w lists
+pub said_same : (p : Plan) (w : World) (lists : List (List Entry)) → turns_said p w (journal_lists p w lists) ≡ turns_said p w lists
 said_same p w [] = refl
 said_same p w (entries ∷ lists) =
     let next = (turn p w entries).world in

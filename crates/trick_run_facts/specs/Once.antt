@@ -13,7 +13,7 @@ use Rattle.trick_model.specs.declared.entry.Entry.{Entry}
 use Rattle.trick_model.specs.declared.group.Group.{Group}
 use Rattle.trick_model.specs.declared.plan.Plan.{Plan as PlanValue}
 
--- A run makes each of its files once at most, and adds to it behind that alone: its logs and its last files; and its
+-- A run makes each of its files once at most, and adds to it after that alone: its logs and its last files; and its
 -- checkpoints where the count of turns has not come to its end.
 pub record MakesOnce (p : Plan) (s : State) (lists : List (List Entry)) : Type 0 where
   pub logs : All (λ (group : Group). IsTidy (log_name group) (run_writes p s lists)) p.groups

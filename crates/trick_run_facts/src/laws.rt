@@ -27,10 +27,11 @@ pub fn serial_forms_are_alone<M: Cells, F: Shelf>()
         → IsAlone (hosts F.Shelf ⟦<NoTurns as Turns<M>>⟧ ⟦<OnePost as Posts>⟧) old new }
 {}
 
-/// A run that stopped leaves whole lines in its journal, and of each other file a prefix of what the run under
-/// these lines makes of it.
+/// A run that stopped leaves whole lines in its journal; these are what was noted of all lists that it was given, or of
+/// all but the last and a part of that. Of each other file it leaves a prefix of what the run under these lines makes
+/// of it, and it has handed over the first messages of that run.
 pub fn stopped_runs_leave_fronts<M: Cells, F: Shelf, P: Posts, T: Turns<M>>()
-    ensures { StopsLeave (hosts F.Shelf T.Turns P.Posts) M.numbers }
+    ensures { StopsLeave M (hosts F.Shelf T.Turns P.Posts) }
 {
     trick_model::laws::one_run();
     trick_model::laws::fitting_lists_last();
