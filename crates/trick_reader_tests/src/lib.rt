@@ -4,6 +4,8 @@
 #[cfg(test)]
 mod base;
 #[cfg(test)]
+mod body;
+#[cfg(test)]
 mod cycle;
 #[cfg(test)]
 mod generated;
