@@ -44,7 +44,7 @@ below_larger q a b = go (nat_lt a b) refl
 four : (a b m : Bool) → ((a || b) || m) ≡ (b || (a || m))
 four a b m = or_assoc a b m ∙ or_swap a b m
 
--- a range that begins at i ends behind e
+-- a range that begins at i ends after e
 most_set : (xs : List ℕ) (i n q e : ℕ) → n ≤ length xs → nat_lt q (most (take n (slice_set xs i (larger (slice_index_or xs i 0) (e + 1))))) ≡ ((nat_lt i n && nat_le q e) || nat_lt q (most (take n xs)))
 most_set xs i zero q e h =
     let none : nat_lt i 0 ≡ false = grind (arith, nat_tests) in

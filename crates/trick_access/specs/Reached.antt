@@ -66,7 +66,7 @@ marked_in (suc k) marks f c = (slice_index_or marks k false && is_in (f k) c) ||
 abbrev pub larger : ℕ → ℕ → ℕ
 larger m n = if nat_lt m n then n else m
 
--- For each cell the furthest end of the ranges that begin there: the cell behind their last one, or 0.
+-- For each cell the furthest end of the ranges that begin there: the cell after their last one, or 0.
 -- A range more is noted.
 abbrev pub noted_one : List ℕ → CellRange → List ℕ
 noted_one ends r = slice_set ends (r.first).0 (larger (slice_index_or ends (r.first).0 0) ((r.last).0 + 1))
@@ -79,7 +79,7 @@ abbrev pub most : List ℕ → ℕ
 most [] = 0
 most (n ∷ ns) = larger n (most ns)
 
--- a range that begins at the cell or before it ends behind it
+-- a range that begins at the cell or before it ends after it
 abbrev pub is_reached : List ℕ → ℕ → Bool
 is_reached ends c = nat_lt c (most (take (suc c) ends))
 

@@ -1,4 +1,4 @@
--- What is in flight behind a start, behind a publication, and one tic later.
+-- What is in flight after a start, after a publication, and one tic later.
 use Rattle.std.proofs.Common.{◌≡◌, ◌≢◌, ◌∙◌, ℕ, ◌+◌, ◌-◌, ◌%◌, ◌<◌, ◌≤◌, ◌==◌, min, ℤ, Bool, true, false, List, Option, Some, None, ap, arith, length, refl, subst, sym}
 use Rattle.std.proofs.lemmas.Bool.{eq-eqb, eqb-true}
 use Rattle.std.proofs.lemmas.List.{length-map, get_or-set_other, get_or-set_same}
@@ -211,7 +211,7 @@ is_free p in_flight tic place taken thread all there is none =
     ap (λ (t : Thread). in_flight t.number) is ∙ all place there
     ∙ flight_none (thread_in p place) tic (slice_index_or taken place nothing_taken) none
 
--- The memory and the faults behind `finish`, in the words of the rules.
+-- The memory and the faults after `finish`, in the words of the rules.
 pub finished_is : IsPublished → (p : Plan) → AreFound (threads_beside p) → (place tic : ℕ) (on : Flags) (taken : List Taken) (in_flight : ℕ → Option Started)
     (memory : List ℤ) (thread : Thread) → place < length (threads_beside p) → thread ≡ thread_in p place
     → (slice_index_or taken place nothing_taken).held ≡ true → IsOver thread.process thread.cycle tic → IsInFlight p in_flight tic taken
@@ -259,7 +259,7 @@ goes_on {plan = plan} {old = old} {tic = tic} {place = place} {s = s} new t more
       tied = subst (IsInFlight p new tic) (sym set) all;
     }
 
--- The same behind a tic, where those whose cycle ends there hold nothing.
+-- The same after a tic, where those whose cycle ends there hold nothing.
 pub goes_later : {plan : PlanValue} {in_flight : ℕ → Option Started} {tic : ℕ} {s : State} {scalars : List Scalar}
     → HoldNothing (plan_of plan) tic 0 (length (threads_beside (plan_of plan))) s → GoesWith plan in_flight tic s scalars
     → GoesWith plan in_flight (tic + 1) s scalars

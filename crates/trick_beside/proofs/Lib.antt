@@ -4,7 +4,7 @@ pub mod Times
 pub mod Threads
 -- What the step of a thread makes of a state, and threads one after another.
 pub mod Steps
--- What is in flight behind a start, behind a publication, and one tic later.
+-- What is in flight after a start, after a publication, and one tic later.
 pub mod Flights
 -- Stations at their places, and what their threads are given.
 pub mod Seats

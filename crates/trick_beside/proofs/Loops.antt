@@ -87,7 +87,7 @@ hold_all p tic k s past hold place low high ends = hold place low (up place (len
     up : (a b c : ℕ) → a < b → b ≤ c → a < c
     up a b c less more = omega (arith, less, more)
 
--- one thread more has taken; those behind it hold nothing still
+-- one thread more has taken; those after it hold nothing still
 pub hold_rest : (p : Plan) (tic k to : ℕ) (now next : State) → next ≡ where_ends (take p) tic k (thread_in p k) now
     → HoldNothing p tic k to now → HoldNothing p tic (k + 1) to next
 hold_rest p tic k to now next is hold place low high ends =

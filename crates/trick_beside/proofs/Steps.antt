@@ -26,7 +26,7 @@ second_of false x y e = refl
 
 -- ---- publishing
 
--- the state behind what was published
+-- the state after what was published
 after_publish : ℕ → After → State → State
 after_publish place after s = let done = settled after s in record done { taken = slice_set s.taken place nothing_taken }
 

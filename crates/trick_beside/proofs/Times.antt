@@ -29,7 +29,7 @@ next_rest cycle tic =
     let one : tic + 1 ≡ suc tic = omega arith in
     ap (λ (n : ℕ). n % cycle) one ∙ suc-mod tic cycle
 
--- Behind a tic at which a cycle does not end, it ends where it would have.
+-- After a tic at which a cycle does not end, it ends where it would have.
 pub next_end : (cycle tic : ℕ) → 1 ≤ cycle → ((tic % cycle) == 0) ≡ false → end_of cycle tic ≡ end_of cycle (tic + 1)
 unfolding pick
 next_end cycle tic some goes = by_less (nat_lt (suc rest) cycle) refl

@@ -25,8 +25,8 @@ use Rattle.trick_post.specs.declared.posts.Posts.{Ghosts}
 abbrev pub end_of : ℕ → ℕ → ℕ
 end_of cycle tic = elim ((tic % cycle) == 0) [ true ↦ tic | false ↦ tic + (cycle - tic % cycle) ]
 
--- The tics of the cycle that ends at a tic; at tic 0 none. Nothing is published behind the last time, so
--- that no tic behind it counts.
+-- The tics of the cycle that ends at a tic; at tic 0 none. Nothing is published after the last time, so
+-- that no tic after it counts.
 abbrev pub frame_to : ℕ → ℕ → Job1
 frame_to cycle end = elim (end == 0) [
   | true ↦ work.Frame 1 0

@@ -35,7 +35,7 @@ fn start_seat<M: Cells, P: Posts>(seat: Seat, state: &State<M>, posts: &mut P)
 }
 
 /// Starts what the records of a state hold, in thread order, where nothing is in flight: of a must-finish
-/// thread the tics of the cycle that ends at the state's next tic or behind it, of an asynchronous thread
+/// thread the tics of the cycle that ends at the state's next tic or after it, of an asynchronous thread
 /// a round. So a run begins that goes on from the state. Takes no memory.
 pub fn start_held<M: Cells, P: Posts>(stations: &[Station], state: &State<M>, posts: &mut P)
     requires stations { AreStations (plan_of (P.plan posts.old)) stations.now }

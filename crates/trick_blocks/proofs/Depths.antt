@@ -25,7 +25,7 @@ deeper so_far next rest = omega arith
 pub deeper_front : (so_far next rest : ℕ) → max (max next so_far) rest ≡ max so_far (max next rest)
 deeper_front so_far next rest = ap (λ q. max q rest) (max_comm next so_far) ∙ deeper so_far next rest
 
--- what stands behind the last `else` may come first
+-- what stands after the last `else` may come first
 pub else_first : (bs : List Branch) (last : Branches) (before : List Body) → max (branch_depth last before) (branch_depth (branches_of bs NoElse) before) ≡ branch_depth (branches_of bs last) before
 else_first [] last before = max-zero (branch_depth last before)
 else_first (b ∷ bs) last before =

@@ -52,7 +52,7 @@ class_last : (xs : List Body) (b : Body) → class_in (xs ++ b ∷ []) (length x
 class_last [] b = refl
 class_last (x ∷ xs) b = class_last xs b
 
--- what is made stands behind what there was
+-- what is made stands after what there was
 pub with_behind : (class : ℕ) (bs : List (List Code)) (bodies : List Body) → (more : List Body) × (with_bodies class bs bodies ≡ bodies ++ more)
 with_behind class [] bodies = ([], sym (append_none bodies))
 with_behind class (b ∷ bs) bodies =

@@ -51,7 +51,7 @@ lt_is m n h = grind (arith, nat_tests)
 
 -- ---- locals by name and locals by slot
 
--- the slots of the locals that are known by name are known, those behind them are free up to a top,
+-- the slots of the locals that are known by name are known, those after them are free up to a top,
 -- and those below the body's first are no local's
 pub record Knows (w : World) (top : ℕ) (locals : Names Local) (known : List Known) : Type 0 where
   pub sees : (name : Name) (l : Local) → meaning_of name locals ≡ Some l → IsTrue (is_known known l.slot)
@@ -69,7 +69,7 @@ some_case : (l l' : Local) (b : Bool) (P : Type 0) → (if b then Some l else No
 some_case l l' true P h f = f (cc h)
 some_case l l' false P h f = absurd (cc h)
 
--- what a name means behind a new local: what it meant, or that one
+-- what a name means after a new local: what it meant, or that one
 grown_case : (q name : Name) (l l' : Local) (locals : Names Local) (P : Type 0) → meaning_of q (locals ++ (name, l) ∷ []) ≡ Some l' → (meaning_of q locals ≡ Some l' → P) → (l ≡ l' → P) → P
 grown_case q name l l' [] P h f g = some_case l l' (bytes_eq q name) P h g
 grown_case q name l l' (k ∷ ks) P h f g = by_test (bytes_eq q k.0) h f (λ h f. grown_case q name l l' ks P h f g)
@@ -122,7 +122,7 @@ knows_old : (w : World) (top : ℕ) (locals : Names Local) (known : List Known) 
 knows_old w top locals known name l new is k =
     subst (λ (q : Option Local). Knows w top (if is_some q then locals else locals ++ (name, new) ∷ []) known) (sym is) k
 
--- ---- what stands behind a statement
+-- ---- what stands after a statement
 
 local_after : (l : Local) (line : ℕ) (change : Tree.Change) (b : Bool) (known : List Known) → after (if b then Tree.Empty else Tree.SetLocal line l.slot l.scalar change) known ≡ known
 local_after l line change true known = refl
@@ -320,7 +320,7 @@ nothing_known w top known low h = record {
   above = λ slot less. h slot (omega (arith, less, low));
 }
 
--- the block of a method keeps the rules, whatever locals its callers have behind its slots
+-- the block of a method keeps the rules, whatever locals its callers have after its slots
 pub method_knows : (all : Statements) (w : World) (n top more : ℕ) (bs : List (List Code)) (known : List Known) → Ground w top more bs → Sits bs n (all_inner all w [] n ++ all_codes all w [] n ∷ []) → IsTrue (each_under top (all_inner all w [] n ++ all_codes all w [] n ∷ [])) → w.slots ≤ top → AreAbove top known → IsTrue (block_knows more bs (n + all_count all) known)
 method_knows all w n top more bs known g sits under low above =
     block_know all w [] n top more bs known g sits

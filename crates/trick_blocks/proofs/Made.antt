@@ -72,7 +72,7 @@ pub grows_parts : (order : List ℕ) (parts : List tree.Part) (p : Progress) →
 grows_parts [] parts p class block k = k
 grows_parts (i ∷ is) parts p class block k = grows_parts is parts (with_part (slice_get parts i) p) class block (grows_part (slice_get parts i) p class block k)
 
--- ---- a name behind a method
+-- ---- a name after a method
 
 some_case : {T : Type 0} (l l' : T) (b : Bool) (P : Type 0) → (if b then Some l else None) ≡ Some l' → (l ≡ l' → P) → P
 some_case l l' true P h f = f (cc h)

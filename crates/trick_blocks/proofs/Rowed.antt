@@ -86,7 +86,7 @@ part_here o m p is = subst (λ q. IsTrue (is_some (meaning_of m.name (with_part 
 eq_is : (x k : ℕ) → (x == k) ≡ true → x ≡ k
 eq_is x k h = grind (arith, nat_tests)
 
--- behind an order that has the number of its part, the name of a method stands for a block
+-- after an order that has the number of its part, the name of a method stands for a block
 pub named_block : (order : List ℕ) (parts : List tree.Part) (p : Progress) (k : ℕ) (m : tree.Method) → slice_get parts k ≡ Some (tree.HasMethod m) → IsTrue (is_one_of order k) → IsTrue (is_some (meaning_of m.name (with_parts order parts p).world.methods))
 named_block [] parts p k m is h = absurd (cc h)
 named_block (i ∷ is) parts p k m there h = by_test (i == k) refl h (named_block is parts (with_part (slice_get parts i) p) k m there) where

@@ -44,7 +44,7 @@ pub codes_many : (bs : List Block) → length (codes_of bs) ≡ length bs
 codes_many [] = refl
 codes_many (b ∷ bs) = omega (arith, codes_many bs)
 
--- what stands behind the old blocks is what was made
+-- what stands after the old blocks is what was made
 pub codes_new : (class : ℕ) (made : List (List Code)) (old new : List Block) → bodies_of new ≡ with_bodies class made (bodies_of old) → codes_of (drop (length old) new) ≡ made
 codes_new class made old new is =
     let all : codes_of new ≡ codes_of old ++ made = sym (codes_are new) ∙ (ap codes_in is ∙ (codes_with class made (bodies_of old) ∙ ap (λ q. q ++ made) (codes_are old))) in

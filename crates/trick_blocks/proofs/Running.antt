@@ -216,6 +216,6 @@ mutual
       let m = n + count s in
       order_both (inner s w locals n) (all_inner rest w (after s w locals) m) n m (omega (arith, inner_count s w locals n)) (inner_ordered s w locals n made) (all_ordered rest w (after s w locals) m (made_more n m w (omega arith) made))
 
--- the blocks of a method are in order behind those that there are
+-- the blocks of a method are in order after those that there are
 pub method_ordered : (all : Statements) (w : World) (n : ℕ) → AreMade n w → IsTrue (are_in_order n (body_blocks all w n))
 method_ordered all w n made = block_ordered all w [] n made (all_ordered all w [] n made)

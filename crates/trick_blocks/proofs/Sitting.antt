@@ -42,7 +42,7 @@ index_here (f ∷ front) back x = index_here front back x
 pub sits_one : (bs : List (List Code)) (n : ℕ) (x : List Code) → Sits bs n (x ∷ []) → block_at bs n ≡ x
 sits_one bs n x s = ap (λ q. block_at q n) s.is ∙ (ap (block_at (s.front ++ (x ∷ s.back))) (sym s.at) ∙ index_here s.front s.back x)
 
--- ---- what is given to blocks stays, when more come behind them
+-- ---- what is given to blocks stays, when more come after them
 
 module _ {X : Type 0} (rule : List Code → (ℕ → X) → X) (d : X) where
   given : (bs : List (List Code)) (done : List X) → (more : List X) × (table rule d bs done ≡ done ++ more) × (length more ≡ length bs)

@@ -38,7 +38,7 @@ abbrev pub with_body : ℕ → List Code → List Body → List Body
 with_body class codes before =
     before ++ record { class = class; codes = codes; deep = all_depth codes before + 1 } ∷ []
 
--- behind these the blocks of a class
+-- after these the blocks of a class
 abbrev pub with_bodies : ℕ → List (List Code) → List Body → List Body
 with_bodies class [] before = before
 with_bodies class (b ∷ bs) before = with_bodies class bs (with_body class b before)

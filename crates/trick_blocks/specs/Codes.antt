@@ -48,7 +48,7 @@ loop_in name w locals = with_name name (record { slot = slot_behind w locals; sc
 abbrev pub loop_slot : Name → Bound → World → Names Local → Option ℕ
 loop_slot name bound w locals = if nat_le (bound_number bound) 1000000 then new_slot name w locals else None
 
--- the locals that are known behind a statement: its own, and none of those in it
+-- the locals that are known after a statement: its own, and none of those in it
 abbrev pub after : Statement → World → Names Local → Names Local
 after Empty w locals = locals
 after (Block all) w locals = locals

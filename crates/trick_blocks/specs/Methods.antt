@@ -1,4 +1,4 @@
--- The methods of a class, one after another, each behind those that it calls.
+-- The methods of a class, one after another, each after those that it calls.
 use Rattle.std.specs.Prelude.{ℕ, ◌+◌, max, List, [], ◌∷◌, ◌++◌, length, Option, Some, None, slice_get}
 use Rattle.trick_blocks.specs.Bodies.{Body, with_bodies}
 use Rattle.trick_blocks.specs.Codes.{all_codes, all_count, all_inner}
@@ -42,7 +42,7 @@ progress w bodies = record { world = w; bodies = bodies }
 abbrev pub body_blocks : Statements → World → ℕ → List (List Code)
 body_blocks body w n = all_inner body w [] n ++ all_codes body w [] n ∷ []
 
--- Behind a method its name stands for the block of its body, and the locals of the next one have
+-- After a method its name stands for the block of its body, and the locals of the next one have
 -- slots of their own, so that a method that is called leaves those of its caller alone.
 abbrev pub world_with : tree.Method → World → ℕ → World
 world_with m w n = record w {

@@ -59,7 +59,7 @@ start_of means.Nothing = None
 
 -- ---- further parts
 
--- so many cells on; behind a computed index the first cell and the span stay
+-- so many cells on; after a computed index the first cell and the span stay
 abbrev pub first_moved : Option Loose → ℕ → ℕ → ℕ
 first_moved None first by = first + by
 first_moved (Some l) first by = first

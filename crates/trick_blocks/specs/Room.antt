@@ -11,7 +11,7 @@ abbrev pub room : World → Bool → ℕ
 room w true = size_at w.layout.sizes w.class
 room w false = w.layout.cells
 
--- so many cells lie there, and behind a computed index in their array
+-- so many cells lie there, and after a computed index in their array
 abbrev pub LieIn : ℕ → ℕ → ℕ → Option Loose → Type 0
 LieIn limit n first None = first + n ≤ limit
 LieIn limit n first (Some l) = (l.offset + n ≤ l.span) × (first + l.span ≤ limit)

@@ -161,7 +161,7 @@ pub record AreResolved : Type 0 where
   pub slot_again : blocks (text.Block (row (local x ∷ [])) ∷ text.Block (row (local y ∷ [])) ∷ [])
       ≡ (local_code 2 ∷ []) ∷ (local_code 2 ∷ []) ∷ []
   pub blocks_run : codes (text.Block (row (local x ∷ [])) ∷ text.Block (row (local y ∷ [])) ∷ []) ≡ Run 10 ∷ Run 11 ∷ []
-  -- a block stands behind those in it
+  -- a block stands after those in it
   pub nested : blocks (text.Block (row (set 1 ∷ text.Block (row (set 2 ∷ [])) ∷ [])) ∷ []) ≡ (set_code 2 ∷ [])
       ∷ (set_code 1 ∷ Run 10 ∷ []) ∷ []
   -- `if (v) v = 1; else { v = 2; }`
@@ -174,7 +174,7 @@ pub record AreResolved : Type 0 where
   pub loop : codes (text.For x 1 (Below 3) (set 1) ∷ []) ≡ For 2 1 (Below 3) 10 ∷ []
   pub loop_block : blocks (text.For x 1 (Below 3) (set 1) ∷ []) ≡ (set_code 1 ∷ []) ∷ []
   pub call : codes (text.Call 1 m ∷ []) ≡ Run 4 ∷ []
-  -- `void a() { long x; } void b() { long x; a(); }`: behind one block of the class 0
+  -- `void a() { long x; } void b() { long x; a(); }`: after one block of the class 0
   pub methods : (with_parts (1 ∷ 2 ∷ []) (Public ∷ HasMethod (record { name = a; body = row (local x ∷ []) })
       ∷ HasMethod (record { name = b; body = row (local x ∷ text.Call 1 a ∷ []) }) ∷ [])
       (progress (record world { methods = [] }) (record { class = 0; codes = []; deep = 1 } ∷ [])))

@@ -23,7 +23,7 @@ fn depth_of(block: u32, blocks: &[Block]) -> u64
     blocks[number].deep
 }
 
-// The frames of what stands behind the last `else`.
+// The frames of what stands after the last `else`.
 fn depth_of_else(otherwise: Option<u32>, blocks: &[Block]) -> u64
     ensures { result ≡ branch_depth (else_of otherwise) (bodies_of blocks.now) }
 {
@@ -89,7 +89,7 @@ pub fn count_of(blocks: &Vec<Block>) -> usize
     blocks.len()
 }
 
-/// Adds a block of a class behind those that it runs, and gives its number.
+/// Adds a block of a class after those that it runs, and gives its number.
 pub fn add_block(
     class: u32,
     statements: Vec<Stmt>,

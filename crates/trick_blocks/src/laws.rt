@@ -59,7 +59,7 @@ pub fn program_law()
         → AreKept (progress w (bodies_of blocks)) methods → MethodsHold w.slots blocks methods }
 {}
 
-/// Behind an order that has the number of its part, the name of a method stands for a block.
+/// After an order that has the number of its part, the name of a method stands for a block.
 pub fn name_law()
     ensures { (order : List ℕ) (parts : List tree.Part) (p : Progress) (k : ℕ) (m : tree.Method)
         → slice_get parts k ≡ Some (tree.HasMethod m) → IsTrue (is_one_of order k)

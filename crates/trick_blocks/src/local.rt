@@ -16,7 +16,7 @@ use trick_names::Names;
 // So many slots and locals fit the numbers of slots.
 const SLOT_LIMIT: usize = 1_000_000_000;
 
-// The slot behind those of the known locals.
+// The slot after those of the known locals.
 fn slot_after(world: &World, locals: &Names<Local>) -> Result<u32, AllocError>
     ensures { IfOk result (λ slot. slot ≡ slot_behind world.now locals.now) }
 {

@@ -95,7 +95,7 @@ fn resolve_part_at(
     resolve_part(alloc, &parts[number], world, blocks)
 }
 
-/// Makes the methods of a class, whose parts are taken in this order, by their numbers: behind it
+/// Makes the methods of a class, whose parts are taken in this order, by their numbers: after it
 /// `world` tells the block of each method, and how many slots there are so far.
 pub fn resolve_class(
     alloc: Global,

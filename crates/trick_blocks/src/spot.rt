@@ -5,12 +5,12 @@ ghost use Rattle.trick_blocks.specs.Room.{LieIn};
 use trick_layout::{Dim, Dims, Extent};
 use trick_names::Base;
 
-/// Where a path has come behind its first computed index: somewhere among the cells of that array.
+/// Where a path has come after its first computed index: somewhere among the cells of that array.
 #[derive(Clone, Copy)]
 pub struct Loose {
     /// How many cells the array has.
     pub span: u32,
-    /// What the members and literal indexes behind it add.
+    /// What the members and literal indexes after it add.
     pub offset: u32,
 }
 

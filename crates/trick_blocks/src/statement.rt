@@ -282,7 +282,7 @@ fn resolve_if(
     }
 }
 
-/// What statements become one after another, behind these locals, where their blocks stand behind
+/// What statements become one after another, after these locals, where their blocks stand after
 /// those that there are. Each level of the text's nesting, of which there are at most 64, is two calls
 /// deep.
 #[cycle(walk)]

@@ -63,7 +63,7 @@ meets_open wanted.InFlight InFlight h = refl
 meets_open wanted.InFlight (Done fault) h = cc
 meets_open wanted.Open s h = h
 
--- a job of any kind is behind those that are passed
+-- a job of any kind is after those that are passed
 pub behind : (kind : Wanted) (stages : List Stage) (jobs : List JobId) (passed : ℕ) → IsPassed stages jobs passed
     → find_wanted kind stages (drop passed jobs) ≡ find_wanted kind stages jobs
 behind kind stages jobs passed none =

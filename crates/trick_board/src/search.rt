@@ -201,7 +201,7 @@ fn missing(
     least(plan, before, find(Wanted::Open, stages, depended))
 }
 
-/// What a thread can do next, where none of its first `passed` jobs is open. It costs the jobs behind them
+/// What a thread can do next, where none of its first `passed` jobs is open. It costs the jobs after them
 /// up to the next one, and those that this depends on.
 pub fn next_of(plan: &Plan, tables: &Tables, stages: &[Stage], thread: u8, passed: usize) -> Next
     requires { IsPassed stages.now (slice_index_or tables.now.lines thread []) passed }

@@ -18,7 +18,7 @@ pub record Made : Type 0 where
 abbrev pub made : Bodies → Made
 made b = record { progress = progress b.world (bodies_of b.blocks.items); methods = b.methods; numbers = b.numbers }
 
--- the blocks of a class, behind those that there are
+-- the blocks of a class, after those that there are
 abbrev pub class_progress : ℕ → List ℕ → List tree.Part → Progress → Progress
 class_progress class order parts p =
     with_parts order parts (progress (record p.world { class = class; methods = [] }) p.bodies)

@@ -49,7 +49,7 @@ fn count_of(methods: &Items<Method>) -> Result<u32, AllocError>
     Ok(count as u32)
 }
 
-/// Makes the methods of a class, whose parts stand in an order in which each comes behind those that
+/// Makes the methods of a class, whose parts stand in an order in which each comes after those that
 /// it calls.
 pub fn add_class(
     alloc: Memory,

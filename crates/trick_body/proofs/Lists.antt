@@ -70,7 +70,7 @@ abbrev pub before : List Choice → Choices → Choices
 before [] k = k
 before (c ∷ cs) k = SyntaxTree.Choice (expression_of c.test) (expression_of c.value) (before cs k)
 
--- what they make with the part behind them, and what is read next
+-- what they make with the part after them, and what is read next
 abbrev pub chosen : List Choice → Expression → List (Expression × Expression) → Expression
 chosen [] e vs = grammar.choose_of e vs
 chosen (c ∷ cs) e vs = SyntaxTree.Choose (before (c ∷ cs) (grammar.choices_of e vs))

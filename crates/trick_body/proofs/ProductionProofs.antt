@@ -306,7 +306,7 @@ is_if : Statement → Bool
 is_if (tree.If branches) = true
 is_if s = false
 
--- behind an `else` a statement that is no `if` is the last one
+-- after an `else` a statement that is no `if` is the last one
 after_plain : (s : Statement) → is_if s ≡ false → branches_after (Some s) ≡ tree.Else s
 unfolding is_if
 after_plain tree.Empty h = refl
@@ -348,7 +348,7 @@ module _ (text : List ℕ) (limit : ℕ) where
   otherwise_plain n e ts s rest (inr (inl p)) = loop_plain n e ts s rest p
   otherwise_plain n e ts s rest (inr (inr p)) = simple_plain n e ts s rest p
 
-  -- what may stand behind the statement of an `if`, as it is read
+  -- what may stand after the statement of an `if`, as it is read
   abbrev read_else : ℕ → Of (List Branch × Option Statement)
   read_else n = nearest (body.else_link text limit n)
 
@@ -729,7 +729,7 @@ module _ (text : List ℕ) (m : ℕ) where
 
   -- ---- and back
 
-  -- what stands behind a name, whether it is that of a loop or not
+  -- what stands after a name, whether it is that of a loop or not
   abbrev Behind : ℕ → List Token → Token → List Token → AfterName → List Token → Type 0
   Behind n e t mid a rest =
       ((is_in_scope text e t ≡ true) × Has [] (body.named text (suc m) n (body.bound_change text (suc m) n)) mid a rest)

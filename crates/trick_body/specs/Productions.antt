@@ -1,5 +1,5 @@
 -- The language of bodies production by production, as docs/FORMATS.md writes it. The grammar that is
--- read by decides each step by one token ahead, which costs it some detours: what may stand behind a
+-- read by decides each step by one token ahead, which costs it some detours: what may stand after a
 -- NAME is read together. Here each production stands alone, over the parts of that grammar, and
 -- whatever begins with a NAME is written out.
 use Rattle.std.specs.List.{list_any}
@@ -35,7 +35,7 @@ Same {A} a b =
 
 -- ---- expressions
 
--- a last part alone, or a choice before the parts behind its colon
+-- a last part alone, or a choice before the parts after its colon
 abbrev pub choices_with : Expression → Option (Expression × Choices) → Choices
 choices_with e None = tree.Last e
 choices_with e (Some v) = tree.Choice e v.0 v.1
@@ -99,7 +99,7 @@ module _ (text : List ℕ) (limit : ℕ) where
 abbrev pub line_of_path : Path → ℕ
 line_of_path (tree.path line name parts) = line
 
--- what stands behind an `else`: an `if` is one more branch
+-- what stands after an `else`: an `if` is one more branch
 abbrev pub branches_after : Option Statement → Branches
 branches_after None = tree.NoElse
 branches_after (Some (tree.If branches)) = branches
@@ -118,7 +118,7 @@ loop_step text =
     ∣ act (λ v. v.1) (one the.Increment ⨾ the_name text)
     ∣ act (λ v. v.0) (the_name text ⨾ one the.PlusAssign ⨾ one the.One)
 
--- behind the name of a loop: "=" WHOLE ";" v ( "<" | "<=" ) WHOLE ";" step ")"
+-- after the name of a loop: "=" WHOLE ";" v ( "<" | "<=" ) WHOLE ";" step ")"
 abbrev pub header : List ℕ → Of Header
 header text =
     act (λ v. (v.1.0.number, bound_of v.1.1.1.1.0.class v.1.1.1.1.1.0.number))

@@ -1,6 +1,6 @@
 -- The grammar of types and statements. The text gives the bytes of names, the limit bounds each
 -- list, and n says how many levels may still nest: braces, brackets, and each statement of an `if`,
--- an `else` or a `for` that is no block and, behind `else`, no `if`.
+-- an `else` or a `for` that is no block and, after `else`, no `if`.
 use Rattle.std.specs.Prelude.{ℕ, zero, suc, min, false, List, [], ◌∷◌, ◌++◌, Option, Some, None}
 use Rattle.trick_body.specs.Expressions.{Of, names, wholes, name_of, Step, parts_of, place_more, expression_more, step, some_steps, expression}
 use Rattle.trick_body.specs.Symbols.{Token, bound_limit}
@@ -29,7 +29,7 @@ scalar_of the.Short = scalar.Short
 scalar_of the.Int = scalar.Int
 scalar_of _ = scalar.Long
 
--- the type of `unsigned`, alone or with a keyword behind it
+-- the type of `unsigned`, alone or with a keyword after it
 abbrev pub unsigned_of : Option Token → Scalar
 unsigned_of None = scalar.UInt
 unsigned_of (Some t) = elim t.class [ the.Char ↦ scalar.UChar | the.Short ↦ scalar.UShort | _ ↦ scalar.UInt ]
@@ -91,7 +91,7 @@ basic = rule (outline basic_first basic_more []) basic_body
 
 -- ---- the header of a loop
 
--- what the header says behind the loop's name: its first number, and its bound
+-- what the header says after the loop's name: its first number, and its bound
 abbrev pub Header : Type 0
 Header = ℕ × Bound
 
@@ -142,7 +142,7 @@ module _ (text : List ℕ) where
 
 -- ---- statements
 
--- what may stand behind the NAME that a statement begins with
+-- what may stand after the NAME that a statement begins with
 pub data AfterName : Type 0 where
   -- NAME [ "=" expression ] ";": the first name is a type
   declares : Token → Option Expression → AfterName
@@ -204,7 +204,7 @@ module _ (text : List ℕ) where
   named_of t (changes steps change) = tree.Assign t.line (tree.path t.line (name_of text t) (parts_of steps)) change
 
 module _ (text : List ℕ) (limit : ℕ) where
-  -- [ "=" expression ] ";": what stands behind the name of a local
+  -- [ "=" expression ] ";": what stands after the name of a local
   unfoldable pub value_body : ℕ → Of (Option Expression)
   value_body n = act (λ v. v.0) (optional (act (λ v. v.1) (one the.Assign ⨾ expression text limit n))
       ⨾ one the.Semicolon)
@@ -228,7 +228,7 @@ module _ (text : List ℕ) (limit : ℕ) where
   abbrev pub operation : ℕ → Of Change
   operation n = rule (outline operation_first expression_more []) (operation_body n)
 
-  -- { step } operation ";": what stands behind the first name of a place that is changed
+  -- { step } operation ";": what stands after the first name of a place that is changed
   unfoldable pub free_change_body : ℕ → Of AfterName
   free_change_body n = act (λ v. changes v.0 v.1.0) (repetition limit (step text limit n) ⨾ operation n
       ⨾ one the.Semicolon)
@@ -236,7 +236,7 @@ module _ (text : List ℕ) (limit : ℕ) where
   abbrev pub free_change : ℕ → Of AfterName
   free_change n = rule (outline change_first [] []) (free_change_body n)
 
-  -- step { step } operation ";" behind the name of a loop round it: right behind that name an operator
+  -- step { step } operation ";" after the name of a loop round it: right after that name an operator
   -- is refused
   unfoldable pub bound_change_body : ℕ → Of AfterName
   bound_change_body n =
@@ -246,7 +246,7 @@ module _ (text : List ℕ) (limit : ℕ) where
   abbrev pub bound_change : ℕ → Of AfterName
   bound_change n = rule (outline change_first [] []) (bound_change_body n)
 
-  -- what may stand behind the NAME that a statement begins with, given the change: a declaration, a
+  -- what may stand after the NAME that a statement begins with, given the change: a declaration, a
   -- call or a change
   abbrev pub local : ℕ → Of AfterName
   local n = act (λ v. declares v.0 v.1) (token names ⨾ value n)
@@ -257,7 +257,7 @@ module _ (text : List ℕ) (limit : ℕ) where
   abbrev pub named : ℕ → Of AfterName → Of AfterName
   named n changed = rule (outline (names ++ (the.OpenParen ∷ change_first)) [] []) (named_body n changed)
 
-  -- NAME and what stands behind it, by whether it is the name of a loop round it
+  -- NAME and what stands after it, by whether it is the name of a loop round it
   unfoldable pub by_name_body : ℕ → Of Statement
   by_name_body n = act (λ v. named_of text v.0 v.1)
       (after Expected names (is_in_scope text) (alone (named n (bound_change n))) (alone (named n (free_change n))))
@@ -272,7 +272,7 @@ module _ (text : List ℕ) (limit : ℕ) where
   abbrev pub free_steps : ℕ → Of (List Step)
   free_steps n = rule (outline steps_first [] []) (free_steps_body n)
 
-  -- step { step } ";" behind the name of a loop round it: right behind that name ";" is refused
+  -- step { step } ";" after the name of a loop round it: right after that name ";" is refused
   unfoldable pub bound_steps_body : ℕ → Of (List Step)
   bound_steps_body n = act (λ v. v.0) (some_steps text limit n ⨾ one the.Semicolon)
       ∣ refuse BadLoop (the.Semicolon ∷ [])
@@ -341,7 +341,7 @@ module _ (text : List ℕ) (limit : ℕ) where
   abbrev pub choice_with : Of Branch → Of Statement → Of Statement
   choice_with test otherwise = rule (outline (the.If ∷ []) [] (the.Else ∷ [])) (choice_body test otherwise)
 
-  -- header statement, behind the name of a loop
+  -- header statement, after the name of a loop
   abbrev pub turns_with : Of Statement → Of (Header × Statement)
   turns_with branch = header text ⨾ branch
 
@@ -440,6 +440,6 @@ module _ (text : List ℕ) (limit : ℕ) where
   abbrev pub chosen : ℕ → Of Statement
   chosen n = choice_with (test n) (otherwise n)
 
-  -- the tests that were read, and what stands behind them
+  -- the tests that were read, and what stands after them
   abbrev pub choice_rest : ℕ → List Branch → Of (List Branch × Option Statement)
   choice_rest n found = act (λ v. (found ++ v.0, v.1)) (nearest (else_link n))

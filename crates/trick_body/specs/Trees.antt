@@ -23,7 +23,7 @@ step_of (Index e) = index (expression_of e)
 abbrev pub link_of : Link → Operator × Expression
 link_of l = (l.operator, expression_of l.operand)
 
--- what stands behind the NAME that a statement begins with
+-- what stands after the NAME that a statement begins with
 abbrev pub after_name_of : AfterName → grammar.AfterName
 after_name_of (Declares name value) = grammar.declares name (first_value_of value)
 after_name_of Calls = grammar.calls
@@ -33,7 +33,7 @@ after_name_of (Changes parts change) = grammar.changes (map step_of parts.items)
 abbrev pub branch_of : Branch → grammar.Branch
 branch_of b = (b.line, expression_of b.test, statement_of b.body)
 
--- what stands behind an `else`
+-- what stands after an `else`
 abbrev pub else_of : Else → Linked grammar.Branch Statement
 else_of (Onward b) = onward (branch_of b)
 else_of (Last s) = last (statement_of s)

@@ -63,7 +63,7 @@ fn told_by(text: &[u8], tokens: &[Token], reason: Refusal, rest: &[Token]) -> Bo
 }
 
 /// Reads one method from the token at `from` on: its name and its statements, and the place of the
-/// token behind it. At most 62 levels nest in its braces, and a list has at most 4,096 items. It takes
+/// token after it. At most 62 levels nest in its braces, and a list has at most 4,096 items. It takes
 /// time and memory as its tokens do.
 pub fn read_body(
     alloc: Global,
@@ -83,7 +83,7 @@ pub fn read_body(
     read_lexemes(alloc, text, &tokens, from)
 }
 
-// The place behind what was read.
+// The place after what was read.
 fn place_behind(from: usize, tokens: &[Token], rest: &[Token]) -> usize
     requires { from + length tokens.now < 2 ^ 63 }
     ensures { result ≡ from + (length tokens.now - length rest.now) }

@@ -38,7 +38,7 @@ pub fn read_expression<'a>(
     read_choices(alloc, source, depth, first, rest)
 }
 
-/// { "?" expression ":" or }, behind the first test
+/// { "?" expression ":" or }, after the first test
 #[cycle(expressions)]
 fn read_choices<'a>(
     alloc: Global,
@@ -411,7 +411,7 @@ pub fn read_some_steps<'a>(
     )
 }
 
-/// { step } behind those that were found, so many more at most
+/// { step } after those that were found, so many more at most
 #[cycle(expressions)]
 fn read_more_steps<'a>(
     alloc: Global,

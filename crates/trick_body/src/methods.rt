@@ -35,7 +35,7 @@ fn read_return<'a>(rest: &'a [Token]) -> Result<(&'a Token, &'a [Token]), Stop<'
     Ok((word, rest))
 }
 
-/// ")" block, which is behind "void" NAME "("
+/// ")" block, which is after "void" NAME "("
 #[tactic(auto, using(crate::proofs::Lists::statements_are), unfolding(crate::specs::Methods::void_inside_body))]
 pub fn read_void_inside<'a>(
     alloc: Global,
@@ -53,7 +53,7 @@ pub fn read_void_inside<'a>(
     Ok((Items::from_vec(statements), rest))
 }
 
-/// ")" "{" { stmt } return "}", which is behind "int" NAME "("
+/// ")" "{" { stmt } return "}", which is after "int" NAME "("
 #[tactic(auto, using(crate::proofs::Lists::statements_are), unfolding(crate::specs::Methods::int_inside_body))]
 pub fn read_int_inside<'a>(
     alloc: Global,
@@ -72,7 +72,7 @@ pub fn read_int_inside<'a>(
     Ok((Items::from_vec(statements), rest))
 }
 
-/// "(" ")" block, which is behind "void" NAME
+/// "(" ")" block, which is after "void" NAME
 #[tactic(auto, unfolding(crate::specs::Methods::void_body))]
 pub fn read_void_rest<'a>(
     alloc: Global,
@@ -87,7 +87,7 @@ pub fn read_void_rest<'a>(
     read_void_inside(alloc, source, depth, rest)
 }
 
-/// "(" ")" "{" { stmt } return "}", which is behind "int" NAME
+/// "(" ")" "{" { stmt } return "}", which is after "int" NAME
 #[tactic(auto, unfolding(crate::specs::Methods::int_body))]
 pub fn read_int_rest<'a>(
     alloc: Global,

@@ -20,7 +20,7 @@ use trick_grammar::{
 use trick_lang::Arithmetic;
 use trick_lang::syntax::{Change, Expr, Part, Path, Stmt, TypeName};
 
-/// What stands behind the NAME that a statement begins with.
+/// What stands after the NAME that a statement begins with.
 #[derive(Drop)]
 pub enum AfterName {
     /// The name of a local and its first value: the first name is its type.
@@ -163,7 +163,7 @@ fn read_free_change<'a>(
     Ok((AfterName::Changes(parts, change), rest))
 }
 
-/// step { step } operation ";" behind the name of a loop round it
+/// step { step } operation ";" after the name of a loop round it
 #[tactic(auto, unfolding(crate::specs::Statements::bound_change_body))]
 fn read_bound_change<'a>(
     alloc: Global,
@@ -183,7 +183,7 @@ fn read_bound_change<'a>(
     Ok((AfterName::Changes(parts, change), rest))
 }
 
-/// A declaration, a call or a change, behind the NAME that is no loop's.
+/// A declaration, a call or a change, after the NAME that is no loop's.
 #[tactic(auto, unfolding(crate::specs::Statements::named_body))]
 fn read_free_named<'a>(
     alloc: Global,
@@ -204,7 +204,7 @@ fn read_free_named<'a>(
     read_free_change(alloc, source, depth, rest)
 }
 
-/// The same, behind the name of a loop round it.
+/// The same, after the name of a loop round it.
 #[tactic(auto, unfolding(crate::specs::Statements::named_body))]
 fn read_bound_named<'a>(
     alloc: Global,
@@ -225,7 +225,7 @@ fn read_bound_named<'a>(
     read_bound_change(alloc, source, depth, rest)
 }
 
-/// NAME [ "=" expression ] ";", behind the name of a type
+/// NAME [ "=" expression ] ";", after the name of a type
 fn read_local<'a>(
     alloc: Global,
     source: Source,
@@ -240,7 +240,7 @@ fn read_local<'a>(
     Ok((AfterName::Declares(*name, value), rest))
 }
 
-/// The statement of a NAME and what stands behind it.
+/// The statement of a NAME and what stands after it.
 #[tactic(auto, using(crate::proofs::Lists::parts_are))]
 fn named_of(alloc: Global, text: &[u8], first: &Token, after: AfterName) -> Result<Stmt, AllocError>
     ensures { IfOk result (λ s. statement_of s ≡ named_of text.now first.now (after_name_of after)) }
@@ -267,7 +267,7 @@ fn named_of(alloc: Global, text: &[u8], first: &Token, after: AfterName) -> Resu
     }
 }
 
-/// NAME and what stands behind it
+/// NAME and what stands after it
 #[tactic(auto, unfolding(crate::specs::Statements::by_name_body))]
 fn read_by_name<'a>(
     alloc: Global,
@@ -304,7 +304,7 @@ fn read_free_steps<'a>(
     Ok((parts, rest))
 }
 
-/// step { step } ";" behind the name of a loop round it
+/// step { step } ";" after the name of a loop round it
 #[tactic(auto, unfolding(crate::specs::Statements::bound_steps_body))]
 fn read_bound_steps<'a>(
     alloc: Global,

@@ -39,7 +39,7 @@ pub fn name_of(alloc: Global, text: &[u8], token: &Token) -> Result<Word, AllocE
     Ok(Items::from_vec(text_of(text, token).to_vec(alloc)?))
 }
 
-/// The tokens in scope behind the name of a loop, the innermost first.
+/// The tokens in scope after the name of a loop, the innermost first.
 pub fn within(alloc: Global, name: &Token, scope: &[Token]) -> Result<Vec<Token>, AllocError>
     ensures { IfOk result (λ inner. inner.items ≡ name.now ∷ scope.now) }
 {

@@ -43,7 +43,7 @@ impl Level {
     }
 }
 
-/// What stands behind an `else`: another test, or the last statement.
+/// What stands after an `else`: another test, or the last statement.
 #[derive(Drop)]
 pub enum Else {
     Onward(Branch),
@@ -235,7 +235,7 @@ fn read_choice<'a>(
     Ok((choice_of(alloc, branches, last)?, rest))
 }
 
-/// The statement of some branches and what stands behind the last `else`.
+/// The statement of some branches and what stands after the last `else`.
 fn choice_of(alloc: Global, branches: Vec<Branch>, last: Option<Stmt>) -> Result<Stmt, AllocError>
     ensures { IfOk result (λ s. statement_of s ≡ SyntaxTree.If
         (branches_of (map branch_of branches.items) (option_map statement_of last))) }
@@ -255,7 +255,7 @@ fn choice_of(alloc: Global, branches: Vec<Branch>, last: Option<Stmt>) -> Result
     }
 }
 
-/// { "else" test } [ "else" statement ], behind the tests that were found
+/// { "else" test } [ "else" statement ], after the tests that were found
 #[cycle(statements)]
 fn read_elses<'a>(
     alloc: Global,

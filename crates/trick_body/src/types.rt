@@ -23,7 +23,7 @@ pub fn scalar_of(word: Symbol) -> Scalar
     }
 }
 
-/// The type of `unsigned` and the keyword behind it.
+/// The type of `unsigned` and the keyword after it.
 pub fn unsigned_of(more: &Token) -> Scalar
     ensures { result ≡ unsigned_of (Some more.now) }
 {

@@ -16,7 +16,7 @@ use Rattle.trick_names.specs.declared.tables.Tables.{Tables}
 
 -- ---- names
 
--- these cells, with their names behind that
+-- these cells, with their names after that
 abbrev pub under : Name → List Variable → List Variable
 under prefix [] = []
 under prefix (c ∷ cs) = record { name = prefix ++ c.name; scalar = c.scalar } ∷ under prefix cs

@@ -1,5 +1,5 @@
--- Where everything lies, by the counts of cells of each struct and class: each variable behind those
--- before it in its struct or class, each object behind those before it in the memory.
+-- Where everything lies, by the counts of cells of each struct and class: each variable after those
+-- before it in its struct or class, each object after those before it in the memory.
 use Rattle.std.specs.List.{slice_index_or}
 use Rattle.std.specs.Prelude.{ℕ, ◌+◌, ◌*◌, ◌-◌, ◌^◌, Bool, true, ◌&&◌, if◌then◌else◌, nat_le, min, List, [], ◌∷◌, ◌++◌}
 use Rattle.trick_cells.specs.Counts.{base_count, global_count, member_count, names_count}
@@ -48,7 +48,7 @@ has_elements Plain = true
 has_elements (One n) = nat_le 1 n
 has_elements (Two m n) = nat_le 1 m && nat_le 1 n
 
--- a variable behind so many cells; a method is none
+-- a variable after so many cells; a method is none
 abbrev pub with_field : List ℕ → ℕ → Name → Member → Names Field → Names Field
 with_field sizes offset name (Holds shape) fields =
     if has_elements shape.lengths then
@@ -61,7 +61,7 @@ with_field sizes offset name (Holds shape) fields =
     else fields
 with_field sizes offset name (Method number) fields = fields
 
--- members in order, each behind the cells of those before it
+-- members in order, each after the cells of those before it
 abbrev pub with_fields : List ℕ → ℕ → Names Member → Names Field → Names Field
 with_fields sizes offset [] fields = fields
 with_fields sizes offset (m ∷ ms) fields =
@@ -82,13 +82,13 @@ taken (n ∷ ns) = (if nat_le n 65536 then n else 0) ∷ taken ns
 
 -- ---- objects and items
 
--- an object behind so many cells, or an item
+-- an object after so many cells, or an item
 abbrev pub with_site : ℕ → Name → Global → Names Site → Names Site
 with_site first name (the.Item value) sites = with_name name (site.Item value) sites
 with_site first name (the.Object (Group k)) sites = with_name name (site.Object first k) sites
 with_site first name _ sites = sites
 
--- objects in order, each behind the cells of those before it
+-- objects in order, each after the cells of those before it
 abbrev pub with_sites : List ℕ → ℕ → Names Global → Names Site → Names Site
 with_sites sizes first [] sites = sites
 with_sites sizes first (g ∷ gs) sites =
@@ -103,7 +103,7 @@ layout_of sizes tables = record {
   cells = narrow (names_count sizes tables.names);
 }
 
--- an object behind so many cells, with its class
+-- an object after so many cells, with its class
 abbrev pub object_row : ℕ → Name → Global → List Object
 object_row first name (the.Object (Group k)) = record { name = name; class = k; first = first } ∷ []
 object_row first name _ = []

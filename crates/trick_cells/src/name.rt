@@ -7,7 +7,7 @@ use itoa::Buffer;
 use std::alloc::AllocError;
 use trick_base::Word;
 
-/// `[k]` behind a name.
+/// `[k]` after a name.
 pub fn with_index(prefix: &Word, k: u64) -> Result<Word, AllocError>
     ensures { IfOk result (λ name. name ≡ prefix.now ++ bracket k) }
 {
@@ -19,7 +19,7 @@ pub fn with_index(prefix: &Word, k: u64) -> Result<Word, AllocError>
     Ok(Word::from_vec(name))
 }
 
-/// `.name` behind a name.
+/// `.name` after a name.
 pub fn with_member(prefix: &Word, name: &[u8]) -> Result<Word, AllocError>
     ensures { IfOk result (λ whole. whole ≡ prefix.now ++ dotted name.now) }
 {

@@ -24,7 +24,7 @@ pub record IsNamed (ds : SDefine) (p : Program) : Type 0 where
   -- the objects, each with its class and its first cell
   pub objects : p.objects ≡ objects_of ds
   -- What the methods of the classes that have objects do. In each class they are made in the one order in
-  -- which each stands behind those that it calls.
+  -- which each stands after those that it calls.
   pub blocks : bodies_of p.blocks ≡ (all_made ds).progress.bodies
   pub methods : p.methods ≡ (all_made ds).methods
   pub slots : p.slots ≡ (all_made ds).progress.world.slots

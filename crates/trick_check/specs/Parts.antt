@@ -40,7 +40,7 @@ HaveNoLoop ds n = (class : ℕ) → class < n → (part : ℕ) → ReachesItself
 abbrev pub order_at : SDefine → ℕ → List ℕ
 order_at ds class = order_of (calls_at ds class)
 
--- this is the one order, and in it each method stands behind those that it calls
+-- this is the one order, and in it each method stands after those that it calls
 abbrev pub IsOneOrder : List (List ℕ) → List ℕ → Type 0
 IsOneOrder calls order = (order ≡ order_of calls) × IsOrderOf calls order
 

@@ -1,4 +1,4 @@
-//! The methods of each class in the one order in which each stands behind those that it calls.
+//! The methods of each class in the one order in which each stands after those that it calls.
 
 ghost use Rattle.std.specs.Prelude.{◌≡◌, ℕ, ◌<◌, IfErr, IfOk, OnOk, length, Err};
 ghost use Rattle.trick_check.specs.Parts.{AreOrders, HaveNoLoop, IsOneOrder, calls_at};
@@ -75,7 +75,7 @@ fn class_order(
     }
 }
 
-/// For each definition the one order of its parts, by their numbers, in which each method stands behind
+/// For each definition the one order of its parts, by their numbers, in which each method stands after
 /// those that it calls. Only the methods of a class call one another.
 pub fn orders(
     alloc: Memory,

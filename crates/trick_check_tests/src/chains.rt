@@ -8,7 +8,7 @@ use trick_sdef::read_sdef;
 
 #[test]
 fn chains_may_be_long(rt: HostRuntime) -> Result<(), Fail> {
-    // what stands in front, one link, and what stands behind
+    // what stands in front, one link, and what stands after
     let chains = [
         ("n = 1", "+ n", ";"),
         ("n = n", "&& 1", ";"),

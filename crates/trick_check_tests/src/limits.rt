@@ -41,7 +41,7 @@ fn a_text_of_16777216_bytes_is_read(rt: HostRuntime) -> Result<(), Fail> {
 #[test]
 fn lists_have_at_most_4096_items(rt: HostRuntime) -> Result<(), Fail> {
     // the items in front of the ones that are counted, an item with its number in it, and what stands
-    // behind all of them; and what is said of 4,096
+    // after all of them; and what is said of 4,096
     let lists = [
         ("", 0, "struct S", " { };", "", ""),
         ("enum E {", 0, "A", ",", "};", ""),
@@ -126,7 +126,7 @@ fn lists_have_at_most_4096_items(rt: HostRuntime) -> Result<(), Fail> {
 }
 
 // Texts of 4,096 items: what stands before the ones that are counted and how many these are, an item
-// with its number in it, what stands behind all of them, and what is said of that.
+// with its number in it, what stands after all of them, and what is said of that.
 const FULL_LISTS: [(&str, u32, &str, &str, &str, &str); 13] = [
     ("", 4096, "struct S", " { };", "\nstruct\nT { };", LONG),
     (

@@ -17,7 +17,7 @@ pub(crate) fn numbered(
     Ok(text)
 }
 
-/// A text inside so many openings, with as many closings behind it.
+/// A text inside so many openings, with as many closings after it.
 pub(crate) fn nested(
     alloc: Global,
     count: u32,

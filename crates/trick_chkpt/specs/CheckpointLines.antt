@@ -41,7 +41,7 @@ mode_place mode.Shutdown = 2
 unfoldable pub mode_line : Lines Mode
 mode_line = seen_as mode_at mode_place (word_line (codes "mode") mode_words)
 
--- what the first lines say, behind the version
+-- what the first lines say, after the version
 abbrev pub Head : Type 0
 Head = ℕ × (ℕ × (ℕ × Mode))
 

@@ -21,7 +21,7 @@ use Rattle.trick_model.specs.declared.plan.Plan.{Plan}
 
 -- ---- the words of a fault
 
--- a job as it stands in a fault: its name and its instance, each with a space behind it
+-- a job as it stands in a fault: its name and its instance, each with a space after it
 abbrev pub job_text : List ℕ → ℕ → List ℕ
 job_text name instance = (name ++ codes " ") ++ (decimal instance ++ codes " ")
 
@@ -30,7 +30,7 @@ abbrev pub job_texts : Plan → List (List ℕ)
 job_texts plan = map (λ (job : Job). job_text (job_name plan.program.objects plan.program.methods job) job.instance)
     plan.program.jobs
 
--- the kinds, each with a space behind it
+-- the kinds, each with a space after it
 abbrev pub kind_words : List (List ℕ)
 kind_words = codes "DivideByZero " ∷ codes "IndexOutOfRange " ∷ []
 
@@ -44,7 +44,7 @@ kind_place IndexOutOfRange = 1
 
 -- ---- what is wrong with a value in the place of a fault
 
--- its tic, what stands behind the tic, its instance, the rest behind that, its kind and its line
+-- its tic, what stands after the tic, its instance, the rest after that, its kind and its line
 pub record Fields : Type 0 where
   pub tic : List ℕ
   pub job : List ℕ
@@ -66,7 +66,7 @@ fields_kind texts f =
     else if are_spelled f then OutOfRange
     else BadLine
 
--- the bytes up to the first space, and what stands behind it
+-- the bytes up to the first space, and what stands after it
 abbrev pub field_at : List ℕ → Told (List ℕ)
 field_at bytes = free_at (length bytes) 32 bytes
 
@@ -110,7 +110,7 @@ kind_behind texts name l None = kind_of name 0 l
 kind_behind texts name l (Some bytes) =
     if ends_value bytes then value_kind texts (fields_of (take (length bytes - 2) bytes)) else kind_of name 0 l
 
--- what stands behind a name and ` = `, of what stands behind the name
+-- what stands after a name and ` = `, of what stands after the name
 abbrev pub value_behind : Option (List ℕ) → Option (List ℕ)
 value_behind None = None
 value_behind (Some rest) = behind (codes " = ") rest

@@ -19,7 +19,7 @@ abbrev pub fields_where : Option FaultFields → Option Fields
 fields_where None = None
 fields_where (Some f) = Some (fields_seen f)
 
--- a field and what stands behind it are given where they are told
+-- a field and what stands after it are given where they are told
 abbrev pub field_seen : Option (Bor (List ℕ) × Bor (List ℕ)) → Told (List ℕ) → Type 0
 field_seen (Some x) (Ok y) = (x.0.now ≡ y.0) × (x.1.now ≡ y.1)
 field_seen (Some x) (Err e) = ⊥

@@ -10,7 +10,7 @@ ghost use Rattle.trick_codes.specs.Lines.{first_line as first_line_of};
 
 use trick_codes::{Kind, are_numbers, behind, first_line, free, kind_of};
 
-/// The fields of a fault: its tic, its job and instance with a space behind each, its instance alone,
+/// The fields of a fault: its tic, its job and instance with a space after each, its instance alone,
 /// its kind and its line.
 #[derive(Clone, Copy, Debug)]
 pub(crate) struct FaultFields<'a> {
@@ -21,7 +21,7 @@ pub(crate) struct FaultFields<'a> {
     pub line: &'a [u8],
 }
 
-// The bytes up to the first space, and what stands behind it.
+// The bytes up to the first space, and what stands after it.
 fn field(bytes: &[u8]) -> Option<(&[u8], &[u8])>
     ensures { field_seen result (field_at bytes.now) }
 {

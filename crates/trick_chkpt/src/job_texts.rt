@@ -12,7 +12,7 @@ use trick_base::{Items, Word};
 use trick_lang::{Job, Program};
 use trick_model::Plan;
 
-// The name and the instance of a job, each with a space behind it.
+// The name and the instance of a job, each with a space after it.
 fn job_text(alloc: Global, program: &Program, job: &Job) -> Result<Word, AllocError>
     ensures { IfOk result (λ text. text ≡ job_text_of
         (job_name program.now.objects program.now.methods job.now) job.now.instance) }

@@ -1,4 +1,4 @@
-//! Lines of a checkpoint, piece by piece. An error leaves a part of the line behind the text.
+//! Lines of a checkpoint, piece by piece. An error leaves a part of the line after the text.
 
 ghost use Rattle.std.specs.Prelude.{◌≡◌, ◌++◌, ℤ, List, OnOk, decimal, codes};
 ghost use Rattle.std.specs.Fmt.{signed_decimal};

@@ -42,7 +42,7 @@ fn read_mode(rest: &[u8]) -> Result<(Mode, &[u8]), Stop>
     Ok((mode_of_word(place), rest))
 }
 
-// What the first lines say, behind the version.
+// What the first lines say, after the version.
 #[derive(Drop)]
 struct Head {
     turn: u64,

@@ -107,7 +107,7 @@ pub(crate) fn read_flag<'a>(
 }
 
 // Reads a line for each of so many flags, by its index.
-#[tactic(auto, using(trick_codes::proofs::Each::one_left, trick_codes::proofs::Each::none_left), unfolding(crate::specs::CheckpointLines::flags_of))]
+#[tactic(auto, using(trick_codes::proofs::Each::left), unfolding(crate::specs::CheckpointLines::flags_of))]
 fn read_flags<'a>(
     alloc: Global,
     stem: &[u8],

@@ -25,7 +25,7 @@ fn kind_of_word(place: usize) -> FaultKind
     }
 }
 
-// A kind and the space behind it.
+// A kind and the space after it.
 fn kind(rest: &[u8]) -> Result<(FaultKind, &[u8]), Miss>
     ensures { Reads beside result (read kind_code rest.now) }
 {
@@ -102,7 +102,7 @@ fn read_fault<'a>(
 }
 
 // Reads the lines of so many faults, all of which are kept.
-#[tactic(auto, using(trick_codes::proofs::Each::one_left, trick_codes::proofs::Each::none_left))]
+#[tactic(auto, using(trick_codes::proofs::Each::left))]
 fn read_fault_lines<'a>(
     alloc: Global,
     words: &[&[u8]],

@@ -14,7 +14,7 @@ use trick_codes::{Stop, set_indexed, word_line};
 use trick_lang::{Cell, JobId};
 use trick_model::{Flags, Plan, Taken, Thread};
 
-// The name of the record of a thread, and this behind it.
+// The name of the record of a thread, and this after it.
 fn record_name(alloc: Global, thread: Thread, tail: &[u8]) -> Result<Vec<u8>, AllocError>
     ensures { IfOk result (λ name. name.items ≡ record_name_of thread ++ tail.now) }
 {

@@ -126,6 +126,9 @@ one_left count i lt = omega arith
 pub none_left : (count i : ℕ) → count ≤ i → count - i ≡ 0
 none_left count i le = omega arith
 
+-- what is left of a count, one turn on and at its end
+pub ruleset left = (one_left, none_left)
+
 module _ {A : Type 0} (d : A) (c : ℕ → Lines A) where
   -- what is read in all of numbered lines, where some were found already
   abbrev pub numbered_left : (from count : ℕ) → List A → List ℕ → Seen (List A)

@@ -8,7 +8,7 @@ pub mod Fields
 pub mod Codes
 -- reading lines is exact
 pub mod Lines
--- one line at most is due behind a front
+-- one line at most is due after a front
 pub mod Once
 -- reading on, as loops in code do
 pub mod Loops

@@ -29,7 +29,7 @@ lines_back (and_then c f) x rest s h =
     ∙ rw (lines_back c x.0 (text (f x.0) x.1 ++ rest) s.0 h.0, lines_back (f x.0) x.1 rest (s.1 x.0 h.0) h.1) refl
 lines_back (seen_as f g c) x rest s h = rw (lines_back c (g x) rest s.0 h.0, h.1) refl
 
--- the rest of a text behind its first_line line
+-- the rest of a text after its first_line line
 pub first_is : (ts : List ℕ) → (others : List ℕ) × (ts ≡ first_line ts ++ others)
 first_is [] = ([], refl)
 first_is (t ∷ ts) = go (nat_eq t 10) (first_is ts)
@@ -86,7 +86,7 @@ lines_tell (no_line y) ts s = (refl, refl)
 lines_tell (line k c) ts s = line_tells k c ts s (read (fed c) ts) refl (tells (fed c) ts (fed_sound c s.0))
 lines_tell (and_then {A} {B} c f) ts s = start (read_lines c ts) refl (lines_tell c ts s.0) (λ x h us. lines_tell (f x) us (s.1 x h))
   where
-    -- what stands behind a value's text is that of the second alone
+    -- what stands after a value's text is that of the second alone
     moved : (x : A) → Holds c x → (us : List ℕ) → (IsPrefix (f x) us → ⊥) → IsPrefix (and_then c f) (text c x ++ us) → ⊥
     moved x h us never g =
         let both = g.3 ∙ append_assoc (text c x) us g.1 in

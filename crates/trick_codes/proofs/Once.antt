@@ -1,4 +1,4 @@
--- One line at most is due behind a front.
+-- One line at most is due after a front.
 use Rattle.std.proofs.Common.{◌≡◌, ℕ, List, [], ◌∷◌, ◌++◌, sym, ap, ◌∙◌, inl, inr, subst, append_assoc}
 use Rattle.trick_codes.specs.declared.kind.Kind.{Kind}
 use Rattle.trick_codes.specs.Code.{spell}
@@ -10,7 +10,7 @@ no_text : (us more : List ℕ) → [] ≡ (us ++ 10 ∷ []) ++ more → ⊥
 no_text [] more e = cc
 no_text (u ∷ us) more e = cc
 
--- behind a whole text nothing of it is due
+-- after a whole text nothing of it is due
 pub not_behind : {A : Type 0} (c : Lines A) (front : List ℕ) (k : List ℕ → Kind) (x : A) (more : List ℕ) → SoundLines c → IsDue c front k → Holds c x → front ≡ text c x ++ more → ⊥
 not_behind (no_line y) front k x more s d h e = d
 not_behind (line j c) front k x more s d h e = no_text (spell c x) more (sym d.0 ∙ e)

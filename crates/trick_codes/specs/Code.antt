@@ -17,11 +17,11 @@ pub data Code : Type 0 → Type 1 where
   nothing : {A : Type 0} → A → Code A
   -- these bytes
   literal : List ℕ → Code (Unit {0})
-  -- a number from the least to the most in decimal, and this byte behind it; the least is 0 or 1
+  -- a number from the least to the most in decimal, and this byte after it; the least is 0 or 1
   number : (least most end : ℕ) → Code ℕ
-  -- a number from minus `below` to `above` in decimal, and this byte behind it
+  -- a number from minus `below` to `above` in decimal, and this byte after it
   integer : (below above end : ℕ) → Code ℤ
-  -- bytes without this one, so many at most, and this byte behind them
+  -- bytes without this one, so many at most, and this byte after them
   free : (most end : ℕ) → Code (List ℕ)
   -- one of these words; its value is its place in the list
   one_of : List (List ℕ) → Code ℕ
@@ -73,11 +73,11 @@ Fits (read_as f g c) x = Fits c (g x) × (f (g x) ≡ x)
 abbrev pub Begins : {A : Type 0} → Code A → List ℕ → Type 0
 Begins {A} c ts = (x : A) × (more : List ℕ) × Fits c x × (spell c x ≡ ts ++ more)
 
--- What reading at the front of a text tells: a value and what stands behind its text, or a miss.
+-- What reading at the front of a text tells: a value and what stands after its text, or a miss.
 abbrev pub Told : Type 0 → Type 0
 Told A = Result (A × List ℕ) Miss
 
--- a value is read, and what stands behind it is read on
+-- a value is read, and what stands after it is read on
 infixl 10 ◌>>=◌
 abbrev pub ◌>>=◌ : {A B E : Type 0} → Result (A × List ℕ) E → (A × List ℕ → Result (B × List ℕ) E)
     → Result (B × List ℕ) E
@@ -89,7 +89,7 @@ literal_at [] ts = Ok (tt, ts)
 literal_at (b ∷ bs) [] = Err Ends
 literal_at (b ∷ bs) (t ∷ ts) = if nat_eq t b then literal_at bs ts else Err Differs
 
--- the digits behind those of v, and the end
+-- the digits after those of v, and the end
 abbrev pub digits_at : (most end v : ℕ) → List ℕ → Told ℕ
 digits_at most end v [] = Err Ends
 digits_at most end v (t ∷ ts) =
@@ -97,7 +97,7 @@ digits_at most end v (t ∷ ts) =
     else if is_ascii_digit t && nat_le (v * 10 + (t - 48)) most then digits_at most end (v * 10 + (t - 48)) ts
     else Err Differs
 
--- the end behind a single 0, where the least number is 0
+-- the end after a single 0, where the least number is 0
 abbrev pub zero_at : (least end : ℕ) → List ℕ → Told ℕ
 zero_at zero end [] = Err Ends
 zero_at zero end (t ∷ ts) = if nat_eq t end then Ok (0, ts) else Err Differs
@@ -133,7 +133,7 @@ free_at most end [] = Err Ends
 free_at zero end (t ∷ ts) = if nat_eq t end then Ok ([], ts) else Err Differs
 free_at (suc most) end (t ∷ ts) = if nat_eq t end then Ok ([], ts) else (free_at most end ts >>= λ x. Ok (t ∷ x.0, x.1))
 
--- what stands behind a word at the front of a text
+-- what stands after a word at the front of a text
 abbrev pub behind : List ℕ → List ℕ → Option (List ℕ)
 behind [] ts = Some ts
 behind (b ∷ bs) [] = None

@@ -26,8 +26,8 @@ is_digit b = nat_le 48 b && nat_le b 57
 abbrev pub is_first_digit : ℕ → Bool
 is_first_digit b = nat_le 49 b && nat_le b 57
 
--- Where a byte leads in numbers that are written rightly, with commas between: at the start of a number, behind its
--- minus, behind its only 0, behind another digit, or astray. A 0 has no minus and no digit before or behind it.
+-- Where a byte leads in numbers that are written rightly, with commas between: at the start of a number, after its
+-- minus, after its only 0, after another digit, or astray. A 0 has no minus and no digit before or after it.
 abbrev pub next_place : Place → ℕ → Place
 next_place Start b = if b == 45 then Minus else if b == 48 then Zero else if is_first_digit b then Digit else Astray
 next_place Minus b = if is_first_digit b then Digit else Astray

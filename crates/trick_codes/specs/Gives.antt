@@ -10,11 +10,11 @@ use Rattle.trick_codes.specs.declared.miss.Miss.{Miss}
 use Rattle.trick_codes.specs.declared.stop.Stop.{Stop}
 use Rattle.trick_codes.specs.declared.stop.Stop.TheVariants.{Memory, Cut, Wrong}
 
--- the rest behind a text with no value of its own
+-- the rest after a text with no value of its own
 abbrev pub alone : Bor (List ℕ) → Unit {0} × List ℕ
 alone rest = (tt, rest.now)
 
--- a value, and the rest behind its text
+-- a value, and the rest after its text
 abbrev pub beside : {A : Type 0} → A × Bor (List ℕ) → A × List ℕ
 beside x = (x.0, x.1.now)
 
@@ -34,7 +34,7 @@ abbrev pub Gives : {X Y : Type 0} → (X → Y) → Result X Stop → Result Y H
 Gives view (Ok x) seen = seen ≡ Ok (view x)
 Gives view (Err e) seen = Stops e seen
 
--- what stands behind a word in code
+-- what stands after a word in code
 abbrev pub IsBehind : Option (Bor (List ℕ)) → Option (List ℕ) → Type 0
 IsBehind None q = q ≡ None
 IsBehind (Some rest) q = q ≡ Some (rest.now)

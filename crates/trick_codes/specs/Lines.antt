@@ -1,5 +1,5 @@
 -- Texts of lines as data: each line has a code of its own, and how many lines there are, and which, may depend on
--- the values of earlier ones. Behind each front of a text one line is due, and it says what is wrong with another
+-- the values of earlier ones. After each front of a text one line is due, and it says what is wrong with another
 -- line in its place.
 use Rattle.std.specs.Prelude.{◌≡◌, ◌⊎◌, ℕ, zero, suc, ◌+◌, Bool, true, ◌&&◌, not, nat_eq, List, [], ◌∷◌, ◌++◌, Result, Ok, Err, if◌then◌else◌}
 use Rattle.trick_codes.specs.Code.{Code, literal, sequence, read_as, spell, Fits, read, Sound, Told, ◌>>=◌}
@@ -12,7 +12,7 @@ pub data Lines : Type 0 → Type 1 where
   no_line : {A : Type 0} → A → Lines A
   -- a line, without its line feed, and what is wrong with another line in its place
   line : {A : Type 0} → (List ℕ → Kind) → Code A → Lines A
-  -- lines, and those behind them, which may depend on their value
+  -- lines, and those after them, which may depend on their value
   and_then : {A B : Type 0} → Lines A → (A → Lines B) → Lines (A × B)
   -- the same texts for other values: what is read goes through the first function, what has a
   -- text through the second
@@ -36,7 +36,7 @@ Holds (seen_as f g c) x = Holds c (g x) × (f (g x) ≡ x)
 abbrev pub IsPrefix : {A : Type 0} → Lines A → List ℕ → Type 0
 IsPrefix {A} c ts = (x : A) × (more : List ℕ) × Holds c x × (text c x ≡ ts ++ more)
 
--- the line that is due behind this front says so what is wrong with another in its place
+-- the line that is due after this front says so what is wrong with another in its place
 abbrev pub IsDue : {A : Type 0} → Lines A → List ℕ → (List ℕ → Kind) → Type 0
 IsDue (no_line y) front k = ⊥
 IsDue (line j c) front k = (front ≡ []) × (j ≡ k)
@@ -56,7 +56,7 @@ pub data Halt : Type 0 where
   -- the line with which the rest begins is wrong, and what is wrong with it
   wrong : Kind → List ℕ → Halt
 
--- What reading lines at the front of a text tells: a value and what stands behind its text, or where reading stopped.
+-- What reading lines at the front of a text tells: a value and what stands after its text, or where reading stopped.
 abbrev pub Seen : Type 0 → Type 0
 Seen A = Result (A × List ℕ) Halt
 

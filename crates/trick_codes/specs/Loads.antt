@@ -11,7 +11,7 @@ use Rattle.trick_codes.specs.declared.load_fault.LoadFault.TheVariants as fault
 abbrev pub front_of : List ℕ → List ℕ → List ℕ
 front_of ts rest = take (length ts - length rest) ts
 
--- the number, from 1, of the line that stands behind these bytes
+-- the number, from 1, of the line that stands after these bytes
 abbrev pub line_behind : List ℕ → ℕ
 line_behind front = count_by (λ b. b == 10) front + 1
 
@@ -27,7 +27,7 @@ IsRefusedAt c ts kind number =
 abbrev pub IsProperPrefix : {A : Type 0} → Lines A → List ℕ → Type 0
 IsProperPrefix {A} c ts = IsPrefix c ts × ((x : A) → Holds c x → ts ≡ text c x → ⊥)
 
--- a value's text, and something behind it, at this place
+-- a value's text, and something after it, at this place
 abbrev pub GoesOnBehind : {A : Type 0} → Lines A → List ℕ → ℕ → Type 0
 GoesOnBehind {A} c ts at = (x : A) × (rest : List ℕ) × Holds c x × (ts ≡ text c x ++ rest) × (rest ≢ [])
     × (at ≡ length (text c x))

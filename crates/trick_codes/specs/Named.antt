@@ -1,4 +1,4 @@
--- The usual lines: a name, ` = `, a value with `;` behind it, and a line feed.
+-- The usual lines: a name, ` = `, a value with `;` after it, and a line feed.
 use Rattle.std.specs.Fmt.{decimal, signed_decimal}
 use Rattle.std.specs.Prelude.{ℕ, ℤ, pos, Bool, true, false, List, [], ◌∷◌, ◌++◌, Option, Some, None, codes}
 use Rattle.trick_codes.specs.Code.{Code, literal, number, integer, one_of, sequence, read_as, nothing, choice, Either, left, right}
@@ -45,7 +45,7 @@ abbrev pub each_code : {K A : Type 0} → A → (K → List K → Code A) → Li
 each_code d c [] = nothing []
 each_code d c (k ∷ ks) = read_as (λ p. p.0 ∷ p.1) (split_first d) (sequence (c k ks) (λ x. each_code d c ks))
 
--- what stands behind a number that is followed by these
+-- what stands after a number that is followed by these
 abbrev pub mark_before : List Range → ℕ
 mark_before [] = 59
 mark_before (r ∷ rs) = 44
@@ -74,7 +74,7 @@ none_or c = read_as option_of either_of (choice 110 (literal (codes "none;")) c)
 
 -- ---- as they are printed
 
--- the numbers behind the first of a row, and the end of the row
+-- the numbers after the first of a row, and the end of the row
 abbrev pub others_text : List ℤ → List ℕ
 others_text [] = codes ";"
 others_text (n ∷ ns) = codes "," ++ (signed_decimal n ++ others_text ns)

@@ -43,7 +43,7 @@ pub fn refusal(text: &[u8], stop: Stop) -> LoadFault
     }
 }
 
-/// What was read from the front of a text, where nothing stands behind it, or the refusal of the
+/// What was read from the front of a text, where nothing stands after it, or the refusal of the
 /// text. A refusal drops what was read.
 pub fn whole<'a, T: Drop>(
     text: &[u8],

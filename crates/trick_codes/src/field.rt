@@ -1,4 +1,4 @@
-//! Readers within a line. Each takes what stands before it in place, and answers with the rest behind.
+//! Readers within a line. Each takes what stands before it in place, and answers with the rest after.
 
 ghost use Rattle.std.specs.Prelude.{◌≡◌, ◌≤◌, ◌<◌, ◌+◌, ◌-◌, ◌^◌, ℕ, [], ◌∷◌, length, take, drop, IfOk};
 ghost use Rattle.trick_codes.specs.Code.{
@@ -49,7 +49,7 @@ pub fn literal<'a>(rest: &'a [u8], bytes: &[u8]) -> Result<&'a [u8], Miss>
     Ok(rest)
 }
 
-// The digits behind those of the first number, and the end.
+// The digits after those of the first number, and the end.
 fn digits(first: u64, most: u64, end: u8, rest: &[u8]) -> Result<(u64, &[u8]), Miss>
     requires { first ≤ most }
     ensures told { Reads beside result (digits_at most end first rest.now) }
@@ -74,7 +74,7 @@ fn digits(first: u64, most: u64, end: u8, rest: &[u8]) -> Result<(u64, &[u8]), M
     Err(Miss::Ends)
 }
 
-// The end behind a single 0.
+// The end after a single 0.
 fn zero(least: u64, end: u8, rest: &[u8]) -> Result<(u64, &[u8]), Miss>
     ensures told { Reads beside result (zero_at least end rest.now) }
     ensures zero { IfOk result (λ x. x.0 ≡ 0) }
@@ -94,7 +94,7 @@ fn zero(least: u64, end: u8, rest: &[u8]) -> Result<(u64, &[u8]), Miss>
     }
 }
 
-/// A number from the least, which is 0 or 1, to the most, in decimal and with this byte behind it.
+/// A number from the least, which is 0 or 1, to the most, in decimal and with this byte after it.
 /// It has no `+` and no leading zeros.
 pub fn number(least: u64, most: u64, end: u8, rest: &[u8]) -> Result<(u64, &[u8]), Miss>
     ensures told { Reads beside result (read (number_code least most end) rest.now) }
@@ -122,7 +122,7 @@ fn negated(number: u64) -> i64
     (-i128::from(number)) as i64
 }
 
-// What stands behind a minus.
+// What stands after a minus.
 fn negative(below: u64, end: u8, rest: &[u8]) -> Result<(i64, &[u8]), Miss>
     requires { below ≤ 2 ^ 63 }
     ensures told { Reads beside result (negative_of (number_at 1 below end rest.now)) }
@@ -142,7 +142,7 @@ fn positive(above: u64, end: u8, rest: &[u8]) -> Result<(i64, &[u8]), Miss>
     Ok((size as i64, rest))
 }
 
-/// A number of this range in decimal, with this byte behind it. It has no `+`, no leading zeros,
+/// A number of this range in decimal, with this byte after it. It has no `+`, no leading zeros,
 /// and 0 has no minus.
 pub fn integer(range: Range, end: u8, rest: &[u8]) -> Result<(i64, &[u8]), Miss>
     ensures told { Reads beside result (read (integer_code range.below range.above end) rest.now) }
@@ -175,7 +175,7 @@ fn free_length(most: usize, end: u8, rest: &[u8]) -> Result<usize, Miss>
     Err(Miss::Ends)
 }
 
-/// Bytes without this one, so many at most, and this byte behind them.
+/// Bytes without this one, so many at most, and this byte after them.
 pub fn free(most: usize, end: u8, rest: &[u8]) -> Result<(&[u8], &[u8]), Miss>
     ensures { Reads (λ x. (x.0.now, x.1.now)) result (read (free_code most end) rest.now) }
 {

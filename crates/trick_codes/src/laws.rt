@@ -43,7 +43,7 @@ pub fn refusals_are_exact<F: LineFile>()
         → Refuses F.lines ts (fault_of ts stop) }
 {}
 
-/// Behind each front of a text one line at most is due, so that what is wrong with another line in
+/// After each front of a text one line at most is due, so that what is wrong with another line in
 /// its place is one thing.
 pub fn one_line_is_due<F: LineFile>()
     ensures { (front : List ℕ) → (k : List ℕ → Kind) → (j : List ℕ → Kind) → IsDue F.lines front k

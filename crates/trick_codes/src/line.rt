@@ -141,7 +141,7 @@ pub fn end_line(rest: &[u8]) -> Result<&[u8], Stop>
     }
 }
 
-// What stands behind the number of a row at this place.
+// What stands after the number of a row at this place.
 #[tactic(auto, using(crate::proofs::Rows::comma_before, crate::proofs::Rows::semicolon_at_end))]
 fn mark(ranges: &[Range], place: usize) -> u8
     requires { place < length ranges.now }

@@ -1,4 +1,4 @@
-//! Printing of the usual lines. An error leaves a part of the line behind the text.
+//! Printing of the usual lines. An error leaves a part of the line after the text.
 
 ghost use Rattle.std.specs.Fmt.{signed_decimal};
 ghost use Rattle.std.specs.Prelude.{◌≡◌, ◌++◌, OnOk, decimal};

@@ -21,7 +21,7 @@ pub fn stands_at(rest: &[u8], word: &[u8]) -> bool
     true
 }
 
-/// What stands behind a word at the front of this rest.
+/// What stands after a word at the front of this rest.
 pub fn behind<'a>(rest: &'a [u8], word: &[u8]) -> Option<&'a [u8]>
     ensures { IsBehind result (behind_of word.now rest.now) }
 {

@@ -76,7 +76,7 @@ abbrev pub last_text : Option (List ℤ) → List ℕ
 last_text None = line_text (codes "last") (codes "none")
 last_text (Some ns) = (title (codes "last") ++ row_text ns) ++ codes "\n"
 
--- the lines before those of the gauges, and those behind them
+-- the lines before those of the gauges, and those after them
 abbrev pub first_text : Readings → List ℕ
 first_text r =
     text (number_line (codes "panel") 1 1) 1

@@ -117,7 +117,7 @@ fn note<'a>(name: &mut Vec<u8>, place: usize, rest: &'a [u8]) -> Result<(u64, &'
     number_line(name, 0, 4_294_967_295, rest)
 }
 
-#[tactic(auto, using(trick_codes::proofs::Each::one_left, trick_codes::proofs::Each::none_left), unfolding(crate::specs::Panel::notes_of))]
+#[tactic(auto, using(trick_codes::proofs::Each::left), unfolding(crate::specs::Panel::notes_of))]
 fn note_list<'a>(
     alloc: Global,
     count: usize,

@@ -61,7 +61,7 @@ pub parts_behind : (behind : List code.Lexeme) → 1 ≤ length behind → parts
 parts_behind [] le = absurd (omega (arith, le))
 parts_behind (word ∷ words) le = refl
 
--- the words behind the `;`
+-- the words after the `;`
 pub part_next : (found more : List Action) (rest part : List code.Lexeme) (m n : ℕ) (a : Action) (total : Option (List Action))
     → parts_of [] (lexemes_in rest) ≡ lexemes_in (take n rest) ∷ parts_from (drop n rest) → part ≡ take n rest → Some a ≡ action_of (lexemes_in part)
     → more ≡ found ++ a ∷ [] → option_map (λ o. found ++ o) (actions_of_words (lexemes_in rest)) ≡ total → m ≡ length rest → n < length rest

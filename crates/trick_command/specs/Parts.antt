@@ -5,7 +5,7 @@ use Rattle.trick_command.specs.declared.lexeme.Lexeme as code
 use Rattle.trick_model.specs.Commands.{parts_of}
 use Rattle.trick_model.specs.Words.{Lexeme}
 
--- the parts behind the `;` that stands first; none where nothing does
+-- the parts after the `;` that stands first; none where nothing does
 abbrev pub parts_from : List code.Lexeme → List (List Lexeme)
 parts_from [] = []
 parts_from (word ∷ words) = parts_of [] (lexemes_in words)

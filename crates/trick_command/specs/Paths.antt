@@ -4,7 +4,7 @@ use Rattle.trick_command.specs.Seen.{lexemes_in}
 use Rattle.trick_command.specs.declared.lexeme.Lexeme.{Lexeme}
 use Rattle.trick_model.specs.Forms.{Read, read_members}
 
--- the rest of a full name behind so many words, where it goes on
+-- the rest of a full name after so many words, where it goes on
 abbrev pub going_on : List ℕ → List Lexeme → Option ℕ → Option Read
 going_on name words None = None
 going_on name words (Some len) = read_members name (lexemes_in (drop len words))

@@ -73,7 +73,7 @@ fn take_index(name: &mut Vec<u8>, words: &[Lexeme]) -> Result<Option<usize>, All
     Ok(Some(2))
 }
 
-// Adds what this word begins, a member behind `.` and else an index, and tells how many words follow.
+// Adds what this word begins, a member after `.` and else an index, and tells how many words follow.
 fn take_part(
     name: &mut Vec<u8>,
     word: &Lexeme,

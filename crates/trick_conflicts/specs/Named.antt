@@ -15,7 +15,7 @@ use Rattle.trick_sdef.specs.Members.{declarator, free_name, lengths}
 abbrev pub conflict : {A : Type 0} → Of A → Option (Option Symbol × Why × Option Symbol)
 conflict g = first_conflict number_of g
 
--- "else" and a semicolon, behind an `if` that takes each `else`
+-- "else" and a semicolon, after an `if` that takes each `else`
 abbrev pub else_link : Of (Link Token Token)
 else_link = act (λ v. last v.1) (one the.Else ⨾ one the.Semicolon)
 
@@ -28,11 +28,11 @@ pub record AreNamed : Type 0 where
   pub two_names : conflict (token names ∣ free_name) ≡ Some (None, both_begin, Some the.Name)
   -- both kinds of classes, where the string decides, and each refuses the other's
   pub two_classes : conflict (scheduled_class ∣ other_class) ≡ Some (None, both_begin, Some the.Scheduled)
-  -- an index behind the lengths of an array
+  -- an index after the lengths of an array
   pub index_behind_lengths : conflict (lengths ⨾ one the.OpenBracket) ≡ Some (None, would_go_on, Some the.OpenBracket)
-  -- a time behind a cycle's start and stop
+  -- a time after a cycle's start and stop
   pub many_times : conflict (repetition 4 (time ⨾ span)) ≡ Some (None, would_go_on, Some the.Huge)
-  -- an `else` behind an `if` that takes each
+  -- an `else` after an `if` that takes each
   pub else_behind_else : conflict (nearest else_link ⨾ one the.Else) ≡ Some (None, is_barred, Some the.Else)
   -- outlines that leave out a class
   pub begins_otherwise : conflict (rule (outline (the.Text ∷ []) [] []) (one the.KnownFile))

@@ -84,7 +84,7 @@ new_element scalar name (suc n) i below small =
     (new_element scalar name n i (omega arith) small)
     (differ (element name n) (element name i) (λ same. let e = same_element name n i (omega arith) small same in omega arith))
 
--- elements behind cells of which none has the name of one
+-- elements after cells of which none has the name of one
 pub add_elements : (before : List Variable) (scalar : Scalar) (name : List ℕ) (n : ℕ) → n ≤ 65536
     → are_apart of_one_name before ≡ true → ((i : ℕ) → i < n → new_in (element name i) before ≡ true)
     → are_apart of_one_name (before ++ cells_named scalar (elements name n)) ≡ true

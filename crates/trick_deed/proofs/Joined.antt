@@ -30,11 +30,11 @@ module _ (name object method : List ℕ) where
   pub other_front : ((rest : List ℕ) → name ≡ object ++ rest → ⊥) → false ≡ bytes_eq name (object ++ 46 ∷ method)
   other_front apart = sym (unequal name (object ++ 46 ∷ method) (apart (46 ∷ method)))
 
-  -- behind it stands a dot
+  -- after it stands a dot
   pub dot_behind : (rest more : List ℕ) (first : ℕ) → name ≡ object ++ rest → rest ≡ first ∷ more → first ≡ 46 → bytes_eq more method ≡ bytes_eq name (object ++ 46 ∷ method)
   dot_behind rest more first is cut e = rw (is, cut, e) (behind object (46 ∷ more) (46 ∷ method))
 
-  -- behind it stands another byte
+  -- after it stands another byte
   pub other_behind : (rest more : List ℕ) (first : ℕ) → name ≡ object ++ rest → rest ≡ first ∷ more → (first ≡ 46 → ⊥) → bytes_eq name (object ++ 46 ∷ method) ≡ false
   other_behind rest more first is cut apart = unequal name (object ++ 46 ∷ method) differ
     where

@@ -119,7 +119,7 @@ mirrors_more p q d more mirrors objects cells =
 
 -- ---- the cells of a declaration in the program
 
--- there is room for the cells behind the first so many
+-- there is room for the cells after the first so many
 pub room_left : (known count : ℕ) (cells : List Variable) → known ≡ count → count ≤ 65536 → length cells ≤ 65536
     → known + length (take (length cells - count) (drop count cells)) ≤ 65536
 room_left known count cells same few all =

@@ -68,7 +68,7 @@ pub record IsGroup (cells : ℕ) (group : GroupDraft) : Type 0 where
   pub few : length group.cells ≤ 256
   pub there : All (IsCell cells) group.cells
 
--- a condition cannot fault, and its cells are there, whatever is declared behind it
+-- a condition cannot fault, and its cells are there, whatever is declared after it
 abbrev pub IsCondition : ℕ → Option Term → Type 0
 IsCondition cells None = Unit {0}
 IsCondition cells (Some e) = (count : ℕ) → cells ≤ count → IsTrue (is_condition count e)

@@ -13,12 +13,12 @@ use Rattle.trick_lang.specs.Tree.{Term}
 use Rattle.trick_lang.specs.declared.syntax.expression.Expr.{Expr}
 use Rattle.trick_lang.specs.declared.variable.Variable.{Variable}
 
--- a declaration behind its reference
+-- a declaration after its reference
 abbrev pub declared_in : Option (Bor Declaration) → Option Declaration
 declared_in None = None
 declared_in (Some declaration) = Some declaration.now
 
--- the tree of a condition behind its reference
+-- the tree of a condition after its reference
 abbrev pub condition_in : Option (Bor Expr) → Option Expression
 condition_in None = None
 condition_in (Some e) = Some (expression_of e.now)

@@ -8,7 +8,7 @@ use Rattle.trick_lang.specs.declared.operator.Prefix.{Prefix}
 
 -- ---- a tree as a list
 
--- a part of a tree, behind the parts in it
+-- a part of a tree, after the parts in it
 pub data Mark : Type 0 where
   Number : ℤ → Mark
   Local : ℕ → Mark

@@ -5,7 +5,7 @@ use Rattle.std.specs.Prelude.{◌≡◌, ℕ, ◌<◌, All, List, [], ◌∷◌,
 use Rattle.trick_lang.specs.SyntaxTree.{Name}
 use Rattle.trick_names.specs.Names.{Names}
 
--- the items at these places, in this order; there is none behind the end
+-- the items at these places, in this order; there is none after the end
 abbrev pub at_places : {T : Type 0} → List T → List ℕ → List T
 at_places xs [] = []
 at_places xs (place ∷ places) = option_to_list (slice_get xs place) ++ at_places xs places

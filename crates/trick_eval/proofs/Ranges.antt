@@ -17,7 +17,7 @@ covers_from r c h = let a : IsTrue (nat_le (r.first).0 c) = both_left _ _ h in g
 pub covers_to : (r : CellRange) (c : ℕ) → covers r c ≡ true → c ≤ (r.last).0
 covers_to r c h = let a : IsTrue (nat_le c (r.last).0) = both_right (nat_le (r.first).0 c) _ h in grind (arith, nat_tests)
 
--- the first of sorted ranges lies from the number on and below the cells, and the others behind it
+-- the first of sorted ranges lies from the number on and below the cells, and the others after it
 pub head_from : (k cells : ℕ) (r : CellRange) (rs : List CellRange) → IsTrue (are_sorted k cells (r ∷ rs)) → k ≤ (r.first).0
 head_from k cells r rs h = let a : IsTrue (nat_le k (r.first).0) = both_left _ _ (both_left _ _ h) in grind (arith, nat_tests)
 
@@ -43,7 +43,7 @@ in_from (r ∷ rs) k cells c h i =
     (λ e. let low = covers_from r c e in omega arith)
     (λ j. let behind = in_from rs ((r.last).0 + 2) cells c (tail_sorted k cells r rs h) j in omega arith)
 
--- a cell that is not in the ranges behind one is in this one or in none
+-- a cell that is not in the ranges after one is in this one or in none
 pub not_behind : {Q : Type 0} (r : CellRange) (rs : List CellRange) (c : ℕ) → is_in rs c ≡ false → (covers r c ≡ true → Q) → (covers r c ≡ false → is_in (r ∷ rs) c ≡ false → Q) → Q
 not_behind {Q = Q} r rs c h f g = go (covers r c) refl
   where
@@ -58,7 +58,7 @@ behind rs k cells c h less = go (is_in rs c) refl
     go true e = let k_c : k ≤ c = in_from rs k cells c h e in absurd (omega arith)
     go false e = e
 
--- a cell that the range does not cover is before it or behind it
+-- a cell that the range does not cover is before it or after it
 pub outside : {Q : Type 0} (r : CellRange) (c : ℕ) → covers r c ≡ false → (c < (r.first).0 → Q) → ((r.last).0 < c → Q) → Q
 outside {Q = Q} r c h before after = go (nat_lt c (r.first).0) refl
   where

@@ -266,10 +266,7 @@ fn perform(
         } => {
             match pick(branches, *otherwise, base, memory, working) {
                 Ok(Some(block)) => {
-                    stack.push(Frame::Rest {
-                        block: block as usize,
-                        at: 0,
-                    });
+                    stack.enter(block as usize);
                     Ok(())
                 }
                 Ok(None) => Ok(()),
@@ -291,10 +288,7 @@ fn perform(
             Ok(())
         }
         Stmt::Run(block) => {
-            stack.push(Frame::Rest {
-                block: *block as usize,
-                at: 0,
-            });
+            stack.enter(*block as usize);
             Ok(())
         }
     }
@@ -362,10 +356,7 @@ fn next_turn(
             end,
             block,
         });
-        stack.push(Frame::Rest {
-            block: block as usize,
-            at: 0,
-        });
+        stack.enter(block as usize);
     }
 }
 
@@ -418,7 +409,7 @@ pub fn run(
     ensures room { stack.new.room ≡ stack.old.room }
     ensures shape { SameShape working.old working.new }
 {
-    stack.push(Frame::Rest { block, at: 0 });
+    stack.enter(block);
     while let Some(frame) = stack.pop() {
         if let Err(stop) = step(program, frame, base, memory, working, stack) {
             return Err(stop);

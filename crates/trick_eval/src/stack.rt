@@ -1,4 +1,5 @@
 ghost use Rattle.std.specs.Prelude.{◌≡◌, ◌∷◌, ◌<◌, [], IfOk, MatchOption, length};
+ghost use Rattle.trick_eval.specs.declared.stack.Frame.TheVariants.{Rest};
 
 use std::alloc::{AllocError, Global};
 use std::marker::Model;
@@ -49,6 +50,14 @@ impl Stack {
         ensures { self.new ≡ record { frames = frame ∷ self.old.frames; room = self.old.room } }
     {
         self.frames.push_reserved(frame);
+    }
+
+    /// Puts the frame of a whole block on top.
+    pub fn enter(&mut self, block: usize)
+        requires { length self.old.frames < self.old.room }
+        ensures { self.new ≡ record { frames = Rest block 0 ∷ self.old.frames; room = self.old.room } }
+    {
+        self.push(Frame::Rest { block, at: 0 });
     }
 
     /// Takes the topmost frame.

@@ -23,7 +23,7 @@ pub(crate) fn set_flag(flags: &mut Flags, place: usize, on: bool)
     }
 }
 
-// The limit behind a stop.
+// The limit after a stop.
 fn limit<M: Cells>(state: &State<M>, moment: Moment, at: Option<u64>) -> u64
     requires moment { IsTimely moment }
     requires at { IsTimeOf at }

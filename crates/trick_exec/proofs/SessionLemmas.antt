@@ -217,7 +217,7 @@ all_entries (entry ∷ other ∷ entries) known may =
     (all_entries (other ∷ entries) (after_entry entry known)
     (and_right _ (may_all_come (other ∷ entries) (after_entry entry known)) (and_right (may_come entry known) _ rest)))
 
--- the joins of a list rise behind the sessions that are there
+-- the joins of a list rise after the sessions that are there
 one_entry : (entry : Entry) (known : Sessions) (ns : List ℕ) → may_come entry known ≡ true → rises ns ≡ true → Below known.highest ns
     → (rises (ns ++ joining (entry ∷ [])) ≡ true) × Below (after_entry entry known).highest (ns ++ joining (entry ∷ []))
 one_entry (Join number) known ns may r below =

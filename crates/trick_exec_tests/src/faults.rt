@@ -14,7 +14,7 @@ const FAULTY: &str = "class Faulty : public Trick::SimObject {
 Faulty f;
 ";
 
-/// The lines of the first faults, with this before and this behind the fault of each, by its number.
+/// The lines of the first faults, with this before and this after the fault of each, by its number.
 fn lines(rt: &impl AllocGlobal, count: u64, numbered: bool, behind: &str) -> Result<String, Fail> {
     let alloc = rt.alloc();
     let mut text = String::new(alloc);

@@ -12,7 +12,7 @@ pub record Fed : Type 0 where
 abbrev pub nothing_fed : Fed
 nothing_fed = record { waiting = []; held = Some [] }
 
--- the bytes since the last line feed, with more bytes behind these; none where 4,097 come without one
+-- the bytes since the last line feed, with more bytes after these; none where 4,097 come without one
 abbrev pub held_behind : List ℕ → List ℕ → Option (List ℕ)
 held_behind held [] = Some held
 held_behind held (b ∷ bs) = elim (b == 10) [
@@ -20,7 +20,7 @@ held_behind held (b ∷ bs) = elim (b == 10) [
   | false ↦ elim (nat_lt (length held) 4096) [ true ↦ held_behind (held ++ b ∷ []) bs | false ↦ None ]
 ]
 
--- A feed to which more bytes come: the lines that they end wait behind the others. It stays as it is
+-- A feed to which more bytes come: the lines that they end wait after the others. It stays as it is
 -- where it takes no more.
 abbrev pub fed : Fed → List ℕ → Fed
 fed feed bytes = elim feed.held [

@@ -59,7 +59,7 @@ impl Feed {
         }
     }
 
-    // Puts the line that a line feed ends behind those that wait. Without memory nothing changes.
+    // Puts the line that a line feed ends after those that wait. Without memory nothing changes.
     fn end_line(&mut self) -> Result<(), AllocError>
         ensures ok { OnOk result (self.new ≡ fed self.old (10 ∷ [])) }
         ensures err { OnErr result (self.new ≡ self.old) }

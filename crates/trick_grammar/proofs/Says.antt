@@ -1,5 +1,5 @@
 -- What reading says of the tokens: what is read is a text of the grammar, a refusal comes after a
--- front that some text goes on from, and neither depends on what stands behind the next token.
+-- front that some text goes on from, and neither depends on what stands after the next token.
 use Rattle.std.proofs.Common.{◌≡◌, ◌⊎◌, ℕ, Bool, true, false, cond, List, [], ◌∷◌, ◌++◌, Ok, Err, refl, sym, ap, ◌∙◌, inl, inr, subst, append_assoc}
 use Rattle.std.proofs.lemmas.List.{append-nil}
 use Rattle.trick_grammar.specs.StartsWith.{Each, next_in}
@@ -160,7 +160,7 @@ module _ {C T : Type 0} (number : C → ℕ) (class : T → C) (Real : T → Typ
   same_start cs [] h t rest other e = absurd cc
   same_start cs (u ∷ w) h t rest other e = inl refl
 
-  -- what completes a text behind the first part
+  -- what completes a text after the first part
   pub record Ending {D : Type 0} (R : List T → D → List T → Type 0) (S Q : List C) : Type 0 where
     pub ws : List T
     pub real : Each Real ws
@@ -261,7 +261,7 @@ module _ {C T : Type 0} (number : C → ℕ) (class : T → C) (Real : T → Typ
                   subst (λ (us : List T). P (s.front ++ us) n.value rest) (sym (append_assoc c.ws n.ws rest)) go;
             })
 
-  -- ---- a token, and a part behind it that may depend on the token
+  -- ---- a token, and a part after it that may depend on the token
 
   module _ {D : Type 0} (k : Refusal) (cs : List C) (Rb : T → List T → D → List T → Type 0) (P : List T → D → List T → Type 0) (Q : List C) (rb : T → List T → Reading T D) (join : (t : T) (mid rest : List T) (y : D) → is_one_of number (class t) cs ≡ true → Rb t mid y rest → P (t ∷ mid) y rest) where
     abbrev pub token_then : List T → Reading T D

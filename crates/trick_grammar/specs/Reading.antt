@@ -18,7 +18,7 @@ Reading T A = Result (A × List T) (Refused T)
 abbrev pub refused : {T A : Type 0} → Refusal → List T → Reading T A
 refused k ts = Err (record { kind = k; rest = ts })
 
--- reading goes on behind what was read, and a refusal stays
+-- reading goes on after what was read, and a refusal stays
 infixl 10 ◌>>=◌
 abbrev pub ◌>>=◌ : {T A B : Type 0} → Reading T A → (A × List T → Reading T B) → Reading T B
 (Ok x) >>= f = f x
@@ -39,11 +39,11 @@ abbrev pub with_hint : {T A : Type 0} → Refusal → Reading T A → Reading T 
 with_hint k (Ok p) = Ok p
 with_hint k (Err e) = Err (record { kind = hinted k e.kind; rest = e.rest })
 
--- the items that were found, and behind them what is read
+-- the items that were found, and after them what is read
 abbrev pub prefixed : {T A : Type 0} → List A → Reading T (List A) → Reading T (List A)
 prefixed found q = q >>= λ xs. Ok (found ++ xs.0, xs.1)
 
--- what a link adds to the links behind it
+-- what a link adds to the links after it
 abbrev pub linked : {T A B : Type 0} → Link A B → List T → (List T → Reading T (List A × Option B))
     → Reading T (List A × Option B)
 linked (onward x) rest more = more rest >>= λ y. Ok ((x ∷ y.0.0, y.0.1), y.1)

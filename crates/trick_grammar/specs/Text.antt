@@ -5,7 +5,7 @@ use Rattle.trick_grammar.specs.StartsWith.{Each, StartsWith}
 use Rattle.trick_grammar.specs.Reading.{Refused, Reading, read}
 use Rattle.trick_grammar.specs.declared.refusal.Refusal.TheVariants.{Expected}
 
--- the value where no token is left; a token behind a text is not expected
+-- the value where no token is left; a token after a text is not expected
 abbrev pub at_end : {T A : Type 0} → Reading T A → Result A (Refused T)
 at_end (Ok (x, [])) = Ok x
 at_end (Ok (x, t ∷ ts)) = Err (record { kind = Expected; rest = t ∷ ts })

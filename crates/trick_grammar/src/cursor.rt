@@ -9,7 +9,7 @@ use crate::lexeme::{Class, Lexeme};
 use crate::refusal::Refusal;
 use crate::stop::Stop;
 
-/// The next token, if it is of this class, and the tokens behind it.
+/// The next token, if it is of this class, and the tokens after it.
 pub fn take<C: Class>(rest: &[Lexeme<C>], class: C) -> Result<(&Lexeme<C>, &[Lexeme<C>]), Stop<C>>
     ensures { Gives (λ x. (x.0.now, x.1.now)) result
         (read_token C.number class_of (class ∷ []) rest.now) }
@@ -26,7 +26,7 @@ pub fn take<C: Class>(rest: &[Lexeme<C>], class: C) -> Result<(&Lexeme<C>, &[Lex
     }
 }
 
-/// The next token, if it is of one of these classes, and the tokens behind it.
+/// The next token, if it is of one of these classes, and the tokens after it.
 pub fn take_one_of<'a, C: Class>(
     rest: &'a [Lexeme<C>],
     classes: &[C],
@@ -91,7 +91,7 @@ pub fn line_of<C: Class>(rest: &[Lexeme<C>], last_line: u32) -> u32
     }
 }
 
-/// The next token, if it is of this class, and the tokens behind it; a token of another class is
+/// The next token, if it is of this class, and the tokens after it; a token of another class is
 /// refused for this reason.
 pub fn take_hinted<C: Class>(
     rest: &[Lexeme<C>],
@@ -156,7 +156,7 @@ fn is_same(bytes: &[u8], other: &[u8]) -> bool
 }
 
 /// The next token, if it is of one of these classes and repeats the innermost name in scope, and the
-/// tokens behind it.
+/// tokens after it.
 pub fn take_again<'a, C: Class>(
     text: &[u8],
     classes: &[C],

@@ -34,7 +34,7 @@ chain_of e (x ∷ xs) = chain e (expressions_of (x ∷ xs))
 abbrev pub operand_first : List Word
 operand_first = Name ∷ Whole ∷ OpenParen ∷ []
 
--- what would go on behind the operators of the levels below l
+-- what would go on after the operators of the levels below l
 abbrev pub more_at : ℕ → List Word
 more_at zero = []
 more_at (suc l) = marks_of l ++ more_at l
@@ -108,7 +108,7 @@ free_body n =
 abbrev pub free : ℕ → Of Deed
 free n = rule (outline (OpenParen ∷ Assign ∷ Increment ∷ []) [] []) (free_body n)
 
--- what may stand behind the name of a loop round it: that name may be called, and is not assigned
+-- what may stand after the name of a loop round it: that name may be called, and is not assigned
 unfoldable pub bound_body : Of Deed
 bound_body = called ∣ refuse BadLoop (Assign ∷ Increment ∷ [])
 
@@ -125,7 +125,7 @@ simple text n = rule (outline (Name ∷ []) [] []) (simple_body text n)
 
 -- ---- lists
 
--- an item of a list, and what may stand behind one, with n items at most
+-- an item of a list, and what may stand after one, with n items at most
 abbrev pub item : Of Token
 item = one Name
 

@@ -45,7 +45,7 @@ fn read_items(
     read_more_items(alloc, limit, *first, rest)
 }
 
-/// { "," NAME } [ "," ], behind the first item
+/// { "," NAME } [ "," ], after the first item
 fn read_more_items(
     alloc: Global,
     limit: usize,

@@ -128,7 +128,7 @@ mod tests {
         }
     }
 
-    // A piece of text so many times, and what stands behind it.
+    // A piece of text so many times, and what stands after it.
     fn repeated(
         alloc: Global,
         piece: &[u8],

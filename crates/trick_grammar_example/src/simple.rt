@@ -54,7 +54,7 @@ fn read_free(alloc: Global, depth: usize, rest: &[Token]) -> Result<(Deed, &[Tok
     Ok((Deed::Increments, rest))
 }
 
-/// What may stand behind the name of a loop round it: that name may be called, and is not assigned.
+/// What may stand after the name of a loop round it: that name may be called, and is not assigned.
 #[tactic(auto, unfolding(crate::specs::Statements::bound_body))]
 fn read_bound(rest: &[Token]) -> Result<(Deed, &[Token]), Stop<Word>>
     ensures { Gives (λ x. (deed_of x.0, x.1.now)) result (read number_of class_of [] bound rest.now) }

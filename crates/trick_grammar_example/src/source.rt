@@ -12,7 +12,7 @@ pub struct Source<'t> {
     pub scope: &'t [Token],
 }
 
-/// The tokens in scope behind the name of a loop, the innermost first.
+/// The tokens in scope after the name of a loop, the innermost first.
 pub fn within(alloc: Global, name: &Token, scope: &[Token]) -> Result<Vec<Token>, AllocError>
     ensures { IfOk result (λ inner. inner.items ≡ name.now ∷ scope.now) }
 {

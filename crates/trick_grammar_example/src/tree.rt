@@ -1,6 +1,6 @@
 use crate::word::{Token, Word};
 
-/// A sum. A `Chain` has a first operand, and behind it at least one `Linked`: an operator of one
+/// A sum. A `Chain` has a first operand, and after it at least one `Linked`: an operator of one
 /// precedence with its operand. However many there are, they nest no deeper.
 #[derive(Drop)]
 pub enum Expr {
@@ -25,7 +25,7 @@ pub enum Stmt {
     ChooseOr(Box<Stmt>, Vec<Stmt>, Box<Stmt>),
 }
 
-/// What stands behind an `else`: another branch, or the last statement.
+/// What stands after an `else`: another branch, or the last statement.
 #[derive(Drop)]
 pub enum Link {
     Onward(Stmt),

@@ -45,7 +45,7 @@ lines_front t (u ∷ us) = by (nat_eq u.line t.line) refl (lines_front u us)
 line_again : (t : Token) (n : ℕ) → nat_eq n n ≡ true
 line_again t n = search rules
 
--- the first line, as many tokens as stand beside the first one, and the lines behind it
+-- the first line, as many tokens as stand beside the first one, and the lines after it
 lines_cut : (t : Token) (us ts : List Token) → us ≡ t ∷ ts → lines us ≡ take (beside t.line us) us ∷ lines (drop (beside t.line us) us)
 lines_cut t us ts e = rw e (rw (line_again t t.line) (lines_front t ts ∙ cut_one (beside t.line ts) t ts))
 

@@ -20,7 +20,7 @@ abbrev pub IsFirst : List Row → Row → List Class → Type 0
 IsFirst [] r ws = ⊥
 IsFirst (q ∷ rs) r ws = ((q ≡ r) × HasForm (pieces r) ws) ⊎ ((HasForm (pieces q) ws → ⊥) × IsFirst rs r ws)
 
--- the line is of no form: `front` goes on, and with the token behind it nothing does
+-- the line is of no form: `front` goes on, and with the token after it nothing does
 pub record IsRefused (rs : List Row) (ws : List Class) (place : Place) : Type 0 where
   pub front : List Class
   pub rest : List Class

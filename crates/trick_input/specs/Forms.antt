@@ -147,7 +147,7 @@ HasForm (Path ∷ f) ws = (rest : List Class) × PathTo rest ws × HasForm f res
 
 -- ---- reading
 
--- what of a form is due behind a token, if the token is right
+-- what of a form is due after a token, if the token is right
 abbrev pub after : List Piece → Class → Option (List Piece)
 after [] w = None
 after (One s ∷ f) w = if fits s w then Some f else None

@@ -56,8 +56,8 @@ classes ls = map (λ (l : Lexeme). l.class) ls
 abbrev pub is_services : Lexeme → Lexeme → Lexeme → Bool
 is_services t d s = is t.class the.Trick && (is d.class the.Dot && is s.class the.Services)
 
--- Behind `trick.` the word `sim_services` and its point count nothing; where a fault of the text cuts the
--- line off behind the word, its point may still come.
+-- After `trick.` the word `sim_services` and its point count nothing; where a fault of the text cuts the
+-- line off after the word, its point may still come.
 abbrev pub plain : Bool → List Lexeme → List Lexeme
 plain cut [] = []
 plain cut (t ∷ []) = t ∷ []

@@ -87,7 +87,7 @@ abbrev pub before : Result Call InputFault → Calls → Calls
 before (Ok c) r = then_calls (c ∷ []) r
 before (Err f) r = Err f
 
--- behind the last line the text's fault, where it has one
+-- after the last line the text's fault, where it has one
 abbrev pub at_end : Option FirstFault → Calls
 at_end None = Ok []
 at_end (Some first) = Err (faults.Text first.fault)

@@ -1,4 +1,4 @@
--- What a line says, by the form that it has: its values stand at fixed places, but for those behind a path.
+-- What a line says, by the form that it has: its values stand at fixed places, but for those after a path.
 use Rattle.std.specs.List.{slice_index_or}
 use Rattle.std.specs.Prelude.{ℕ, ◌-◌, ◌==◌, ℤ, pos, neg_ℤ, Bool, true, false, not, List, [], ◌∷◌, ◌++◌, decimal, length, Result, Ok, if◌then◌else◌}
 use Rattle.trick_input.specs.Classes.{is}

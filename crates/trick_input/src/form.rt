@@ -35,7 +35,7 @@ pub enum Sort {
 pub enum Piece {
     /// One token.
     One(Sort),
-    /// The rest of a full name, and the `=` behind it.
+    /// The rest of a full name, and the `=` after it.
     Path,
 }
 
@@ -155,46 +155,36 @@ const MINUS: Piece = word!(Minus);
 
 const ASSIGN: Piece = word!(Assign);
 
+const TRICK: Piece = word!(Trick);
+
+const DOT: Piece = word!(Dot);
+
+const OPEN: Piece = word!(OpenBracket);
+
+const CLOSE: Piece = word!(CloseBracket);
+
+const PROCESS: Piece = Piece::One(Sort::Process);
+
+const RECORDING: Piece = Piece::One(Sort::Recording);
+
 /// The pieces of a form.
 pub fn pieces(row: Row) -> &'static [Piece]
     ensures { result.now ≡ pieces row }
 {
     match row {
-        Row::ThisOwn => &[HEAD, word!(Dot), word!(ThisOwn), ASSIGN, LITERAL],
-        Row::ThisOwnMinus => &[HEAD, word!(Dot), word!(ThisOwn), ASSIGN, MINUS, NUMBER],
+        Row::ThisOwn => &[HEAD, DOT, word!(ThisOwn), ASSIGN, LITERAL],
+        Row::ThisOwnMinus => &[HEAD, DOT, word!(ThisOwn), ASSIGN, MINUS, NUMBER],
         Row::Assign => &[HEAD, Piece::Path, LITERAL],
         Row::AssignMinus => &[HEAD, Piece::Path, MINUS, NUMBER],
-        Row::TrickAssign => &[word!(Trick), ASSIGN, LITERAL],
-        Row::TrickAssignMinus => &[word!(Trick), ASSIGN, MINUS, NUMBER],
-        Row::TrickIndexed => &[
-            word!(Trick),
-            word!(OpenBracket),
-            NUMBER,
-            word!(CloseBracket),
-            Piece::Path,
-            LITERAL,
-        ],
-        Row::TrickIndexedMinus => &[
-            word!(Trick),
-            word!(OpenBracket),
-            NUMBER,
-            word!(CloseBracket),
-            Piece::Path,
-            MINUS,
-            NUMBER,
-        ],
+        Row::TrickAssign => &[TRICK, ASSIGN, LITERAL],
+        Row::TrickAssignMinus => &[TRICK, ASSIGN, MINUS, NUMBER],
+        Row::TrickIndexed => &[TRICK, OPEN, NUMBER, CLOSE, Piece::Path, LITERAL],
+        Row::TrickIndexedMinus => &[TRICK, OPEN, NUMBER, CLOSE, Piece::Path, MINUS, NUMBER],
         Row::SoftwareFrame => call!(SoftwareFrame, TIME),
         Row::Stop => call!(Stop, TIME),
         Row::TerminateTime => call!(TerminateTime, TIME),
         Row::Freeze => call!(Freeze),
-        Row::ProcessType => call!(
-            ProcessType,
-            NUMBER,
-            COMMA,
-            word!(Trick),
-            word!(Dot),
-            Piece::One(Sort::Process)
-        ),
+        Row::ProcessType => call!(ProcessType, NUMBER, COMMA, TRICK, DOT, PROCESS),
         Row::AmfCycle => call!(AmfCycle, NUMBER, COMMA, TIME),
         Row::DependsOn => call!(
             DependsOn, STRING, COMMA, NUMBER, COMMA, STRING, COMMA, NUMBER
@@ -209,24 +199,9 @@ pub fn pieces(row: Row) -> &'static [Piece]
         Row::AddVariable => method!(AddVariable, STRING),
         Row::Enable => method!(Enable),
         Row::Disable => method!(Disable),
-        Row::SetChanges => &[
-            HEAD,
-            word!(Dot),
-            word!(Frequency),
-            ASSIGN,
-            word!(Trick),
-            word!(Dot),
-            Piece::One(Sort::Recording),
-        ],
+        Row::SetChanges => &[HEAD, DOT, word!(Frequency), ASSIGN, TRICK, DOT, RECORDING],
         Row::AddGroup => call!(AddGroup, NAME),
-        Row::AddGroupBuffer => call!(
-            AddGroup,
-            NAME,
-            COMMA,
-            word!(Trick),
-            word!(Dot),
-            word!(Buffer)
-        ),
+        Row::AddGroupBuffer => call!(AddGroup, NAME, COMMA, TRICK, DOT, word!(Buffer)),
         Row::SetCondition => method!(Condition, word!(Zero), COMMA, STRING),
         Row::SetAction => method!(Action, NUMBER, COMMA, STRING),
         Row::Activate => method!(Activate),

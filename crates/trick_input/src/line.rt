@@ -31,7 +31,7 @@ fn next_if(test: bool, inside: Inside, form: &[Piece]) -> Option<(Inside, &[Piec
     if test { Some((inside, form)) } else { None }
 }
 
-// What is due behind a token.
+// What is due after a token.
 fn next(inside: Inside, form: &[Piece], word: Class) -> Option<(Inside, &[Piece])>
     ensures { next_of result ≡ after (form_of inside form.now) word }
 {

@@ -43,7 +43,7 @@ fn front(cut: bool, line: &[Lexeme]) -> (usize, usize)
     }
 }
 
-/// The words of a line that count; `cut` says that a fault of the text stands behind them.
+/// The words of a line that count; `cut` says that a fault of the text stands after them.
 pub fn plain<'t>(
     alloc: Global,
     cut: bool,

@@ -148,7 +148,7 @@ fn line_len(line: u32, rest: &[Token]) -> usize
     count
 }
 
-// The first line, and the tokens behind it.
+// The first line, and the tokens after it.
 fn front_line(rest: &[Token]) -> (&[Token], &[Token])
     requires { 0 < length rest.now }
     ensures front { lines rest.now ≡ result.0.now ∷ lines result.1.now }

@@ -17,7 +17,7 @@ from_here xs i item h is = rw (add-one, drop-cons xs i item) (ap (λ x. x ∷ dr
 pub parts_next : (xs : List ClassPart) (i : ℕ) (item : ClassPart) → i < length xs → item ≡ get_or xs i item → class_parts_of (drop i xs) ≡ class_part_of item ∷ class_parts_of (drop (i + 1) xs)
 parts_next xs i item h is = ap class_parts_of (from_here xs i item h is)
 
--- a part behind what is there, and then the rest
+-- a part after what is there, and then the rest
 pub appended : {A : Type 0} (before part rest all made : List A) → before ++ (part ++ rest) ≡ all → made ≡ before ++ part → made ++ rest ≡ all
 appended before part rest all made was is = ap (λ xs. xs ++ rest) is ∙ (append_assoc before part rest ∙ was)
 

@@ -43,7 +43,7 @@ calls_in name (line ∷ rest) = (if bytes_eq name line.method then 1 else 0) + c
 abbrev pub method_number : Names ℕ → Name → ℕ
 method_number numbers name = unwrap_or (meaning_of name numbers) 0
 
--- the job of a line behind those before it in the constructor
+-- the job of a line after those before it in the constructor
 abbrev pub job_of : ℕ → Names ℕ → List JobLine → JobLine → Job
 job_of object numbers before line = record {
   object = object;

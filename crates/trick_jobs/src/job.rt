@@ -24,7 +24,7 @@ fn one_more(number: u32) -> Result<u32, AllocError>
     number.checked_add(1).ok_or(AllocError)
 }
 
-// The job of a line behind those before it.
+// The job of a line after those before it.
 fn job_of(
     object: u32,
     numbers: &Names<u32>,

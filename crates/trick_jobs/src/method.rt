@@ -44,7 +44,7 @@ pub fn add_methods(
     Ok(())
 }
 
-// Gives a method the next number, and tells the number behind it.
+// Gives a method the next number, and tells the number after it.
 fn add_number(next: u32, part: &ClassPart, numbers: &mut Names<u32>) -> Result<u32, AllocError>
     ensures { IfOk result (λ behind. (rest : _) → with_numbers next (class_part_of part.now ∷ rest) numbers.old
         ≡ with_numbers behind rest numbers.new) }

@@ -41,7 +41,7 @@ front_more ts from es here line rest e so_far all is =
     ∙ ap (λ (us : List ℕ). us ++ rest) (append_assoc front lines more ∙ ap (λ (us : List ℕ). front ++ us) (sym (noted_more es e)))
 
 module _ (p : Plan) (start : ℕ) (ts : List ℕ) where
-  -- a line behind right rows is the one of this number
+  -- a line after right rows is the one of this number
   stands : (front : Front) (rest : List ℕ) (number : ℕ) → ts ≡ front_text front ++ rest → rest ≢ [] → IsFront p start front
       → number ≡ rows_of front + 1 → Stands p start ts number front (first_line rest)
   stands front rest number e some right n =

@@ -1,4 +1,4 @@
--- The first line of a text, and what stands behind it.
+-- The first line of a text, and what stands after it.
 use Rattle.std.proofs.Common.{◌≡◌, ℕ, ◌≤◌, Bool, true, false, cond, List, [], ◌∷◌, ◌++◌, length, drop, take, refl, ap, arith}
 use Rattle.std.specs.Prelude.{nat_eq}
 use Rattle.trick_codes.specs.Lines.{first_line}

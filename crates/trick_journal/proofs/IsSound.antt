@@ -50,7 +50,7 @@ detail_sound (suc zero) = said_sound
 detail_sound (suc (suc zero)) = leave_sound
 detail_sound (suc (suc (suc k))) = publish_sound
 
--- the word of an entry that was read behind it
+-- the word of an entry that was read after it
 place_is : (k : ℕ) (e : Entry) → k < 4 → Fits (detail_code k) e → entry_place e ≡ k
 unfolding join_code said_code leave_code publish_code
 place_is zero (Join session) lt h = refl

@@ -6,7 +6,7 @@ pub mod Sessions
 pub mod IsSound
 -- a line is spelled as it is printed
 pub mod Texts
--- the first line of a text, and what stands behind it
+-- the first line of a text, and what stands after it
 pub mod Behind
 -- what a line says
 pub mod Lines

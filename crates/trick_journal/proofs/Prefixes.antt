@@ -52,7 +52,7 @@ behind_first e es end more =
     ap (λ (us : List ℕ). us ++ more) (append_assoc (row_line (right e)) (noted_lines es) end)
     ∙ append_assoc (row_line (right e)) (noted_lines es ++ end) more
 
--- the entries and the end behind the first two lines
+-- the entries and the end after the first two lines
 same_rows : (es fs : List Noted) (m n : ℕ) (more : List ℕ) → are_in_range es ≡ true → are_in_range fs ≡ true → m ≤ last_turn → n ≤ last_turn
     → (noted_lines es ++ last_line m) ++ more ≡ noted_lines fs ++ last_line n → (es ≡ fs) × (m ≡ n) × (more ≡ [])
 same_rows [] [] m n more a b low lim e =
@@ -74,7 +74,7 @@ same_rows (d ∷ es) (f ∷ fs) m n more a b low lim e =
     let rest = same_rows es fs m n more (range_others d es a) (range_others f fs b) low lim same.1 in
     (ap (λ (x : Noted). x ∷ es) (right_is d f same.0) ∙ ap (λ (xs : List Noted). f ∷ xs) rest.0, rest.1, rest.2)
 
--- the turn at which a journal begins, and what stands behind its line
+-- the turn at which a journal begins, and what stands after its line
 same_begin : (m n : ℕ) (us vs : List ℕ) → m ≤ last_turn → n ≤ last_turn → first_lines m ++ us ≡ first_lines n ++ vs → (m ≡ n) × (us ≡ vs)
 same_begin m n us vs low lim e =
     let word = codes "tricks journal 1\nfrom " in

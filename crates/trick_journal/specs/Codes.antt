@@ -60,7 +60,7 @@ cause_place cause.Slow = 4
 cause_place cause.NoThread = 5
 cause_place cause.OutOfMemory = 6
 
--- what an entry is, each with a space behind it
+-- what an entry is, each with a space after it
 abbrev pub entry_words : List (List ℕ)
 entry_words = codes "join " ∷ codes "cmd " ∷ codes "leave " ∷ codes "publish " ∷ []
 
@@ -90,7 +90,7 @@ leave_code =
 unfoldable pub publish_code : Code Entry
 publish_code = read_as (λ thread. Publish thread) thread_of (number 1 15 10)
 
--- what stands behind the word of an entry
+-- what stands after the word of an entry
 abbrev pub detail_code : ℕ → Code Entry
 detail_code zero = join_code
 detail_code (suc zero) = said_code

@@ -48,7 +48,7 @@ IsFront p start (ended from entries end) =
 -- ---- the next row
 
 -- It stands in its place: the title first, then where the journal begins, which is not above the start, then entries
--- and the end, and nothing behind the end.
+-- and the end, and nothing after the end.
 abbrev pub is_in_place : (start : ℕ) → Front → Row → Bool
 is_in_place start nothing title = true
 is_in_place start nothing (begin turn) = false
@@ -64,7 +64,7 @@ is_in_place start (going from entries) (note e) = true
 is_in_place start (going from entries) (finish turn) = true
 is_in_place start (ended from entries end) row = false
 
--- With it turns never fall, an entry behind a publication of its turn is one of a larger thread, and the end is above
+-- With it turns never fall, an entry after a publication of its turn is one of a larger thread, and the end is above
 -- the turn of each entry.
 abbrev pub rises_with : (from : ℕ) → List Noted → Row → Bool
 rises_with from entries title = true

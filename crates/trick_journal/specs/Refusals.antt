@@ -12,7 +12,7 @@ use Rattle.trick_model.specs.Plan.{Plan}
 use Rattle.trick_model.specs.Time.{last_turn}
 use Rattle.trick_model.specs.declared.journal.Journal.{Journal}
 
--- The lines of the text before the line of this number keep all rules, and this line stands behind them.
+-- The lines of the text before the line of this number keep all rules, and this line stands after them.
 pub record Stands (p : Plan) (start : ℕ) (ts : List ℕ) (number : ℕ) (front : Front) (line : List ℕ) : Type 0 where
   pub rest : List ℕ
   pub text : ts ≡ front_text front ++ rest
@@ -21,7 +21,7 @@ pub record Stands (p : Plan) (start : ℕ) (ts : List ℕ) (number : ℕ) (front
   pub right : IsFront p start front
   pub counted : number ≡ rows_of front + 1
 
--- Of the line behind these rows, where it says a row in its place: what holds of the entries so far and of the row.
+-- Of the line after these rows, where it says a row in its place: what holds of the entries so far and of the row.
 abbrev pub InPlace : (start : ℕ) → Front → List ℕ → ((from : ℕ) → List Noted → Row → Type 0) → Type 0
 InPlace start front line Is =
     (from : ℕ) × (entries : List Noted) × (row : Row) × (front ≡ going from entries) × Says line row
@@ -35,7 +35,7 @@ IsOutOfPlace start front line = (row : Row) → Says line row → is_in_place st
 abbrev pub IsOpen : Front → Type 0
 IsOpen front = (from : ℕ) (entries : List Noted) (end : ℕ) → front ≡ ended from entries end → ⊥
 
--- a line with this number stands behind right lines, and this holds of them and of it
+-- a line with this number stands after right lines, and this holds of them and of it
 abbrev pub AtLine : Plan → (start : ℕ) → List ℕ → ℕ → (Front → List ℕ → Type 0) → Type 0
 AtLine p start ts number Is = (front : Front) × (line : List ℕ) × Stands p start ts number front line × Is front line
 
@@ -68,7 +68,7 @@ abbrev pub ReadsTitle : Plan → (start : ℕ) → List ℕ → Result (Bor (Lis
 ReadsTitle p start ts (Ok rest) = ts ≡ front_text titled ++ rest.now
 ReadsTitle p start ts (Err e) = IsRefused p start ts e
 
--- and behind the title the line that says where the journal begins
+-- and after the title the line that says where the journal begins
 abbrev pub ReadsBegin : Plan → (start : ℕ) → List ℕ → Result (ℕ × Bor (List ℕ)) JournalFault → Type 0
 ReadsBegin p start rest (Ok x) = (x.0 ≤ start) × (x.0 ≤ last_turn)
     × (front_text titled ++ rest ≡ front_text (going x.0 []) ++ x.1.now)

@@ -106,7 +106,7 @@ pub record Meets (old new : Rows) (e : Noted) : Type 0 where
 
 -- ---- the next row
 
--- The row breaks a rule behind these entries, and the first one that it breaks decides.
+-- The row breaks a rule after these entries, and the first one that it breaks decides.
 abbrev pub Breaks : Plan → (from : ℕ) → List Noted → Row → JournalFault → Type 0
 Breaks p from entries row fault.OutOfMemory = Unit {0}
 Breaks p from entries row (fault.BadLine line) = ⊥
@@ -118,7 +118,7 @@ Breaks p from entries row (fault.NotAsync line) =
     × (publishes_right p row ≡ false)
 Breaks p from entries row (fault.NoEnd line) = ⊥
 
--- a journal of these rows with this end, where nothing stands behind the end, or why there is none
+-- a journal of these rows with this end, where nothing stands after the end, or why there is none
 abbrev pub Finishes : Rows → (end : ℕ) → (rest : List ℕ) → Result Journal JournalFault → Type 0
 Finishes rows end rest (Ok journal) =
     (journal.from ≡ rows.from) × (journal.entries ≡ rows.entries) × (journal.end ≡ end) × (rest ≡ [])

@@ -29,7 +29,7 @@ abbrev pub row_said : Row → RowSaid
 row_said (row.End turn) = finish turn
 row_said (row.Note turn e) = note (turn, entry_in e)
 
--- with the rest behind them
+-- with the rest after them
 abbrev pub entry_seen : ToldEntry × Bor (List ℕ) → Entry × List ℕ
 entry_seen x = (entry_in x.0, x.1.now)
 
@@ -51,7 +51,7 @@ abbrev pub SaidBy : List ℕ → Option Row → Type 0
 SaidBy line (Some row) = Says line (row_said row)
 SaidBy line None = SaysNone line
 
--- what is read, where nothing is left behind it
+-- what is read, where nothing is left after it
 abbrev pub where_all : {T : Type 0} → T → List ℕ → Option T
 where_all x [] = Some x
 where_all x (b ∷ bs) = None
@@ -60,7 +60,7 @@ abbrev pub whole_of : {T : Type 0} → Result (T × Bor (List ℕ)) Miss → Opt
 whole_of (Ok p) = where_all p.0 p.1.now
 whole_of (Err e) = None
 
--- the turn that stands in the line behind this word, where one does
+-- the turn that stands in the line after this word, where one does
 abbrev pub TurnSaid : (word line : List ℕ) → Option ℕ → Type 0
 TurnSaid word line (Some turn) = (turn ≤ last_turn) × (line ≡ word ++ (decimal turn ++ codes "\n"))
 TurnSaid word line None = (turn : ℕ) → turn ≤ last_turn → line ≡ word ++ (decimal turn ++ codes "\n") → ⊥

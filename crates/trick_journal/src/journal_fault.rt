@@ -8,9 +8,9 @@ use std::alloc::{AllocError, AllocFailed};
 pub enum JournalFault {
     /// Memory ran out.
     OutOfMemory,
-    /// The line has no form, or not that of its place, or the journal begins behind the start.
+    /// The line has no form, or not that of its place, or the journal begins after the start.
     BadLine { line: usize },
-    /// Its turn is too low, or it stands behind a publication that comes after it.
+    /// Its turn is too low, or it stands after a publication that it must come before.
     NotRising { line: usize },
     /// A session joins that is not above all earlier ones, or one speaks or leaves that is not there.
     NotJoined { line: usize },

@@ -1,4 +1,4 @@
-//! Printing. An error leaves a part of what is appended behind the text.
+//! Printing. An error leaves a part of what is appended after the text.
 
 ghost use Rattle.std.specs.Prelude.{◌≡◌, ◌++◌, IfOk, OnOk, codes, decimal};
 ghost use Rattle.trick_model.specs.Journal.{cause_text, entry_line, entry_text, first_lines, journal_text, last_line, noted_lines};
@@ -29,7 +29,7 @@ fn push_counted(text: &mut Vec<u8>, word: &[u8], number: u64) -> Result<(), Allo
     text.extend_from_slice(Buffer::new().format(number).as_bytes())
 }
 
-// Appends an entry as it stands behind its turn.
+// Appends an entry as it stands after its turn.
 fn push_entry(text: &mut Vec<u8>, entry: &Entry) -> Result<(), AllocError>
     ensures { OnOk result (text.new.items ≡ text.old.items ++ entry_text entry.now) }
 {

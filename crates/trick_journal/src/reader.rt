@@ -16,7 +16,7 @@ use std::alloc::Global;
 use trick_codes::first_line;
 use trick_model::{Journal, Plan};
 
-// The first line, with its line feed if it has one, and what stands behind it.
+// The first line, with its line feed if it has one, and what stands after it.
 #[tactic(auto, using(crate::proofs::Behind::line_short, crate::proofs::Behind::rest_behind))]
 fn next_line(rest: &[u8]) -> (&[u8], &[u8])
     ensures line { result.0.now ≡ first_line_of rest.now }
@@ -43,7 +43,7 @@ fn read_title(text: &[u8]) -> Result<&[u8], JournalFault>
 }
 
 // Reads the line that says where the journal begins.
-#[tactic(auto, using(crate::proofs::Answering::title_alone, crate::proofs::Answering::late_begin, crate::proofs::Answering::no_from, crate::proofs::Answering::begun))]
+#[tactic(auto, using(crate::proofs::Answering::title_alone, crate::proofs::Answering::begun))]
 fn read_begin(start: u64, text: &[u8]) -> Result<(u64, &[u8]), JournalFault>
     ensures { (p : PlanOf) → ReadsBegin p start text.now result }
 {
@@ -62,7 +62,7 @@ fn read_begin(start: u64, text: &[u8]) -> Result<(u64, &[u8]), JournalFault>
     }
 }
 
-// The journal that ends at this turn, where nothing stands behind the end.
+// The journal that ends at this turn, where nothing stands after the end.
 fn finish(rows: Rows, end: u64, rest: &[u8]) -> Result<Journal, JournalFault>
     requires keeps { Keeps rows }
     requires range { end ≤ last_turn }

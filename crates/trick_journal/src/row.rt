@@ -60,7 +60,7 @@ impl ToldEntry<'_> {
     }
 }
 
-// A session, and this byte behind it.
+// A session, and this byte after it.
 fn session(end: u8, rest: &[u8]) -> Result<(u32, &[u8]), Miss>
     ensures { Reads beside result (read (session_code end) rest.now) }
 {
@@ -136,7 +136,7 @@ fn publish(rest: &[u8]) -> Result<(ToldEntry, &[u8]), Miss>
     Ok((ToldEntry::Publish { thread }, rest))
 }
 
-// What stands behind the word of an entry.
+// What stands after the word of an entry.
 fn detail(place: usize, rest: &[u8]) -> Result<(ToldEntry, &[u8]), Miss>
     ensures { Reads entry_seen result (read (detail_code place) rest.now) }
 {
@@ -209,7 +209,7 @@ pub(crate) fn said_by(line: &[u8]) -> Option<Row>
     whole(read_row(line))
 }
 
-/// The turn that a line says behind this word, where it says one.
+/// The turn that a line says after this word, where it says one.
 pub(crate) fn turn_by(word: &[u8], line: &[u8]) -> Option<u64>
     ensures { TurnSaid word.now line.now result }
 {

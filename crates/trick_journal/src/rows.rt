@@ -37,7 +37,7 @@ pub(crate) struct Rows {
     pub live: BTreeSet<u32>,
 }
 
-// Whether turns rise with an entry behind the last one, from this turn on.
+// Whether turns rise with an entry after the last one, from this turn on.
 fn follows(from: u64, last: Last, turn: u64, entry: ToldEntry) -> bool
     ensures { result ≡ (nat_le from turn && follows_of last (turn, entry_in entry.entry)) }
 {
@@ -54,7 +54,7 @@ fn follows(from: u64, last: Last, turn: u64, entry: ToldEntry) -> bool
         }
 }
 
-// Whether the end may stand at this turn behind the last entry, from this turn on.
+// Whether the end may stand at this turn after the last entry, from this turn on.
 fn ends_above(from: u64, last: Last, turn: u64) -> bool
     ensures { result ≡ (nat_le from turn && ends_above_of last turn) }
 {
@@ -138,7 +138,7 @@ impl Rows {
         Ok(())
     }
 
-    // Adds an entry that may stand behind the others.
+    // Adds an entry that may stand after the others.
     fn add(&mut self, alloc: Global, turn: u64, entry: ToldEntry) -> Result<(), AllocError>
         requires keeps { Keeps self.old }
         requires range { is_row (note (turn, entry_in entry)) ≡ true }

@@ -21,7 +21,7 @@ not_empty : (us vs : List ℕ) (b : ℕ) → us ++ b ∷ vs ≡ [] → ⊥
 not_empty [] vs b e = cc
 not_empty (u ∷ us) vs b e = cc
 
--- a row in its place behind entries is an entry or the end
+-- a row in its place after entries is an entry or the end
 no_title : (start : ℕ) (front : Front) (from : ℕ) (entries : List Noted) (row : Row) → front ≡ going from entries → is_in_place start front row ≡ true → row ≡ title → ⊥
 no_title start nothing from entries row g at e = cc
 no_title start titled from entries row g at e = cc
@@ -41,7 +41,7 @@ no_begin start (going a es) from entries (note x) g at turn e = cc
 no_begin start (going a es) from entries (finish other) g at turn e = cc
 
 module _ (p : Plan) (start : ℕ) (ts : List ℕ) (journal : Journal) (is : IsJournal p start ts journal) where
-  -- a line behind right lines says the journal's next row
+  -- a line after right lines says the journal's next row
   module _ (number : ℕ) (front : Front) (line : List ℕ) (stands : Stands p start ts number front line) where
     now : IsNext p start front stands.rest
     now = next p start ts journal is front stands.rest stands.text stands.right stands.some

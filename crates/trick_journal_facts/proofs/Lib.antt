@@ -2,7 +2,7 @@
 pub mod OneLine
 -- a rule that holds of a journal's entries holds of their front
 pub mod Front
--- what stands behind a front of a journal
+-- what stands after a front of a journal
 pub mod Next
 -- a refused text is no journal
 pub mod Apart

@@ -1,4 +1,4 @@
--- What stands behind a front of a journal: its next row.
+-- What stands after a front of a journal: its next row.
 use Rattle.std.proofs.Common.{◌≡◌, ◌≢◌, ℕ, ◌≤◌, true, List, [], ◌∷◌, ◌++◌, refl, sym, ap, ◌∙◌, subst, append_assoc, arith}
 use Rattle.std.proofs.lemmas.Bool.{and_from, and_parts}
 use Rattle.std.proofs.lemmas.Bool.Decides.{nat_tests}
@@ -22,7 +22,7 @@ use Rattle.trick_model.specs.Plan.{Plan}
 use Rattle.trick_model.specs.Time.{last_turn}
 use Rattle.trick_model.specs.declared.journal.Journal.{Journal}
 
--- a row that may stand behind a front, and what stands behind it
+-- a row that may stand after a front, and what stands after it
 pub record IsNext (p : Plan) (start : ℕ) (front : Front) (rest : List ℕ) : Type 0 where
   pub row : Row
   pub others : List ℕ
@@ -57,7 +57,7 @@ range_others : (e : Noted) (es : List Noted) → are_in_range (e ∷ es) ≡ tru
 range_others e es h =
     (and_parts (is_entry e.1) (are_in_range es) (and_parts (nat_le e.0 last_turn) (is_entry e.1 && are_in_range es) h).1).1
 
--- Entries at the front of others with an end: the others go on behind them.
+-- Entries at the front of others with an end: the others go on after them.
 pub record IsRest (end : ℕ) (es fs : List Noted) (rest : List ℕ) : Type 0 where
   pub more : List Noted
   pub all : fs ≡ es ++ more
@@ -91,7 +91,7 @@ module _ (p : Plan) (start : ℕ) (ts : List ℕ) (journal : Journal) (is : IsJo
   text : ts ≡ first_lines journal.from ++ rows
   text = is.text ∙ append_assoc (first_lines journal.from) (noted_lines journal.entries) (last_line journal.end)
 
-  -- behind right entries the others go on, and the journal begins at the same turn
+  -- after right entries the others go on, and the journal begins at the same turn
   pub behind_entries : (from : ℕ) (entries : List Noted) (rest : List ℕ) → from ≤ last_turn → are_in_range entries ≡ true → ts ≡ front_text (going from entries) ++ rest
       → (journal.from ≡ from) × IsRest journal.end entries journal.entries rest
   behind_entries from entries rest lim ranged e =
@@ -194,7 +194,7 @@ module _ (p : Plan) (start : ℕ) (ts : List ℕ) (journal : Journal) (is : IsJo
       let found = behind_entries from entries rest right.1 right.2.in_range e in
       subst (λ (n : ℕ). IsNext p start (going n entries) rest) found.0 (next_rest entries rest found.1.more found.1.all found.1.text)
 
-  -- nothing stands behind the end
+  -- nothing stands after the end
   none_behind : (end : ℕ) (rest : List ℕ) (more : List Noted) → end ≤ last_turn → are_in_range more ≡ true → last_line end ++ rest ≡ noted_lines more ++ last_line journal.end → rest ≡ []
   none_behind end rest [] lim ranged e = (same_row (end_row end) (end_row journal.end) rest [] (end_fits end lim) (end_fits journal.end journal.end_right) (e ∙ sym (append-nil (last_line journal.end)))).1
   none_behind end rest (f ∷ more) lim ranged e =
@@ -213,7 +213,7 @@ module _ (p : Plan) (start : ℕ) (ts : List ℕ) (journal : Journal) (is : IsJo
       let others = found.1 in
       none_behind end rest others.more right.1 (range_late entries others.more (subst (λ (es : List Noted). are_in_range es ≡ true) others.all journal.in_range)) others.text
 
-  -- behind a front that is not all of it stands the next row
+  -- after a front that is not all of it stands the next row
   pub next : (front : Front) (rest : List ℕ) → ts ≡ front_text front ++ rest → IsFront p start front → rest ≢ [] → IsNext p start front rest
   next nothing rest e right some = behind_nothing rest e
   next titled rest e right some = behind_titled rest e

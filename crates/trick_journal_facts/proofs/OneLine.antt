@@ -77,7 +77,7 @@ small_session n h = let under : n ≤ 4294967295 = grind (arith, nat_tests) in o
 small_thread : (n : ℕ) → (nat_le 1 n && nat_le n 15) ≡ true → n ≤ last_turn
 small_thread n h = let under : n ≤ 15 = grind (arith, nat_tests) in omega arith
 
--- a number, with a space behind it
+-- a number, with a space after it
 free_number : (n : ℕ) → n ≤ last_turn → is_free 10 (decimal n ++ codes " ") ≡ true
 free_number n le = free_append (decimal n) (codes " ") (free_decimal n le) refl
 

@@ -233,7 +233,7 @@ resumes start from end es j right up =
     (and_from _ _ (rising_joins start end live (since start es) r w)
     (and_from _ _ (within_joins start end live (since start es) up w) (joined_joins start 0 f.highest [] live (since start es) f.rise f.joined)))
 
--- behind the end nothing is left
+-- after the end nothing is left
 pub nothing_left : (start from end : ℕ) (es : List Noted) → IsJournal from end es → end ≤ start → since start es ≡ []
 nothing_left start from end es j up = none_within start end (since start es) up (within_since start from end es j.rising j.within)
 
@@ -249,7 +249,7 @@ insert_above low high session (k ∷ live) rise up =
     ap (λ (o : Ordering). match_ordering o (session ∷ k ∷ live) (k ∷ live) (k ∷ insert_key nat_cmp live session)) greater
     ∙ ap (λ (l : List ℕ). k ∷ l) more
 
--- a session that joins is put behind the others
+-- a session that joins is put after the others
 pub insert_last : (session : ℕ) (live : List ℕ) → MayCome live (Join session) → insert_key nat_cmp live session ≡ live ++ session ∷ []
 insert_last session live may =
     let above : nat_lt may.0 session ≡ true = may.2 in

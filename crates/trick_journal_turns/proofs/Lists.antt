@@ -43,7 +43,7 @@ lists_joins start turn count [] es up = refl
 lists_joins start turn count (session ∷ live) es up =
     lists_late turn count (start, Join session) (joins_at start live ++ es) up ∙ lists_joins start turn count live es up
 
--- what a journal gives from a start are the lists of the joins and of what stands behind the start
+-- what a journal gives from a start are the lists of the joins and of what stands after the start
 pub lists_resumed : (start count : ℕ) (live : List ℕ) (es : List Noted)
     → lists_from start count (joins_at start live ++ since start es) ≡ with_joins live (lists_from start count es)
 lists_resumed start zero live es = refl

@@ -1,4 +1,4 @@
--- Entries by their turns: those below a turn and those behind them, and the rules that stay.
+-- Entries by their turns: those below a turn and those after them, and the rules that stay.
 use Rattle.std.proofs.Common.{◌≡◌, ℕ, zero, suc, ◌+◌, ◌<◌, ◌≤◌, Bool, true, false, cond, List, [], ◌∷◌, ◌++◌, length, refl, sym, ap, subst, ◌∙◌, arith}
 use Rattle.std.proofs.lemmas.Bool.{and_from, and_parts}
 use Rattle.std.proofs.lemmas.Bool.Decides.{nat_tests}
@@ -40,7 +40,7 @@ late_head turn e es = go (nat_lt e.0 turn)
     go true h = cc
     go false h = refl
 
--- where none is below a turn, all stand behind
+-- where none is below a turn, all stand after
 pub since_all : (turn : ℕ) (es : List Noted) → before turn es ≡ [] → since turn es ≡ es
 since_all turn [] h = refl
 since_all turn (e ∷ es) h = ap (λ (b : Bool). cond b (since turn es) (e ∷ es)) (late_head turn e es h)

@@ -15,7 +15,7 @@ abbrev pub before : ℕ → List Noted → List Entry
 before turn [] = []
 before turn (e ∷ es) = cond (nat_lt e.0 turn) (e.1 ∷ before turn es) []
 
--- what stands behind these
+-- what stands after these
 abbrev pub since : ℕ → List Noted → List Noted
 since turn [] = []
 since turn (e ∷ es) = cond (nat_lt e.0 turn) (since turn es) (e ∷ es)
@@ -71,7 +71,7 @@ after_lists (list ∷ lists) s = after_lists lists (after_entries list (in_next 
 abbrev pub sessions_at : (start at : ℕ) → List Noted → Sessions
 sessions_at start at es = after_lists (lists_from start (at - start) es) no_sessions
 
--- the same, or where a list behind the end was given too
+-- the same, or where a list after the end was given too
 abbrev pub sessions_so_far : Bool → (start at : ℕ) → List Noted → Sessions
 sessions_so_far over start at es = cond over (in_next (sessions_at start at es)) (sessions_at start at es)
 

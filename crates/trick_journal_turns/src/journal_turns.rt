@@ -29,7 +29,7 @@ pub struct JournalTurns {
     start: u64,
     at: u64,
     end: u64,
-    // A list behind the end was given.
+    // A list after the end was given.
     over: bool,
     owes: bool,
     ghost forward: { start ≤ at },

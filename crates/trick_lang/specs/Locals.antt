@@ -52,12 +52,12 @@ is_free slots known slot = nat_lt slot slots && not (is_known known slot)
 abbrev pub locals_test : List Known → Leaves
 locals_test known = record { local = is_known known; place = λ spot. true }
 
--- the number behind `<` or `<=` of a loop
+-- the number after `<` or `<=` of a loop
 abbrev pub bound_number : Bound → ℕ
 bound_number (Below bound) = bound
 bound_number (UpTo bound) = bound
 
--- what is known behind a statement
+-- what is known after a statement
 abbrev pub after : Code → List Known → List Known
 after Empty known = known
 after (Declare line slot scalar e) known = record { slot = slot; scalar = Some scalar } ∷ known

@@ -103,7 +103,7 @@ abbrev mutual
   branches_of (more_of-Branch line test b rest) last =
       Test line (expression_of test) (statement_of b) (branches_of rest last)
 
-  -- what stands behind the last `else`
+  -- what stands after the last `else`
   pub else_of : Held-Stmt-If-1 → Branches
   else_of None' = NoElse
   else_of (Some' p b) = Else (statement_of b)

@@ -38,7 +38,7 @@ mutual
   pub data Choices : Type 0 where
     -- the last part
     Last : Expression → Choices
-    -- a test, the value where it holds, and the parts behind the colon
+    -- a test, the value where it holds, and the parts after the colon
     Choice : Expression → Expression → Choices → Choices
 
   pub data Path : Type 0 where
@@ -67,9 +67,9 @@ pub data Change : Type 0 where
   Set : Expression → Change
   -- `+= e` and its like
   Update : Arithmetic → Expression → Change
-  -- `++`, before or behind the place
+  -- `++`, before or after the place
   Increase : Change
-  -- `--`, before or behind the place
+  -- `--`, before or after the place
   Decrease : Change
 
 -- A statement's line is that of its first token.
@@ -92,9 +92,9 @@ mutual
   pub data Branches : Type 0 where
     -- no `else`
     NoElse : Branches
-    -- the statement behind the last `else`
+    -- the statement after the last `else`
     Else : Statement → Branches
-    -- the line of an `if`, its test, its statement, and what stands behind its `else`
+    -- the line of an `if`, its test, its statement, and what stands after its `else`
     Test : ℕ → Expression → Statement → Branches → Branches
 
   pub data Statements : Type 0 where

@@ -20,7 +20,7 @@ pub struct Program {
     /// How many cells an object of each class has, by the number of the class.
     pub sizes: Items<u32>,
     pub objects: Items<Object>,
-    /// Bodies, branches, loops and inner blocks, each behind those that it runs.
+    /// Bodies, branches, loops and inner blocks, each after those that it runs.
     pub blocks: Items<Block>,
     pub methods: Items<Method>,
     pub jobs: Items<Job>,

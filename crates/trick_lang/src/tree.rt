@@ -19,7 +19,7 @@ pub enum Expr {
     Choose(Vec<Choice>, Box<Expr>),
 }
 
-/// An operator of a chain and the operand behind it.
+/// An operator of a chain and the operand after it.
 #[derive(Drop)]
 #[cycle(expression)]
 pub struct Link {
@@ -45,7 +45,7 @@ pub struct Place {
     pub first: u32,
     /// How many cells that has; the place is one of them.
     pub span: u32,
-    /// What the members and literal indexes behind the first computed index add.
+    /// What the members and literal indexes after the first computed index add.
     pub offset: u32,
     /// How many literal indexes the path has, which count as steps.
     pub literals: u64,
@@ -96,7 +96,7 @@ pub enum Stmt {
         place: Place,
         change: Change,
     },
-    /// The tests of an `else if` chain with their blocks, and the block behind the last `else`, if
+    /// The tests of an `else if` chain with their blocks, and the block after the last `else`, if
     /// there is one.
     If {
         branches: Vec<Branch>,

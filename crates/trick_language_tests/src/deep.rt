@@ -18,7 +18,7 @@ const BLOCKS: u32 = 61;
 /// The levels of an expression inside the braces of the class and of the method.
 const LEVELS: u32 = 62;
 
-/// A text inside so many openings, with as many closings behind it.
+/// A text inside so many openings, with as many closings after it.
 fn nested(
     alloc: Global,
     count: u32,

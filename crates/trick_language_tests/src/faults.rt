@@ -118,7 +118,7 @@ fn lines_of_faults(rt: HostRuntime) -> Result<(), Fail> {
         ("void f() {\nif (n) {\nr = 1 / 0; } }", "DivideByZero 5"),
         ("void f() {\nif (\nw[n]) r = 1; }", "IndexOutOfRange 4"),
         ("void f() { if (0) ;\nelse\nr = 1 / 0; }", "DivideByZero 5"),
-        // behind an `else`, an `if` is a statement of its own
+        // after an `else`, an `if` is a statement of its own
         ("void f() { if (0) ;\nelse if (1 / 0) ; }", "DivideByZero 4"),
         (
             "void f() { if (0) ; else\nif (0) ;\nelse\nif\n(1 / 0) ; }",

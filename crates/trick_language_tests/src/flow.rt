@@ -45,7 +45,7 @@ fn branches(rt: HostRuntime) -> Result<(), Fail> {
             "void f() { if (1) { if (0) r = 1; } else r = 2; }",
             "k.r = 0;\n",
         ),
-        // a test behind the one that holds is not evaluated, and each sees what was stored before
+        // a test after the one that holds is not evaluated, and each sees what was stored before
         (
             "long r;",
             "void f() { if (1) r = 1; else if (1 / 0) r = 2; }",
@@ -139,7 +139,7 @@ fn calls(rt: HostRuntime) -> Result<(), Fail> {
 void f() { n = 1; g(); g(); r = n; }",
             "k.n = 5;\nk.r = 5;\n",
         ),
-        // a method may stand behind those that call it, and be called in all of them
+        // a method may stand after those that call it, and be called in all of them
         (
             "long n;",
             "void f() { g(); h(); }

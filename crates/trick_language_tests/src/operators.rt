@@ -161,7 +161,7 @@ fn one_bit_alone(rt: HostRuntime) -> Result<(), Fail> {
     gives(&rt, "^", &rows)
 }
 
-/// Whether each number gives so much behind each prefix operator: `-`, `+`, `!` and `~`.
+/// Whether each number gives so much after each prefix operator: `-`, `+`, `!` and `~`.
 fn prefixes_give(
     rt: &(impl Abort + AllocGlobal),
     rows: &[(i64, i64, i64, i64, i64)],

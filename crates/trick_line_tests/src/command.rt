@@ -236,7 +236,7 @@ fn first_right(
     Ok(None)
 }
 
-// The first byte that is wrongly taken: as a line, behind a line, or between quotes. White space says
+// The first byte that is wrongly taken: as a line, after a line, or between quotes. White space says
 // nothing, a line feed stands in no line, and a quote may be any byte but itself.
 fn first_odd_byte(alloc: Global) -> Result<Option<u8>, AllocError> {
     for byte in 0..=255u8 {

@@ -57,7 +57,7 @@ fn lines_come_however_they_are_cut(rt: HostRuntime) -> Result<(), Fail> {
     Ok(())
 }
 
-// Of bytes that end with a line feed, and of another line behind them, cut at a place: whether the first
+// Of bytes that end with a line feed, and of another line after them, cut at a place: whether the first
 // piece and the second are taken, and whether this line and the other come of them.
 fn taken(
     alloc: Global,
@@ -120,7 +120,7 @@ fn lines_come_byte_by_byte(rt: HostRuntime) -> Result<(), Fail> {
     for line in [b"".as_slice(), b"\r", b"\0\xff", long.as_slice(), b"end"] {
         assert!(rt; gives(&mut feed, line));
     }
-    // one byte more is too many, whatever comes behind it, and the lines before it stay
+    // one byte more is too many, whatever comes after it, and the lines before it stay
     assert!(rt; feed.push(b"last\n").is_ok());
     for _byte in 0..4096 {
         assert!(rt; feed.push(b"x").is_ok());

@@ -98,7 +98,7 @@ fn refusal_of(fault: JournalFault) -> Refusal {
     }
 }
 
-// How a run that starts at turn 3 refuses two texts, one behind the other.
+// How a run that starts at turn 3 refuses two texts, one after the other.
 fn refusal(alloc: Global, front: &[u8], back: &[u8]) -> Result<Refusal, AllocError> {
     let mut text = front.to_vec(alloc)?;
     text.extend_from_slice(back)?;
@@ -192,7 +192,7 @@ fn no_prefix_is_a_journal(rt: HostRuntime) -> Result<(), Fail> {
 // A text, and how it is refused.
 type Case = (&'static [u8], Refusal);
 
-// The first of these texts that is refused otherwise, behind a front.
+// The first of these texts that is refused otherwise, after a front.
 fn first_unlike(
     alloc: Global,
     front: &[u8],
@@ -235,7 +235,7 @@ const BEGIN: [Case; 20] = [
 
 const FRONT: &[u8] = b"tricks journal 1\nfrom 2\n2 join 1\n2 cmd 1 x = \"a b\"\n2 publish 1\n";
 
-// Lines behind the front.
+// Lines after the front.
 const REST: [Case; 55] = [
     (b"3 join 2\nend 4\n", ("", 0)),
     (b"end 3\n", ("", 0)),
@@ -298,7 +298,7 @@ const REST: [Case; 55] = [
     (b"3 leave 1 Exit\n3 leave 1 Exit\n", ("NotJoined", 7)),
 ];
 
-// Publications behind the front.
+// Publications after the front.
 const PUBLICATIONS: [Case; 14] = [
     (b"2 publish 2\n", ("NotAsync", 6)),
     (b"3 publish 2\n", ("NotAsync", 6)),

@@ -201,7 +201,7 @@ fn word_of(act: &Option<Action>) -> &'static str {
     }
 }
 
-// The names of a list, each behind `+` where it is that of the cell and else behind `?`.
+// The names of a list, each after `+` where it is that of the cell and else after `?`.
 fn list_of(alloc: Global, variables: &[(Word, Option<Cell>)]) -> Result<Vec<u8>, AllocError> {
     let mut list = Vec::new(alloc);
     for variable in variables {

@@ -48,7 +48,7 @@ module _ (jobs : Jobs) (settings : Settings) (all : List Call) (start : Draft) w
   stops_at calls f r is =
       subst (λ (r : Result Draft JoinFault). Then (λ e. Drafted jobs settings calls e (Err f)) r (Err f)) (sym is) refl
 
-  -- behind a line that is taken the others go on
+  -- after a line that is taken the others go on
   goes_on : (calls : List Call) (e : Draft) (answer : Result Draft JoinFault) (r : Result Draft JoinFault) → r ≡ Ok e
       → Drafted jobs settings calls e answer → Then (λ x. Drafted jobs settings calls x answer) r answer
   goes_on calls e answer r is others =

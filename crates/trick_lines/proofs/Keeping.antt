@@ -107,7 +107,7 @@ declares law jobs settings texts p (form.Declare text) d e kind h mirrors right 
     law jobs settings.threads p texts.declaration d e h mirrors right
 declares law jobs settings texts p other d e kind h mirrors right = absurd (cc kind)
 
--- What a line that is taken keeps of a draft, over a program and the program behind it.
+-- What a line that is taken keeps of a draft, over a program and the program after it.
 module _ (lines : AllLinesKeep) (declarations : DeclarationsKeep) (jobs : Jobs) (settings : Settings)
     (frame : IsFrame settings.frame) (texts : Texts) (line : ℕ) where
   pub right_after : (p : Program) (f : Form) (d e : Draft) → fault_of_time line (time_in f) ≡ None

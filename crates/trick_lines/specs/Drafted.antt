@@ -1,4 +1,4 @@
--- All lines of an input, one after another: the draft behind the last line, or the first refusal.
+-- All lines of an input, one after another: the draft after the last line, or the first refusal.
 use Rattle.std.specs.Prelude.{◌≡◌, ℕ, List, [], ◌∷◌, Option, Some, None, Result, Ok, Err}
 use Rattle.trick_draft.specs.Jobs.{Jobs}
 use Rattle.trick_draft.specs.declared.draft.Draft.{Draft}
@@ -43,7 +43,7 @@ abbrev pub Then : (Draft → Type 0) → Result Draft JoinFault → Result Draft
 Then others (Ok d) answer = others d
 Then others (Err refused) answer = answer ≡ Err refused
 
--- The lines answer this, from a draft on: the draft behind the last one, or the first refusal.
+-- The lines answer this, from a draft on: the draft after the last one, or the first refusal.
 abbrev pub Drafted : Jobs → Settings → List Call → Draft → Result Draft JoinFault → Type 0
 Drafted jobs settings [] d answer = answer ≡ Ok d
 Drafted jobs settings (call ∷ calls) d answer =

@@ -18,7 +18,7 @@ use Rattle.trick_model.specs.Valid.{cell_names}
 abbrev pub shown : List (Vec ℕ Global) → List (List ℕ)
 shown = map (λ key. key.items)
 
--- ---- a name at the front, and one behind it
+-- ---- a name at the front, and one after it
 
 pub find_here : (name other : List ℕ) (others : List (List ℕ)) → bytes_eq name other ≡ true → find_name name (other ∷ others) ≡ Some 0
 find_here name other others h =
@@ -133,7 +133,7 @@ differs a b h = by (bytes_eq b a) refl
     by false s = s
     by true s = let same = (bytes_eq-Decides a b).1 (sym ((bytes_eq-Decides b a).0 s)) in cc (rw same at h)
 
--- the name of a cell behind others is none of theirs
+-- the name of a cell after others is none of theirs
 other_name : (first v : Variable) (between behind : List Variable) → list_all (λ o. not (of_one_name first o)) (between ++ v ∷ behind) ≡ true
     → not (bytes_eq first.name v.name) ≡ true
 other_name first v [] behind h = (and_parts (not (of_one_name first v)) (list_all (λ o. not (of_one_name first o)) behind) h).0

@@ -71,7 +71,7 @@ must_idle p tic s h =
 pub jobs_idle : (p : Plan) (tic : ℕ) (s : State) → jobs_at p s.jobs tic ≡ [] → jobs_done p tic s ≡ s
 jobs_idle p tic s none = ap (λ (ks : List ℕ). settled (after_jobs p (is_on s.jobs) tic ks s.memory) s) none
 
--- a tic behind its events, and behind its jobs
+-- a tic after its events, and after its jobs
 abbrev pub behind_jobs : Plan → ℕ → Asking → State → Ticked
 behind_jobs p now b s =
     let recorded = rows now 0 p.groups s in

@@ -56,14 +56,14 @@ pub two_actions : actions_of (codes "trick.freeze(); a = 1") ≡ Some (action.Fr
 unfolding int_wrap digits pieces.front pieces.name_front pieces.number_front pieces.mark_len pieces.text_front
 two_actions = refl
 
--- There is none behind the last `;`, none between two, and none in an empty string.
+-- There is none after the last `;`, none between two, and none in an empty string.
 pub no_actions : map actions_of (codes "trick.freeze();" ∷ codes "a = 1;;a = 2" ∷ codes "" ∷ codes "trick.var_send()" ∷ []) ≡ replicate 4 None
 unfolding int_wrap digits pieces.front pieces.name_front pieces.number_front pieces.mark_len pieces.text_front
 no_actions = refl
 
 -- ---- the lines of bytes
 
--- One carriage return goes with its line feed, and bytes behind the last line feed are no line.
+-- One carriage return goes with its line feed, and bytes after the last line feed are no line.
 pub lines_are_cut : lines (codes "a\r\nb\n\n\r\r\nc") ≡ (codes "a" ∷ codes "b" ∷ [] ∷ codes "\r" ∷ [])
 lines_are_cut = refl
 

@@ -17,7 +17,7 @@ use Rattle.trick_model.specs.ValidState.{AreInRange, AreNumbersOf, Each}
 
 -- ---- entries
 
--- the entry behind a first one
+-- the entry after a first one
 tail_each : {A : Type 0} (P : ℕ → A → Type 0) (none x : A) (xs : List A) → Each P none (x ∷ xs) → Each (λ k. P (suc k)) none xs
 tail_each P none x xs each k = each (suc k)
 

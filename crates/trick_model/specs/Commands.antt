@@ -56,7 +56,7 @@ action_forms =
 abbrev pub action_of : List Lexeme → Option Action
 action_of ws = read_forms action_forms ws
 
--- the words up to the first `;`, and those of the actions behind it
+-- the words up to the first `;`, and those of the actions after it
 abbrev pub parts_of : List Lexeme → List Lexeme → List (List Lexeme)
 parts_of part [] = part ∷ []
 parts_of part (word ∷ ws) = elim (is_word (codes ";") word) [

@@ -28,7 +28,7 @@ pub data Value : Type 0 where
   Bytes : (bytes : List ℕ) → Value
   Number : (number : ℤ) → Value
 
--- what was read by a piece: its values, and the words behind it
+-- what was read by a piece: its values, and the words after it
 pub record Read : Type 0 where
   pub values : List Value
   pub behind : List Lexeme
@@ -86,7 +86,7 @@ time_of word = elim (word.kind) [
 
 -- ---- pieces
 
--- a value that one word stands for, with the words behind it
+-- a value that one word stands for, with the words after it
 abbrev pub one_value : {A : Type 0} → (A → Value) → Option A → List Lexeme → Option Read
 one_value value None behind = None
 one_value value (Some a) behind = Some (record { values = value a ∷ []; behind = behind })

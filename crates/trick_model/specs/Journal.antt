@@ -124,7 +124,7 @@ cause_text cause.Slow = codes "Slow"
 cause_text cause.NoThread = codes "NoThread"
 cause_text cause.OutOfMemory = codes "OutOfMemory"
 
--- an entry as it stands behind its turn
+-- an entry as it stands after its turn
 abbrev pub entry_text : Entry → List ℕ
 entry_text (Join session) = codes "join " ++ decimal session
 entry_text (Said session line) = codes "cmd " ++ decimal session ++ codes " " ++ line

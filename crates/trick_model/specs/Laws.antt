@@ -102,7 +102,7 @@ pub record RunsJoin : Type 0 where
       → after_turns p w (early ++ late) ≡ after_turns p (after_turns p w early) late
 
 -- What a run comes to from the state after its first turns on: it fits and ends alike, and the whole run
--- writes its start, its first turns, and then what the other one writes behind its start.
+-- writes its start, its first turns, and then what the other one writes after its start.
 pub record Continues (p : Plan) (s after : State) (early late : List (List Entry)) : Type 0 where
   pub fits : Fits p after late
   pub ends : final p s (early ++ late) ≡ final p after late

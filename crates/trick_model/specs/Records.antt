@@ -38,7 +38,7 @@ writes_row tic k group s =
 abbrev pub log_name : Group → List ℕ
 log_name group = codes "log_" ++ group.name ++ codes ".csv"
 
--- fields, each behind a comma, and a line feed
+-- fields, each after a comma, and a line feed
 abbrev pub fields : List (List ℕ) → List ℕ
 fields [] = codes "\n"
 fields (f ∷ fs) = codes "," ++ f ++ fields fs

@@ -83,12 +83,12 @@ shut p s = elim (is_shut s.mode) [ true ↦ s | false ↦ run_class p class.Shut
 
 -- ---- the turns
 
--- the entries of the next turn; behind its last list a journal has no entries
+-- the entries of the next turn; after its last list a journal has no entries
 abbrev pub next_of : List (List Entry) → List Entry
 next_of [] = []
 next_of (entries ∷ left) = entries
 
--- the lists behind those of the next turn
+-- the lists after those of the next turn
 abbrev pub rest_of : List (List Entry) → List (List Entry)
 rest_of [] = []
 rest_of (entries ∷ left) = left

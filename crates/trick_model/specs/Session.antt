@@ -110,7 +110,7 @@ abbrev pub shown : List ℤ → Option Cell → List ℕ
 shown memory None = codes "BAD_REF"
 shown memory (Some cell) = signed_decimal (number_at memory cell.0)
 
--- the variables, each behind a tab, and a line feed
+-- the variables, each after a tab, and a line feed
 abbrev pub sample_fields : List ℤ → List (List ℕ × Option Cell) → List ℕ
 sample_fields memory [] = codes "\n"
 sample_fields memory (v ∷ vs) = codes "\t" ++ shown memory v.1 ++ sample_fields memory vs

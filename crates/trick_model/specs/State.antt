@@ -1,4 +1,4 @@
--- A state: all that a run goes on from, and what a checkpoint keeps.
+-- The state of a run.
 use Rattle.std.specs.List.{slice_index_or}
 use Rattle.std.specs.Prelude.{ℕ, ℤ, pos, false, List, [], Option}
 use Rattle.trick_model.specs.FaultList.{FaultList}

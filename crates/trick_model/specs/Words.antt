@@ -15,7 +15,7 @@ pub record Lexeme : Type 0 where
 abbrev pub with_word : Lexeme → Option (List Lexeme) → Option (List Lexeme)
 with_word word words = option_map (λ others. word ∷ others) words
 
--- the piece at the front of a text, and the words of what stands behind it; none where it is no token
+-- the piece at the front of a text, and the words of what stands after it; none where it is no token
 abbrev pub words_behind : (List ℕ → Option (List Lexeme)) → List ℕ → Piece → Option (List Lexeme)
 words_behind others text (Blank n) = others (drop n text)
 words_behind others text (Token kind n) = with_word (record { kind = kind; bytes = take n text }) (others (drop n text))

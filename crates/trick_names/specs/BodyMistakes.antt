@@ -125,7 +125,7 @@ declared written name locals = with_name name (record { scalar = scalar_of writt
 abbrev pub loop_in : Name → Names Local → Names Local
 loop_in name locals = with_name name (record { scalar = Long; is_loop = true }) locals
 
--- the locals that are known behind a statement: its own, and none of those in it
+-- the locals that are known after a statement: its own, and none of those in it
 abbrev pub after : Statement → Names Local → Names Local
 after (Declare line written name value) locals = declared written name locals
 after _ locals = locals

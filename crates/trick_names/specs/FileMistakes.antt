@@ -57,7 +57,7 @@ all_members_mistakes (m ∷ ms) names members =
 
 -- ---- classes
 
--- in what a part of a class declares, behind what was read of the class; there is one constructor at
+-- in what a part of a class declares, after what was read of the class; there is one constructor at
 -- most
 abbrev pub declared_mistakes : tree.Part → Names Global → Inside → List Mistake
 declared_mistakes Public names inside = []

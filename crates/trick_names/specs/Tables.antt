@@ -88,7 +88,7 @@ with_all_members (m ∷ ms) names members = with_all_members ms names (with_memb
 abbrev pub nothing_inside : Inside
 nothing_inside = record { members = []; constructed = false }
 
--- The names behind a part of a class, by the part's number, where those of the file are known.
+-- The names after a part of a class, by the part's number, where those of the file are known.
 -- Variables and methods share one space of names, and a constructor is in none.
 abbrev pub behind_part : tree.Part → ℕ → Names Global → Inside → Inside
 behind_part Public number names inside = inside
@@ -104,8 +104,8 @@ behind_parts (part ∷ rest) number names inside =
 
 -- ---- the file
 
--- The names behind a definition, by its number in the file. Types, objects and enum items share one
--- space of names, and a type is known behind its definition.
+-- The names after a definition, by its number in the file. Types, objects and enum items share one
+-- space of names, and a type is known after its definition.
 abbrev pub names_behind : tree.Definition → ℕ → Names Global → Names Global
 names_behind Include number names = names
 names_behind (Enum name items) number names = with_items items (pos 0) (with_name name the.Enum names)

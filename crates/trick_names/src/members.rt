@@ -25,7 +25,7 @@ fn value(item: &EnumItem, next: i128) -> i128
     item.value.unwrap_or(next)
 }
 
-// The value behind one.
+// The value after one.
 fn following(value: i32) -> i128
     ensures { result ≡ value +ℤ pos 1 }
 {

@@ -18,7 +18,7 @@ use Rattle.trick_order.specs.Rounds.{AreRounds, AreRoundsOf, in_round, round_beh
 abbrev get_at : List (List ℕ) → ℕ → List ℕ
 get_at xs k = get_or xs k []
 
--- ---- the first round behind those of some methods
+-- ---- the first round after those of some methods
 
 pub behind_each : (rounds ms : List ℕ) (m : ℕ) → has ms m ≡ true → get_or rounds m 0 < round_behind rounds ms
 behind_each rounds [] m h = absurd (cc h)

@@ -62,7 +62,7 @@ pub stand_split : (g : List (List ℕ)) (seen xs ys : List ℕ) → stand_after 
 stand_split g seen [] ys s = subst (λ q. stand_after g q ys ≡ true) (sym (append-nil seen)) s
 stand_split g seen (x ∷ xs) ys s = subst (λ q. stand_after g q ys ≡ true) (append_assoc seen (x ∷ []) xs) (stand_split g (seen ++ x ∷ []) xs ys (both _ _ s).1)
 
--- those of a round, behind the rounds before and those of this round that are before them in the text
+-- those of a round, after the rounds before and those of this round that are before them in the text
 stand_round : (g : List (List ℕ)) (p done : List ℕ) (n a : ℕ) → ((k : ℕ) → has done k ≡ true → k < a) → stand_after g (p ++ done) (filter (is_next g p) (range_with_len a n)) ≡ true
 stand_round g p done zero a low = refl
 stand_round g p done (suc n) a low = by (is_next g p a) refl (stand_round g p (done ++ a ∷ []) n (a + 1) low_push) (stand_round g p done n (a + 1) (λ k h. omega (arith, low k h))) where

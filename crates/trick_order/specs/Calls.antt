@@ -45,18 +45,18 @@ abbrev pub each_below : ℕ → List (List ℕ) → Bool
 each_below n [] = true
 each_below n (c ∷ cs) = all_below n c && each_below n cs
 
--- each method of a list is behind all that it calls, and stands once
+-- each method of a list is after all that it calls, and stands once
 abbrev pub stand_after : List (List ℕ) → List ℕ → List ℕ → Bool
 stand_after g seen [] = true
 stand_after g seen (m ∷ ms) = (not (has seen m) && all_in (callees g m) seen) && stand_after g (seen ++ m ∷ []) ms
 
--- all methods, each behind all that it calls
+-- all methods, each after all that it calls
 abbrev pub IsOrderOf : List (List ℕ) → List ℕ → Type 0
 IsOrderOf g order =
     (stand_after g [] order ≡ true) × ((k : ℕ) → k < length g → has order k ≡ true)
     × ((k : ℕ) → has order k ≡ true → k < length g)
 
--- the method may stand in the round behind these: it is none of them, and they have all that it calls
+-- the method may stand in the round after these: it is none of them, and they have all that it calls
 abbrev pub is_next : List (List ℕ) → List ℕ → ℕ → Bool
 is_next g earlier m = not (has earlier m) && all_in (callees g m) earlier
 

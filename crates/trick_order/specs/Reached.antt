@@ -8,7 +8,7 @@ unseen [] = 0
 unseen (true ∷ bs) = unseen bs
 unseen (false ∷ bs) = suc (unseen bs)
 
--- those of cs that were not seen are behind the queue now
+-- those of cs that were not seen are after the queue now
 pub record Adds (cs : List ℕ) (seen : List Bool) (queue : List ℕ) (seen' : List Bool) (queue' : List ℕ) : Type 0 where
   pub size : length seen' ≡ length seen
   pub seen_is : (k : ℕ) → slice_index_or seen' k false ≡ has queue' k

@@ -3,18 +3,18 @@ use Rattle.std.specs.List.{range_with_len}
 use Rattle.std.specs.Prelude.{◌≡◌, ◌<◌, ◌==◌, ℕ, suc, true, List, [], ◌∷◌, filter, length, max, slice_index_or}
 use Rattle.trick_order.specs.Calls.{callees, has}
 
--- the first round behind those of these methods
+-- the first round after those of these methods
 abbrev pub round_behind : List ℕ → List ℕ → ℕ
 round_behind rounds [] = 0
 round_behind rounds (m ∷ ms) = max (suc (slice_index_or rounds m 0)) (round_behind rounds ms)
 
--- each method stands in the first round behind those of the methods that it calls
+-- each method stands in the first round after those of the methods that it calls
 pub record AreRounds (g : List (List ℕ)) (rounds : List ℕ) : Type 0 where
   pub many : length rounds ≡ length g
   pub behind : (k : ℕ) → k < length g → slice_index_or rounds k 0 ≡ round_behind rounds (callees g k)
   pub low : (k : ℕ) → k < length g → slice_index_or rounds k 0 < length g
 
--- the same of the methods of a list so far, each of which stands there behind all that it calls
+-- the same of the methods of a list so far, each of which stands there after all that it calls
 pub record AreRoundsOf (g : List (List ℕ)) (front : List ℕ) (rounds : List ℕ) : Type 0 where
   pub many : length rounds ≡ length g
   pub behind : (k : ℕ) → has front k ≡ true → slice_index_or rounds k 0 ≡ round_behind rounds (callees g k)

@@ -1,4 +1,4 @@
-//! Which methods call which: the one order in which each stands behind those that it calls, and else
+//! Which methods call which: the one order in which each stands after those that it calls, and else
 //! the first one that reaches itself.
 #![tactic(auto)]
 

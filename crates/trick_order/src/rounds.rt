@@ -8,7 +8,7 @@ use crate::reach::callees;
 use std::alloc::{AllocError, Global};
 use trick_base::Items;
 
-// The first round behind those of these methods.
+// The first round after those of these methods.
 fn round_behind(rounds: &[usize], methods: &[usize]) -> usize
     requires there { All (λ m. m < length rounds.now) methods.now }
     requires low { All (λ m. slice_index_or rounds.now m 0 < length rounds.now) methods.now }
@@ -50,7 +50,7 @@ fn empty_rounds(alloc: Global, count: usize) -> Result<Vec<Items<usize>>, AllocE
     Ok(found)
 }
 
-// Puts a method behind those of its round.
+// Puts a method after those of its round.
 fn put(method: usize, round: usize, found: &mut Vec<Items<usize>>) -> Result<(), AllocError>
     requires here { round < length found.old.items }
     ensures { OnOk result (found.new.items

@@ -26,7 +26,7 @@ pub struct Search {
     pub stacked: Vec<bool>,
     /// How many callees of a method on the stack were passed, which are in the order.
     pub next: Vec<usize>,
-    /// Methods, each behind those that it calls.
+    /// Methods, each after those that it calls.
     pub order: Vec<usize>,
     /// Methods of which each calls the next one.
     pub stack: Vec<usize>,
@@ -126,7 +126,7 @@ fn begin(calls: &[Items<usize>], search: &mut Search, method: usize) -> Result<(
     Ok(())
 }
 
-// The last method on the stack is put behind those that it calls.
+// The last method on the stack is put after those that it calls.
 fn finish(calls: &[Items<usize>], search: &mut Search) -> Result<(), AllocError>
     requires keeps { Keeps calls.now search.old }
     requires passed { (m : ℕ) → EndsWith search.old.stack.items m →
@@ -207,7 +207,7 @@ fn searched(alloc: Global, calls: &[Items<usize>]) -> Result<Option<Vec<usize>>,
 
 /// All methods in their one order, where none reaches itself: by rounds, first those that call none,
 /// then those that call none but methods of earlier rounds, and so on; in a round by their numbers. So
-/// each stands behind those that it calls. `calls` has for each method those that it calls, by number.
+/// each stands after those that it calls. `calls` has for each method those that it calls, by number.
 /// An order takes time in the number of methods and calls. A fault names the first method that reaches
 /// itself, which is searched for from each method before it.
 pub fn order(alloc: Global, calls: &[Items<usize>]) -> Result<Vec<usize>, OrderFault>

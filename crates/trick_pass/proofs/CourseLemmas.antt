@@ -1,4 +1,4 @@
--- What a turn leaves as it is, so that a run is under way behind each of its parts.
+-- What a turn leaves as it is, so that a run is under way after each of its parts.
 use Rattle.std.proofs.Common.{◌≡◌, ◌∙◌, ℕ, ◌+◌, List, [], ◌∷◌, Bool, true, false, Option, Some, None, refl, subst, sym}
 use Rattle.std.specs.Prelude.{slice_set}
 use Rattle.trick_beside.specs.Flight.{GoesWith, IsInFlight}

@@ -1,4 +1,4 @@
--- What a turn leaves as it is, so that a run is under way behind each of its parts.
+-- What a turn leaves as it is, so that a run is under way after each of its parts.
 pub mod CourseLemmas
 -- The parts of a turn whose entries were heard make it.
 pub mod PassLemmas

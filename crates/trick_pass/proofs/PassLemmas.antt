@@ -34,7 +34,7 @@ pub frame_writes : (p : Plan) (entries : List Entry) (a : Asking) (top : State) 
     → (frame p (record a { state = top })).writes ≡ (run_frame p entries a).writes
 frame_writes p entries a top first = ap (λ (s : State). (frame p (record a { state = s })).writes) first
 
--- ---- a turn behind its entries
+-- ---- a turn after its entries
 
 -- a state with what is written of it
 abbrev with_checkpoint : Plan → Bool → State → Passed
@@ -68,7 +68,7 @@ with_steps {U = U} {shelf = shelf} {old = old} {new = new} calls steps value sam
     let result : Result U Stop = Ok value in
     subst (λ (c : List Call). Does shelf old new result c) same (does_ok value did ok)
 
--- what is written behind a frame
+-- what is written after a frame
 left_steps : (p : Plan) (entries : List Entry) (a : Asking) → List Call
 left_steps p entries a =
     let after = (framed p (runs a.state) entries a).asking in

@@ -34,7 +34,7 @@ use Rattle.trick_places.specs.Named.{AreNamed, AreTied, HasAt, IsHeld, dims_cell
 one_name : (p q : Name) → bytes_eq p q ≡ true → p ≡ q
 one_name p q h = search (rules, bytes_eq-Decides)
 
--- what a name means behind a new one: what it meant, or it is that one
+-- what a name means after a new one: what it meant, or it is that one
 added : {T : Type 0} (P : Name → T → Type 0) (q name : Name) (x y : T) (names : Names T) → P name x → (meaning_of q names ≡ Some y → P q y) → meaning_of q (names ++ (name, x) ∷ []) ≡ Some y → P q y
 added {T} P q name x y [] new old is = by (bytes_eq q name) refl is where
   by : (b : Bool) → bytes_eq q name ≡ b → (if b then Some x else None) ≡ Some y → P q y

@@ -75,13 +75,13 @@ next_text (Some k) rest ns = bracket k ++ rest ns
 next_text None rest [] = []
 next_text None rest (n ∷ ns) = bracket n ++ rest ns
 
--- the text behind a path's first name
+-- the text after a path's first name
 abbrev pub path_text : Parts → List ℕ → Name
 path_text NoPart ns = []
 path_text (Member line name rest) ns = dotted name ++ path_text rest ns
 path_text (Index e rest) ns = next_text (literal_of e) (λ more. path_text rest more) ns
 
--- the first name: of a variable of the class it stands behind the object's
+-- the first name: of a variable of the class it stands after the object's
 abbrev pub first_text : Bool → Name → Name
 first_text true name = dotted name
 first_text false name = name

@@ -23,7 +23,7 @@ pub record HasDraft (p : Program) (calls : List Call) (plan : Plan) (d : Draft) 
   pub cells : Mirrors plan.program d
   pub parts : AreParts d (settings_in p.jobs calls) (parts_of plan)
 
--- A program and the lines of an input join to this: the plan that has the draft behind the last line, or the
+-- A program and the lines of an input join to this: the plan that has the draft after the last line, or the
 -- first refusal. A want of memory may come at any time.
 abbrev pub IsPlan : Program → List Call → Result Plan JoinFault → Type 0
 IsPlan p calls (Ok plan) = (d : Draft) × AreAnswered p calls (Ok d) × HasDraft p calls plan d

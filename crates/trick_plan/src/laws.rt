@@ -12,7 +12,7 @@ pub fn answers_are_one()
 }
 
 /// A plan that a program and the lines of an input make means what the lines have said: it is the one of the
-/// draft behind the last line.
+/// draft after the last line.
 pub fn plans_are_said()
     ensures { PlansAreSaid }
 {

@@ -24,7 +24,7 @@ unfolding jobs_of_numbers
 numbers_of_them [] = refl
 numbers_of_them (k ∷ ks) = ap (λ (l : List ℕ). k ∷ l) (numbers_of_them ks)
 
--- behind the last time no job is due
+-- after the last time no job is due
 pub none_due : (plan : PlanValue) (on : Flags) (tic : ℕ) → ((d : Due) (t : ℕ) → IsTrue (is_due_at d t) → IsDue d t) → tic_limit < tic
     → jobs_at (plan_of plan) on tic ≡ []
 none_due plan on tic tells late =

@@ -161,7 +161,7 @@ steps_more due i job less is =
     ∙ sym (one_by_one_join (take i (ids due)) (k ∷ []))
     ∙ ap one_by_one (sym (take_more (ids due) i 0 (omega (arith, ids_length due))))
 
--- the due jobs are those before it, it, and those behind it
+-- the due jobs are those before it, it, and those after it
 pub due_split : (due : List JobId) (i : ℕ) (job : JobId) → i < length due → (slice_index_or due i job) ≡ job
     → ids due ≡ take i (ids due) ++ job.0 ∷ drop (i + 1) (ids due)
 due_split due i job less is =

@@ -37,7 +37,7 @@ pub trait Posts {
     /// What is started and not finished, by the number of the thread.
     ghost in_flight: { Self → ℕ → Option Started };
 
-    /// How often a round that was asked for was not done.
+    /// How late rounds were: at least how often one that was asked for was not done.
     ghost lateness: { Self → ℕ };
 
     /// The value goes from the first state to the second by these polls.
@@ -62,7 +62,7 @@ pub trait Posts {
         ensures late { lateness self.old ≤ lateness self.new }
         ensures asked { asked self.old (record { thread = thread; turn = turn; answer = result } ∷ []) self.new };
 
-    /// How often a poll was answered by `NotYet`; it stands still at 2^64 - 1.
+    /// At least how often a poll was answered by `NotYet`; it stands still at 2^64 - 1.
     fn late(&self) -> u64
         ensures { result ≡ lateness self.now };
 

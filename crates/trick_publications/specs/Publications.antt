@@ -21,7 +21,7 @@ abbrev pub lines_of : List Entry → List Entry
 lines_of entries = filter is_of_session entries
 
 -- Lists of entries differ in publications alone: at each turn they have the same joins, lines and leaves,
--- in the same order. Behind its last list a journal has no entries.
+-- in the same order. After its last list a journal has no entries.
 abbrev pub DifferInPublications : List (List Entry) → List (List Entry) → Type 0
 DifferInPublications one other =
     (turn : ℕ) → lines_of (slice_index_or one turn []) ≡ lines_of (slice_index_or other turn [])

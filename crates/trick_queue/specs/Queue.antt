@@ -60,7 +60,7 @@ pub record IsRoomy (jobs : List JobId) (tics : List ℕ) (room : ℕ) : Type 0 w
   pub as_many : length tics ≡ length jobs
   pub room_is : length jobs ≤ room
 
--- The job is not due at the tic, and its next tic is one of those behind it.
+-- The job is not due at the tic, and its next tic is one of those after it.
 pub record IsKnown (d : Due) (tic next_tic : ℕ) : Type 0 where
   pub not_due : is_due_at d tic ≡ false
   pub next : IsNext d (tic + 1) next_tic
@@ -71,7 +71,7 @@ AreKnown jobs ids tics tic first end =
     (place : ℕ) → first ≤ place → place < end → tic < slice_index_or tics place never
     → IsKnown (times_at jobs (id_at ids place)) tic (slice_index_or tics place never)
 
--- A tic is passed: these are its due jobs, and each job has its next tic behind it.
+-- A tic is passed: these are its due jobs, and each job has its next tic after it.
 pub record IsPassed (jobs : List Job) (ids_of : List JobId) (tics : List ℕ) (tic : ℕ) (due : List JobId) : Type 0 where
   pub as_many : length tics ≡ length ids_of
   pub next : AreNext jobs ids_of tics (tic + 1) 0 (length ids_of)

@@ -7,7 +7,7 @@ use Rattle.std.specs.Prelude.{◌≡◌, ◌≢◌, ◌⊎◌, ℕ, ◌+◌, ◌
 abbrev pub never : ℕ
 never = 2 ^ 64 - 1
 
--- The number of a node: that of an inner one is kept, that of a leaf is its tic. There is none behind
+-- The number of a node: that of an inner one is kept, that of a leaf is its tic. There is none after
 -- the last leaf.
 abbrev pub low_of : List ℕ → List ℕ → ℕ → ℕ
 low_of lows tics node =

@@ -31,11 +31,11 @@ pub record IsRaceAt (p : Plan) (a b tic : ℕ) : Type 0 where
   pub races : IsFine p a b → ⊥
   pub first_tic : IsLeast (IsShared (due_of p p.jobs_on a) (due_of p p.jobs_on b)) tic
 
--- the job at a place races with none behind it
+-- the job at a place races with none after it
 abbrev pub IsFineAt : Plan → List JobId → ℕ → Type 0
 IsFineAt p racers i = (j : ℕ) → i < j → j < length racers → IsFine p (racer_at racers i) (racer_at racers j)
 
--- the first job behind a place that races with the one there
+-- the first job after a place that races with the one there
 pub record IsFirstOther (p : Plan) (racers : List JobId) (i other tic : ℕ) : Type 0 where
   pub place : (j : ℕ) × (i < j) × (j < length racers) × (racer_at racers j ≡ other)
       × ((k : ℕ) → i < k → k < j → IsFine p (racer_at racers i) (racer_at racers k))

@@ -128,7 +128,7 @@ fn race_of(plan: &Plan, accesses: &[Access], a: JobId, b: JobId) -> Option<u64>
     Some(tic)
 }
 
-// The first job behind a place that races with the one there, and the first tic of the race.
+// The first job after a place that races with the one there, and the first tic of the race.
 fn first_other(
     plan: &Plan,
     accesses: &[Access],

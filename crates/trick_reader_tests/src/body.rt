@@ -118,7 +118,7 @@ fn a_place_has_at_most_4096_steps(rt: HostRuntime) -> Result<(), Fail> {
     Ok(())
 }
 
-// Of a method that begins at a token of a text the place behind its last one, or why it is none.
+// Of a method that begins at a token of a text the place after its last one, or why it is none.
 fn end_of(rt: &HostRuntime, text: &[u8], from: usize) -> Result<Result<usize, BodyFault>, Fail> {
     laws::all_are_tokens();
     let found = tokens(rt.alloc(), text, Style::SDefine)?;

@@ -86,7 +86,7 @@ module _ (text : List ℕ) (ts : List cut.Token) (f : Option FirstFault) where
   behind_all z refused first [] is some = some refl
   behind_all z refused first (t ∷ more) is some = gone z refused first t more is
 
-  -- a token is not refused where the fault behind all of them is told
+  -- a token is not refused where the fault after all of them is told
   token_or_fault : (one other : SdefFault) → AtToken one → AtFault other → ⊥
   unfolding AtToken AtFault
   token_or_fault one other (z, answer, all, inl none, told) at = no_fault at.0 none at.1

@@ -5,7 +5,7 @@ use Rattle.csv.specs.declared.writer.QuoteStyle.TheVariants as style
 use Rattle.csv.specs.declared.writer.Writer.{Writer}
 use Rattle.csv.specs.declared.writer.WriterBuilder.{WriterBuilder}
 
--- commas between fields, a line feed behind the last one, and no quotes
+-- commas between fields, a line feed after the last one, and no quotes
 abbrev pub plain_writer : WriterBuilder
 plain_writer = with_style default_writer style.Never
 

@@ -1,7 +1,7 @@
 -- The line of a refusal, by its code and its fields.
 use Rattle.std.specs.Prelude.{ℕ, List, [], ◌∷◌, ◌++◌, codes, decimal}
 
--- fields, each behind a space
+-- fields, each after a space
 abbrev pub fields : List (List ℕ) → List ℕ
 fields [] = []
 fields (f ∷ fs) = codes " " ++ f ++ fields fs

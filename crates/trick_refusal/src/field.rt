@@ -1,4 +1,4 @@
-//! What a line says behind its code.
+//! What a line says after its code.
 
 ghost use Rattle.std.specs.Prelude.{◌≡◌, ◌++◌, OnOk, codes};
 ghost use Rattle.trick_refusal.specs.Seen.{field_text};

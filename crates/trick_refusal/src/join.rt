@@ -10,7 +10,7 @@ use std::alloc::{AllocError, Global};
 use trick_lines::JoinFault;
 
 /// The line of an input that makes no plan of a program, with its line feed: `refused`, the code, `input`,
-/// and the line of the fault; and for one too many its limit behind the line. Refuses for want of memory
+/// and the line of the fault; and for one too many its limit after the line. Refuses for want of memory
 /// alone.
 pub fn join_line(alloc: Global, fault: JoinFault) -> Result<Vec<u8>, AllocError>
     ensures { IfOk result (λ line. line.items ≡ line_of fault) }

@@ -9,7 +9,7 @@ ghost use Rattle.trick_refusal.specs.Seen.{field_text};
 use crate::field::{Field, push_field};
 use std::alloc::{AllocError, Global};
 
-// Appends fields, each behind a space.
+// Appends fields, each after a space.
 fn push_fields(line: &mut Vec<u8>, fields: &[Field]) -> Result<(), AllocError>
     ensures { OnOk result (line.new.items ≡ line.old.items ++ fields_of (map field_text fields.now)) }
 {

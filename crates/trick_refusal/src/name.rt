@@ -101,7 +101,7 @@ fn instance(jobs: &[Job], job: JobId) -> u32
     }
 }
 
-/// The name of a job, which is that of its object, a dot and that of its method, and behind a space its
+/// The name of a job, which is that of its object, a dot and that of its method, and after a space its
 /// instance.
 pub(crate) fn job(alloc: Global, plan: &Plan, job: JobId) -> Result<Vec<u8>, AllocError>
     ensures { IfOk result (λ text. text.items ≡ job_text (plan_of plan.now) job.0) }

@@ -11,7 +11,7 @@ use trick_sdef::SdefFault;
 
 /// The line of an S_define that is not read, with its line feed: `refused`, the code, `S_define`, and the
 /// line of the fault; for a fault of the text itself its place, or the limit of a text that is too long;
-/// and for a long list its limit behind the line. Refuses for want of memory alone.
+/// and for a long list its limit after the line. Refuses for want of memory alone.
 pub fn s_define_line(alloc: Global, fault: SdefFault) -> Result<Vec<u8>, AllocError>
     ensures { IfOk result (λ line. line.items ≡ line_of fault) }
 {

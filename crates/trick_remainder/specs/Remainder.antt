@@ -106,7 +106,7 @@ pub record IsRemainder (p : Plan) (s : State) (entries : List Noted) (end turn :
       → IsTrue (is_made name (late_writes p s entries end turn))
       → whole_file p s entries end name before ≡ resumed_file p s entries end turn name later
 
--- It is so for each turn behind the first one that is not behind the journal's end.
+-- It is so for each turn after the first one that is not after the journal's end.
 abbrev pub RemaindersAreWritten : Type 0
 RemaindersAreWritten =
     (plan : PlanValue) (s : State) (entries : List Noted) (end turn : ℕ) → s.turn < turn → turn ≤ end

@@ -22,7 +22,7 @@ use Rattle.trick_model.specs.declared.plan.Plan.{Plan}
 use Rattle.trick_resume.specs.Loaded.{IsCheckpointOf, IsLoadedAs}
 use Rattle.trick_resume.specs.States.{CheckpointsAreOfStates, CheckpointsHaveNumbers}
 
--- what stands behind the first line
+-- what stands after the first line
 behind_line : List ℕ → List ℕ
 behind_line [] = []
 behind_line (t ∷ ts) = if nat_eq t 10 then ts else behind_line ts

@@ -27,7 +27,7 @@ fn is_refused(
     Ok(())
 }
 
-/// Whether the front of the checkpoint with this byte behind it is refused at its last line.
+/// Whether the front of the checkpoint with this byte after it is refused at its last line.
 fn is_bad_behind(rt: &(impl Abort + AllocGlobal), front: &[u8], byte: u8) -> Result<(), Fail> {
     let alloc = rt.alloc();
     let line = front.iter().filter(|byte| **byte == b'\n').count();
@@ -144,7 +144,7 @@ fn each_line_is_changed_in_each_way(rt: HostRuntime) -> Result<(), Fail> {
     Ok(())
 }
 
-/// Whether a checkpoint without this line, with it behind the next one, or with it twice is refused at the first line
+/// Whether a checkpoint without this line, with it after the next one, or with it twice is refused at the first line
 /// that is not due: as of another plan, but `end;` is a bad line.
 fn is_due(
     rt: &(impl Abort + AllocGlobal),
@@ -236,7 +236,7 @@ fn words_rows_and_the_end(rt: HostRuntime) -> Result<(), Fail> {
         (11, "last[0] = none,0;", "BadLine checkpoint 11"),
         (12, "taken[1] = hold;", "BadLine checkpoint 12"),
         (12, "taken[1] = 1;", "BadLine checkpoint 12"),
-        // the lines behind are not due then
+        // the lines after are not due then
         (12, "taken[1] = none;", "WrongPlan checkpoint 13"),
         (16, "faults = 1;", "BadLine checkpoint 17"),
         (17, "end", "BadLine checkpoint 17"),

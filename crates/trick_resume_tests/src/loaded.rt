@@ -121,7 +121,7 @@ const HEAD: &str = "checkpoint = 1;\nturn = 1;\ntic = 1;\nlimit = 1;\nmode = Shu
 
 const TAIL: &str = "faults = 0;\nend;\n";
 
-/// Whether a variable's line with this number, behind those before it, is refused as beyond its range.
+/// Whether a variable's line with this number, after those before it, is refused as beyond its range.
 fn is_beyond(
     rt: &(impl Abort + AllocGlobal),
     texts: Texts,

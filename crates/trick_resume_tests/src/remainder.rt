@@ -52,7 +52,7 @@ fn lines_from(alloc: Global, text: &str, mark: char, first: u64) -> Result<Strin
     Ok(rest)
 }
 
-/// Whether some line of a turn below this one goes on so behind its turn.
+/// Whether some line of a turn below this one goes on so after its turn.
 fn has_before(entries: &str, turn: u64, text: &str) -> bool {
     for line in entries.lines() {
         if let Some((at, rest)) = line.split_once(' ') {

@@ -40,7 +40,7 @@ fn lines_of_cells_and_of_the_run(rt: HostRuntime) -> Result<(), Fail> {
     accepts_each(&rt, PLANT, "", &inputs, PLANT_COUNTS)
 }
 
-/// Whether each variable may be declared, with a line behind, so that there are so many cells.
+/// Whether each variable may be declared, with a line after, so that there are so many cells.
 fn declare(rt: &(impl Abort + AllocGlobal), cases: &[(&str, &str, u32)]) -> Result<(), Fail> {
     for (declaration, line, cells) in cases {
         let input = format!(in rt.alloc(); "trick.TMM_declare_var_s('{declaration}')\n{line}")?;

@@ -6,7 +6,7 @@ use crate::told::{accepts, refuses_text};
 use std::process::Abort;
 use std::test::Fail;
 
-/// Whether a line may stand so often behind others, and no more often.
+/// Whether a line may stand so often after others, and no more often.
 fn stands_at_most(
     rt: &(impl Abort + AllocGlobal),
     front: &str,
@@ -84,7 +84,7 @@ fn actions_of_an_event(rt: HostRuntime) -> Result<(), Fail> {
     refuses_text(&rt, PLANT, input.as_str(), "OutOfRange input 18")
 }
 
-/// Whether there are too many cells with each of these, behind 2,000 others.
+/// Whether there are too many cells with each of these, after 2,000 others.
 fn are_too_many(rt: &(impl Abort + AllocGlobal), last: &[&str]) -> Result<(), Fail> {
     for declaration in last {
         let input = format!(in rt.alloc();

@@ -243,7 +243,7 @@ fn pairs_that_are_an_order(rt: HostRuntime) -> Result<(), Fail> {
             direct,
             2,
         ),
-        // the pair's first job is not before the one, and its second not behind the other
+        // the pair's first job is not before the one, and its second not after the other
         (
             r#"(1, "scheduled") wx(); (1, "scheduled") w0(); C1 (1, "scheduled") w1();
 C1 (1, "scheduled") rx();"#,
@@ -316,7 +316,7 @@ C1 (1, "scheduled") rx();"#,
 C1 (1, "scheduled") rx();"#,
             beside,
         ),
-        // in front of the one, and behind the other
+        // in front of the one, and after the other
         (
             r#"(1, "scheduled") w0(); (1, "scheduled") wx(); C1 (1, "scheduled") w1();
 C1 (1, "scheduled") rx();"#,

@@ -95,7 +95,7 @@ pub(crate) fn refuses_plan(
     answers(rt, "check", (s_define, input), 3, line.as_str())
 }
 
-/// Whether `check` accepts each of these lines behind others, with these counts.
+/// Whether `check` accepts each of these lines after others, with these counts.
 pub(crate) fn accepts_each(
     rt: &(impl Abort + AllocGlobal),
     s_define: &str,

@@ -16,7 +16,7 @@ f = trick.new_event('f')
 trick.TMM_declare_var_s('int spare[2]')
 ";
 
-/// Whether each of these lines is refused with a code, in line 9, behind those of `NAMED`.
+/// Whether each of these lines is refused with a code, in line 9, after those of `NAMED`.
 fn refuse_lines(rt: &(impl Abort + AllocGlobal), code: &str, lines: &[&str]) -> Result<(), Fail> {
     let what = format!(in rt.alloc(); "{code} input 9")?;
     for line in lines {

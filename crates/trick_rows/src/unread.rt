@@ -6,7 +6,7 @@ use std::process::Abort;
 use std::test::Fail;
 use trick_outside::MemoryShelf;
 
-/// Whether each of these lines is refused with a code, in the line that it is, behind others.
+/// Whether each of these lines is refused with a code, in the line that it is, after others.
 fn refuse_lines(rt: &(impl Abort + AllocGlobal), code: &str, lines: &[&str]) -> Result<(), Fail> {
     for line in lines {
         let what = format!(in rt.alloc(); "{code} input 1")?;

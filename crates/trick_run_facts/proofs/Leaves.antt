@@ -105,7 +105,7 @@ leaves_start p s part is = record {
 
 -- ---- in its turns
 
--- the journal behind its first lines
+-- the journal after its first lines
 behind_start : (p : Plan) (s : State) (part : List Write) (before : Option (List ℕ)) → IsKept journal_name part
     → content journal_name (start_writes p s.turn ++ part) before ≡ Some (first_lines s.turn ++ added journal_name part)
 behind_start p s part before kept =

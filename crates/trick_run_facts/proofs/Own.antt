@@ -86,7 +86,7 @@ chosen_not true number more e = cc e
 chosen_not false number more e = refl
 
 module _ (p : Plan) (found : AreFound (threads_beside p)) (s : State) where
-  -- the round of the thread behind these
+  -- the round of the thread after these
   flies : (before rest : List Thread) (thread : Thread) → threads_beside p ≡ before ++ thread ∷ rest
       → is_in_flight p s thread.number ≡ has_round s (length before) thread
   unfolding by_found

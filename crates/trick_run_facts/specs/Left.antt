@@ -56,7 +56,7 @@ abbrev pub noted_text : Plan → State → List (List Entry) → List ℕ
 noted_text p s lists = added journal_name (turns_writes p (opened s) lists)
 
 -- The journal of a run that was given these lists was this, and then became this; its whole lines are those that the
--- turns under the cut note, with what is torn behind them. It is as it was, or has a beginning of its two first lines,
+-- turns under the cut note, with what is torn after them. It is as it was, or has a beginning of its two first lines,
 -- only where no list was given. Its last line, or a beginning of it, is there only where all lists were noted and the
 -- run is over.
 pub data HasLines (p : Plan) (s : State)

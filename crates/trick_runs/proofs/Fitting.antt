@@ -39,7 +39,7 @@ next_turn : (p : Plan) (w : World) (entries : List Entry) (end : ℕ) → end �
 next_turn p w entries end right below =
     let small : min (w.state.turn + 1) last_turn ≡ suc w.state.turn = omega arith in turn_counts p w entries ∙ small
 
--- so many turns later, and not behind the end
+-- so many turns later, and not after the end
 record Later (from now count end : ℕ) : Type 0 where
   counted : now ≡ from + count
   within : (count ≡ 0) ⊎ (now ≤ end)

@@ -45,7 +45,7 @@ has_one lists entries = has_join lists (entries ∷ [])
 
 -- ---- one turn more
 
--- before this turn the run was not over, and so it is with another turn behind
+-- before this turn the run was not over, and so it is with another turn after
 still : (shut out frozen owed had now has : Bool) → not (shut || (out || (frozen && not (owed || had)))) ≡ true
     → ((owed || had) ≡ true → (now || has) ≡ true) → not (shut || (out || (frozen && not (now || has)))) ≡ true
 still true out frozen owed had now has e more = cc e

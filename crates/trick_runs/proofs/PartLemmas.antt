@@ -57,7 +57,7 @@ published_append p (Said number line ∷ lines) publications s none = published_
 published_append p (Leave number cause ∷ lines) publications s none = published_append p lines publications s none
 published_append p (Publish thread ∷ lines) publications s none = cc
 
--- a run frame behind its publications
+-- a run frame after its publications
 abbrev run_from : Plan → State → Asking → Ticked
 run_from p s a =
     let top = run_class p class.TopOfFrame s in

@@ -12,7 +12,7 @@ use Rattle.trick_runs.specs.Stops.{StopsAt, at_end, before, between, in_turn}
 use Rattle.trick_tic.proofs.StepLemmas.{steps_of-append}
 use Rattle.trick_tic.specs.Steps.{steps_of}
 
--- writes, and then calls behind them
+-- writes, and then calls after them
 pub parts_of : (head writes : List Write) (calls : List Call) → steps_of (head ++ writes) ++ calls ≡ steps_of head ++ (steps_of writes ++ calls)
 parts_of head writes calls =
     ap (λ (c : List Call). c ++ calls) (steps_of-append head writes) ∙ append_assoc (steps_of head) (steps_of writes) calls

@@ -27,7 +27,7 @@ ended Waiting = None
 ended InFlight = None
 ended (Done fault) = Some fault
 
--- a memory behind a job, which counts where it is committed
+-- a memory after a job, which counts where it is committed
 abbrev pub passed : Tic → ℕ → Option (Option JobFault) → List ℤ → List ℤ
 passed t k None m = m
 passed t k (Some fault) m = (run t k m).memory

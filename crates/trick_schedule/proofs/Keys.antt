@@ -1,4 +1,4 @@
--- Jobs in key order: each job of a list comes before, or behind, each other one.
+-- Jobs in key order: each job of a list comes before, or after, each other one.
 use Rattle.std.proofs.Common.{◌≡◌, ◌⊎◌, inl, inr, ℕ, ◌==◌, nat_lt, List, [], ◌∷◌, false, IsTrue, refl, subst, arith}
 use Rattle.std.proofs.lemmas.Bool.{and_from, and_parts, or_cases, or_left, or_right}
 use Rattle.trick_lang.specs.declared.job.Job.{Job}

@@ -86,7 +86,7 @@ run_swap t a b m right i =
     ∙ made_swap t a b m m m right i
     ∙ ap (λ (r : After). r.memory) (sym (made_same t b (run t a m).memory m (run t a m).memory right (reads_kept t b a m m right (turned t a b i))))
 
--- a job has the same faults behind one that is independent of it
+-- a job has the same faults after one that is independent of it
 pub faults_behind : (t : Tic) (a b : ℕ) (m : List ℤ) → IsRight t → AreIndependent t.plan a b
     → (run t a (run t b m).memory).faults ≡ (run t a m).faults
 faults_behind t a b m right i =

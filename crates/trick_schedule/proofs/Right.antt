@@ -11,7 +11,7 @@ use Rattle.trick_model.specs.Plan.{thread_of}
 use Rattle.trick_schedule.specs.Tics.{IsDueIn, Tic, depends_on, due_jobs}
 
 -- Of two due jobs on two threads the first is ordered before the second: some due job on the thread of the
--- second, not behind it, depends on some due job on the thread of the first, not before that.
+-- second, not after it, depends on some due job on the thread of the first, not before that.
 pub record AreOrdered (t : Tic) (a b : ℕ) : Type 0 where
   pub depended : ℕ
   pub target : ℕ

@@ -304,7 +304,7 @@ fn is_wrong_at(
 /// The letters of six jobs.
 const LETTERS: &str = "ABCDEFabcdef";
 
-/// Whether the beginning of a schedule, with a letter behind it and then the whole schedule, is wrong at that
+/// Whether the beginning of a schedule, with a letter after it and then the whole schedule, is wrong at that
 /// letter.
 fn is_wrong_with(
     alloc: Global,
@@ -320,7 +320,7 @@ fn is_wrong_with(
     is_wrong_at(alloc, accepted, tic, &word, before.len())
 }
 
-/// How many lists are wrong behind the beginning of a schedule, which go on with another step than a
+/// How many lists are wrong after the beginning of a schedule, which go on with another step than a
 /// schedule can have there, and then with all steps of the schedule.
 fn wrong_behind(
     alloc: Global,

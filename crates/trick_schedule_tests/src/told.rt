@@ -17,7 +17,7 @@ pub(crate) fn plan_of(alloc: Global, texts: Texts) -> Result<Accepted, Fail> {
     Ok(ready(alloc, s_define.as_bytes(), input.as_bytes())?)
 }
 
-/// The numbers of a memory, by cell, and behind them the faults, each with its tic, job, kind and line.
+/// The numbers of a memory, by cell, and after them the faults, each with its tic, job, kind and line.
 pub(crate) fn told(alloc: Global, memory: &Memory, faults: &Faults) -> Result<String, AllocError> {
     let mut text = String::new(alloc);
     for cell in 0..memory.len() {

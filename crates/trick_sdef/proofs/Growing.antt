@@ -99,7 +99,7 @@ but_refuse {A} cs b sub tb = record { takes = λ e t us on. go e t us on (is_one
     go e t us on true i = subst (λ z. Told t us (either e t us z)) (sym i) (inr (subset_one_of number_of cs outside t.class sub i, refl))
     go e t us on false i = subst (λ z. Told t us (either e t us z)) (sym i) (tb.takes e t us (rw i at (sym (one_of-append number_of t.class cs (first_of b)) ∙ on)))
 
--- a part that may be left out, and one behind it
+-- a part that may be left out, and one after it
 pub but_optional : {X Y B : Type 0} (f : Option X → Y) (x : Of X) (b : Of B) → TakesBut x → TakesBut b → TakesBut (sequence (act f (optional x)) b)
 but_optional {X} {Y} {B} f x b tx tb = record { takes = λ e t us on. go e t us on (is_one_of number_of t.class (first_of x)) refl }
   where
@@ -167,10 +167,10 @@ some q = q >>= λ z. Ok (Some z.0, z.1)
 abbrev paired : {X Y : Type 0} → X → Reading Token Y → Reading Token (X × Y)
 paired x q = q >>= λ y. Ok ((x, y.0), y.1)
 
--- ---- what may stand behind an item, with a separator
+-- ---- what may stand after an item, with a separator
 
 module _ {A : Type 0} (separator : Symbol) (first more : List Symbol) (body : Of A) where
-  -- reading what may stand behind an item, with n more at most
+  -- reading what may stand after an item, with n more at most
   abbrev behind : List Token → ℕ → List Token → Reading Token (List A)
   behind e n ts = read number_of class_of e (behind_item separator first more body n) ts
 
@@ -180,7 +180,7 @@ module _ {A : Type 0} (separator : Symbol) (first more : List Symbol) (body : Of
   begins : (ts : List Token) → next_in number_of class_of (first ++ []) ts ≡ next_in number_of class_of first ts
   begins ts = ap (λ ks. next_in number_of class_of ks ts) (append-nil first)
 
-  -- a separator, and behind it what an item's first token decides
+  -- a separator, and after it what an item's first token decides
   abbrev separated : (List Token → Reading Token (List A)) → List Token → Reading Token (List A)
   separated item ts = cond (next_in number_of class_of (separator ∷ []) ts) (read_token number_of class_of (separator ∷ []) ts >>= λ x. cond (next_in number_of class_of first x.1) (item x.1) (Ok ([], x.1))) (Ok ([], ts))
 

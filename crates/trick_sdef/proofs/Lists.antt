@@ -25,6 +25,8 @@ pub jobs_are : (xs : List JobLine) → jobs_of xs ≡ map job_line_of xs
 jobs_are [] = refl
 jobs_are (x ∷ xs) = ap (λ ys. job_line_of x ∷ ys) (jobs_are xs)
 
+pub ruleset lists_are = (jobs_are, declarators_are)
+
 pub parts_are : (xs : List ClassPart) → class_parts_of xs ≡ map class_part_of xs
 parts_are [] = refl
 parts_are (x ∷ xs) = ap (λ ys. class_part_of x ∷ ys) (parts_are xs)

@@ -91,7 +91,7 @@ module _ (text : List ℕ) where
     is,
   )
 
--- the items behind the first, as they are read and by their production
+-- the items after the first, as they are read and by their production
 abbrev Behind : List ℕ → ℕ → Of (List EnumItem)
 Behind text n = behind_item the.Comma names (the.Assign ∷ []) (item_body text) n
 
@@ -139,7 +139,7 @@ items_to text (suc n) e ts xs rest (v, inr (none, same), is) =
     let empty : [] ≡ xs = ap behind_separator (sym none) ∙ is in
     (None, subst (λ ys. Has e (Listed text (suc n)) ts (ys, None) rest) empty (none_listed text (suc n) e ts rest same))
 
--- nothing, or a comma, behind the last item
+-- nothing, or a comma, after the last item
 end_from : (text : List ℕ) (n : ℕ) (e ts : List Token) (o : Option Token) (rest : List Token)
     → Has e (optional (one the.Comma)) ts o rest → Has e (Behind text n) ts [] rest
 unfolding StartsWith behind_item
@@ -307,7 +307,7 @@ module _ (text : List ℕ) where
   unfolding StartsWith
   next_from e ts x rest (v, (mid, comma, p), is) = (v, (mid, comma, declarator_from e mid v.1 rest p), is)
 
-  -- the declarators behind the first, and the end
+  -- the declarators after the first, and the end
   abbrev Rest : ℕ → Of (List Declarator × Token)
   Rest n = repetition n (act (λ v. v.1) (one the.Comma ⨾ declarator text)) ⨾ one the.Semicolon
 

@@ -58,7 +58,7 @@ fault_of BadLoop line bad = faults.LoopBound line
 fault_of BadName line bad = faults.NotInProfile line
 fault_of BadTime line bad = bad
 
--- the fault of a refused token, behind these tokens of the text
+-- the fault of a refused token, after these tokens of the text
 abbrev pub told_behind : List ℕ → List cut.Token → List Token → Refused Token → SdefFault
 told_behind text ts front z =
     fault_of (told z.kind z.rest) (told_line (last_line text) z.kind front z.rest)

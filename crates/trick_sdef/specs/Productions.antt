@@ -33,7 +33,7 @@ item text =
     act (λ v. record { line = v.0.line; name = name_of text v.0; value = v.1 })
     (token names ⨾ optional item_value)
 
--- enum = "enum" NAME "{" item { "," item } [ "," ] "}" ";", with n items behind the first at most
+-- enum = "enum" NAME "{" item { "," item } [ "," ] "}" ";", with n items after the first at most
 abbrev pub enum : List ℕ → ℕ → Of Definition
 enum text n =
     act (λ v. tree.Enum (name_of text v.1.0) (v.1.1.1.0 ∷ v.1.1.1.1.0))
@@ -54,7 +54,7 @@ abbrev pub declarator : List ℕ → Of Declarator
 declarator text =
     act (λ v. declarator_of text v.0 (lengths_of v.1)) (token free_names ⨾ optional (length ⨾ optional length))
 
--- member = type declarator { "," declarator } ";", with n declarators behind the first at most
+-- member = type declarator { "," declarator } ";", with n declarators after the first at most
 abbrev pub member : List ℕ → ℕ → Of Members
 member text n =
     act (λ v. record { written = v.0.1; declarators = v.1.0 ∷ v.1.1.0 })
@@ -129,7 +129,7 @@ object text =
 -- ---- the promise
 
 -- The parts of the grammar that is read have the texts of these productions, and the same trees. A list
--- has n items behind its first at most.
+-- has n items after its first at most.
 pub record AreProductions (text : List ℕ) (n levels : ℕ) : Type 0 where
   pub item_values : Same members.item_value item_value
   pub items : Same (members.item text) (item text)

@@ -1,7 +1,7 @@
 -- Worked texts with their trees, written as they are and cut at blanks and line ends: each production of a
 -- file, each type, each class of jobs, each form of times, and each default.
 use Rattle.std.specs.List.{list_any, slice_index_or}
-use Rattle.std.specs.Prelude.{◌≡◌, ℕ, ◌+◌, ℤ, pos, ◌-ℤ◌, List, [], ◌∷◌, length, codes, Option, Some, None, Ok, Err, nat_eq, Bool, true, ◌&&◌, ◌||◌, not, if◌then◌else◌}
+use Rattle.std.specs.Prelude.{◌≡◌, ℕ, ◌+◌, ℤ, pos, ◌-ℤ◌, List, [], ◌∷◌, ◌++◌, length, codes, Option, Some, None, Ok, Err, nat_eq, Bool, true, ◌&&◌, ◌||◌, not, if◌then◌else◌}
 use Rattle.trick_body.specs.Lexemes.{lexemes_of, symbol_as}
 use Rattle.trick_body.specs.Symbols.{number_of, symbol_of}
 use Rattle.trick_grammar.specs.Gives.{class_of}
@@ -92,6 +92,10 @@ tree_in text tokens =
 abbrev pub IsFile : List ℕ → List Token → SDefine → Type 0
 IsFile text tokens definitions = (are_cut text 0 1 tokens ≡ true) × (tree_in text tokens ≡ Some definitions)
 
+-- the text of a class C with these bytes in its braces
+abbrev pub in_class : List ℕ → List ℕ
+in_class inside = codes "class C : public Trick :: SimObject { " ++ (inside ++ codes " } ;")
+
 pub record AreRead : Type 0 where
   pub include_line : IsFile (codes "# include \"sim_objects/default_trick_sys.sm\"")
       (at Mark 0 1 1 ∷ at kind.Name 2 9 1 ∷ at Text 10 44 1 ∷ [])
@@ -108,7 +112,9 @@ pub record AreRead : Type 0 where
       ∷ at Whole 13 17 2 ∷
       at Mark 18 19 2 ∷ at Mark 20 21 3 ∷ at Mark 22 23 3 ∷ [])
       (tree.Enum (codes "E") (item 2 (codes "A") (Some (pos 16)) ∷ []) ∷ [])
-  pub types : IsFile (codes "struct S { bool a ; char b ; unsigned char c ; short d ; unsigned short e ; int f ; unsigned int g ; long h ; } ;")
+  pub types : IsFile
+      (codes "struct S { bool a ; char b ; unsigned char c ; short d ; "
+      ++ codes "unsigned short e ; int f ; unsigned int g ; long h ; } ;")
       (at kind.Name 0 6 1 ∷ at kind.Name 7 8 1 ∷ at Mark 9 10 1 ∷ at kind.Name 11 15 1 ∷ at kind.Name 16 17 1
       ∷ at Mark 18 19 1 ∷
       at kind.Name 20 24 1 ∷ at kind.Name 25 26 1 ∷ at Mark 27 28 1 ∷ at kind.Name 29 37 1 ∷ at kind.Name 38 42 1
@@ -152,7 +158,8 @@ pub record AreRead : Type 0 where
       tree.HasMembers (members (tree.Basic scalar.UInt) (declarator (codes "m") [] ∷ [])) ∷
       tree.HasMembers (members (tree.Custom 2 (codes "T")) (declarator (codes "s") (2 ∷ []) ∷
       declarator (codes "t") [] ∷ [])) ∷ []) ∷ [])
-  pub methods : IsFile (codes "class C : public Trick :: SimObject { void f ( ) { ; } int g ( ) { return 0 ; } int trick ( ) { ; return ( 0 ) ; } } ;")
+  pub methods : IsFile
+      (in_class (codes "void f ( ) { ; } int g ( ) { return 0 ; } int trick ( ) { ; return ( 0 ) ; }"))
       (at kind.Name 0 5 1 ∷ at kind.Name 6 7 1 ∷ at Mark 8 9 1 ∷ at kind.Name 10 16 1 ∷ at kind.Name 17 22 1
       ∷ at Mark 23 25 1 ∷
       at kind.Name 26 35 1 ∷ at Mark 36 37 1 ∷ at kind.Name 38 42 1 ∷ at kind.Name 43 44 1 ∷ at Mark 45 46 1
@@ -167,8 +174,9 @@ pub record AreRead : Type 0 where
       (tree.ClassOf (codes "C") (method (codes "f") (tree.Then tree.Empty tree.NoStatement) ∷
       method (codes "g") tree.NoStatement ∷ method (codes "trick") (tree.Then tree.Empty tree.NoStatement) ∷ []) ∷
       [])
-  pub job_classes : IsFile (codes
-      "class C : public Trick :: SimObject { C ( ) {\n( \"default_data\" ) a ( ) ;\n( \"initialization\" ) b ( ) ;\n( \"top_of_frame\" ) c ( ) ;\n( \"end_of_frame\" ) d ( ) ; } } ;")
+  pub job_classes : IsFile
+      (in_class (codes "C ( ) {\n( \"default_data\" ) a ( ) ;\n( \"initialization\" ) b ( ) ;"
+      ++ codes "\n( \"top_of_frame\" ) c ( ) ;\n( \"end_of_frame\" ) d ( ) ; }"))
       (at kind.Name 0 5 1 ∷ at kind.Name 6 7 1 ∷ at Mark 8 9 1 ∷ at kind.Name 10 16 1 ∷ at kind.Name 17 22 1
       ∷ at Mark 23 25 1 ∷
       at kind.Name 26 35 1 ∷ at Mark 36 37 1 ∷ at kind.Name 38 39 1 ∷ at Mark 40 41 1 ∷ at Mark 42 43 1
@@ -183,7 +191,8 @@ pub record AreRead : Type 0 where
       job class.Initialization 0 60000 3 (codes "b") ∷ job class.TopOfFrame 0 60000 4 (codes "c") ∷
       job class.EndOfFrame 0 60000 5 (codes "d") ∷ []) ∷ []) ∷ [])
   pub more_job_classes : IsFile
-      (codes "class C : public Trick :: SimObject {\nC ( ) { ( \"freeze\" ) a ( ) ; ( \"unfreeze\" ) b ( ) ; ( \"checkpoint\" ) c ( ) ; ( \"restart\" ) d ( ) ; ( \"shutdown\" ) e ( ) ; } } ;")
+      (codes "class C : public Trick :: SimObject {\nC ( ) { ( \"freeze\" ) a ( ) ; ( \"unfreeze\" ) b ( ) ; "
+      ++ codes "( \"checkpoint\" ) c ( ) ; ( \"restart\" ) d ( ) ; ( \"shutdown\" ) e ( ) ; } } ;")
       (at kind.Name 0 5 1 ∷ at kind.Name 6 7 1 ∷ at Mark 8 9 1 ∷ at kind.Name 10 16 1 ∷ at kind.Name 17 22 1
       ∷ at Mark 23 25 1 ∷
       at kind.Name 26 35 1 ∷ at Mark 36 37 1 ∷ at kind.Name 38 39 2 ∷ at Mark 40 41 2 ∷ at Mark 42 43 2
@@ -199,8 +208,9 @@ pub record AreRead : Type 0 where
       (tree.ClassOf (codes "C") (tree.Constructor 2 (codes "C") (job class.Freeze 0 60000 2 (codes "a") ∷
       job class.Unfreeze 0 60000 2 (codes "b") ∷ job class.Checkpoint 0 60000 2 (codes "c") ∷
       job class.Restart 0 60000 2 (codes "d") ∷ job class.Shutdown 0 60000 2 (codes "e") ∷ []) ∷ []) ∷ [])
-  pub times_of_jobs : IsFile (codes
-      "class C : public Trick :: SimObject { C ( ) { ( 2 , \"scheduled\" ) a ( ) ; ( 0.5 , 3 , \"scheduled\" ) b ( ) ; ( 0.000001 , 0 , 0.0 , \"scheduled\" ) c ( ) ; } } ;")
+  pub times_of_jobs : IsFile
+      (in_class (codes "C ( ) { ( 2 , \"scheduled\" ) a ( ) ; ( 0.5 , 3 , \"scheduled\" ) b ( ) ; "
+      ++ codes "( 0.000001 , 0 , 0.0 , \"scheduled\" ) c ( ) ; }"))
       (at kind.Name 0 5 1 ∷ at kind.Name 6 7 1 ∷ at Mark 8 9 1 ∷ at kind.Name 10 16 1 ∷ at kind.Name 17 22 1
       ∷ at Mark 23 25 1 ∷
       at kind.Name 26 35 1 ∷ at Mark 36 37 1 ∷ at kind.Name 38 39 1 ∷ at Mark 40 41 1 ∷ at Mark 42 43 1
@@ -218,7 +228,7 @@ pub record AreRead : Type 0 where
       scheduled_job 0 60000 (times 500000 3000000 tic_limit) 1 (codes "b") ∷
       scheduled_job 0 60000 (times 1 0 0) 1 (codes "c") ∷ []) ∷ []) ∷ [])
   pub threads_and_phases : IsFile
-      (codes "class C : public Trick :: SimObject { C ( ) { C1 ( \"freeze\" ) a ( ) ; P7 ( \"freeze\" ) b ( ) ; C15 P65534 ( 1.5 , \"scheduled\" ) c ( ) ; } } ;")
+      (in_class (codes "C ( ) { C1 ( \"freeze\" ) a ( ) ; P7 ( \"freeze\" ) b ( ) ; C15 P65534 ( 1.5 , \"scheduled\" ) c ( ) ; }"))
       (at kind.Name 0 5 1 ∷ at kind.Name 6 7 1 ∷ at Mark 8 9 1 ∷ at kind.Name 10 16 1 ∷ at kind.Name 17 22 1
       ∷ at Mark 23 25 1 ∷
       at kind.Name 26 35 1 ∷ at Mark 36 37 1 ∷ at kind.Name 38 39 1 ∷ at Mark 40 41 1 ∷ at Mark 42 43 1

@@ -56,7 +56,7 @@ const PART_BEGINNINGS: [Symbol; 16] = [
     Symbol::OtherPhase,
 ];
 
-// "(" ")" "{" { job } "}", behind the name of a constructor
+// "(" ")" "{" { job } "}", after the name of a constructor
 #[tactic(auto, unfolding(crate::specs::Files::constructor_body))]
 fn read_constructor_rest<'a>(
     alloc: Global,
@@ -101,7 +101,7 @@ fn members_part(written: TypeName, declarators: Vec<Declarator>) -> ClassPart
     })
 }
 
-// The lengths of the first member behind "int" NAME, and the members behind it
+// The lengths of the first member after "int" NAME, and the members after it
 fn read_int_member<'a>(
     alloc: Global,
     source: Source,
@@ -122,7 +122,7 @@ fn read_int_member<'a>(
     ))
 }
 
-// What stands behind "int" NAME: a method or members
+// What stands after "int" NAME: a method or members
 #[tactic(auto, unfolding(crate::specs::Files::after_int_body))]
 fn read_after_int<'a>(
     alloc: Global,
@@ -160,7 +160,7 @@ fn read_trick_method<'a>(
     Ok((ClassPart::Method(Method { name, body }), rest))
 }
 
-// NAME and what stands behind it, behind "int"
+// NAME and what stands after it, after "int"
 #[tactic(auto, unfolding(crate::specs::Files::int_part_body))]
 fn read_int_part<'a>(
     alloc: Global,
@@ -183,8 +183,8 @@ fn read_int_part<'a>(
     read_after_int(alloc, source, depth, name, rest)
 }
 
-// What stands behind the NAME that a part begins with: a constructor's jobs, or members
-#[tactic(auto, using(crate::proofs::Lists::jobs_are, crate::proofs::Lists::declarators_are), unfolding(crate::specs::Files::after_name_body))]
+// What stands after the NAME that a part begins with: a constructor's jobs, or members
+#[tactic(auto, using(crate::proofs::Lists::lists_are), unfolding(crate::specs::Files::after_name_body))]
 fn read_after_name<'a>(
     alloc: Global,
     source: Source,

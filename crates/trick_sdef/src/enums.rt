@@ -81,7 +81,7 @@ fn read_items<'a>(
     read_more_items(alloc, source, first, rest)
 }
 
-// { "," item } [ "," ], behind the first item
+// { "," item } [ "," ], after the first item
 fn read_more_items<'a>(
     alloc: Global,
     source: Source,

@@ -163,7 +163,7 @@ fn take_cycle(rest: &[Token]) -> Result<(&Token, &[Token]), Stop<Symbol>>
     take_one_of(rest, &POSITIVE_TIMES)
 }
 
-// STRING, behind times.
+// STRING, after times.
 #[tactic(auto, unfolding(crate::specs::Jobs::scheduled_class_body))]
 fn take_scheduled(rest: &[Token]) -> Result<(&Token, &[Token]), Stop<Symbol>>
     ensures { Gives (λ x. (x.0.now, x.1.now)) result

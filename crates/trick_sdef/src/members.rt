@@ -66,7 +66,7 @@ fn take_length_number(rest: &[Token]) -> Result<(&Token, &[Token]), Stop<Symbol>
     take_one_of(rest, &lengths)
 }
 
-// "]", behind a length.
+// "]", after a length.
 fn take_length_end(rest: &[Token]) -> Result<(&Token, &[Token]), Stop<Symbol>>
     ensures { Gives (λ x. (x.0.now, x.1.now)) result
         (read number_of class_of [] length_end rest.now) }
@@ -155,7 +155,7 @@ fn read_next_declarator<'a>(
     read_declarator(alloc, source, rest)
 }
 
-// { "," declarator }, behind the first one
+// { "," declarator }, after the first one
 fn read_next_declarators<'a>(
     alloc: Global,
     source: Source,
@@ -180,7 +180,7 @@ fn read_next_declarators<'a>(
     Ok((found, rest))
 }
 
-/// { "," declarator } ";", behind the first one
+/// { "," declarator } ";", after the first one
 #[tactic(auto, unfolding(crate::specs::Members::more_declarators_body))]
 pub fn read_more_declarators<'a>(
     alloc: Global,

@@ -21,7 +21,7 @@ use Rattle.trick_text.specs.Pieces.{begins_name, is_in_name}
 abbrev pub have_short_names : tree.SDefine → Bool
 have_short_names = file_passes (record anything { name = is_short })
 
--- a letter or `_`, and behind it letters, digits and `_`
+-- a letter or `_`, and after it letters, digits and `_`
 abbrev pub is_spelled : Name → Bool
 is_spelled [] = false
 is_spelled (b ∷ bs) = begins_name b && list_all is_in_name bs

@@ -68,7 +68,7 @@ module _ (ends : ℕ → Bool) where
   abbrev pub is_plain : Name → Bool
   is_plain = list_all (λ b. not (ends b))
 
-  -- there is nothing behind a name, or such a byte comes next
+  -- there is nothing after a name, or such a byte comes next
   abbrev pub is_tail : Name → Bool
   is_tail [] = true
   is_tail (b ∷ bs) = ends b

@@ -26,7 +26,7 @@ use Rattle.trick_text.specs.Numbers.{whole_limit}
 
 -- ---- elements of arrays
 
--- the bracket behind an index
+-- the bracket after an index
 abbrev closes : ℕ → Bool
 closes b = b == 93
 
@@ -44,7 +44,7 @@ other_digits k j less low =
     (λ e. let digits = (bytes_eq-Decides (decimal k) (decimal j)).0 e in
     let same = decimal_injective k j (omega (arith, less, low)) low digits in omega (arith, less, same))
 
--- behind an index and its bracket
+-- after an index and its bracket
 abbrev closed : List Variable → List Variable
 closed cs = under (93 ∷ []) cs
 
@@ -82,7 +82,7 @@ each_apart from (suc n) cs few apart =
 abbrev pub splits : ℕ → Bool
 splits b = (b == 46) || (b == 91)
 
--- Of the cells behind a name no two have one name, and a dot or a bracket comes first.
+-- Of the cells after a name no two have one name, and a dot or a bracket comes first.
 abbrev AreGood : List Variable → Type 0
 AreGood cs = (are_apart of_one_name cs ≡ true) × (are_tails splits cs ≡ true)
 

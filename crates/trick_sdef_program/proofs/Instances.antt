@@ -149,7 +149,7 @@ module _ (objects : List Object) (methods : List Method) where
       (other_objects ds all a o (object + 1) (before ++ p ∷ []) os here one (append_assoc before (p ∷ []) os ∙ is)
       (omega (arith, longer, many)) differ.1 both.1)
 
-  -- the jobs of an object, and those of the objects behind it
+  -- the jobs of an object, and those of the objects after it
   object_unlike : (ds : SDefine) (all : List (Names ℕ)) (o : Object) (object : ℕ) (before os : List Object)
       (numbers : Names ℕ) (done lines : List JobLine) → slice_get objects object ≡ Some o → is_plain_object o ≡ true
       → before ++ os ≡ objects → length before ≡ object + 1 → list_all (λ p. not (of_one_object_name o p)) os ≡ true

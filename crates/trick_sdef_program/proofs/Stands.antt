@@ -83,7 +83,7 @@ other_name name new n names unlike e = by (is_some (meaning_of new names))
     by true = e
     by false = last_is name new n names e ∙ ap (λ b. if b then Some n else None) unlike
 
--- the number of a method, behind n others
+-- the number of a method, after n others
 pub record IsNumbered (class : ℕ) (blocks : Names ℕ) (name : Name) (parts : List Part) (n : ℕ) (numbers : Names ℕ) : Type 0 where
   pub place : ℕ
   pub number : meaning_of name (with_numbers n parts numbers) ≡ Some (n + place)

@@ -22,7 +22,7 @@ fn is_due(session: &Session, from: u64, to: u64) -> bool
     (session.send || regular) && !session.variables.is_empty()
 }
 
-// The number of a variable, behind a tab.
+// The number of a variable, after a tab.
 fn push_field<M: Cells>(
     line: &mut Vec<u8>,
     memory: &M,

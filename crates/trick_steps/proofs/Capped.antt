@@ -45,7 +45,7 @@ max_three a b d = omega arith
 spread : (u b rest : ℕ) → u + max b rest ≡ max (u + b) (u + rest)
 spread u b rest = omega arith
 
--- one branch more, behind its condition
+-- one branch more, after its condition
 pub branch_next : (tests most t b rest tests' most' : ℕ) → tests' ≡ capped (tests + (1 + t)) → most' ≡ max most (capped (tests' + b)) → capped (max most' (tests' + rest)) ≡ capped (max most (tests + (1 + t + max b rest)))
 branch_next tests most t b rest tests' most' e f =
     let u = tests + (1 + t) in

@@ -30,7 +30,7 @@ fn turn_count(from: u64, bound: Bound) -> u64
     }
 }
 
-// What stands behind the last `else`.
+// What stands after the last `else`.
 fn else_steps(otherwise: Option<u32>, counts: &[u64]) -> u64
     ensures { result ≡ branch_steps (else_of otherwise) (count_at counts.now) }
 {

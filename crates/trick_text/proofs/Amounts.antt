@@ -88,7 +88,7 @@ module _ (numerator places : ℕ) (a : Amount) (is : IsAmount numerator places a
   pub is_within : (nat_lt (10 ^ 15) a.tics || ((a.tics == 10 ^ 15) && not a.is_exact)) ≡ false → a.tics ≤ 10 ^ 15
   is_within h = ⊎_elim (λ l. omega (arith, l)) (λ l. omega (arith, l.0)) (below_cases a.tics a.is_exact h)
 
--- W, S and R are the digits before the point, the first ones behind it and the others; A * B is a
+-- W, S and R are the digits before the point, the first ones after it and the others; A * B is a
 -- million, and Q is ten to the power of how many others there are
 total_is : (W S R A B Q : ℕ) → A * B ≡ 1000000 → (W * (B * Q) + (S * Q + R)) * 1000000 ≡ (W * 1000000 + S * A) * (B * Q) + R * 1000000
 total_is W S R A B Q e = omega (arith, ap (λ x. S * (x * Q)) e)
@@ -109,7 +109,7 @@ zeros_tell ds all = by (are_zeros ds) refl
     by true e = sym (eq-eqb (digits_value 10 ds * 1000000) 0 (omega (arith, zeros_are_zero ds e)))
     by false e = let some = others_are_positive ds all e in sym (ne_eqb (digits_value 10 ds * 1000000) 0 (λ none. omega (arith, some, none)))
 
--- a decimal number, by its digits before the point, the first ones behind it and the others
+-- a decimal number, by its digits before the point, the first ones after it and the others
 pub decimal_amount : (digits front rest fraction : List ℕ) (a : Amount) → fraction ≡ front ++ rest → AllDigits 10 rest → (length front ≡ 6) ⊎ ((length front ≤ 6) × (rest ≡ [])) → a.tics ≡ digits_value 10 digits * 1000000 + digits_value 10 front * 10 ^ (6 - length front) → a.is_exact ≡ are_zeros rest → IsAmount (digits_value 10 (digits ++ fraction)) (length fraction) a
 decimal_amount digits front rest fraction a parts all few tics exact =
     let W = digits_value 10 digits in
@@ -140,7 +140,7 @@ few_digits_are_small ds all h =
     let most : 10 ^ length ds ≤ 10 ^ 6 = pow-le-pow_right (omega arith) h in
     omega (arith, digits_value-lt 10 ds all, most)
 
--- more seconds than the limit are too many, whatever stands behind the point
+-- more seconds than the limit are too many, whatever stands after the point
 pub many_seconds : (digits fraction : List ℕ) → 1000000000 < digits_value 10 digits → 10 ^ 15 * 10 ^ length fraction < digits_value 10 (digits ++ fraction) * 10 ^ 6
 many_seconds digits fraction h =
     let P = 10 ^ length fraction in
@@ -194,7 +194,7 @@ parted_amount bytes i a some is = by (nat_lt (position_or_len is_point bytes) (l
         subst (λ n. IsAmountOf n (places bytes) a) (sym number)
         (subst (λ k. IsAmountOf (digits_value 10 (take k bytes ++ drop (k + 1) bytes)) (length (drop (k + 1) bytes)) a) (sym here) is)
 
--- the first six digits behind the point, or all where there are fewer
+-- the first six digits after the point, or all where there are fewer
 pub few_cases : (front rest fraction : List ℕ) (m : ℕ) → length front ≡ m → length rest + m ≡ length fraction → m ≡ min (length fraction) 6 → (length front ≡ 6) ⊎ ((length front ≤ 6) × (rest ≡ []))
 few_cases front rest fraction m front_len rest_len least =
     ⊎_elim (λ l. inr (omega (arith, l), nil_from_length rest (omega (arith, l)))) (λ l. inl (omega (arith, l))) (cases_lt (length fraction) 6)

@@ -22,7 +22,7 @@ value_after-append : (n : ℕ) (xs ys : List ℕ) → digits_value_after 10 n (x
 value_after-append n [] ys = refl
 value_after-append n (x ∷ xs) ys = value_after-append (n * 10 + digit_value x) xs ys
 
--- the digits in front count as many times as ten to the power of those behind
+-- the digits in front count as many times as ten to the power of those after
 pub digits_value-append : (xs ys : List ℕ) → digits_value 10 (xs ++ ys) ≡ digits_value 10 xs * 10 ^ length ys + digits_value 10 ys
 digits_value-append xs ys = value_after-append 0 xs ys ∙ after_is (digits_value 10 xs) ys
 

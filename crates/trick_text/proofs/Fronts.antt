@@ -106,7 +106,7 @@ whole_len kind m n text e = same_len Whole kind m n (then_branch (nat_le (whole_
 decimal_len : (kind : TokenKind) (m n : ℕ) → decimal_front m ≡ Token kind n → m ≡ n
 decimal_len kind m n e = same_len Decimal kind m n (then_branch (nat_le m 40) _ _ _ e (no_long kind n))
 
--- the digits behind the point of these bytes are digits
+-- the digits after the point of these bytes are digits
 abbrev HasDigits : List ℕ → Type 0
 HasDigits bytes = AllDigits 10 (after_first is_point bytes)
 
@@ -191,7 +191,7 @@ hexadecimal_digits_case text h = by (begins (codes "0x") text) refl h
     by true e h = hexadecimal_case text e
     by false e h = absurd (cc)
 
--- the digits behind the point of a number are digits
+-- the digits after the point of a number are digits
 pub fraction_is_digits : (style : Style) (text : List ℕ) (kind : TokenKind) (n : ℕ) → is_number kind ≡ true → front style text ≡ Token kind n → HasDigits (take n text)
 unfolding number_front
 fraction_is_digits style text kind n number e = by (nat_lt 0 (hexadecimal_digits text)) refl (begins (codes ".") (drop (prefix_len is_ascii_digit text) text)) refl (number_here kind n number style text e)

@@ -174,7 +174,7 @@ module _ (style : Style) (text : List ℕ) where
       let together : i + (j - i) ≡ j = omega arith in
       omega (arith, line_more text i (j - i), ap (line_of text) together)
 
-  -- the token at k ends where the one behind it begins, or before that
+  -- the token at k ends where the one after it begins, or before that
   next_starts : (i j : ℕ) (ts : List declared.Token) (k : ℕ) (t u : declared.Token) → AreTokens style text i ts j → slice_get ts k ≡ Some t → slice_get ts (suc k) ≡ Some u → t.end ≤ u.start
   next_starts i j [] k t u p e f = absurd (cc)
   next_starts i j (v ∷ []) zero t u p e f = absurd (cc)

@@ -10,7 +10,7 @@ use Rattle.trick_text.specs.declared.token.Token.{Token}
 use Rattle.trick_text.specs.Pieces.{front}
 use Rattle.trick_text.specs.Tokens.{line_of, nothing, blank, IsToken, AreTokens}
 
--- the line behind n more bytes
+-- the line after n more bytes
 pub line_more : (text : List ℕ) (i n : ℕ) → line_of text i + count_by (λ b. b == 10) (take n (drop i text)) ≡ line_of text (i + n)
 line_more text i n =
     let e = ap (count_by (λ b. b == 10)) (take-add i n text) ∙ sum_by-append (λ b. if b == 10 then 1 else 0) (take i text) (take n (drop i text)) in

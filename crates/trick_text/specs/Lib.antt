@@ -2,7 +2,7 @@
 pub mod Pieces
 -- The number that the bytes of a whole number, or plain digits, stand for.
 pub mod Numbers
--- The tokens of a text, its first fault, and which of two refusals comes earlier.
+-- The tokens of a text, and its first fault.
 pub mod Tokens
 -- The tics of a number of seconds.
 pub mod Seconds

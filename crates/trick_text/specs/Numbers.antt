@@ -8,7 +8,7 @@ use Rattle.std.specs.Str.Parse.{digits_value}
 abbrev pub is_hexadecimal : List ℕ → Bool
 is_hexadecimal bytes = starts_with nat_eq bytes (codes "0x")
 
--- hexadecimal behind `0x`, with digits of either case, and else decimal, with any zeros in front
+-- hexadecimal after `0x`, with digits of either case, and else decimal, with any zeros in front
 abbrev pub whole_value : List ℕ → ℕ
 whole_value bytes = if is_hexadecimal bytes then digits_value 16 (drop 2 bytes) else digits_value 10 bytes
 

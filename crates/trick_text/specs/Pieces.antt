@@ -38,7 +38,7 @@ abbrev pub before_close : List ℕ → Option ℕ
 before_close [] = None
 before_close (b ∷ bs) = if begins (codes "*/") (b ∷ bs) then Some 0 else option_map (λ n. 1 + n) (before_close bs)
 
--- `/*`, the bytes before the first `*/` behind it, and `*/`
+-- `/*`, the bytes before the first `*/` after it, and `*/`
 abbrev pub block_comment : Option ℕ → Piece
 block_comment None = OpenComment
 block_comment (Some n) = Blank (n + 4)
@@ -67,7 +67,7 @@ abbrev pub begins_number : List ℕ → Bool
 begins_number [] = false
 begins_number (b ∷ bs) = is_ascii_digit b || ((b == 46) && begins_digit bs)
 
--- how many hexadecimal digits stand behind `0x`
+-- how many hexadecimal digits stand after `0x`
 abbrev pub hexadecimal_digits : List ℕ → ℕ
 hexadecimal_digits text = if begins (codes "0x") text then prefix_len is_ascii_hexdigit (drop 2 text) else 0
 
@@ -99,7 +99,7 @@ is_quote Command b = (b == 34) || (b == 39)
 abbrev pub is_in_text : ℕ → ℕ → Bool
 is_in_text quote b = not (b == quote) && not (b == 10)
 
--- behind a quote: up to the same quote on the same line
+-- after a quote: up to the same quote on the same line
 unfoldable pub text_front : ℕ → List ℕ → Piece
 text_front quote after =
     let n = prefix_len (is_in_text quote) after in

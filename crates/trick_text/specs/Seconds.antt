@@ -20,11 +20,11 @@ is_number Mark = false
 abbrev pub is_point : ℕ → Bool
 is_point b = b == 46
 
--- how many digits stand behind the point; none where there is no point
+-- how many digits stand after the point; none where there is no point
 abbrev pub places : List ℕ → ℕ
 places bytes = length (after_first is_point bytes)
 
--- the digits before the point and those behind it, as one number; the whole number where there is
+-- the digits before the point and those after it, as one number; the whole number where there is
 -- no point
 abbrev pub numerator : List ℕ → ℕ
 numerator bytes =

@@ -1,5 +1,5 @@
 -- The tokens of a text, and its first fault.
-use Rattle.std.specs.Prelude.{◌≡◌, ℕ, ◌+◌, ◌-◌, ◌<◌, ◌≤◌, Bool, true, false, List, [], ◌∷◌, length, take, drop, ◌==◌, count_by, Option, Some, None, Result, Err}
+use Rattle.std.specs.Prelude.{◌≡◌, ℕ, ◌+◌, ◌-◌, ◌<◌, ◌≤◌, Bool, true, false, List, [], ◌∷◌, length, take, drop, ◌==◌, count_by, Option, Some, None}
 use Rattle.trick_text.specs.Pieces.{front}
 use Rattle.trick_text.specs.declared.fault.FirstFault.{FirstFault}
 use Rattle.trick_text.specs.declared.fault.TextFault.{TextFault}
@@ -25,7 +25,7 @@ inner bytes = take (length bytes - 2) (drop 1 bytes)
 abbrev pub line_of : List ℕ → ℕ → ℕ
 line_of text i = 1 + count_by (λ b. b == 10) (take i text)
 
--- the line of the last byte; a text that ends with a line feed has no line behind it
+-- the line of the last byte; a text that ends with a line feed has no line after it
 abbrev pub last_line : List ℕ → ℕ
 last_line text = line_of text (length text - 1)
 
@@ -40,10 +40,6 @@ pub record IsToken (style : Style) (text : List ℕ) (t : Token) : Type 0 where
 -- tokens, since a name stands inside many a string
 abbrev pub ReadsAsToken : List ℕ → Token → Type 0
 ReadsAsToken text t = (style : Style) × IsToken style text t
-
--- the same, by another name
-abbrev pub IsTokenOf : List ℕ → Token → Type 0
-IsTokenOf text t = ReadsAsToken text t
 
 -- it has a byte at least, and all of its bytes stand in the text
 abbrev pub LiesIn : List ℕ → Token → Type 0
@@ -110,10 +106,3 @@ IsUncut text (faults.BadByte at) = ⊥
 IsUncut text (faults.OpenComment at) = ⊥
 IsUncut text (faults.LongNumber at) = ⊥
 IsUncut text faults.OutOfMemory = Unit {0}
-
--- What a reader answers, from what it made of the tokens before the text's first fault, of that fault,
--- and of whether it was refused at one of the tokens: the refusal or the fault at the earlier place.
-abbrev pub earlier : {A E : Type 0} → Option E → Bool → Result A E → Result A E
-earlier None at_token answer = answer
-earlier (Some fault) true answer = answer
-earlier (Some fault) false answer = Err fault

@@ -15,7 +15,7 @@ abbrev pub tics_or_0 : Result ℕ TimeFault → ℕ
 tics_or_0 (Err fault) = 0
 tics_or_0 (Ok tics) = tics
 
--- of a name the plain number behind its first letter, as 12 of `C12`; a whole number; the tics of a
+-- of a name the plain number after its first letter, as 12 of `C12`; a whole number; the tics of a
 -- decimal number of seconds; and 0 where there is none
 abbrev pub number_of : TokenKind → List ℕ → ℕ
 number_of Name bytes = number_or_0 (plain_number (drop 1 bytes))

@@ -52,7 +52,7 @@ pub fn one_fault()
         → g ≢ TextFault.OutOfMemory → IsRefused style text f → IsRefused style text g → f ≡ g }
 {}
 
-/// Each token of a cut begins where the one before it ends, or behind that, and on no earlier line.
+/// Each token of a cut begins where the one before it ends, or after that, and on no earlier line.
 pub fn in_order()
     ensures place { (style : Style) (text : List ℕ) (ts : List Token) (f : Option FirstFault)
         (i : ℕ) (t u : Token) → IsCut style text ts f → slice_get ts i ≡ Some t
@@ -62,7 +62,7 @@ pub fn in_order()
         → slice_get ts (i + 1) ≡ Some u → t.line ≤ u.line }
 {}
 
-/// The fault of a cut stands behind each of its tokens, and on no earlier line.
+/// The fault of a cut stands after each of its tokens, and on no earlier line.
 pub fn fault_is_behind()
     ensures place { (style : Style) (text : List ℕ) (ts : List Token) (f : FirstFault)
         (i : ℕ) (t : Token) → IsCut style text ts (Some f) → slice_get ts i ≡ Some t

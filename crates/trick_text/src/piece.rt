@@ -16,7 +16,7 @@ pub enum Piece {
     /// White space or a comment.
     Blank(usize),
     Token(TokenKind, usize),
-    /// The byte behind so many others is bad.
+    /// The byte after so many others is bad.
     BadByte(usize),
     OpenComment,
     LongNumber,

@@ -27,7 +27,7 @@ fn line_ends(piece: &[u8]) -> u32
 }
 
 /// The line, from 1, of the last byte of a text. A text that ends with a line feed has no line
-/// behind it, and a text without bytes has one line. Takes no memory.
+/// after it, and a text without bytes has one line. Takes no memory.
 pub fn last_line(text: &[u8]) -> u32
     requires { length text.now ≤ TEXT_LIMIT }
     ensures { result ≡ last_line text.now }
@@ -38,7 +38,7 @@ pub fn last_line(text: &[u8]) -> u32
     }
 }
 
-// These tokens, with a fault behind them.
+// These tokens, with a fault after them.
 fn cut_off(tokens: Vec<Token>, fault: TextFault, start: usize, line: u32) -> CutText
     ensures tokens { result.tokens.items ≡ tokens.items }
     ensures fault { result.fault ≡ Some (record { fault = fault; start = start; line = line }) }

@@ -32,7 +32,7 @@ impl Amount {
     }
 }
 
-// The tics that the first digits behind the point stand for.
+// The tics that the first digits after the point stand for.
 fn millionths(digits: &[u8]) -> u64
     requires digits { AllDigits 10 digits.now }
     requires few { length digits.now ≤ 6 }
@@ -50,7 +50,7 @@ fn are_zeros(digits: &[u8]) -> bool
     digits.iter().all(|digit| *digit == b'0')
 }
 
-// A decimal number of seconds, by its digits before and behind the point.
+// A decimal number of seconds, by its digits before and after the point.
 fn decimal(digits: &[u8], fraction: &[u8]) -> Option<Amount>
     requires { AllDigits 10 fraction.now }
     ensures { IsAmountOf (digits_value 10 (digits.now ++ fraction.now)) (length fraction.now) result }

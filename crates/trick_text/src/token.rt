@@ -35,7 +35,7 @@ pub struct Token {
     pub kind: TokenKind,
     /// The place of its first byte, from 0.
     pub start: usize,
-    /// The place behind its last byte.
+    /// The place after its last byte.
     pub end: usize,
     /// The line of its first byte, from 1.
     pub line: u32,

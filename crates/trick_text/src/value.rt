@@ -6,7 +6,7 @@ use crate::number::{WHOLE_LIMIT, plain_number, whole};
 use crate::time::seconds;
 use crate::token::{Token, TokenKind};
 
-/// The number that a token of this text stands for: of a name the plain number behind its first
+/// The number that a token of this text stands for: of a name the plain number after its first
 /// letter, as 12 of `C12`; of a whole number its own; of a decimal number of seconds its tics. It is
 /// 0 where there is none, as of a decimal number that is no time. Takes no memory.
 pub fn number_of(token: &Token, text: &[u8]) -> u64

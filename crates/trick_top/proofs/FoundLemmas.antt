@@ -68,7 +68,7 @@ same_texts (text ∷ one) (other ∷ two) is =
     ap (λ t. t ∷ one) first ∙ ap (λ t. other ∷ t) (same_texts one two later)
 
 module _ {A : Type 0} (f : A → List ℕ) (all : List A) (at : ℕ) (item : A) (less : at < length all) (is : item ≡ slice_index_or all at item) where
-  -- a list before, at and behind a place
+  -- a list before, at and after a place
   pub next_name : map f all ≡ map f (take at all) ++ f item ∷ map f (drop (suc at) all)
   next_name =
       ap (map f) (split_at all at item less) ∙ map-append f (take at all) (slice_index_or all at item ∷ drop (suc at) all)

@@ -119,7 +119,7 @@ same_option None (Some text) is = cc
 same_option (Some text) None is = cc
 same_option (Some text) (Some other) is = cc
 
--- two of them, one behind the other
+-- two of them, one after the other
 same_options : (a b c d : Option (List ℕ)) → is_some a ≡ is_some c → option_to_list a ++ option_to_list b ≡ option_to_list c ++ option_to_list d → (a ≡ c) × (b ≡ d)
 same_options None b None d kind is = (refl, same_option b d is)
 same_options None b (Some y) d kind is = absurd cc

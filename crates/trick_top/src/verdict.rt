@@ -56,7 +56,7 @@ pub(crate) enum Verdict<'a> {
     OutOfMemory,
 }
 
-/// The pieces, one behind the other.
+/// The pieces, one after the other.
 fn joined(alloc: Global, first: &[u8], second: &[u8], third: &[u8]) -> Result<Vec<u8>, AllocError>
     ensures { IfOk result (λ line. line.items ≡ first.now ++ second.now ++ third.now) }
 {
@@ -66,7 +66,7 @@ fn joined(alloc: Global, first: &[u8], second: &[u8], third: &[u8]) -> Result<Ve
     Ok(line)
 }
 
-// Appends a piece and a number behind it.
+// Appends a piece and a number after it.
 fn push_number(line: &mut Vec<u8>, piece: &[u8], number: u64) -> Result<(), AllocError>
     ensures { OnOk result (line.new.items ≡ line.old.items ++ piece.now ++ decimal number) }
 {

@@ -59,7 +59,7 @@ pub record Told : Type 0 where
   pub lists : List (List Entry)
   pub end : ℕ
 
--- the same journal, behind its next list
+-- the same journal, after its next list
 abbrev pub behind : Told → Told
 behind told = record told { lists = rest_of told.lists }
 

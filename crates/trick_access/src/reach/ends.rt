@@ -91,7 +91,7 @@ fn range(first: u32, behind: u32) -> CellRange
     }
 }
 
-// Looks at one cell more: where the range began that has not ended behind it. A range that ends
+// Looks at one cell more: where the range began that has not ended after it. A range that ends
 // before it is put to those that were made.
 fn turn(
     cell: u32,

@@ -21,7 +21,7 @@ pub enum Expr {
     Choose(Vec<Choice>, Box<Expr>),
 }
 
-/// An operator of a chain and the operand behind it.
+/// An operator of a chain and the operand after it.
 #[derive(Drop)]
 #[cycle(written_expression)]
 pub struct Link {
@@ -46,7 +46,7 @@ pub struct Path {
     pub parts: Vec<Part>,
 }
 
-/// A part of a place behind its first name: `.name`, with the line of the name, or `[at]`.
+/// A part of a place after its first name: `.name`, with the line of the name, or `[at]`.
 #[derive(Drop)]
 #[cycle(written_expression)]
 pub enum Part {

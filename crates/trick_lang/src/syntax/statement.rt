@@ -38,7 +38,7 @@ pub enum Stmt {
         change: Change,
     },
     /// The tests of an `else if` chain with their statements, of which there is at least one, and
-    /// what stands behind the last `else`, if there is one.
+    /// what stands after the last `else`, if there is one.
     If {
         branches: Vec<Branch>,
         otherwise: Option<Box<Stmt>>,

@@ -2,6 +2,6 @@ use Rattle.std.proofs.Common.{◌≡◌, ◌+◌, drop}
 use Rattle.trick_draft.specs.Places.{place_for}
 use Rattle.trick_draft.proofs.event.place_of.Given as goal
 
--- the place is behind the lists so far
+-- the place is after the lists so far
 abbrev pub invariant-loop-place : goal.invariant-loop-place
 invariant-loop-place l = l.place + place_for l.number (drop l.place l.lists) ≡ place_for l.number l.lists

@@ -15,7 +15,7 @@ use Rattle.trick_lang.specs.Valid.{code_fits}
 use Rattle.trick_lang.specs.declared.tree.Block.{Block}
 use Rattle.trick_lang.specs.declared.tree.Stmt.{Stmt}
 
--- the statement in a block, and those behind it
+-- the statement in a block, and those after it
 here : (bs read : List Block) (block at : ℕ) (item : Block) (all : List Stmt) (statement : Stmt) → read ≡ bs → block < length read → item ≡ slice_index_or read block item → all ≡ (slice_index_or read block item).statements → at < length all → statement ≡ slice_index_or all at statement → drop at (block_at (codes_of bs) block) ≡ code_of statement ∷ drop (at + 1) (block_at (codes_of bs) block)
 here bs read block at item all statement same lt is of at_lt at_is =
     let whole : block_at (codes_of bs) block ≡ code_list all =

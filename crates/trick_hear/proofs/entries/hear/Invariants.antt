@@ -6,7 +6,7 @@ use Rattle.trick_job.specs.Belongs.{IsMemoryOf}
 use Rattle.trick_model.specs.PlanOf.{plan_of}
 use Rattle.trick_model.specs.Turn.{heard, replies}
 
--- the entries that are left come to the same, behind the replies so far
+-- the entries that are left come to the same, after the replies so far
 abbrev pub invariant-loop-entry : goal.invariant-loop-entry
 invariant-loop-entry g l =
     let p = plan_of l.plan in

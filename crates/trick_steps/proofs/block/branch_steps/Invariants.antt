@@ -4,7 +4,7 @@ use Rattle.trick_lang.specs.TreeOf.{branches_of, else_of}
 use Rattle.trick_steps.proofs.block.branch_steps.Given as goal
 use Rattle.trick_steps.specs.Steps.{capped, count_at}
 
--- the most so far, or what is left behind the conditions so far
+-- the most so far, or what is left after the conditions so far
 abbrev pub invariant-loop-branch : goal.invariant-loop-branch
 invariant-loop-branch l = record {
   told : capped (max l.most (l.tests + branch_steps (branches_of (drop l.branch-index l.branches) (else_of l.otherwise)) (count_at l.counts)))
