@@ -1,3 +1,4 @@
+pub mod Capped
 pub mod FileLemmas
 pub mod ContentLemmas
 pub mod WriteLemmas

@@ -1,6 +1,8 @@
 mod Lists
-mod Weights
-mod Build
+-- How much of a tree is left: what a walk goes down by.
+pub mod Weights
+-- Rows that grow at their ends.
+pub mod Build
 mod Fitting
 mod Grow
 mod Depths

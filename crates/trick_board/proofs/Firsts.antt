@@ -14,27 +14,12 @@ use Rattle.trick_model.specs.PlanOf.{plan_of}
 use Rattle.trick_model.specs.Valid.{ids}
 use Rattle.trick_model.specs.declared.flags.Flags.{Flags}
 use Rattle.trick_model.specs.declared.plan.Plan.{Plan as PlanValue}
+use Rattle.trick_queue.proofs.Orders.{order_kept}
 use Rattle.trick_schedule.proofs.Due.{among_filter, chosen, due_there, jobs_kept, numbers_among, numbers_are}
 use Rattle.trick_schedule.proofs.Keys.{among_cases, among_first, among_rest, before_among, none_among, not_both, not_itself}
 use Rattle.trick_schedule.specs.Tics.{IsDueIn, tic_of}
 
 -- ---- lists in key order
-
-before_kept : (jobs : List Job) (test : ℕ → Bool) (k : ℕ) (js : List ℕ) → IsBefore jobs k js → IsBefore jobs k (filter test js)
-before_kept jobs test k [] before = tt
-before_kept jobs test k (j ∷ js) before = by_test (before_kept jobs test k js before.1) (test j)
-  where
-    by_test : IsBefore jobs k (filter test js) → (b : Bool) → IsBefore jobs k (cond b (j ∷ filter test js) (filter test js))
-    by_test others true = (before.0, others)
-    by_test others false = others
-
-order_kept : (jobs : List Job) (test : ℕ → Bool) (ks : List ℕ) → AreInKeyOrder jobs ks → AreInKeyOrder jobs (filter test ks)
-order_kept jobs test [] ordered = tt
-order_kept jobs test (k ∷ ks) ordered = by_test (order_kept jobs test ks ordered.1) (test k)
-  where
-    by_test : AreInKeyOrder jobs (filter test ks) → (b : Bool) → AreInKeyOrder jobs (cond b (k ∷ filter test ks) (filter test ks))
-    by_test others true = (before_kept jobs test k ks ordered.0, others)
-    by_test others false = others
 
 -- the jobs of class scheduled that pass a test are in key order
 pub tested_order : KeyOrderIsOne → (plan : PlanValue) (test : ℕ → Bool) → AreInKeyOrder plan.program.jobs (filter test (scheduled (plan_of plan)))

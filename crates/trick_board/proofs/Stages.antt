@@ -10,6 +10,7 @@ use Rattle.trick_model.specs.Order.{in_key_order, is_due as is_due_at_tic, jobs_
 use Rattle.trick_model.specs.Plan.{Plan, is_on_scheduled, job_numbers, numbers_from}
 use Rattle.trick_model.specs.Valid.{ids}
 use Rattle.trick_model.specs.declared.flags.Flags.{Flags}
+use Rattle.trick_queue.proofs.Queued.{filter_few, ids_length, numbers_length, order_length}
 use Rattle.trick_schedule.proofs.Due.{due_there}
 use Rattle.trick_schedule.proofs.History.{waiting_at}
 use Rattle.trick_schedule.specs.Play.{first_stages, is_due, stage_at}
@@ -47,35 +48,6 @@ first_due t k =
     ∙ waiting_due (is_among k (due_jobs t))
 
 -- ---- how many there are
-
-filter_few : (test : ℕ → Bool) (ks : List ℕ) → length (filter test ks) ≤ length ks
-filter_few test [] = omega arith
-filter_few test (k ∷ ks) = by_test (filter_few test ks) (test k)
-  where
-    by_test : length (filter test ks) ≤ length ks → (b : Bool) → length (cond b (k ∷ filter test ks) (filter test ks)) ≤ suc (length ks)
-    by_test few true = omega arith
-    by_test few false = omega arith
-
-put_length : (jobs : List Job) (k : ℕ) (js : List ℕ) → length (put_in jobs k js) ≡ suc (length js)
-put_length jobs k [] = refl
-put_length jobs k (j ∷ js) = by_test (put_length jobs k js) (precedes jobs k j)
-  where
-    by_test : length (put_in jobs k js) ≡ suc (length js) → (b : Bool)
-        → length {A = ℕ} (elim b [ true ↦ k ∷ j ∷ js | false ↦ j ∷ put_in jobs k js ]) ≡ suc (suc (length js))
-    by_test others true = refl
-    by_test others false = ap suc others
-
-order_length : (jobs : List Job) (ks : List ℕ) → length (in_key_order jobs ks) ≡ length ks
-order_length jobs [] = refl
-order_length jobs (k ∷ ks) = put_length jobs k (in_key_order jobs ks) ∙ ap suc (order_length jobs ks)
-
-numbers_length : {A : Type 0} (k : ℕ) (xs : List A) → length (numbers_from k xs) ≡ length xs
-numbers_length k [] = refl
-numbers_length k (x ∷ xs) = ap suc (numbers_length (suc k) xs)
-
-ids_length : (all : List JobId) → length (ids all) ≡ length all
-ids_length [] = refl
-ids_length (job ∷ all) = ap suc (ids_length all)
 
 -- no more jobs are due than there are
 pub few_due : (p : Plan) (on : Flags) (tic : ℕ) (due : List JobId) → ids due ≡ jobs_at p on tic → length due ≤ length p.jobs

@@ -3,10 +3,12 @@ use Rattle.std.proofs.Common.{◌≡◌, ℕ, zero, suc, ◌+◌, ◌*◌, ◌-�
 use Rattle.std.proofs.Math.ListN.{length-append}
 use Rattle.std.proofs.lemmas.Bool.{cases_lt}
 use Rattle.std.proofs.lemmas.Nat.{mul-le}
+use Rattle.trick_base.proofs.Capped.{cap_mul}
+use Rattle.trick_base.specs.Capped.{capped}
 use Rattle.trick_cells.proofs.Lists.{length_under, length_each}
 use Rattle.trick_lang.specs.declared.variable.Variable.{Variable}
 use Rattle.trick_cells.specs.Cells.{all_groups, memory_cells, under, dotted, each, array_cells, base_cells, cells_at, global_cells, group_cells, member_cells, members_cells, objects_cells}
-use Rattle.trick_cells.specs.Counts.{base_count, capped, counts, global_count, member_count, members_count, names_count, place_count}
+use Rattle.trick_cells.specs.Counts.{base_count, counts, global_count, member_count, members_count, names_count, place_count}
 use Rattle.trick_lang.specs.SyntaxTree.{Name}
 use Rattle.trick_names.specs.Names.{Names}
 use Rattle.trick_names.specs.declared.tables.Base.{Base}
@@ -27,26 +29,6 @@ cap_add_right a b = omega arith
 
 pub cap_twice : (a : ℕ) → capped (capped a) ≡ capped a
 cap_twice a = omega arith
-
-cap_small : (a : ℕ) → a < 2 ^ 64 → capped a ≡ a
-cap_small a h = omega arith
-
-cap_large : (a : ℕ) → 2 ^ 64 - 1 ≤ a → capped a ≡ 2 ^ 64 - 1
-cap_large a h = omega arith
-
-pub cap_mul : (n a : ℕ) → capped (n * capped a) ≡ capped (n * a)
-cap_mul zero a = omega arith
-cap_mul (suc n) a = elim (cases_lt a (2 ^ 64)) [
-  | inl h ↦ ap (λ k. capped (suc n * k)) (cap_small a h)
-  | inr h ↦
-      let m = 2 ^ 64 - 1 in
-      let whole : suc n * capped a ≡ suc n * m = ap (λ k. suc n * k) (cap_large a (omega arith)) in
-      let low : 1 * m ≤ suc n * m = mul-le 1 m (suc n) m (omega arith) (omega arith) in
-      let high : 1 * m ≤ suc n * a = mul-le 1 m (suc n) a (omega arith) (omega arith) in
-      let left : capped (suc n * m) ≡ m = cap_large (suc n * m) (omega (arith, low)) in
-      let right : capped (suc n * a) ≡ m = cap_large (suc n * a) (omega (arith, high)) in
-      ap capped whole ∙ (left ∙ sym right)
-]
 
 pub size_counts : (done : List (List Variable)) (k : ℕ) → slice_index_or (counts done) k 0 ≡ capped (length (cells_at done k))
 size_counts [] k = refl

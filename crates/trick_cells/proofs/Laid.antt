@@ -3,8 +3,9 @@ use Rattle.std.proofs.Common.{◌≡◌, ℕ, zero, suc, ◌+◌, ◌*◌, ◌�
 use Rattle.std.proofs.lemmas.Bool.{le-leb, leb-true}
 use Rattle.std.proofs.lemmas.Nat.{mul-le}
 use Rattle.std.specs.Str.{bytes_eq}
+use Rattle.trick_base.specs.Capped.{capped}
 use Rattle.trick_cells.proofs.Counted.{members_counted, size_counts}
-use Rattle.trick_cells.specs.Counts.{base_count, capped, counts, global_count, member_count, members_count, names_count, place_count}
+use Rattle.trick_cells.specs.Counts.{base_count, counts, global_count, member_count, members_count, names_count, place_count}
 use Rattle.trick_cells.specs.Tables.{dim, dims_of, fields_of, groups_from, has_elements, layout_of, narrow, taken, with_field, with_fields, with_site, with_sites}
 use Rattle.trick_cells.specs.Unfolding.{Unfolds, members_at}
 use Rattle.trick_lang.specs.SyntaxTree.{Name}
@@ -145,7 +146,7 @@ fields_lie sizes n offset (m ∷ ms) fields small low lie =
     fields_lie sizes n (narrow (offset + member_count sizes m.1)) ms (with_field sizes offset m.0 m.1 fields) small (omega (arith, next, low))
     (field_lies sizes n offset m.0 m.1 fields small (omega (arith, low)) lie)
 
-groups_at : (sizes : List ℕ) (n : ℕ) (gs : List (Names Member)) (k : ℕ) → fields_at (groups_from sizes n gs) k ≡ fields_of sizes (n + k) (members_at gs k)
+pub groups_at : (sizes : List ℕ) (n : ℕ) (gs : List (Names Member)) (k : ℕ) → fields_at (groups_from sizes n gs) k ≡ fields_of sizes (n + k) (members_at gs k)
 groups_at sizes n [] k = by (nat_le (slice_index_or sizes (n + k) 0) 65536) where
   by : (b : Bool) → [] ≡ (if b then with_fields sizes 0 [] [] else [])
   by true = refl

@@ -1,6 +1,7 @@
--- How many cells there are, by sums and products alone.
+-- How many cells there are, by sums and products alone. A count stands still at 2^64 - 1.
 use Rattle.std.specs.List.{slice_index_or}
-use Rattle.std.specs.Prelude.{ℕ, ◌+◌, ◌*◌, ◌-◌, ◌^◌, min, List, [], ◌∷◌, length}
+use Rattle.std.specs.Prelude.{ℕ, ◌+◌, ◌*◌, List, [], ◌∷◌, length}
+use Rattle.trick_base.specs.Capped.{capped}
 use Rattle.trick_lang.specs.declared.variable.Variable.{Variable}
 use Rattle.trick_names.specs.Names.{Names}
 use Rattle.trick_names.specs.declared.tables.Base.{Base}
@@ -11,10 +12,6 @@ use Rattle.trick_names.specs.declared.tables.Lengths.{Lengths}
 use Rattle.trick_names.specs.declared.tables.Lengths.TheVariants.{Plain, One, Two}
 use Rattle.trick_names.specs.declared.tables.Member.{Member}
 use Rattle.trick_names.specs.declared.tables.Member.TheVariants.{Variable as Holds, Method}
-
--- a count stands still at 2^64 - 1
-abbrev pub capped : ℕ → ℕ
-capped n = min n (2 ^ 64 - 1)
 
 -- how many cells each of these has
 abbrev pub counts : List (List Variable) → List ℕ

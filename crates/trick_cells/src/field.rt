@@ -6,12 +6,9 @@ ghost use Rattle.trick_cells.specs.Tables.{dim, dims_of, fields_of, groups_from,
 
 use crate::size::{base_size, cell_count, global_size, member_size};
 use std::alloc::{AllocError, Global as Memory};
-use trick_base::{Items, Word};
+use trick_base::{CELL_LIMIT, Items, Word};
 use trick_layout::{Dim, Dims, Extent, Field, Layout, Site};
 use trick_names::{Base, Global, Lengths, Member, Names, Tables};
-
-/// The most cells that a memory has.
-pub const CELL_LIMIT: u64 = 65_536;
 
 /// Stands still at 2^32 - 1.
 pub fn narrow(number: u64) -> u32

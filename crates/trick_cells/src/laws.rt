@@ -1,8 +1,9 @@
 //! Laws of the definitions: public functions with empty bodies, whose contracts are the laws.
 
 ghost use Rattle.std.specs.Prelude.{◌≡◌, ◌≤◌, [], length, true};
+ghost use Rattle.trick_base.specs.Capped.{capped};
 ghost use Rattle.trick_cells.specs.Cells.{all_groups, group_cells, memory_cells};
-ghost use Rattle.trick_cells.specs.Counts.{capped, counts, names_count};
+ghost use Rattle.trick_cells.specs.Counts.{counts, names_count};
 ghost use Rattle.trick_cells.specs.Tables.{layout_of};
 ghost use Rattle.trick_cells.specs.Unfolding.{Unfolds, are_declared_first};
 ghost use Rattle.trick_layout.specs.Kept.{AreLaid};

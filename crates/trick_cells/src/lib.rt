@@ -10,6 +10,6 @@ mod object;
 mod size;
 
 pub use cell::cells;
-pub use field::{CELL_LIMIT, lay_out};
+pub use field::lay_out;
 pub use object::{items, objects};
 pub use size::{cell_count, sizes};

@@ -1,8 +1,9 @@
 //! How many cells there are, with sums that stand still at 2^64 - 1.
 
 ghost use Rattle.std.specs.Prelude.{◌≡◌, [], IfOk};
+ghost use Rattle.trick_base.specs.Capped.{capped};
 ghost use Rattle.trick_cells.specs.Cells.{group_cells};
-ghost use Rattle.trick_cells.specs.Counts.{base_count, capped, counts, global_count, member_count, members_count, names_count, place_count};
+ghost use Rattle.trick_cells.specs.Counts.{base_count, counts, global_count, member_count, members_count, names_count, place_count};
 
 use std::alloc::{AllocError, Global as Memory};
 use trick_names::{Base, Global, Lengths, Member, Names};

@@ -1,8 +1,9 @@
 -- The parts of a file are such as a program asks.
 use Rattle.std.proofs.Common.{◌≡◌, ℕ, ◌<◌, true, List, length, ap, sym, ◌∙◌, subst}
+use Rattle.trick_base.specs.Capped.{capped}
 use Rattle.trick_blocks.specs.Kept.{is_one_of}
 use Rattle.trick_cells.specs.Cells.{all_groups, memory_cells}
-use Rattle.trick_cells.specs.Counts.{capped, counts, names_count}
+use Rattle.trick_cells.specs.Counts.{counts, names_count}
 use Rattle.trick_check.proofs.Lists.{has_is}
 use Rattle.trick_check.proofs.Calls.{calls_many}
 use Rattle.trick_check.proofs.Placed.{same_count}

@@ -1,8 +1,8 @@
 -- A file has one refusal.
 use Rattle.std.proofs.Common.{◌≡◌, ◌≢◌, ℕ, zero, suc, ◌+◌, ◌-◌, ◌<◌, ◌≤◌, List, [], Option, Some, None, slice_get, inl, inr, refl, ap, ap₂, sym, ◌∙◌, subst, arith}
 use Rattle.std.proofs.lemmas.Bool.{cases_order}
+use Rattle.trick_base.specs.Capped.{capped}
 use Rattle.trick_bodies.specs.Classes.{Made}
-use Rattle.trick_cells.specs.Counts.{capped}
 use Rattle.trick_check.proofs.Excluded.{not_recursive}
 use Rattle.trick_check.specs.Parts.{calls_at, method_name_at}
 use Rattle.trick_check.specs.Refused.{CallsAreRight, CellsAreRight, HasLongJob, IsFirstLong, IsFirstRecursive, IsLongJob, IsRefused, JobsAreRight, NamesAreRight, cells_in, jobs_in}

@@ -4,7 +4,8 @@ use Rattle.std.proofs.Math.ListN.{length-append}
 use Rattle.std.proofs.lemmas.Bool.{eqb-true, le-leb}
 use Rattle.std.proofs.lemmas.List.Folds.{list_all-append}
 use Rattle.std.specs.List.{list_all}
-use Rattle.trick_cells.specs.Counts.{capped, global_count, names_count}
+use Rattle.trick_base.specs.Capped.{capped}
+use Rattle.trick_cells.specs.Counts.{global_count, names_count}
 use Rattle.trick_cells.specs.Tables.{narrow, object_row, object_rows, taken}
 use Rattle.trick_jobs.specs.Jobs.{job_count, job_of, jobs_from, lines_at, numbers_at, object_jobs}
 use Rattle.trick_lang.specs.Names.{are_apart, of_one_number}

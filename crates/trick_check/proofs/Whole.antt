@@ -1,8 +1,9 @@
 -- The parts of each file are whole.
 use Rattle.std.proofs.Common.{◌≡◌, ℕ, ◌≤◌, true, IsTrue, List, length, ap, sym, ◌∙◌, subst, arith}
+use Rattle.trick_base.specs.Capped.{capped}
 use Rattle.trick_bodies.specs.Classes.{AreWhole, Made, made}
 use Rattle.trick_cells.specs.Cells.{all_groups, memory_cells, objects_cells}
-use Rattle.trick_cells.specs.Counts.{capped, counts, names_count}
+use Rattle.trick_cells.specs.Counts.{counts, names_count}
 use Rattle.trick_cells.specs.Tables.{taken}
 use Rattle.trick_cells.specs.Unfolding.{Unfolds}
 use Rattle.trick_cells.specs.Waits.{IsDone}

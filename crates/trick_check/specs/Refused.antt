@@ -2,10 +2,10 @@
 -- kind the first one in the text decides.
 
 use Rattle.std.specs.Prelude.{◌≡◌, ℕ, ◌<◌, ◌≤◌, List, length, slice_get, Option, Some, None}
+use Rattle.trick_base.specs.Capped.{capped}
 use Rattle.trick_blocks.specs.Kept.{codes_in}
 use Rattle.trick_bodies.specs.Classes.{Made}
 use Rattle.trick_cells.specs.Cells.{memory_cells}
-use Rattle.trick_cells.specs.Counts.{capped}
 use Rattle.trick_check.specs.Parts.{HaveNoLoop, calls_at, method_name_at}
 use Rattle.trick_check.specs.Walk.{all_made, jobs_named, objects_of}
 use Rattle.trick_check.specs.declared.fault.CheckFault.{CheckFault}

@@ -1,8 +1,9 @@
 //! How many cells and jobs there are.
 
 ghost use Rattle.std.specs.Prelude.{◌≡◌, ◌≤◌, ◌<◌, IfErr, IfNone, IfOk, IfSome, OnOk, length};
+ghost use Rattle.trick_base.specs.Capped.{capped};
 ghost use Rattle.trick_cells.specs.Cells.{all_groups, memory_cells};
-ghost use Rattle.trick_cells.specs.Counts.{capped, counts, names_count};
+ghost use Rattle.trick_cells.specs.Counts.{counts, names_count};
 ghost use Rattle.trick_check.specs.Refused.{CallsAreRight, IsRefused, JobsAreRight};
 ghost use Rattle.trick_check.specs.Walk.{objects_of, sizes_of};
 ghost use Rattle.trick_jobs.specs.Jobs.{job_count};
@@ -12,7 +13,7 @@ ghost use Rattle.trick_names.specs.Tables.{tables_of};
 use crate::CheckFault;
 use std::alloc::Global as Memory;
 use trick_base::Items;
-use trick_cells::{CELL_LIMIT, cell_count, laws, objects, sizes};
+use trick_cells::{cell_count, laws, objects, sizes};
 use trick_jobs::job_count;
 use trick_lang::Object;
 use trick_lang::syntax::Definition;

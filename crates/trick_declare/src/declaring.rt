@@ -5,12 +5,9 @@ use crate::cells::{cells_of, total};
 use crate::{Declaration, DeclareFault, is_taken};
 use std::alloc::{AllocError, Global};
 use std::mem;
-use trick_base::Items;
+use trick_base::{CELL_LIMIT, Items};
 use trick_lang::{Program, Variable};
 use trick_model::Plan;
-
-/// How many cells a program may have.
-pub const CELL_LIMIT: u64 = 65_536;
 
 // Adds cells at the end. A want of memory leaves the cells as they were.
 fn append(alloc: Global, cells: &mut Items<Variable>, more: Vec<Variable>) -> Result<(), AllocError>

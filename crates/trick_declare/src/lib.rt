@@ -10,6 +10,6 @@ pub mod laws;
 mod taken;
 
 pub use declaration::Declaration;
-pub use declaring::{CELL_LIMIT, add, declare};
+pub use declaring::{add, declare};
 pub use fault::DeclareFault;
 pub use taken::{first_name, is_taken};

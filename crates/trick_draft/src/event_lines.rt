@@ -10,6 +10,7 @@ ghost use Rattle.trick_draft.specs.declared.event.EventDraft.{EventDraft};
 ghost use Rattle.trick_lang.specs.Syntax.{expression_of};
 
 use crate::event::{activate, add_actions, set_condition};
+use crate::limits::EVENT_LIMIT;
 use crate::{Condition, Draft, EventDraft, Handle, LineFault};
 use std::alloc::{AllocError, Global};
 use trick_base::{Items, Word};
@@ -180,8 +181,10 @@ impl Draft {
         if self.added_events.meaning(name).is_some() {
             return Err(LineFault::TwiceNamed);
         }
-        if self.added_events.len() >= 256 {
-            return Err(LineFault::TooMany { limit: 256 });
+        if self.added_events.len() >= EVENT_LIMIT {
+            return Err(LineFault::TooMany {
+                limit: EVENT_LIMIT as u64,
+            });
         }
         let _was = self.added_events.add(name, at)?;
         Ok(())

@@ -6,6 +6,7 @@ ghost use Rattle.trick_draft.specs.Lines.{Did, add_group_line, add_variable_line
 ghost use Rattle.trick_draft.specs.declared.group.GroupDraft.{GroupDraft};
 
 use crate::group::{add_cell, set_changes, set_cycle, turn};
+use crate::limits::{COLUMN_LIMIT, GROUP_LIMIT};
 use crate::{Draft, GroupDraft, Handle, LineFault, event};
 use std::alloc::{AllocError, Global};
 use trick_base::{Items, Word};
@@ -30,7 +31,7 @@ fn is_full(groups: &[GroupDraft], at: usize) -> bool
     ensures { result ≡ asked (λ (group : GroupDraft). is_full group.cells 256) false (slice_get groups.now at) }
 {
     match groups.get(at) {
-        Some(group) => group.cells.len() >= 256,
+        Some(group) => group.cells.len() >= COLUMN_LIMIT,
         None => false,
     }
 }
@@ -73,7 +74,9 @@ impl Draft {
             return Err(LineFault::UnknownName);
         };
         if is_full(self.groups.as_slice(), at) {
-            return Err(LineFault::TooMany { limit: 256 });
+            return Err(LineFault::TooMany {
+                limit: COLUMN_LIMIT as u64,
+            });
         }
         add_cell(alloc, &mut self.groups, at, cell)?;
         Ok(())
@@ -120,8 +123,10 @@ impl Draft {
         if self.added_groups.meaning(name).is_some() {
             return Err(LineFault::TwiceNamed);
         }
-        if self.added_groups.len() >= 64 {
-            return Err(LineFault::TooMany { limit: 64 });
+        if self.added_groups.len() >= GROUP_LIMIT {
+            return Err(LineFault::TooMany {
+                limit: GROUP_LIMIT as u64,
+            });
         }
         let _was = self.added_groups.add(name, at)?;
         Ok(())

@@ -14,6 +14,7 @@ mod group_lines;
 mod handle;
 mod jobs;
 pub mod laws;
+mod limits;
 mod lines;
 
 pub use cells::KnownCells;

@@ -8,9 +8,10 @@ ghost use Rattle.trick_draft.specs.Kept.{Mirrors};
 ghost use Rattle.trick_draft.specs.Lines.{Did, add_read_line, assign_line, declare_line, depend_line, set_job_line};
 ghost use Rattle.trick_draft.specs.Seen.{AddsDeclared, declared_in};
 
+use crate::limits::{PAIR_LIMIT, READ_LIMIT};
 use crate::{Draft, LineFault};
 use std::alloc::Global;
-use trick_base::{Items, Word};
+use trick_base::{CELL_LIMIT, Items, Word};
 use trick_declare::{Declaration, DeclareFault, add};
 use trick_lang::{JobId, Program};
 use trick_model::{Action, Depends, ReadAt};
@@ -27,7 +28,9 @@ fn add_declared(
 {
     match add(alloc, program, declaration) {
         Ok(()) => Ok(()),
-        Err(DeclareFault::TooManyCells { count: _ }) => Err(LineFault::TooMany { limit: 65_536 }),
+        Err(DeclareFault::TooManyCells { count: _ }) => Err(LineFault::TooMany {
+            limit: CELL_LIMIT,
+        }),
         Err(_) => Err(LineFault::OutOfMemory),
     }
 }
@@ -63,8 +66,10 @@ impl Draft {
         let Some(depended) = depended else {
             return Err(LineFault::UnknownJob);
         };
-        if self.depends.len() >= 512 {
-            return Err(LineFault::TooMany { limit: 512 });
+        if self.depends.len() >= PAIR_LIMIT {
+            return Err(LineFault::TooMany {
+                limit: PAIR_LIMIT as u64,
+            });
         }
         self.depends.push(Depends { target, depended })?;
         Ok(())
@@ -130,8 +135,10 @@ impl Draft {
         if !self.can_do_all(program, actions.as_slice()) {
             return Err(LineFault::BadAction);
         }
-        if self.reads.len() >= 4_096 {
-            return Err(LineFault::TooMany { limit: 4_096 });
+        if self.reads.len() >= READ_LIMIT {
+            return Err(LineFault::TooMany {
+                limit: READ_LIMIT as u64,
+            });
         }
         self.reads.push(ReadAt { tic, actions })?;
         Ok(())

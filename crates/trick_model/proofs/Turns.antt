@@ -288,7 +288,7 @@ either_found : (p : Plan) (place : ℕ) (b : Bool) (x y : Option (ℕ × Thread)
 either_found p place true x y hx hy = hx
 either_found p place false x y hx hy = hy
 
-find_at : (p : Plan) (place number : ℕ) (threads : List Thread) → AreAt p place threads → FoundAt p place (find_thread number threads)
+pub find_at : (p : Plan) (place number : ℕ) (threads : List Thread) → AreAt p place threads → FoundAt p place (find_thread number threads)
 find_at p place number [] at = tt
 find_at p place number (thread ∷ threads) at =
     let same : place ≡ place + 0 = omega arith in

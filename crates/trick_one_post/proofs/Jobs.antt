@@ -31,7 +31,7 @@ use Rattle.trick_post.specs.Work.{CanStart, IsKindOf, found_or_none, jobs_at_wor
 use Rattle.trick_post.specs.declared.posts.Job1.{Job1}
 use Rattle.trick_post.specs.declared.posts.Job1.TheVariants as work
 use Rattle.trick_queue.proofs.Orders.{among_filter, filter_both, filter_order, filter_same, jobs_kept, numbers_are}
-use Rattle.trick_queue.proofs.Queued.{ids_length}
+use Rattle.trick_queue.proofs.Queued.{filter_few, ids_length, numbers_length, order_length}
 use Rattle.trick_queue.proofs.Trees.{below_or, past}
 use Rattle.trick_queue.specs.Queue.{AreScheduled, id_at, no_id, times_at}
 
@@ -293,30 +293,6 @@ due_are_there plan all due u scheduled is =
     (below_of n all (scheduled_there plan all scheduled))))
 
 -- ---- how many there are
-
-filter_few : (test : ℕ → Bool) (ks : List ℕ) → length (filter test ks) ≤ length ks
-filter_few test [] = omega arith
-filter_few test (k ∷ ks) = by_test (filter_few test ks) (test k)
-  where
-    by_test : length (filter test ks) ≤ length ks → (b : Bool) → length (cond b (k ∷ filter test ks) (filter test ks)) ≤ suc (length ks)
-    by_test few true = omega arith
-    by_test few false = omega arith
-
-put_length : (jobs : List Job) (k : ℕ) (js : List ℕ) → length (put_in jobs k js) ≡ suc (length js)
-put_length jobs k [] = refl
-put_length jobs k (j ∷ js) = by_test (put_length jobs k js) (precedes jobs k j)
-  where
-    by_test : length (put_in jobs k js) ≡ suc (length js) → (b : Bool) → length {A = ℕ} (elim b [ true ↦ k ∷ j ∷ js | false ↦ j ∷ put_in jobs k js ]) ≡ suc (suc (length js))
-    by_test others true = refl
-    by_test others false = ap suc others
-
-order_length : (jobs : List Job) (ks : List ℕ) → length (in_key_order jobs ks) ≡ length ks
-order_length jobs [] = refl
-order_length jobs (k ∷ ks) = put_length jobs k (in_key_order jobs ks) ∙ ap suc (order_length jobs ks)
-
-numbers_length : {A : Type 0} (k : ℕ) (xs : List A) → length (numbers_from k xs) ≡ length xs
-numbers_length k [] = refl
-numbers_length k (x ∷ xs) = ap suc (numbers_length (suc k) xs)
 
 -- there are at most 512
 pub line_few : (plan : PlanValue) (number : ℕ) (all : List JobId) → ids all ≡ scheduled_of (plan_of plan) number → length all ≤ 512

@@ -15,16 +15,16 @@ use Rattle.trick_outside.specs.declared.stop.Stop.{Stop}
 abbrev pub Joins : {S : Type 0} → Ghosts S → Type 0
 Joins {S = S} shelf = (first second third : S) (early late : List Call) → shelf.called first early second → shelf.called second late third → shelf.called first (early ++ late) third
 
-not_ok : {T : Type 0} (result : Result T Stop) (e : Stop) → result ≡ Err e → IsOk result → ⊥
+pub not_ok : {T : Type 0} (result : Result T Stop) (e : Stop) → result ≡ Err e → IsOk result → ⊥
 not_ok (Ok x) e is ok = cc
 not_ok (Err f) e is ok = cc
 
-ok_not_fault : {T : Type 0} (result : Result T Stop) → IsOk result → IsErrOf result Shelf → ⊥
+pub ok_not_fault : {T : Type 0} (result : Result T Stop) → IsOk result → IsErrOf result Shelf → ⊥
 ok_not_fault (Ok x) ok is = cc
 ok_not_fault (Err f) ok is = cc
 
 -- two results with one error fail with the shelf together
-handed_on : {T U : Type 0} (first : Result T Stop) (result : Result U Stop) (e f : Stop) → first ≡ Err e → result ≡ Err f → f ≡ e → IsErrOf result Shelf → IsErrOf first Shelf
+pub handed_on : {T U : Type 0} (first : Result T Stop) (result : Result U Stop) (e f : Stop) → first ≡ Err e → result ≡ Err f → f ≡ e → IsErrOf result Shelf → IsErrOf first Shelf
 handed_on first result e f at is same shelf = at ∙ ap Err (sym same ∙ same_error result f Shelf is shelf)
   where
     same_error : {T : Type 0} (result : Result T Stop) (e f : Stop) → result ≡ Err e → result ≡ Err f → e ≡ f

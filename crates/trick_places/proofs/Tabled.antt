@@ -4,10 +4,12 @@ use Rattle.std.proofs.lemmas.Bool.{leb-true}
 use Rattle.std.proofs.lemmas.Nat.{mul-le}
 use Rattle.std.proofs.lemmas.Slice.Eq.{bytes_eq-Decides}
 use Rattle.std.specs.Str.{bytes_eq}
+use Rattle.trick_base.specs.Capped.{capped}
 use Rattle.trick_cells.proofs.Counted.{base_counted, global_counted, member_counted, members_counted, size_counts}
+use Rattle.trick_cells.proofs.Laid.{groups_at}
 use Rattle.trick_cells.proofs.Lists.{length_each, length_under}
 use Rattle.trick_cells.specs.Cells.{array_cells, base_cells, cells_at, dotted, each, global_cells, member_cells, members_cells, objects_cells, place_cells, under}
-use Rattle.trick_cells.specs.Counts.{base_count, capped, counts, global_count, member_count, members_count, names_count, place_count}
+use Rattle.trick_cells.specs.Counts.{base_count, counts, global_count, member_count, members_count, names_count, place_count}
 use Rattle.trick_cells.specs.Tables.{dim, dims_of, fields_of, groups_from, has_elements, layout_of, narrow, with_field, with_fields, with_site, with_sites}
 use Rattle.trick_cells.specs.Unfolding.{Unfolds, members_at}
 use Rattle.trick_lang.specs.SyntaxTree.{Name}
@@ -167,18 +169,6 @@ fields_held done group offset (m ∷ ms) fields there small held =
     (subst (λ i. HasAt (cells_at done group) i (members_cells done ms)) (sym next) (has_rest (cells_at done group) offset here (members_cells done ms) there))
     (omega (arith, next, long, small))
     (field_held done group offset m.0 m.1 fields (has_first (cells_at done group) offset here (members_cells done ms) there) one held)
-
-groups_at : (sizes : List ℕ) (n : ℕ) (gs : List (Names Member)) (k : ℕ) → fields_at (groups_from sizes n gs) k ≡ fields_of sizes (n + k) (members_at gs k)
-groups_at sizes n [] k = by (nat_le (slice_index_or sizes (n + k) 0) 65536) where
-  by : (b : Bool) → [] ≡ (if b then with_fields sizes 0 [] [] else [])
-  by true = refl
-  by false = refl
-groups_at sizes n (g ∷ gs) zero =
-    let at : n ≡ n + 0 = omega arith in
-    ap (λ k. fields_of sizes k g) at
-groups_at sizes n (g ∷ gs) (suc k) =
-    let at : n + 1 + k ≡ n + suc k = omega arith in
-    groups_at sizes (n + 1) gs k ∙ ap (λ j. fields_of sizes j (members_at gs k)) at
 
 append_none : (xs : List Variable) → xs ++ [] ≡ xs
 append_none [] = refl

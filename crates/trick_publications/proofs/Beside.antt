@@ -2,7 +2,7 @@
 use Rattle.std.proofs.Common.{◌≡◌, ◌∙◌, ℕ, suc, ◌+◌, ◌%◌, ◌==◌, ℤ, List, [], ◌∷◌, Bool, true, false, Option, Some, None, ap, arith, refl, subst, sym}
 use Rattle.std.specs.Prelude.{slice_set}
 use Rattle.trick_lang.proofs.Tests.{both_left}
-use Rattle.trick_model.proofs.Turns.{AreAt, IsAt, all_at}
+use Rattle.trick_model.proofs.Turns.{FoundAt, IsAt, all_at, find_at}
 use Rattle.trick_model.specs.Access.{may_write, scope}
 use Rattle.trick_model.specs.Beside.{ends_at, find_thread, flag_in, has_round, held_work, must_finish, one_later, publish, publish_round, published, spread, start_round, take, taken_from, where_ends, work, zeros}
 use Rattle.trick_model.specs.Plan.{Plan, is_async, jobs_of, threads_beside}
@@ -168,27 +168,6 @@ module _ (p : Plan) where
       ])
       by_held true = done
       by_held false = alike_refl p s
-
--- what was found stands at its place
-abbrev FoundAt : Plan → ℕ → Option (ℕ × Thread) → Type 0
-FoundAt p place None = Unit {0}
-FoundAt p place (Some found) = IsAt p (place + found.0) found.1
-
-later_at : (p : Plan) (place : ℕ) (found : Option (ℕ × Thread)) → FoundAt p (place + 1) found → FoundAt p place (one_later found)
-later_at p place None at = tt
-later_at p place (Some found) at =
-    let shift : place + 1 + found.0 ≡ place + suc found.0 = omega arith in subst (λ (n : ℕ). IsAt p n found.1) shift at
-
-either_found : (p : Plan) (place : ℕ) (b : Bool) (x y : Option (ℕ × Thread)) → FoundAt p place x → FoundAt p place y → FoundAt p place (elim b [ true ↦ x | false ↦ y ])
-either_found p place true x y hx hy = hx
-either_found p place false x y hx hy = hy
-
-find_at : (p : Plan) (place number : ℕ) (threads : List Thread) → AreAt p place threads → FoundAt p place (find_thread number threads)
-find_at p place number [] at = tt
-find_at p place number (thread ∷ threads) at =
-    let same : place ≡ place + 0 = omega arith in
-    either_found p place (thread.number == number) (Some (0, thread)) (one_later (find_thread number threads))
-    (subst (λ (n : ℕ). IsAt p n thread) same at.0) (later_at p place (find_thread number threads) (find_at p (place + 1) number threads at.1))
 
 -- one state that is alike, or the state itself
 one_of : (p : Plan) (b : Bool) (s x : State) → (b ≡ true → AreAlike p s x) → AreAlike p s (elim b [ true ↦ x | false ↦ s ])

@@ -80,7 +80,7 @@ before_kept jobs test k (j ∷ js) before = by_test (before_kept jobs test k js 
     by_test others true = (before.0, others)
     by_test others false = others
 
-order_kept : (jobs : List Job) (test : ℕ → Bool) (ks : List ℕ) → AreInKeyOrder jobs ks → AreInKeyOrder jobs (filter test ks)
+pub order_kept : (jobs : List Job) (test : ℕ → Bool) (ks : List ℕ) → AreInKeyOrder jobs ks → AreInKeyOrder jobs (filter test ks)
 order_kept jobs test [] ordered = tt
 order_kept jobs test (k ∷ ks) ordered = by_test (order_kept jobs test ks ordered.1) (test k)
   where

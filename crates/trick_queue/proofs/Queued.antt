@@ -98,7 +98,7 @@ all_scheduled p all is =
 
 -- ---- how many there are
 
-filter_few : (test : ℕ → Bool) (ks : List ℕ) → length (filter test ks) ≤ length ks
+pub filter_few : (test : ℕ → Bool) (ks : List ℕ) → length (filter test ks) ≤ length ks
 filter_few test [] = omega arith
 filter_few test (k ∷ ks) = by_test (filter_few test ks) (test k)
   where
@@ -114,11 +114,11 @@ put_length jobs k (j ∷ js) = by_test (put_length jobs k js) (precedes jobs k j
     by_test others true = refl
     by_test others false = ap suc others
 
-order_length : (jobs : List Job) (ks : List ℕ) → length (in_key_order jobs ks) ≡ length ks
+pub order_length : (jobs : List Job) (ks : List ℕ) → length (in_key_order jobs ks) ≡ length ks
 order_length jobs [] = refl
 order_length jobs (k ∷ ks) = put_length jobs k (in_key_order jobs ks) ∙ ap suc (order_length jobs ks)
 
-numbers_length : {A : Type 0} (k : ℕ) (xs : List A) → length (numbers_from k xs) ≡ length xs
+pub numbers_length : {A : Type 0} (k : ℕ) (xs : List A) → length (numbers_from k xs) ≡ length xs
 numbers_length k [] = refl
 numbers_length k (x ∷ xs) = ap suc (numbers_length (suc k) xs)
 

@@ -2,27 +2,12 @@
 use Rattle.std.proofs.Common.{◌≡◌, ◌∙◌, List, [], ◌++◌, false, Err, Ok, IsOk, ap, refl, subst, sym}
 use Rattle.std.specs.Prelude.{Result, IsErrOf}
 use Rattle.trick_outside.proofs.CallLemmas.{ends-append, fails-late, part_of_early, part_of_late, true_or_false}
-use Rattle.trick_outside.proofs.DoesLemmas.{Joins, went_none, went_then}
+use Rattle.trick_outside.proofs.DoesLemmas.{Joins, handed_on, not_ok, ok_not_fault, went_none, went_then}
 use Rattle.trick_outside.specs.Calls.{Call, fails}
 use Rattle.trick_outside.specs.Does.{Does, IsPartOf}
 use Rattle.trick_outside.specs.declared.shelf.Shelf.{Ghosts}
 use Rattle.trick_outside.specs.declared.stop.Stop.TheVariants.{Shelf}
 use Rattle.trick_outside.specs.declared.stop.Stop.{Stop}
-
-not_ok : {T : Type 0} (result : Result T Stop) (e : Stop) → result ≡ Err e → IsOk result → ⊥
-not_ok (Ok x) e is ok = cc
-not_ok (Err f) e is ok = cc
-
-ok_not_fault : {T : Type 0} (result : Result T Stop) → IsOk result → IsErrOf result Shelf → ⊥
-ok_not_fault (Ok x) ok is = cc
-ok_not_fault (Err f) ok is = cc
-
--- two results with one error fail with the shelf together
-handed_on : {T U : Type 0} (first : Result T Stop) (result : Result U Stop) (e f : Stop) → first ≡ Err e → result ≡ Err f → f ≡ e → IsErrOf result Shelf → IsErrOf first Shelf
-handed_on first result e f at is same shelf = at ∙ ap Err (sym same ∙ same_error result f Shelf is shelf)
-  where
-    same_error : {T : Type 0} (result : Result T Stop) (e f : Stop) → result ≡ Err e → result ≡ Err f → e ≡ f
-    same_error result e f is at = cc
 
 -- the same steps, in other words
 pub did_of : {S T : Type 0} {shelf : Ghosts S} {old new : S} {result : Result T Stop} {one other calls : List Call} → one ≡ other

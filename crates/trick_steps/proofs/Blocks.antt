@@ -1,5 +1,6 @@
 -- Counts of blocks that are the same up to the cap give counts that are.
 use Rattle.std.proofs.Common.{◌≡◌, ℕ, zero, suc, ◌+◌, ◌*◌, ◌-◌, ◌<◌, ◌≤◌, max, List, [], ◌∷◌, ◌++◌, length, get_or, slice_index_or, drop, drop-cons, add-one, Option, Some, None, refl, ap, sym, ◌∙◌, arith}
+use Rattle.trick_base.specs.Capped.{capped}
 use Rattle.trick_lang.specs.Blocks.{table}
 use Rattle.trick_lang.specs.Count.{all_steps, block_steps, branch_steps, change_steps, code_steps, first_steps, index_steps, term_steps}
 use Rattle.trick_lang.specs.Run.{turn_count}
@@ -7,7 +8,7 @@ use Rattle.trick_lang.specs.Tree.{Code, Empty, Declare, SetLocal, Assign, If, Fo
 use Rattle.trick_lang.specs.TreeOf.{code_list, codes_of}
 use Rattle.trick_lang.specs.declared.tree.Block.{Block}
 use Rattle.trick_steps.proofs.Capped.{cap_twice, mul_same}
-use Rattle.trick_steps.specs.Steps.{all_capped, blocks_steps, capped, count_at}
+use Rattle.trick_steps.specs.Steps.{all_capped, blocks_steps, count_at}
 
 -- the same up to the cap, for each block
 abbrev pub Same : (ℕ → ℕ) → (ℕ → ℕ) → Type 0

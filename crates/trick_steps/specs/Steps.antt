@@ -1,12 +1,10 @@
 -- Counts of static steps, which stand still at 2^64 - 1.
 use Rattle.std.specs.List.{slice_index_or}
-use Rattle.std.specs.Prelude.{ℕ, ◌-◌, ◌^◌, min, List, [], ◌∷◌}
+use Rattle.std.specs.Prelude.{ℕ, List, [], ◌∷◌}
+use Rattle.trick_base.specs.Capped.{capped}
 use Rattle.trick_lang.specs.Blocks.{table}
 use Rattle.trick_lang.specs.Count.{all_steps}
 use Rattle.trick_lang.specs.Tree.{Code}
-
-abbrev pub capped : ℕ → ℕ
-capped n = min n (2 ^ 64 - 1)
 
 abbrev pub all_capped : List ℕ → List ℕ
 all_capped [] = []

@@ -1,9 +1,9 @@
 //! Steps of expressions and places.
 
 ghost use Rattle.std.specs.Prelude.{◌≡◌};
+ghost use Rattle.trick_base.specs.Capped.{capped};
 ghost use Rattle.trick_lang.specs.Count.{change_steps, choice_steps, first_steps, index_steps, link_steps, term_steps};
 ghost use Rattle.trick_lang.specs.TreeOf.{change_of, choices_of_list, first_value_of, links_of_list, spot_of, term_of};
-ghost use Rattle.trick_steps.specs.Steps.{capped};
 
 use trick_lang::{Change, Choice, Expr, Link, Place};
 

@@ -1,6 +1,7 @@
 use Rattle.std.proofs.Common.{◌≡◌, ◌*◌, ap, sym, ◌∙◌}
-use Rattle.trick_cells.proofs.Counted.{cap_mul}
-use Rattle.trick_cells.specs.Counts.{capped, place_count}
+use Rattle.trick_base.proofs.Capped.{cap_mul}
+use Rattle.trick_base.specs.Capped.{capped}
+use Rattle.trick_cells.specs.Counts.{place_count}
 use Rattle.trick_cells.proofs.size.place_size.Goals as goal
 
 pub returns-in-Two : goal.returns-in-Two

@@ -1,6 +1,6 @@
 use Rattle.std.proofs.Common.{rules, ◌≡◌, ◌&&◌, not, true, false, ap, sym, ◌∙◌, arith, List}
-use Rattle.trick_condition.proofs.Build.{choices_heavy}
-use Rattle.trick_condition.proofs.Weights.{expression_weight}
+use Rattle.trick_blocks.proofs.Build.{choices_heavy}
+use Rattle.trick_blocks.proofs.Weights.{expression_weight}
 use Rattle.trick_condition.proofs.plain.+plain.Goals as goal
 use Rattle.trick_condition.specs.Conditions.{are_plain_choices, are_plain_links, is_plain}
 use Rattle.trick_condition.specs.Places.{has_computed}

@@ -1,6 +1,6 @@
 use Rattle.std.proofs.Common.{◌≡◌, ◌+◌, ◌≤◌, drop}
-use Rattle.trick_condition.proofs.Build.{choices_weight}
-use Rattle.trick_condition.proofs.Weights.{expression_weight, link_weight}
+use Rattle.trick_blocks.proofs.Build.{choices_weight}
+use Rattle.trick_blocks.proofs.Weights.{expression_weight, link_weight}
 use Rattle.trick_condition.proofs.plain.+plain.Given as goal
 use Rattle.trick_condition.specs.Conditions.{are_plain_choices, are_plain_links}
 use Rattle.trick_lang.specs.Syntax.{choices_of_list, expression_of, links_of_list}

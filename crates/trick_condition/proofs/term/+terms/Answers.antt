@@ -1,10 +1,10 @@
 use Rattle.std.proofs.Common.{rules, ◌≡◌, ◌+◌, ◌||◌, [], ◌∷◌, false, drop, List, Err, Ok, ap, sym, ◌∙◌, subst, arith}
 use Rattle.std.proofs.lemmas.List.{drop_all, drop_more}
 use Rattle.std.proofs.lemmas.Result.{err_from_is_err_and}
-use Rattle.trick_condition.proofs.Build.{choices_after, choices_done, choices_grown, choices_heavy, choices_weight, links_after, links_done, links_grown}
+use Rattle.trick_blocks.proofs.Build.{choices_after, choices_done, choices_grown, choices_heavy, choices_weight, links_after, links_done, links_grown}
 use Rattle.trick_condition.proofs.Lists.{from_here}
 use Rattle.trick_condition.proofs.Resolved.{choices_fail, last_fails, links_fail, neither, parts_fail, place_resolves, test_fails, value_fails}
-use Rattle.trick_condition.proofs.Weights.{expression_weight, link_weight}
+use Rattle.trick_blocks.proofs.Weights.{expression_weight, link_weight}
 use Rattle.trick_condition.proofs.term.+terms.Goals as goal
 use Rattle.trick_condition.specs.Conditions.{choice_terms, choices_unknown, has_unknown, link_terms, links_unknown, term}
 use Rattle.trick_condition.specs.Held.{AreResolved, ChecksParts, Resolves, ResolvesChoices, ResolvesLinks, known_by}

@@ -1,6 +1,6 @@
 use Rattle.std.proofs.Common.{◌≡◌, ◌+◌, ◌≤◌, drop}
-use Rattle.trick_condition.proofs.Build.{choices_after, choices_weight, links_after}
-use Rattle.trick_condition.proofs.Weights.{expression_weight, link_weight, part_weight}
+use Rattle.trick_blocks.proofs.Build.{choices_after, choices_weight, links_after}
+use Rattle.trick_blocks.proofs.Weights.{expression_weight, link_weight, part_weight}
 use Rattle.trick_condition.proofs.term.+terms.Given as goal
 use Rattle.trick_condition.specs.Conditions.{choice_terms, choices_unknown, link_terms, links_unknown, parts_unknown}
 use Rattle.trick_condition.specs.Held.{known_by}

@@ -1,10 +1,11 @@
 use Rattle.std.proofs.Common.{◌≡◌, ◌+◌, max, drop, ap, sym, ◌∙◌, arith}
+use Rattle.trick_base.specs.Capped.{capped}
 use Rattle.trick_lang.proofs.Lists.{from_here}
 use Rattle.trick_lang.specs.Count.{branch_steps, term_steps}
 use Rattle.trick_lang.specs.TreeOf.{branches_of, else_of, term_of}
 use Rattle.trick_steps.proofs.Capped.{branch_next}
 use Rattle.trick_steps.proofs.block.branch_steps.Goals as goal
-use Rattle.trick_steps.specs.Steps.{capped, count_at}
+use Rattle.trick_steps.specs.Steps.{count_at}
 
 pub loop-branch-preserved : goal.loop-branch-preserved
 loop-branch-preserved c =
