@@ -12,7 +12,7 @@ ghost use Rattle.trick_runs.specs.Hosts.{at, hosts};
 ghost use Rattle.trick_runs.specs.Rounds.{no_waits};
 ghost use Rattle.trick_turns.specs.Turns.{no_sessions};
 
-use crate::turn::{Keeping, turn};
+use crate::turn::{Given, Keeping, turn};
 use crate::{Ended, World};
 use std::alloc::Global;
 use trick_lang::Cells;
@@ -70,9 +70,11 @@ pub(crate) fn go<M: Cells + Drop, F: Shelf, H: Phases<M>, P: Posts, T: Turns<M>>
         }
         match turns.entries(alloc, &world.state) {
             Next::Entries(entries) => {
-                world = turn(
-                    alloc, accepted, &entries, decides, world, keeping, shelf, workers, turns,
-                )?;
+                let given = Given {
+                    entries: &entries,
+                    decides,
+                };
+                world = turn(accepted, given, world, keeping, shelf, workers, turns)?;
             }
             Next::NoMore => return Ok(Ended::Done(world)),
             Next::Length { kept, given } => return Ok(Ended::Length { kept, given }),

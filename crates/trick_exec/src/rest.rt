@@ -47,15 +47,21 @@ fn send_samples<M: Cells, T: Turns<M>>(
     Ok(())
 }
 
-/// The rest of a turn after its notes: its replies are handed over, its frame passes with the publications
-/// that it was given or that were chosen, and its samples are handed over. It stops where the shelf failed,
-/// or where there was no memory; the world is gone then.
+/// A turn whose entries are noted: what was heard, and the publications that it was given or that were
+/// chosen.
+#[derive(Drop)]
+pub(crate) struct Noted<'a, M> {
+    pub(crate) heard: Heard<M>,
+    pub(crate) publications: &'a [Entry],
+}
+
+/// The rest of a turn after its notes: its replies are handed over, its frame passes with its publications,
+/// and its samples are handed over. It stops where the shelf failed, or where there was no memory; the world
+/// is gone then.
 pub(crate) fn finish_turn<M: Cells + Drop, F: Shelf, H: Phases<M>, P: Posts, T: Turns<M>>(
     alloc: Global,
     accepted: &Accepted,
-    publications: &[Entry],
-    heard: Heard<M>,
-    from: u64,
+    noted: Noted<M>,
     equipment: &mut Equipment,
     shelf: &mut F,
     workers: &mut Workers<H, P>,
@@ -64,26 +70,35 @@ pub(crate) fn finish_turn<M: Cells + Drop, F: Shelf, H: Phases<M>, P: Posts, T: 
     requires own { H.is_for workers.old.phases accepted.now.plan }
     requires posts { P.plan workers.old.posts ≡ accepted.now.plan }
     requires equipped { IsEquipped accepted.now.plan equipment.old (P.in_flight workers.old.posts)
-        (seen M.numbers heard.hearing.current.state) (M.scalars heard.hearing.current.state.memory) }
-    requires sessions { AreHeard (plan_of accepted.now.plan) heard.hearing.sessions.items [] }
+        (seen M.numbers noted.heard.hearing.current.state) (M.scalars noted.heard.hearing.current.state.memory) }
+    requires sessions { AreHeard (plan_of accepted.now.plan) noted.heard.hearing.sessions.items [] }
     requires replies { All (λ (message : MessageOf). IsTrue (is_among message.0 (T.sessions turns.old).reached))
-        (said_of heard.replies.items) }
-    requires reached { numbers_of heard.hearing.sessions.items ≡ (T.sessions turns.old).reached }
+        (said_of noted.heard.replies.items) }
+    requires reached { numbers_of noted.heard.hearing.sessions.items ≡ (T.sessions turns.old).reached }
     ensures state { IfOk result (λ after. seen M.numbers after.state
-        ≡ state_after (plan_of accepted.now.plan) publications.now (asking_of M.numbers heard.hearing.current)) }
-    ensures sessions { IfOk result (λ after. after.sessions.items ≡ staying heard.hearing.sessions.items) }
+        ≡ state_after (plan_of accepted.now.plan) noted.publications.now
+        (asking_of M.numbers noted.heard.hearing.current)) }
+    ensures sessions { IfOk result (λ after. after.sessions.items ≡ staying noted.heard.hearing.sessions.items) }
     ensures does { Does F.Shelf shelf.old shelf.new result (steps_of
-        (writes_after (plan_of accepted.now.plan) publications.now (asking_of M.numbers heard.hearing.current))) }
-    ensures says { Says T.Turns turns.old turns.new result (said_of heard.replies.items ++ samples_of from
-        (state_after (plan_of accepted.now.plan) publications.now (asking_of M.numbers heard.hearing.current))
-        heard.hearing.sessions.items) }
+        (writes_after (plan_of accepted.now.plan) noted.publications.now
+        (asking_of M.numbers noted.heard.hearing.current))) }
+    ensures says { Says T.Turns turns.old turns.new result (said_of noted.heard.replies.items
+        ++ samples_of noted.heard.hearing.current.state.tic
+        (state_after (plan_of accepted.now.plan) noted.publications.now
+        (asking_of M.numbers noted.heard.hearing.current))
+        noted.heard.hearing.sessions.items) }
     ensures equipped { IfOk result (λ after. IsEquipped accepted.now.plan equipment.new (P.in_flight workers.new.posts)
         (seen M.numbers after.state) (M.scalars after.state.memory)) }
     ensures own { H.is_for workers.new.phases accepted.now.plan }
     ensures asks { AsksNothing P.Posts workers.old.posts workers.new.posts }
 {
+    let Noted {
+        heard,
+        publications,
+    } = noted;
     let Heard { hearing, replies } = heard;
     let Hearing { current, sessions } = hearing;
+    let from = current.state.tic;
     let Ok(()) = send_all(&replies, turns) else {
         return Err(Stop::Memory);
     };

@@ -13,7 +13,7 @@ ghost use Rattle.trick_runs.specs.Hosts.{at, hosts};
 use crate::World;
 use crate::lines::{count_lines, hear_lines};
 use crate::publish::{choose_publications, decided, note_publications};
-use crate::rest::finish_turn;
+use crate::rest::{Noted, finish_turn};
 use std::alloc::Global;
 use trick_lang::Cells;
 use trick_model::{Accepted, Entry, laws};
@@ -24,12 +24,19 @@ use trick_post::Posts;
 use trick_tic::Workers;
 use trick_turns::Turns;
 
-/// What a run keeps beside its world: its equipment, and at how many run frames the round of each thread
-/// beside the tics has stayed unpublished.
+/// What a run keeps beside its world: where its memory comes from, its equipment, and at how many run frames
+/// the round of each thread beside the tics has stayed unpublished.
 #[derive(Drop)]
 pub(crate) struct Keeping {
+    pub(crate) alloc: Global,
     pub(crate) equipment: Equipment,
     pub(crate) waits: Vec<u64>,
+}
+
+/// What the source of a run gives for a turn: its entries, and whether these decide the publications.
+pub(crate) struct Given<'a> {
+    pub(crate) entries: &'a [Entry],
+    pub(crate) decides: bool,
 }
 
 /// A turn that was given these entries: its lines are noted and heard, its publications are chosen, where
@@ -37,10 +44,8 @@ pub(crate) struct Keeping {
 /// before all entries are noted. It stops where the shelf failed, or where there was no memory; the world is
 /// gone then.
 pub(crate) fn turn<M: Cells + Drop, F: Shelf, H: Phases<M>, P: Posts, T: Turns<M>>(
-    alloc: Global,
     accepted: &Accepted,
-    entries: &[Entry],
-    decides: bool,
+    given: Given,
     world: World<M>,
     keeping: &mut Keeping,
     shelf: &mut F,
@@ -52,10 +57,10 @@ pub(crate) fn turn<M: Cells + Drop, F: Shelf, H: Phases<M>, P: Posts, T: Turns<M
     requires equipped { IsEquipped accepted.now.plan keeping.old.equipment (P.in_flight workers.old.posts)
         (seen M.numbers world.state) (M.scalars world.state.memory) }
     requires waits { length keeping.old.waits.items ≡ length (threads_beside (plan_of accepted.now.plan)) }
-    requires given { HasGiven (plan_of accepted.now.plan) decides (world_of M.numbers world) entries.now
+    requires given { HasGiven (plan_of accepted.now.plan) given.decides (world_of M.numbers world) given.entries.now
         (T.sessions turns.old) }
-    ensures came_to { CameTo (hosts F.Shelf T.Turns P.Posts) M.numbers (plan_of accepted.now.plan) decides
-        (world_of M.numbers world) entries.now keeping.old.waits.items keeping.new.waits.items
+    ensures came_to { CameTo (hosts F.Shelf T.Turns P.Posts) M.numbers (plan_of accepted.now.plan) given.decides
+        (world_of M.numbers world) given.entries.now keeping.old.waits.items keeping.new.waits.items
         (at shelf.old turns.old workers.old.posts) (at shelf.new turns.new workers.new.posts) result }
     ensures known { IfOk result (λ after. AreKnown (plan_of accepted.now.plan)
         (T.sessions turns.new) after.sessions.items) }
@@ -69,9 +74,10 @@ pub(crate) fn turn<M: Cells + Drop, F: Shelf, H: Phases<M>, P: Posts, T: Turns<M
 {
     laws::plans_are_sound();
     laws::runs_join();
-    let from = world.state.tic;
+    let alloc = keeping.alloc;
+    let Given { entries, decides } = given;
     let number = world.state.turn;
-    let (lines, given) = entries.split_at(count_lines(entries));
+    let (lines, tail) = entries.split_at(count_lines(entries));
     let heard = hear_lines(alloc, accepted, lines, world, &mut keeping.equipment, shelf)?;
     let state = &heard.hearing.current.state;
     let stations = keeping.equipment.course.stations();
@@ -85,15 +91,17 @@ pub(crate) fn turn<M: Cells + Drop, F: Shelf, H: Phases<M>, P: Posts, T: Turns<M
     ) else {
         return Err(Stop::Memory);
     };
-    let publications = decided(decides, given, &chosen);
+    let publications = decided(decides, tail, &chosen);
     let plan = accepted.plan();
     note_publications(alloc, plan, number, publications, stations, state, shelf)?;
+    let noted = Noted {
+        heard,
+        publications,
+    };
     let world = finish_turn(
         alloc,
         accepted,
-        publications,
-        heard,
-        from,
+        noted,
         &mut keeping.equipment,
         shelf,
         workers,

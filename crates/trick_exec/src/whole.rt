@@ -57,7 +57,11 @@ fn keep<M: Cells>(alloc: Global, plan: &Plan, state: &State<M>) -> Result<Keepin
 {
     let equipment = Equipment::new(alloc, plan, state)?;
     let waits = no_wait(alloc, equipment.course.stations())?;
-    Ok(Keeping { equipment, waits })
+    Ok(Keeping {
+        alloc,
+        equipment,
+        waits,
+    })
 }
 
 // Ends a run that is over in this world: the shutdown jobs run, and the last files are written.

@@ -28,7 +28,7 @@ pub send_samples-requires-clause-right : goal.send_samples-requires-clause-right
 send_samples-requires-clause-right g c =
     let state = c.in_ok-state.state in
     subst (λ (ss : List Session). All (IsSession (length (g.M.Cells.numbers state.memory))) ss) (sym c.deref-2.ensures.value)
-    (right_sessions c.args.accepted.now.plan (g.M.Cells.numbers state.memory) (g.M.Cells.scalars state.memory) c.args.heard.hearing.sessions.items
+    (right_sessions c.args.accepted.now.plan (g.M.Cells.numbers state.memory) (g.M.Cells.scalars state.memory) c.args.noted.heard.hearing.sessions.items
     c.in_ok-state.ensures.equipped.under_way.goes.memory c.requires.sessions.right)
 
 pub send_samples-requires-clause-reached : goal.send_samples-requires-clause-reached
@@ -40,8 +40,8 @@ returns-in_default-clause-does g c = does_none _ _ _ (g.met.F.Shelf.called_none 
 
 pub returns-in_default-clause-says : goal.returns-in_default-clause-says
 returns-in_default-clause-says g c =
-    let s : State = state_after (plan_of c.args.accepted.now.plan) c.args.publications.now (asking_of g.M.Cells.numbers c.args.heard.hearing.current) in
-    unsaid (said_of c.args.heard.replies.items) (samples c.args.from s c.args.heard.hearing.sessions.items)
+    let s : State = state_after (plan_of c.args.accepted.now.plan) c.args.noted.publications.now (asking_of g.M.Cells.numbers c.args.noted.heard.hearing.current) in
+    unsaid (said_of c.args.noted.heard.replies.items) (samples c.args.noted.heard.hearing.current.state.tic s c.args.noted.heard.hearing.sessions.items)
     (ap said_of (sym c.deref.ensures.value)) c.send_all.ensures
 
 pub returns-in_default-clause-asks : goal.returns-in_default-clause-asks
@@ -55,8 +55,8 @@ returns-in_err-state-clause-does g c =
 pub returns-in_err-state-clause-says : goal.returns-in_err-state-clause-says
 returns-in_err-state-clause-says g c =
     let error = err_from_is_err_and c.from_residual.result c.from_residual.ensures.1 in
-    let s : State = state_after (plan_of c.args.accepted.now.plan) c.args.publications.now (asking_of g.M.Cells.numbers c.args.heard.hearing.current) in
-    said_half c.from_residual.result (said_of c.args.heard.replies.items) (samples c.args.from s c.args.heard.hearing.sessions.items)
+    let s : State = state_after (plan_of c.args.accepted.now.plan) c.args.noted.publications.now (asking_of g.M.Cells.numbers c.args.noted.heard.hearing.current) in
+    said_half c.from_residual.result (said_of c.args.noted.heard.replies.items) (samples c.args.noted.heard.hearing.current.state.tic s c.args.noted.heard.hearing.sessions.items)
     (ap said_of (sym c.deref.ensures.value)) g.met.T.Turns.went_join (g.met.T.Turns.went_none _) (not_ok c.from_residual.result error.0 error.1) c.in-Ok.ensures refl
 
 pub returns-in_default-send_samples-clause-does : goal.returns-in_default-send_samples-clause-does
@@ -64,12 +64,12 @@ returns-in_default-send_samples-clause-does g c = does_as _ c.in_ok-state.ensure
 
 pub returns-in_default-send_samples-clause-says : goal.returns-in_default-send_samples-clause-says
 returns-in_default-send_samples-clause-says g c =
-    let s : State = state_after (plan_of c.args.accepted.now.plan) c.args.publications.now (asking_of g.M.Cells.numbers c.args.heard.hearing.current) in
+    let s : State = state_after (plan_of c.args.accepted.now.plan) c.args.noted.publications.now (asking_of g.M.Cells.numbers c.args.noted.heard.hearing.current) in
     let t : State = seen g.M.Cells.numbers c.in_ok-state.state in
-    let same : samples c.args.from s c.args.heard.hearing.sessions.items ≡ samples c.args.from t c.deref-2.result.now =
-    ap (λ (x : State). samples c.args.from x c.args.heard.hearing.sessions.items) (sym c.in_ok-state.ensures.state)
-    ∙ ap (λ (ss : List Session). samples c.args.from t ss) (sym c.deref-2.ensures.value) in
-    said_stops (said_of c.args.heard.replies.items) (samples c.args.from s c.args.heard.hearing.sessions.items)
+    let same : samples c.args.noted.heard.hearing.current.state.tic s c.args.noted.heard.hearing.sessions.items ≡ samples c.args.noted.heard.hearing.current.state.tic t c.deref-2.result.now =
+    ap (λ (x : State). samples c.args.noted.heard.hearing.current.state.tic x c.args.noted.heard.hearing.sessions.items) (sym c.in_ok-state.ensures.state)
+    ∙ ap (λ (ss : List Session). samples c.args.noted.heard.hearing.current.state.tic t ss) (sym c.deref-2.ensures.value) in
+    said_stops (said_of c.args.noted.heard.replies.items) (samples c.args.noted.heard.hearing.current.state.tic s c.args.noted.heard.hearing.sessions.items)
     (ap said_of (sym c.deref.ensures.value)) same g.met.T.Turns.went_join c.in-Ok.ensures refl c.send_samples.ensures
 
 pub returns-clause-does : goal.returns-clause-does
@@ -77,10 +77,10 @@ returns-clause-does g c = does_ok _ c.in_ok-state.ensures.does refl
 
 pub returns-clause-says : goal.returns-clause-says
 returns-clause-says g c =
-    let s : State = state_after (plan_of c.args.accepted.now.plan) c.args.publications.now (asking_of g.M.Cells.numbers c.args.heard.hearing.current) in
+    let s : State = state_after (plan_of c.args.accepted.now.plan) c.args.noted.publications.now (asking_of g.M.Cells.numbers c.args.noted.heard.hearing.current) in
     let t : State = seen g.M.Cells.numbers c.in_ok-state.state in
-    let same : samples c.args.from s c.args.heard.hearing.sessions.items ≡ samples c.args.from t c.deref-2.result.now =
-    ap (λ (x : State). samples c.args.from x c.args.heard.hearing.sessions.items) (sym c.in_ok-state.ensures.state)
-    ∙ ap (λ (ss : List Session). samples c.args.from t ss) (sym c.deref-2.ensures.value) in
-    said_all _ (said_of c.args.heard.replies.items) (samples c.args.from s c.args.heard.hearing.sessions.items)
+    let same : samples c.args.noted.heard.hearing.current.state.tic s c.args.noted.heard.hearing.sessions.items ≡ samples c.args.noted.heard.hearing.current.state.tic t c.deref-2.result.now =
+    ap (λ (x : State). samples c.args.noted.heard.hearing.current.state.tic x c.args.noted.heard.hearing.sessions.items) (sym c.in_ok-state.ensures.state)
+    ∙ ap (λ (ss : List Session). samples c.args.noted.heard.hearing.current.state.tic t ss) (sym c.deref-2.ensures.value) in
+    said_all _ (said_of c.args.noted.heard.replies.items) (samples c.args.noted.heard.hearing.current.state.tic s c.args.noted.heard.hearing.sessions.items)
     (ap said_of (sym c.deref.ensures.value)) same g.met.T.Turns.went_join c.in-Ok.ensures refl c.in-Ok-send_samples.ensures refl

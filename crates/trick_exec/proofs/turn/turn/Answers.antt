@@ -27,6 +27,7 @@ use Rattle.trick_outside.specs.declared.stop.Stop.{Stop}
 use Rattle.trick_runs.proofs.Going.{Laws}
 use Rattle.trick_runs.proofs.PartLemmas.{IsMade}
 use Rattle.trick_runs.proofs.SayLemmas.{says_as}
+use Rattle.trick_runs.proofs.Times.{heard_time}
 use Rattle.trick_runs.proofs.TurnedLemmas.{turned, turned_first, turned_second}
 use Rattle.trick_runs.specs.Answers.{Says}
 use Rattle.trick_runs.specs.Hosts.{Hosts, at, hosts}
@@ -41,47 +42,47 @@ hear_lines-requires-clause-entries g c =
     let plan = c.args.accepted.now.plan in
     let p = plan_of plan in
     let w : World = world_of g.M.Cells.numbers c.args.world in
-    let list = c.args.entries.now in
+    let list = c.args.given.entries.now in
     let lines = c.split_at.result.0.now in
     let tail = c.split_at.result.1.now in
     let now = g.T.Turns.sessions c.args.turns.now in
-    let has : HasGiven p c.args.decides w list now = c.requires.given in
+    let has : HasGiven p c.args.given.decides w list now = c.requires.given in
     let apart : AreApart list lines tail = apart_of list (take c.count_lines.result list) (drop c.count_lines.result list) lines tail
     c.split_at.ensures.front c.split_at.ensures.back (c.count_lines.ensures.apart _ has.may) in
-    line_entries p c.args.decides w list lines tail now has apart
+    line_entries p c.args.given.decides w list lines tail now has apart
 
 pub hear_lines-requires-clause-sessions : goal.hear_lines-requires-clause-sessions
 hear_lines-requires-clause-sessions g c =
     let plan = c.args.accepted.now.plan in
     let p = plan_of plan in
     let w : World = world_of g.M.Cells.numbers c.args.world in
-    let list = c.args.entries.now in
+    let list = c.args.given.entries.now in
     let lines = c.split_at.result.0.now in
     let tail = c.split_at.result.1.now in
     let now = g.T.Turns.sessions c.args.turns.now in
-    let has : HasGiven p c.args.decides w list now = c.requires.given in
+    let has : HasGiven p c.args.given.decides w list now = c.requires.given in
     let apart : AreApart list lines tail = apart_of list (take c.count_lines.result list) (drop c.count_lines.result list) lines tail
     c.split_at.ensures.front c.split_at.ensures.back (c.count_lines.ensures.apart _ has.may) in
-    line_sessions p c.args.decides w list lines tail now has apart
+    line_sessions p c.args.given.decides w list lines tail now has apart
 
 pub returns-in_err-heard-clause-came_to : goal.returns-in_err-heard-clause-came_to
 returns-in_err-heard-clause-came_to g c =
     let plan = c.args.accepted.now.plan in
     let p = plan_of plan in
     let w : World = world_of g.M.Cells.numbers c.args.world in
-    let list = c.args.entries.now in
+    let list = c.args.given.entries.now in
     let lines = c.split_at.result.0.now in
     let tail = c.split_at.result.1.now in
     let now = g.T.Turns.sessions c.args.turns.now in
-    let has : HasGiven p c.args.decides w list now = c.requires.given in
+    let has : HasGiven p c.args.given.decides w list now = c.requires.given in
     let apart : AreApart list lines tail = apart_of list (take c.count_lines.result list) (drop c.count_lines.result list) lines tail
     c.split_at.ensures.front c.split_at.ensures.back (c.count_lines.ensures.apart _ has.may) in
     let h = hosts g.F.Shelf g.T.Turns g.P.Posts in
     let laws : Laws h = record { shelf = g.met.F.Shelf.called_join; turns = g.met.T.Turns.went_join; posts = g.met.P.Posts.asked_join; runs = c.runs_join.ensures } in
     let error = err_from_is_err_and c.from_residual.result c.from_residual.ensures.1 in
-    came_not p c.args.decides w list lines tail now has apart [] c.from_residual.result error.0 refl
-    (turned_first h laws p w (lines ++ cond c.args.decides tail []) lines (cond c.args.decides tail []) (heard p lines (begun w))
-    (made p c.args.decides w list lines tail now has apart [] (heard p lines (begun w)) refl refl) c.from_residual.result _ _
+    came_not p c.args.given.decides w list lines tail now has apart [] c.from_residual.result error.0 refl
+    (turned_first h laws p w (lines ++ cond c.args.given.decides tail []) lines (cond c.args.given.decides tail []) (heard p lines (begun w))
+    (made p c.args.given.decides w list lines tail now has apart [] (heard p lines (begun w)) refl refl) c.from_residual.result _ _
     (g.met.T.Turns.went_none c.args.turns.now) (not_ok c.from_residual.result error.0 error.1) c.in_err-heard.ensures.does refl error.1 error.2) error.1
 
 pub choose_publications-requires-clause-goes : goal.choose_publications-requires-clause-goes
@@ -100,11 +101,11 @@ returns-in_default-clause-came_to g c =
     let plan = c.args.accepted.now.plan in
     let p = plan_of plan in
     let w : World = world_of g.M.Cells.numbers c.args.world in
-    let list = c.args.entries.now in
+    let list = c.args.given.entries.now in
     let lines = c.split_at.result.0.now in
     let tail = c.split_at.result.1.now in
     let now = g.T.Turns.sessions c.args.turns.now in
-    let has : HasGiven p c.args.decides w list now = c.requires.given in
+    let has : HasGiven p c.args.given.decides w list now = c.requires.given in
     let apart : AreApart list lines tail = apart_of list (take c.count_lines.result list) (drop c.count_lines.result list) lines tail
     c.split_at.ensures.front c.split_at.ensures.back (c.count_lines.ensures.apart _ has.may) in
     let h = hosts g.F.Shelf g.T.Turns g.P.Posts in
@@ -113,12 +114,12 @@ returns-in_default-clause-came_to g c =
     let heard_is : hearing ≡ heard p lines (begun w) = c.in_ok-heard.ensures.heard in
     let result : Result (WorldValue g.row.M.Denot) Stop = Err Memory in
     let second : Result (Unit {0}) Stop = Err Memory in
-    let pubs = cond c.args.decides tail [] in
+    let pubs = cond c.args.given.decides tail [] in
     let not_noted : Does g.F.Shelf c.hear_lines.new.shelf c.hear_lines.new.shelf second (steps_of (note w.state.turn (counting p hearing.asking.state pubs))) =
     does_none c.hear_lines.new.shelf second (steps_of (note w.state.turn (counting p hearing.asking.state pubs))) (g.met.F.Shelf.called_none c.hear_lines.new.shelf) (λ d. cc) (λ f. cc) in
-    came_not p c.args.decides w list lines tail now has apart [] result Memory refl
+    came_not p c.args.given.decides w list lines tail now has apart [] result Memory refl
     (turned_second h laws p w (lines ++ pubs) lines pubs hearing
-    (made p c.args.decides w list lines tail now has apart [] hearing refl heard_is) result Memory Memory
+    (made p c.args.given.decides w list lines tail now has apart [] hearing refl heard_is) result Memory Memory
     (g.met.T.Turns.went_none c.args.turns.now) (λ d. cc) c.in_ok-heard.ensures.does refl not_noted refl refl refl) refl
 
 pub returns-in_err-note_publications-clause-came_to : goal.returns-in_err-note_publications-clause-came_to
@@ -126,11 +127,11 @@ returns-in_err-note_publications-clause-came_to g c =
     let plan = c.args.accepted.now.plan in
     let p = plan_of plan in
     let w : World = world_of g.M.Cells.numbers c.args.world in
-    let list = c.args.entries.now in
+    let list = c.args.given.entries.now in
     let lines = c.split_at.result.0.now in
     let tail = c.split_at.result.1.now in
     let now = g.T.Turns.sessions c.args.turns.now in
-    let has : HasGiven p c.args.decides w list now = c.requires.given in
+    let has : HasGiven p c.args.given.decides w list now = c.requires.given in
     let apart : AreApart list lines tail = apart_of list (take c.count_lines.result list) (drop c.count_lines.result list) lines tail
     c.split_at.ensures.front c.split_at.ensures.back (c.count_lines.ensures.apart _ has.may) in
     let h = hosts g.F.Shelf g.T.Turns g.P.Posts in
@@ -138,17 +139,17 @@ returns-in_err-note_publications-clause-came_to g c =
     let hearing : Hearing = hearing_of g.M.Cells.numbers c.in_ok-heard.heard.hearing in
     let heard_is : hearing ≡ heard p lines (begun w) = c.in_ok-heard.ensures.heard in
     let chosen = c.in-Ok.chosen.items in
-    let pubs = cond c.args.decides tail chosen in
+    let pubs = cond c.args.given.decides tail chosen in
     let published : c.decided-publications.result.now ≡ pubs =
-    c.decided-publications.ensures ∙ ap (λ (es : List Entry). cond c.args.decides tail es) c.deref.ensures.value in
-    let built : IsMade p w (lines ++ pubs) lines pubs hearing = made p c.args.decides w list lines tail now has apart chosen hearing c.in-Ok.ensures.silent heard_is in
+    c.decided-publications.ensures ∙ ap (λ (es : List Entry). cond c.args.given.decides tail es) c.deref.ensures.value in
+    let built : IsMade p w (lines ++ pubs) lines pubs hearing = made p c.args.given.decides w list lines tail now has apart chosen hearing c.in-Ok.ensures.silent heard_is in
     let error = err_from_is_err_and c.from_residual-in_err-note_publications.result c.from_residual-in_err-note_publications.ensures.1 in
     let first : Result (Unit {0}) Stop = Err c.in_err-note_publications.field-0.0 in
     let counted : Does g.F.Shelf c.hear_lines.new.shelf c.note_publications.new.shelf first (steps_of (note w.state.turn (counting p hearing.asking.state pubs))) =
     subst (λ (es : List Entry). Does g.F.Shelf c.hear_lines.new.shelf c.note_publications.new.shelf first (steps_of (note w.state.turn (counting p hearing.asking.state es)))) published
     (subst (λ (x : PlanValue). Does g.F.Shelf c.hear_lines.new.shelf c.note_publications.new.shelf first (steps_of (note w.state.turn (counting (plan_of x) hearing.asking.state c.decided-publications.result.now))))
     c.plan-plan.ensures.plan c.in_err-note_publications.ensures) in
-    came_not p c.args.decides w list lines tail now has apart chosen c.from_residual-in_err-note_publications.result error.0 c.in-Ok.ensures.silent
+    came_not p c.args.given.decides w list lines tail now has apart chosen c.from_residual-in_err-note_publications.result error.0 c.in-Ok.ensures.silent
     (turned_second h laws p w (lines ++ pubs) lines pubs hearing built c.from_residual-in_err-note_publications.result _ _
     (g.met.T.Turns.went_none c.args.turns.now) (not_ok c.from_residual-in_err-note_publications.result error.0 error.1) c.in_ok-heard.ensures.does refl
     counted refl error.1 error.2) error.1
@@ -178,41 +179,41 @@ finish_turn-requires-clause-replies g c =
     let plan = c.args.accepted.now.plan in
     let p = plan_of plan in
     let w : World = world_of g.M.Cells.numbers c.args.world in
-    let list = c.args.entries.now in
+    let list = c.args.given.entries.now in
     let lines = c.split_at.result.0.now in
     let tail = c.split_at.result.1.now in
     let now = g.T.Turns.sessions c.args.turns.now in
-    let has : HasGiven p c.args.decides w list now = c.requires.given in
+    let has : HasGiven p c.args.given.decides w list now = c.requires.given in
     let apart : AreApart list lines tail = apart_of list (take c.count_lines.result list) (drop c.count_lines.result list) lines tail
     c.split_at.ensures.front c.split_at.ensures.back (c.count_lines.ensures.apart _ has.may) in
-    line_replies p c.args.decides w list lines tail now has apart (said_of c.in_ok-heard.heard.replies.items) c.in_ok-heard.ensures.replies
+    line_replies p c.args.given.decides w list lines tail now has apart (said_of c.in_ok-heard.heard.replies.items) c.in_ok-heard.ensures.replies
 
 pub finish_turn-requires-clause-reached : goal.finish_turn-requires-clause-reached
 finish_turn-requires-clause-reached g c =
     let plan = c.args.accepted.now.plan in
     let p = plan_of plan in
     let w : World = world_of g.M.Cells.numbers c.args.world in
-    let list = c.args.entries.now in
+    let list = c.args.given.entries.now in
     let lines = c.split_at.result.0.now in
     let tail = c.split_at.result.1.now in
     let now = g.T.Turns.sessions c.args.turns.now in
-    let has : HasGiven p c.args.decides w list now = c.requires.given in
+    let has : HasGiven p c.args.given.decides w list now = c.requires.given in
     let apart : AreApart list lines tail = apart_of list (take c.count_lines.result list) (drop c.count_lines.result list) lines tail
     c.split_at.ensures.front c.split_at.ensures.back (c.count_lines.ensures.apart _ has.may) in
     let hearing : Hearing = hearing_of g.M.Cells.numbers c.in_ok-heard.heard.hearing in
     let heard_is : hearing ≡ heard p lines (begun w) = c.in_ok-heard.ensures.heard in
-    line_reached p c.args.decides w list lines tail now has apart hearing heard_is
+    line_reached p c.args.given.decides w list lines tail now has apart hearing heard_is
 
 pub returns-in_err-world-clause-came_to : goal.returns-in_err-world-clause-came_to
 returns-in_err-world-clause-came_to g c =
     let plan = c.args.accepted.now.plan in
     let p = plan_of plan in
     let w : World = world_of g.M.Cells.numbers c.args.world in
-    let list = c.args.entries.now in
+    let list = c.args.given.entries.now in
     let lines = c.split_at.result.0.now in
     let tail = c.split_at.result.1.now in
     let now = g.T.Turns.sessions c.args.turns.now in
-    let has : HasGiven p c.args.decides w list now = c.requires.given in
+    let has : HasGiven p c.args.given.decides w list now = c.requires.given in
     let apart : AreApart list lines tail = apart_of list (take c.count_lines.result list) (drop c.count_lines.result list) lines tail
     c.split_at.ensures.front c.split_at.ensures.back (c.count_lines.ensures.apart _ has.may) in
     let h = hosts g.F.Shelf g.T.Turns g.P.Posts in
@@ -220,14 +221,16 @@ returns-in_err-world-clause-came_to g c =
     let hearing : Hearing = hearing_of g.M.Cells.numbers c.in_ok-heard.heard.hearing in
     let heard_is : hearing ≡ heard p lines (begun w) = c.in_ok-heard.ensures.heard in
     let chosen = c.in-Ok.chosen.items in
-    let pubs = cond c.args.decides tail chosen in
+    let pubs = cond c.args.given.decides tail chosen in
     let published : c.decided-publications.result.now ≡ pubs =
-    c.decided-publications.ensures ∙ ap (λ (es : List Entry). cond c.args.decides tail es) c.deref.ensures.value in
-    let built : IsMade p w (lines ++ pubs) lines pubs hearing = made p c.args.decides w list lines tail now has apart chosen hearing c.in-Ok.ensures.silent heard_is in
+    c.decided-publications.ensures ∙ ap (λ (es : List Entry). cond c.args.given.decides tail es) c.deref.ensures.value in
+    let built : IsMade p w (lines ++ pubs) lines pubs hearing = made p c.args.given.decides w list lines tail now has apart chosen hearing c.in-Ok.ensures.silent heard_is in
+    let same_tic : hearing.asking.state.tic ≡ w.state.tic = ap (λ (h : Hearing). h.asking.state.tic) heard_is ∙ (heard_time p lines (begun w)).tic in
     let same_said : replies p lines (begun w) ++ samples w.state.tic (state_after p pubs hearing.asking) hearing.sessions
-    ≡ said_of c.in_ok-heard.heard.replies.items ++ samples w.state.tic (state_after p c.decided-publications.result.now hearing.asking) hearing.sessions =
+    ≡ said_of c.in_ok-heard.heard.replies.items ++ samples hearing.asking.state.tic (state_after p c.decided-publications.result.now hearing.asking) hearing.sessions =
     ap (λ (m : List Message). m ++ samples w.state.tic (state_after p pubs hearing.asking) hearing.sessions) (sym c.in_ok-heard.ensures.replies)
-    ∙ ap (λ (es : List Entry). said_of c.in_ok-heard.heard.replies.items ++ samples w.state.tic (state_after p es hearing.asking) hearing.sessions) (sym published) in
+    ∙ ap (λ (es : List Entry). said_of c.in_ok-heard.heard.replies.items ++ samples w.state.tic (state_after p es hearing.asking) hearing.sessions) (sym published)
+    ∙ ap (λ (tic : ℕ). said_of c.in_ok-heard.heard.replies.items ++ samples tic (state_after p c.decided-publications.result.now hearing.asking) hearing.sessions) (sym same_tic) in
     let noted_result : Result (Unit {0}) Stop = Ok c.in_ok-note_publications.field-0 in
     let counted : Does g.F.Shelf c.hear_lines.new.shelf c.note_publications.new.shelf noted_result (steps_of (note w.state.turn (counting p hearing.asking.state pubs))) =
     subst (λ (es : List Entry). Does g.F.Shelf c.hear_lines.new.shelf c.note_publications.new.shelf noted_result (steps_of (note w.state.turn (counting p hearing.asking.state es)))) published
@@ -238,7 +241,7 @@ returns-in_err-world-clause-came_to g c =
     let rest : Does g.F.Shelf c.note_publications.new.shelf c.finish_turn.new.shelf result (steps_of (writes_after p pubs hearing.asking)) =
     subst (λ (es : List Entry). Does g.F.Shelf c.note_publications.new.shelf c.finish_turn.new.shelf result (steps_of (writes_after p es hearing.asking))) published
     (does_fail result _ _ c.in_err-world.ensures.does refl error.1 error.2) in
-    came_not p c.args.decides w list lines tail now has apart chosen result error.0 c.in-Ok.ensures.silent
+    came_not p c.args.given.decides w list lines tail now has apart chosen result error.0 c.in-Ok.ensures.silent
     (turned h laws p w (lines ++ pubs) lines pubs hearing built c.in_ok-heard.ensures.does refl counted refl rest
     (says_as result (replies p lines (begun w) ++ samples w.state.tic (state_after p pubs hearing.asking) hearing.sessions) same_said c.in_err-world.ensures.says
     (λ ok. absurd (not_ok result error.0 error.1 ok)))) error.1
@@ -248,11 +251,11 @@ returns-clause-came_to g c =
     let plan = c.args.accepted.now.plan in
     let p = plan_of plan in
     let w : World = world_of g.M.Cells.numbers c.args.world in
-    let list = c.args.entries.now in
+    let list = c.args.given.entries.now in
     let lines = c.split_at.result.0.now in
     let tail = c.split_at.result.1.now in
     let now = g.T.Turns.sessions c.args.turns.now in
-    let has : HasGiven p c.args.decides w list now = c.requires.given in
+    let has : HasGiven p c.args.given.decides w list now = c.requires.given in
     let apart : AreApart list lines tail = apart_of list (take c.count_lines.result list) (drop c.count_lines.result list) lines tail
     c.split_at.ensures.front c.split_at.ensures.back (c.count_lines.ensures.apart _ has.may) in
     let h = hosts g.F.Shelf g.T.Turns g.P.Posts in
@@ -260,14 +263,16 @@ returns-clause-came_to g c =
     let hearing : Hearing = hearing_of g.M.Cells.numbers c.in_ok-heard.heard.hearing in
     let heard_is : hearing ≡ heard p lines (begun w) = c.in_ok-heard.ensures.heard in
     let chosen = c.in-Ok.chosen.items in
-    let pubs = cond c.args.decides tail chosen in
+    let pubs = cond c.args.given.decides tail chosen in
     let published : c.decided-publications.result.now ≡ pubs =
-    c.decided-publications.ensures ∙ ap (λ (es : List Entry). cond c.args.decides tail es) c.deref.ensures.value in
-    let built : IsMade p w (lines ++ pubs) lines pubs hearing = made p c.args.decides w list lines tail now has apart chosen hearing c.in-Ok.ensures.silent heard_is in
+    c.decided-publications.ensures ∙ ap (λ (es : List Entry). cond c.args.given.decides tail es) c.deref.ensures.value in
+    let built : IsMade p w (lines ++ pubs) lines pubs hearing = made p c.args.given.decides w list lines tail now has apart chosen hearing c.in-Ok.ensures.silent heard_is in
+    let same_tic : hearing.asking.state.tic ≡ w.state.tic = ap (λ (h : Hearing). h.asking.state.tic) heard_is ∙ (heard_time p lines (begun w)).tic in
     let same_said : replies p lines (begun w) ++ samples w.state.tic (state_after p pubs hearing.asking) hearing.sessions
-    ≡ said_of c.in_ok-heard.heard.replies.items ++ samples w.state.tic (state_after p c.decided-publications.result.now hearing.asking) hearing.sessions =
+    ≡ said_of c.in_ok-heard.heard.replies.items ++ samples hearing.asking.state.tic (state_after p c.decided-publications.result.now hearing.asking) hearing.sessions =
     ap (λ (m : List Message). m ++ samples w.state.tic (state_after p pubs hearing.asking) hearing.sessions) (sym c.in_ok-heard.ensures.replies)
-    ∙ ap (λ (es : List Entry). said_of c.in_ok-heard.heard.replies.items ++ samples w.state.tic (state_after p es hearing.asking) hearing.sessions) (sym published) in
+    ∙ ap (λ (es : List Entry). said_of c.in_ok-heard.heard.replies.items ++ samples w.state.tic (state_after p es hearing.asking) hearing.sessions) (sym published)
+    ∙ ap (λ (tic : ℕ). said_of c.in_ok-heard.heard.replies.items ++ samples tic (state_after p c.decided-publications.result.now hearing.asking) hearing.sessions) (sym same_tic) in
     let noted_result : Result (Unit {0}) Stop = Ok c.in_ok-note_publications.field-0 in
     let counted : Does g.F.Shelf c.hear_lines.new.shelf c.note_publications.new.shelf noted_result (steps_of (note w.state.turn (counting p hearing.asking.state pubs))) =
     subst (λ (es : List Entry). Does g.F.Shelf c.hear_lines.new.shelf c.note_publications.new.shelf noted_result (steps_of (note w.state.turn (counting p hearing.asking.state es)))) published
@@ -284,11 +289,11 @@ returns-clause-came_to g c =
     c.in_ok-world.ensures.state ∙ ap (λ (es : List Entry). state_after p es hearing.asking) published ∙ sym built.state in
     let sessions_are : last.sessions.items ≡ (turn p w (lines ++ pubs)).world.sessions = c.in_ok-world.ensures.sessions ∙ sym built.sessions in
     let world_is : world_of g.M.Cells.numbers last ≡ (turn p w (lines ++ pubs)).world = λ i. record { state = state_is i; sessions = sessions_are i } in
-    let asks : Asks c.args.decides g.P.Posts.asked (IsChosen p hearing.asking.state waits chosen) c.args.workers.now.posts c.choose_publications.new.posts =
-    subst (λ (x : PlanValue). Asks c.args.decides g.P.Posts.asked (IsChosen (plan_of x) hearing.asking.state waits chosen) c.args.workers.now.posts c.choose_publications.new.posts) c.requires.posts
-    (subst (λ (l : List ℕ). Asks c.args.decides g.P.Posts.asked (IsChosen (plan_of (g.P.Posts.plan c.args.workers.now.posts)) hearing.asking.state l chosen) c.args.workers.now.posts c.choose_publications.new.posts)
+    let asks : Asks c.args.given.decides g.P.Posts.asked (IsChosen p hearing.asking.state waits chosen) c.args.workers.now.posts c.choose_publications.new.posts =
+    subst (λ (x : PlanValue). Asks c.args.given.decides g.P.Posts.asked (IsChosen (plan_of x) hearing.asking.state waits chosen) c.args.workers.now.posts c.choose_publications.new.posts) c.requires.posts
+    (subst (λ (l : List ℕ). Asks c.args.given.decides g.P.Posts.asked (IsChosen (plan_of (g.P.Posts.plan c.args.workers.now.posts)) hearing.asking.state l chosen) c.args.workers.now.posts c.choose_publications.new.posts)
     c.as_mut_slice.ensures.value c.in-Ok.ensures.asks) in
-    came p c.args.decides w list lines tail now has apart h g.M.Cells.numbers chosen last hearing g.met.P.Posts.asked_join c.in-Ok.ensures.silent heard_is
+    came p c.args.given.decides w list lines tail now has apart h g.M.Cells.numbers chosen last hearing g.met.P.Posts.asked_join c.in-Ok.ensures.silent heard_is
     (turned h laws p w (lines ++ pubs) lines pubs hearing built c.in_ok-heard.ensures.does refl counted refl rest
     (says_as result (replies p lines (begun w) ++ samples w.state.tic (state_after p pubs hearing.asking) hearing.sessions) same_said c.in_ok-world.ensures.says (λ ok. refl)))
     world_is asks c.finish_turn.ensures.asks.asked
@@ -303,14 +308,14 @@ returns-clause-known g c =
     let plan = c.args.accepted.now.plan in
     let p = plan_of plan in
     let w : World = world_of g.M.Cells.numbers c.args.world in
-    let list = c.args.entries.now in
+    let list = c.args.given.entries.now in
     let lines = c.split_at.result.0.now in
     let tail = c.split_at.result.1.now in
     let now = g.T.Turns.sessions c.args.turns.now in
-    let has : HasGiven p c.args.decides w list now = c.requires.given in
+    let has : HasGiven p c.args.given.decides w list now = c.requires.given in
     let apart : AreApart list lines tail = apart_of list (take c.count_lines.result list) (drop c.count_lines.result list) lines tail
     c.split_at.ensures.front c.split_at.ensures.back (c.count_lines.ensures.apart _ has.may) in
     let hearing : Hearing = hearing_of g.M.Cells.numbers c.in_ok-heard.heard.hearing in
     let heard_is : hearing ≡ heard p lines (begun w) = c.in_ok-heard.ensures.heard in
-    line_known p c.args.decides w list lines tail now has apart hearing (g.T.Turns.sessions c.finish_turn.new.turns) c.in_ok-world.world.sessions.items heard_is
+    line_known p c.args.given.decides w list lines tail now has apart hearing (g.T.Turns.sessions c.finish_turn.new.turns) c.in_ok-world.world.sessions.items heard_is
     c.finish_turn.ensures.says.kept.sessions c.in_ok-world.ensures.sessions c.in_ok-heard.ensures.sessions
