@@ -18,7 +18,7 @@ use std::alloc::Global;
 use trick_draft::{Draft, LineFault, job_of, waiting_job};
 use trick_input::Form;
 use trick_lang::Program;
-use trick_settings::Settings;
+use trick_settings::{Settings, is_frame};
 
 // A line with what its texts read as.
 #[derive(Drop)]
@@ -31,7 +31,7 @@ pub(crate) struct Line<'a> {
 fn frame_line(tics: u64) -> Result<(), LineFault>
     ensures { (d : Draft) → Did result d (frame_line tics d) }
 {
-    if 0 < tics && tics <= 1_000_000_000 {
+    if is_frame(tics) {
         Ok(())
     } else {
         Err(LineFault::OutOfRange)

@@ -5,4 +5,5 @@
 mod said;
 mod settings;
 
+pub use said::is_frame;
 pub use settings::{Settings, settings_in};

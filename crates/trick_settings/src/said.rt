@@ -1,20 +1,28 @@
 //! What one line says of the run and of its threads.
 
 ghost use Rattle.std.specs.Prelude.{◌≡◌, ◌+◌};
-ghost use Rattle.trick_settings.specs.Settings.{cycle_said, frame_said, frozen_said, later, limit_said, process_said};
+ghost use Rattle.trick_settings.specs.Settings.{cycle_said, frame_said, frozen_said, is_frame, later, limit_said, process_said};
 
 use trick_base::TIC_LIMIT;
 use trick_input::Form;
 use trick_model::Process;
+
+/// The longest software frame, in tics.
+const FRAME_LIMIT: u64 = 1_000_000_000;
+
+/// Whether a software frame may have so many tics: from 1 to 10^9. `docs/RULES.md` has the limits.
+pub fn is_frame(tics: u64) -> bool
+    ensures { result ≡ is_frame tics }
+{
+    0 < tics && tics <= FRAME_LIMIT
+}
 
 // The frame that a line names.
 pub(crate) fn frame_said(form: &Form) -> Option<u64>
     ensures { result ≡ frame_said form.now }
 {
     match form {
-        Form::SoftwareFrame { time: Ok(tics) } if 0 < *tics && *tics <= 1_000_000_000 => {
-            Some(*tics)
-        }
+        Form::SoftwareFrame { time: Ok(tics) } if is_frame(*tics) => Some(*tics),
         _ => None,
     }
 }

@@ -18,3 +18,5 @@ mod rows;
 mod told;
 #[cfg(test)]
 mod turns;
+
+fn main() {}

@@ -17,3 +17,5 @@ mod lengths;
 mod stops;
 #[cfg(test)]
 mod told;
+
+fn main() {}

@@ -32,3 +32,5 @@ mod told;
 mod unplanned;
 #[cfg(test)]
 mod unread;
+
+fn main() {}

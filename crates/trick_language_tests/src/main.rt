@@ -24,3 +24,5 @@ mod shifts;
 mod told;
 #[cfg(test)]
 mod types;
+
+fn main() {}

@@ -21,3 +21,5 @@ mod order;
 mod settings;
 #[cfg(test)]
 mod threads;
+
+fn main() {}

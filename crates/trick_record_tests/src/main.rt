@@ -8,3 +8,5 @@ mod generated;
 mod groups;
 #[cfg(test)]
 mod told;
+
+fn main() {}

@@ -15,3 +15,5 @@ mod told;
 mod trial;
 #[cfg(test)]
 mod words;
+
+fn main() {}

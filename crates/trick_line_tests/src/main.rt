@@ -15,3 +15,5 @@ mod journal_turns;
 mod parts;
 #[cfg(test)]
 mod session;
+
+fn main() {}

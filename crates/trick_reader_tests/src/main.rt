@@ -19,3 +19,5 @@ mod refusal;
 mod text;
 #[cfg(test)]
 mod words;
+
+fn main() {}

@@ -14,3 +14,5 @@ mod repeated;
 mod texts;
 #[cfg(test)]
 mod told;
+
+fn main() {}

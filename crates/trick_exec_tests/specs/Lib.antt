@@ -1,1 +1,0 @@
--- Nothing is defined here: tables of texts say what the program answers for them.
