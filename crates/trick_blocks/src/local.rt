@@ -10,7 +10,7 @@ use crate::world::World;
 use std::alloc::AllocError;
 use trick_base::Word;
 use trick_lang::syntax::TypeName;
-use trick_lang::{Bound, Scalar};
+use trick_lang::{BOUND_LIMIT, Bound, Scalar};
 use trick_names::Names;
 
 // So many slots and locals fit the numbers of slots.
@@ -84,7 +84,7 @@ pub fn enter_loop(
         is_loop: true,
     };
     let was_known = locals.add(name, local)?;
-    if bound_of(bound) > 1_000_000 || was_known {
+    if bound_of(bound) > BOUND_LIMIT || was_known {
         return Ok(None);
     }
     Ok(Some(slot))

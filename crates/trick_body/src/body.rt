@@ -26,6 +26,9 @@ use trick_text::{FirstFault, Style, TextFault, cut, last_line};
 /// How many items a list may have.
 pub const LIST_LIMIT: usize = 4096;
 
+/// The largest phase of a job.
+pub const PHASE_LIMIT: u64 = 65_534;
+
 /// How many levels may nest in a condition, and in a file.
 pub const NESTING_LIMIT: usize = 64;
 

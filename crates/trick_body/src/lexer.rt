@@ -6,9 +6,11 @@ ghost use Rattle.trick_body.specs.Symbols.{decimal_of, looked_up, mark_symbols, 
 ghost use Rattle.trick_text.specs.Numbers.{whole_value};
 ghost use Rattle.trick_text.specs.Tokens.{ReadsAsToken, spelling};
 
+use crate::body::PHASE_LIMIT;
 use crate::symbol::{Symbol, Token};
 use std::alloc::{AllocError, Global};
 use trick_grammar::Lexeme;
+use trick_lang::BOUND_LIMIT;
 use trick_text::{TimeFault, TokenKind, is_plain_number, number_of, plain_number, seconds, whole};
 
 // Bytes and the symbol of a token that has them.
@@ -156,7 +158,7 @@ fn plain_name(bytes: &[u8]) -> Symbol
 {
     match bytes {
         [b'C', digits @ ..] => numbered(15, Symbol::Thread, Symbol::OtherThread, digits),
-        [b'P', digits @ ..] => numbered(65_534, Symbol::Phase, Symbol::OtherPhase, digits),
+        [b'P', digits @ ..] => numbered(PHASE_LIMIT, Symbol::Phase, Symbol::OtherPhase, digits),
         _ => Symbol::Name,
     }
 }
@@ -172,7 +174,7 @@ fn whole_of(value: u64) -> Symbol
 {
     if value == 0 {
         Symbol::LongZero
-    } else if value <= 1_000_000 {
+    } else if value <= BOUND_LIMIT {
         Symbol::Small
     } else if value <= 1_000_000_000 {
         Symbol::Large

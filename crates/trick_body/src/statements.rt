@@ -18,8 +18,8 @@ use std::alloc::{AllocError, Global};
 use trick_grammar::{
     Refusal, Stop, hinted, next_is, next_is_one_of, reason_at, take, take_again, take_one_of,
 };
-use trick_lang::Bound;
 use trick_lang::syntax::{Branch, Stmt};
+use trick_lang::{BOUND_LIMIT, Bound};
 
 /// What counts as one level of nesting, beside the statement of an `if`, an `else` or a `for` that is
 /// no block.
@@ -490,7 +490,7 @@ fn read_loop_test<'a>(
 fn bound_of(mark: Symbol, number: u64) -> Bound
     ensures { result ≡ bound_of mark number }
 {
-    let last = number.min(1_000_000) as u32;
+    let last = number.min(BOUND_LIMIT) as u32;
     match mark {
         Symbol::Less => Bound::Below(last),
         _ => Bound::UpTo(last),

@@ -18,7 +18,7 @@ pub mod syntax;
 mod tree;
 mod variable;
 
-pub use bound::Bound;
+pub use bound::{BOUND_LIMIT, Bound};
 pub use cells::{Cell, Cells};
 pub use class::Class;
 pub use fault::{FaultKind, JobFault, Stop};

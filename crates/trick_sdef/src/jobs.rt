@@ -10,10 +10,13 @@ ghost use Rattle.trick_sdef.specs.Trees.{job_line_of, times_of};
 
 use std::alloc::Global;
 use trick_base::TIC_LIMIT;
-use trick_body::{NAMES, Source, Symbol, Token, name_of};
+use trick_body::{NAMES, PHASE_LIMIT, Source, Symbol, Token, name_of};
 use trick_grammar::{Refusal, Stop, next_is, next_is_one_of, reason_at, take, take_one_of};
 use trick_lang::Class;
 use trick_lang::syntax::JobLine;
+
+// The phase of a job that names none.
+const DEFAULT_PHASE: u32 = 60_000;
 
 // The classes other than that of scheduled jobs.
 const OTHER_CLASSES: [Symbol; 9] = [
@@ -293,9 +296,9 @@ fn read_phase(rest: &[Token]) -> Result<(u32, &[Token]), Stop<Symbol>>
 {
     if next_is_one_of(rest, &[Symbol::OtherPhase, Symbol::Phase]) {
         let (phase, rest) = take_phase(rest)?;
-        return Ok((phase.number.min(65_534) as u32, rest));
+        return Ok((phase.number.min(PHASE_LIMIT) as u32, rest));
     }
-    Ok((60_000, rest))
+    Ok((DEFAULT_PHASE, rest))
 }
 
 // NAME "(" ")" ";"

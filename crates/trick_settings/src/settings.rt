@@ -14,6 +14,9 @@ use trick_lang::Program;
 use trick_model::Thread;
 use trick_threads::{Setting, threads};
 
+// The software frame of an input that names none: a second, in tics.
+const DEFAULT_FRAME: u64 = 1_000_000;
+
 /// What an input says of the run and of its threads. Of two lines that say one thing the last counts,
 /// and each holds for the whole input.
 #[derive(Drop)]
@@ -35,7 +38,7 @@ fn frame_of(calls: &[Call]) -> u64
     for call in calls {
         frame = later(frame_said(&call.form), frame);
     }
-    frame.unwrap_or(1_000_000)
+    frame.unwrap_or(DEFAULT_FRAME)
 }
 
 fn limit_of(calls: &[Call]) -> u64
