@@ -32,7 +32,8 @@ fn faults_of_the_text_itself(rt: HostRuntime) -> Result<(), Fail> {
             "LongNumber S_define 13",
         ),
         (
-            "class K : public Trick::SimObject { K() { (0.000000000000000000000000000000000000001, \"scheduled\") f(); } };",
+            "class K : public Trick::SimObject { \
+             K() { (0.000000000000000000000000000000000000001, \"scheduled\") f(); } };",
             "LongNumber S_define 43",
         ),
         // the earlier place decides

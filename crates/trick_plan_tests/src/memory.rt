@@ -132,8 +132,8 @@ fn stored(alloc: Global, plan: &Plan) -> Result<(u32, i64, i64), AllocError>
     Ok((memory.len(), memory.get(Cell(0)), memory.get(Cell(1))))
 }
 
-const LISTED: &[u8] =
-    b"[{\"cell\":0,\"name\":\"counter.n\",\"type\":\"long\"},{\"cell\":1,\"name\":\"o.a[1]\",\"type\":\"unsigned char\"}]";
+const LISTED: &[u8] = b"[{\"cell\":0,\"name\":\"counter.n\",\"type\":\"long\"},\
+    {\"cell\":1,\"name\":\"o.a[1]\",\"type\":\"unsigned char\"}]";
 
 // What is wrong of the memory of a plan with two cells, nothing where all is right.
 fn mistake(alloc: Global, plan: &Plan) -> Result<&'static str, AllocError>

@@ -261,7 +261,8 @@ TimesOfJobs = IsFile
 -- a thread, a phase, and both
 abbrev pub ThreadsAndPhases : Type 0
 ThreadsAndPhases = IsFile
-    (in_class (codes "C ( ) { C1 ( \"freeze\" ) a ( ) ; P7 ( \"freeze\" ) b ( ) ; C15 P65534 ( 1.5 , \"scheduled\" ) c ( ) ; }"))
+    (in_class (codes "C ( ) { C1 ( \"freeze\" ) a ( ) ; P7 ( \"freeze\" ) b ( ) ; "
+    ++ codes "C15 P65534 ( 1.5 , \"scheduled\" ) c ( ) ; }"))
     (at kind.Name 0 5 1 ∷ at kind.Name 6 7 1 ∷ at Mark 8 9 1 ∷ at kind.Name 10 16 1 ∷ at kind.Name 17 22 1
     ∷ at Mark 23 25 1 ∷
     at kind.Name 26 35 1 ∷ at Mark 36 37 1 ∷ at kind.Name 38 39 1 ∷ at Mark 40 41 1 ∷ at Mark 42 43 1

@@ -36,8 +36,8 @@ fn subcommand<'a>(command: Command<'a>, below: Command<'a>) -> Result<Command<'a
 }
 
 fn two_places<'a>(alloc: Global, name: &'a str) -> Result<Command<'a>, AllocError>
-    ensures { IfOk result (λ r. (app_of r ≡ with_places (new_app name.entry.now) (codes "S_DEFINE" ∷ codes "INPUT" ∷ []))
-        × ((fields_of r).has_globals ≡ false)) }
+    ensures { IfOk result (λ r. (app_of r ≡ with_places (new_app name.entry.now)
+        (codes "S_DEFINE" ∷ codes "INPUT" ∷ [])) × ((fields_of r).has_globals ≡ false)) }
 {
     let command = Command::new(alloc, name);
     let command = place(alloc, command, "S_DEFINE")?;

@@ -213,6 +213,8 @@ mod tests {
         Ok(())
     }
 
+    const FOUR_LINES: &[u8] = b"one\ntwo\nthree\nfour\n";
+
     #[test]
     fn files_stay_open(rt: HostRuntime) -> Result<(), Fail> {
         let alloc = rt.alloc();
@@ -236,7 +238,7 @@ mod tests {
         assert_eq!(rt; folder.append(&other, b"three\n"), Wrote::Done);
         assert_eq!(rt; folder.append(&name, b"four\n"), Wrote::Done);
         assert!(rt;
-            matches!(folder.get(alloc, &name), Got::Found(bytes) if bytes.as_slice() == b"one\ntwo\nthree\nfour\n".as_slice())
+            matches!(folder.get(alloc, &name), Got::Found(bytes) if bytes.as_slice() == FOUR_LINES)
         );
         fs::remove_file(&rt, "log_199.csv")?;
         assert_eq!(rt; folder.create(&name), Wrote::Done);
