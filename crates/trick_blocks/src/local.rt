@@ -84,7 +84,7 @@ pub fn enter_loop(
         is_loop: true,
     };
     let was_known = locals.add(name, local)?;
-    if bound_of(bound) > BOUND_LIMIT || was_known {
+    if u64::from(bound_of(bound)) > BOUND_LIMIT || was_known {
         return Ok(None);
     }
     Ok(Some(slot))

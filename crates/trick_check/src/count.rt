@@ -12,7 +12,7 @@ ghost use Rattle.trick_names.specs.Tables.{tables_of};
 
 use crate::CheckFault;
 use std::alloc::Global as Memory;
-use trick_base::Items;
+use trick_base::{CELL_LIMIT, Items};
 use trick_cells::{cell_count, laws, objects, sizes};
 use trick_jobs::job_count;
 use trick_lang::Object;
