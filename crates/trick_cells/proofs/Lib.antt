@@ -2,5 +2,5 @@ pub mod Lists
 pub mod Counted
 mod Waits
 mod Unfold
-mod Laid
+pub mod Laid
 mod Declared
