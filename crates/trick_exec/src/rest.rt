@@ -76,17 +76,18 @@ pub(crate) fn finish_turn<M: Cells + Drop, F: Shelf, H: Phases<M>, P: Posts, T: 
         (said_of noted.heard.replies.items) }
     requires reached { numbers_of noted.heard.hearing.sessions.items ≡ (T.sessions turns.old).reached }
     ensures state { IfOk result (λ after. seen M.numbers after.state
-        ≡ state_after (plan_of accepted.now.plan) noted.publications.now
-        (asking_of M.numbers noted.heard.hearing.current)) }
-    ensures sessions { IfOk result (λ after. after.sessions.items ≡ staying noted.heard.hearing.sessions.items) }
+        ≡ state_after (plan_of accepted.now.plan) noted.entry.publications.now
+        (asking_of M.numbers noted.entry.heard.hearing.current)) }
+    ensures sessions { IfOk result (λ after. after.sessions.items
+        ≡ staying noted.entry.heard.hearing.sessions.items) }
     ensures does { Does F.Shelf shelf.old shelf.new result (steps_of
-        (writes_after (plan_of accepted.now.plan) noted.publications.now
-        (asking_of M.numbers noted.heard.hearing.current))) }
-    ensures says { Says T.Turns turns.old turns.new result (said_of noted.heard.replies.items
-        ++ samples_of noted.heard.hearing.current.state.tic
-        (state_after (plan_of accepted.now.plan) noted.publications.now
-        (asking_of M.numbers noted.heard.hearing.current))
-        noted.heard.hearing.sessions.items) }
+        (writes_after (plan_of accepted.now.plan) noted.entry.publications.now
+        (asking_of M.numbers noted.entry.heard.hearing.current))) }
+    ensures says { Says T.Turns turns.old turns.new result (said_of noted.entry.heard.replies.items
+        ++ samples_of noted.entry.heard.hearing.current.state.tic
+        (state_after (plan_of accepted.now.plan) noted.entry.publications.now
+        (asking_of M.numbers noted.entry.heard.hearing.current))
+        noted.entry.heard.hearing.sessions.items) }
     ensures equipped { IfOk result (λ after. IsEquipped accepted.now.plan equipment.new (P.in_flight workers.new.posts)
         (seen M.numbers after.state) (M.scalars after.state.memory)) }
     ensures own { H.is_for workers.new.phases accepted.now.plan }

@@ -59,8 +59,8 @@ pub(crate) fn turn<M: Cells + Drop, F: Shelf, H: Phases<M>, P: Posts, T: Turns<M
     requires waits { length keeping.old.waits.items ≡ length (threads_beside (plan_of accepted.now.plan)) }
     requires given { HasGiven (plan_of accepted.now.plan) given.decides (world_of M.numbers world) given.entries.now
         (T.sessions turns.old) }
-    ensures came_to { CameTo (hosts F.Shelf T.Turns P.Posts) M.numbers (plan_of accepted.now.plan) given.decides
-        (world_of M.numbers world) given.entries.now keeping.old.waits.items keeping.new.waits.items
+    ensures came_to { CameTo (hosts F.Shelf T.Turns P.Posts) M.numbers (plan_of accepted.now.plan) given.entry.decides
+        (world_of M.numbers world) given.entry.entries.now keeping.old.waits.items keeping.new.waits.items
         (at shelf.old turns.old workers.old.posts) (at shelf.new turns.new workers.new.posts) result }
     ensures known { IfOk result (λ after. AreKnown (plan_of accepted.now.plan)
         (T.sessions turns.new) after.sessions.items) }
