@@ -69,13 +69,15 @@ fn threads(alloc: Global) -> Result<Items<Thread>, AllocError>
 fn plan(alloc: Global) -> Result<Plan, AllocError>
     ensures { IfOk result (λ plan. plan.program.cells ≡ []) }
 {
+    let threads = threads(alloc)?;
+    let queues = queues(alloc)?;
     Ok(Plan {
         program: empty_program(alloc),
         frame: 1_000_000,
         limit: 5,
         frozen: false,
-        threads: threads(alloc)?,
-        queues: queues(alloc)?,
+        threads,
+        queues,
         depends: Items::new(alloc),
         groups: Items::new(alloc),
         events: Items::new(alloc),
@@ -87,13 +89,20 @@ fn plan(alloc: Global) -> Result<Plan, AllocError>
     })
 }
 
-fn state(alloc: Global) -> Result<State<Few>, AllocError> {
+// What that thread was given.
+fn taken(alloc: Global) -> Result<Items<Taken>, AllocError> {
     let mut taken = Items::new(alloc);
     taken.push(Taken {
         held: true,
         cells: Items::new(alloc),
         on: no_flags(alloc),
     })?;
+    Ok(taken)
+}
+
+fn state(alloc: Global) -> Result<State<Few>, AllocError> {
+    let taken = taken(alloc)?;
+    let faults = Faults::new(alloc)?;
     Ok(State {
         turn: 3,
         tic: 4,
@@ -105,21 +114,115 @@ fn state(alloc: Global) -> Result<State<Few>, AllocError> {
         groups: no_flags(alloc),
         last: Items::new(alloc),
         taken,
-        faults: Faults::new(alloc)?,
+        faults,
     })
 }
 
+// The checkpoint of that state.
+fn printed(alloc: Global, plan: &Plan) -> Result<Vec<u8>, AllocError> {
+    let state = state(alloc)?;
+    print(alloc, plan, &state)
+}
+
+// The same of a plan that is made for it.
+fn checkpoint(alloc: Global) -> Result<Vec<u8>, AllocError> {
+    let plan = plan(alloc)?;
+    printed(alloc, &plan)
+}
+
+const CHECKPOINT: &[u8] =
+    b"checkpoint = 1;\nturn = 3;\ntic = 4;\nlimit = 5;\nmode = Freeze;\ntaken[0] = held;\nfaults = 0;\nend;\n";
+
 #[test]
 fn a_state_is_printed(rt: HostRuntime) -> Result<(), Fail> {
-    let alloc = rt.alloc();
+    assert!(rt; checkpoint(rt.alloc())?.as_slice() == CHECKPOINT);
+    Ok(())
+}
+
+// How many threads there are beside the tics, and how many jobs and cells the one has.
+fn counts(alloc: Global, plan: &Plan) -> Result<(usize, usize, usize), AllocError> {
+    let threads = threads_beside(alloc, plan)?.len();
+    let jobs = jobs_of(alloc, &plan.program, BESIDE)?.len();
+    let cells = scope(alloc, plan, BESIDE)?.len();
+    Ok((threads, jobs, cells))
+}
+
+// The same of a plan that is made for it.
+fn counts_beside(alloc: Global) -> Result<(usize, usize, usize), AllocError> {
     let plan = plan(alloc)?;
-    let text = print(alloc, &plan, &state(alloc)?)?;
-    let want =
-        b"checkpoint = 1;\nturn = 3;\ntic = 4;\nlimit = 5;\nmode = Freeze;\ntaken[0] = held;\nfaults = 0;\nend;\n";
-    assert_eq!(rt; text.as_slice(), want.as_slice());
-    assert_eq!(rt; threads_beside(alloc, &plan)?.len(), 1);
-    assert_eq!(rt; jobs_of(alloc, &plan.program, BESIDE)?.len(), 0);
-    assert_eq!(rt; scope(alloc, &plan, BESIDE)?.len(), 0);
+    counts(alloc, &plan)
+}
+
+#[test]
+fn a_thread_beside_the_tics_has_no_cells(rt: HostRuntime) -> Result<(), Fail> {
+    assert_eq!(rt; counts_beside(rt.alloc())?, (1, 0, 0));
+    Ok(())
+}
+
+// The refusal of a text.
+fn refusal(alloc: Global, plan: &Plan, text: &[u8]) -> Option<LoadFault>
+    requires { plan.now.program.cells ≡ [] }
+{
+    match load(alloc, plan, text, Few { number: None }) {
+        Ok(_) => None,
+        Err(fault) => Some(fault),
+    }
+}
+
+// Whether a state is in Freeze, and is printed as this text.
+fn is_printed(
+    alloc: Global,
+    plan: &Plan,
+    state: &State<Few>,
+    text: &[u8],
+) -> Result<bool, AllocError> {
+    Ok(state.mode == Mode::Freeze && print(alloc, plan, state)?.as_slice() == text)
+}
+
+// Whether a text is loaded as such a state.
+fn is_loaded(alloc: Global, plan: &Plan, text: &[u8]) -> Result<bool, AllocError>
+    requires { plan.now.program.cells ≡ [] }
+{
+    match load(alloc, plan, text, Few { number: None }) {
+        Ok(state) => is_printed(alloc, plan, &state, text),
+        Err(_) => Ok(false),
+    }
+}
+
+// Whether this is so of the checkpoint.
+fn is_checkpoint_loaded(alloc: Global) -> Result<bool, AllocError> {
+    let plan = plan(alloc)?;
+    is_loaded(alloc, &plan, CHECKPOINT)
+}
+
+#[test]
+fn a_checkpoint_is_loaded(rt: HostRuntime) -> Result<(), Fail> {
+    assert!(rt; is_checkpoint_loaded(rt.alloc())?);
+    Ok(())
+}
+
+// How long the first prefix of a text is that is not refused as cut off at its end.
+fn first_odd_prefix(alloc: Global, plan: &Plan, text: &[u8]) -> Option<usize>
+    requires { plan.now.program.cells ≡ [] }
+{
+    for at in 0..text.len() {
+        let (front, _) = text.split_at(at);
+        if refusal(alloc, plan, front) != Some(LoadFault::Truncated { at }) {
+            return Some(at);
+        }
+    }
+    None
+}
+
+// The first such prefix of the checkpoint.
+fn first_odd_front(alloc: Global) -> Result<Option<usize>, AllocError> {
+    let plan = plan(alloc)?;
+    Ok(first_odd_prefix(alloc, &plan, CHECKPOINT))
+}
+
+#[test]
+fn a_checkpoint_that_is_cut_off_is_refused(rt: HostRuntime) -> Result<(), Fail> {
+    assert_eq!(rt; first_odd_front(rt.alloc())?, None);
     Ok(())
 }
 
@@ -134,72 +237,70 @@ const LINES: [&[u8]; 8] = [
     b"end;",
 ];
 
-// The checkpoint above, with another line, counted from 1, in the place of that one.
+// The checkpoint, with another line, counted from 1, in the place of that one.
 fn text(alloc: Global, line: usize, other: &[u8]) -> Result<Vec<u8>, AllocError> {
     let mut text = Vec::new(alloc);
     for (place, right) in LINES.iter().enumerate() {
-        if place + 1 == line {
-            text.extend_from_slice(other)?;
-        } else {
-            text.extend_from_slice(right)?;
-        }
+        let bytes = if place + 1 == line { other } else { right };
+        text.extend_from_slice(bytes)?;
         text.push(10)?;
     }
     Ok(text)
 }
 
-// The refusal of a text.
-fn refusal(alloc: Global, text: &[u8]) -> Result<Option<LoadFault>, AllocError> {
-    let plan = plan(alloc)?;
-    match load(alloc, &plan, text, Few { number: None }) {
-        Ok(_) => Ok(None),
-        Err(fault) => Ok(Some(fault)),
-    }
+// Lines and what takes the place of them, and how such a checkpoint is refused.
+const WRONG_LINES: [(usize, &[u8], LoadFault); 12] = [
+    (2, b"turn = +3;", LoadFault::BadLine { line: 2 }),
+    (2, b"turn = 03;", LoadFault::BadLine { line: 2 }),
+    (3, b"tic = -0;", LoadFault::BadLine { line: 3 }),
+    (5, b"mode = Frozen;", LoadFault::BadLine { line: 5 }),
+    (6, b"end;", LoadFault::BadLine { line: 6 }),
+    (2, b"tic = 4;", LoadFault::WrongPlan { line: 2 }),
+    (6, b"taken[1] = none;", LoadFault::WrongPlan { line: 6 }),
+    (8, b"x y = z;", LoadFault::WrongPlan { line: 8 }),
+    (1, b"checkpoint = 2;", LoadFault::OutOfRange { line: 1 }),
+    (
+        3,
+        b"tic = 1000000000000002;",
+        LoadFault::OutOfRange { line: 3 },
+    ),
+    (7, b"faults = 1;", LoadFault::OutOfRange { line: 7 }),
+    (8, b"end;\n", LoadFault::Trailing { at: 95 }),
+];
+
+// How a checkpoint with another line is refused.
+fn refusal_with(
+    alloc: Global,
+    plan: &Plan,
+    line: usize,
+    other: &[u8],
+) -> Result<Option<LoadFault>, AllocError>
+    requires { plan.now.program.cells ≡ [] }
+{
+    let text = text(alloc, line, other)?;
+    Ok(refusal(alloc, plan, &text))
 }
 
-#[test]
-fn a_checkpoint_is_loaded(rt: HostRuntime) -> Result<(), Fail> {
-    let alloc = rt.alloc();
-    let plan = plan(alloc)?;
-    let text = text(alloc, 0, b"")?;
-    match load(alloc, &plan, &text, Few { number: None }) {
-        Ok(state) => {
-            assert_eq!(rt; state.mode, Mode::Freeze);
-            assert_eq!(rt; print(alloc, &plan, &state)?.as_slice(), text.as_slice());
+// The first of the wrong lines that is not refused so.
+fn first_odd_line(alloc: Global, plan: &Plan) -> Result<Option<&'static [u8]>, AllocError>
+    requires { plan.now.program.cells ≡ [] }
+{
+    for (line, other, want) in &WRONG_LINES {
+        if refusal_with(alloc, plan, *line, other)? != Some(*want) {
+            return Ok(Some(other));
         }
-        Err(fault) => assert_eq!(rt; Some(fault), None),
     }
-    for at in 0..text.len() {
-        let (front, _) = text.split_at(at);
-        assert_eq!(rt; refusal(alloc, front)?, Some(LoadFault::Truncated { at }));
-    }
-    Ok(())
+    Ok(None)
+}
+
+// The same of a plan that is made for it.
+fn first_unlike(alloc: Global) -> Result<Option<&'static [u8]>, AllocError> {
+    let plan = plan(alloc)?;
+    first_odd_line(alloc, &plan)
 }
 
 #[test]
 fn wrong_lines_are_refused(rt: HostRuntime) -> Result<(), Fail> {
-    let alloc = rt.alloc();
-    let cases = [
-        (2, b"turn = +3;".as_slice(), LoadFault::BadLine { line: 2 }),
-        (2, b"turn = 03;", LoadFault::BadLine { line: 2 }),
-        (3, b"tic = -0;", LoadFault::BadLine { line: 3 }),
-        (5, b"mode = Frozen;", LoadFault::BadLine { line: 5 }),
-        (6, b"end;", LoadFault::BadLine { line: 6 }),
-        (2, b"tic = 4;", LoadFault::WrongPlan { line: 2 }),
-        (6, b"taken[1] = none;", LoadFault::WrongPlan { line: 6 }),
-        (8, b"x y = z;", LoadFault::WrongPlan { line: 8 }),
-        (1, b"checkpoint = 2;", LoadFault::OutOfRange { line: 1 }),
-        (
-            3,
-            b"tic = 1000000000000002;",
-            LoadFault::OutOfRange { line: 3 },
-        ),
-        (7, b"faults = 1;", LoadFault::OutOfRange { line: 7 }),
-        (8, b"end;\n", LoadFault::Trailing { at: 95 }),
-    ];
-    for (line, other, want) in cases {
-        let text = text(alloc, line, other)?;
-        assert_eq!(rt; refusal(alloc, &text)?, Some(want), "{other:?}");
-    }
+    assert_eq!(rt; first_unlike(rt.alloc())?, None);
     Ok(())
 }

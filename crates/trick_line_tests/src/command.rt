@@ -61,8 +61,60 @@ fn says(
     Ok(said_by(&command) == want)
 }
 
-// The lines that are actions, and what they ask for.
-const ACTIONS: [Case; 25] = [
+// Whether a line says this, alone and between white space, and is wrong without the `)` at its end.
+fn is_said(alloc: Global, line: &[u8], want: Said) -> Result<bool, AllocError> {
+    let alone = says(alloc, b"", line, b"", want)?;
+    let spaced = says(alloc, b"\t ", line, b" \r", want)?;
+    let cut = match line.split_last() {
+        Some((b')', front)) => says(alloc, b"", front, b"", ("bad", b"", 0))?,
+        _ => true,
+    };
+    Ok(alone && spaced && cut)
+}
+
+// The first of these lines that says another thing.
+fn first_unlike(alloc: Global, cases: &[Case]) -> Result<Option<&'static [u8]>, AllocError> {
+    for (line, want) in cases {
+        if !is_said(alloc, line, *want)? {
+            return Ok(Some(line));
+        }
+    }
+    Ok(None)
+}
+
+// How many actions a text says.
+fn count(alloc: Global, text: &[u8]) -> Result<usize, ActionFault> {
+    Ok(actions(alloc, text)?.len())
+}
+
+// Whether a line says this one action.
+fn is_one(alloc: Global, line: &[u8], want: Said) -> Result<bool, ActionFault> {
+    match actions(alloc, line)?.as_slice() {
+        [action] => Ok(said_by_action(action) == want),
+        _ => Ok(false),
+    }
+}
+
+// Whether a line twice, with `;` between, says two actions.
+fn are_two(alloc: Global, line: &[u8]) -> Result<bool, AllocError> {
+    let mut two = line.to_vec(alloc)?;
+    two.extend_from_slice(b" ; ")?;
+    two.extend_from_slice(line)?;
+    Ok(count(alloc, &two) == Ok(2))
+}
+
+// The first of these lines that says another thing than one action alone, or does not say two twice.
+fn first_no_action(alloc: Global, cases: &[Case]) -> Result<Option<&'static [u8]>, AllocError> {
+    for (line, want) in cases {
+        if is_one(alloc, line, *want) != Ok(true) || !are_two(alloc, line)? {
+            return Ok(Some(line));
+        }
+    }
+    Ok(None)
+}
+
+// Lines that are actions on cells and jobs, and what they ask for.
+const CELL_ACTIONS: [Case; 12] = [
     (b"o.v=5", ("set", b"o.v", 5)),
     (
         b"trick = 9223372036854775808",
@@ -96,6 +148,22 @@ const ACTIONS: [Case; 25] = [
         b"trick.exec_set_job_onoff('\"', 0, True)",
         ("job on", b"\"", 0),
     ),
+];
+
+#[test]
+fn actions_on_cells_and_jobs_are_said(rt: HostRuntime) -> Result<(), Fail> {
+    assert!(rt; first_unlike(rt.alloc(), &CELL_ACTIONS)?.is_none());
+    Ok(())
+}
+
+#[test]
+fn texts_say_actions_on_cells_and_jobs(rt: HostRuntime) -> Result<(), Fail> {
+    assert!(rt; first_no_action(rt.alloc(), &CELL_ACTIONS)?.is_none());
+    Ok(())
+}
+
+// The other lines that are actions.
+const RUN_ACTIONS: [Case; 13] = [
     (b"trick.freeze()", ("freeze", b"", 0)),
     (b"trick.exec_freeze()", ("freeze", b"", 0)),
     (b"trick.stop()", ("stop", b"", 0)),
@@ -114,8 +182,20 @@ const ACTIONS: [Case; 25] = [
     (b"trick.deactivate_event('e f')", ("event", b"e f", 0)),
 ];
 
-// The other lines that are right.
-const LINES: [Case; 22] = [
+#[test]
+fn actions_on_a_run_are_said(rt: HostRuntime) -> Result<(), Fail> {
+    assert!(rt; first_unlike(rt.alloc(), &RUN_ACTIONS)?.is_none());
+    Ok(())
+}
+
+#[test]
+fn texts_say_actions_on_a_run(rt: HostRuntime) -> Result<(), Fail> {
+    assert!(rt; first_no_action(rt.alloc(), &RUN_ACTIONS)?.is_none());
+    Ok(())
+}
+
+// Lines that resume a run, or change a list of variables.
+const LIST_LINES: [Case; 8] = [
     (b"", ("nothing", b"", 0)),
     (b" \t\r \r", ("nothing", b"", 0)),
     (b"trick.exec_run()", ("resume", b"", 0)),
@@ -124,6 +204,16 @@ const LINES: [Case; 22] = [
     (b"trick.var_add(\"\")", ("add", b"", 0)),
     (b"trick.var_remove('it\"s')", ("remove", b"it\"s", 0)),
     (b"trick . var_clear (\t)", ("clear", b"", 0)),
+];
+
+#[test]
+fn lines_on_lists_are_said(rt: HostRuntime) -> Result<(), Fail> {
+    assert!(rt; first_unlike(rt.alloc(), &LIST_LINES)?.is_none());
+    Ok(())
+}
+
+// The other lines that are right.
+const SESSION_LINES: [Case; 14] = [
     (b"trick.var_cycle(0.000001)", ("cycle", b"", 1)),
     (b"trick.var_cycle(1.0)", ("cycle", b"", 1_000_000)),
     (
@@ -143,32 +233,37 @@ const LINES: [Case; 22] = [
     (b"trick.var_exit()", ("exit", b"", 0)),
 ];
 
-// The first of these lines that says another thing, alone, between white space, or cut off. A line
-// that ends with `)` is wrong without it.
-fn first_unlike(alloc: Global, cases: &[Case]) -> Result<Option<&'static [u8]>, AllocError> {
-    for (line, want) in cases {
-        let alone = says(alloc, b"", line, b"", *want)?;
-        let spaced = says(alloc, b"\t ", line, b" \r", *want)?;
-        let cut = match line.split_last() {
-            Some((b')', front)) => says(alloc, b"", front, b"", ("bad", b"", 0))?,
-            _ => true,
-        };
-        if !(alone && spaced && cut) {
+#[test]
+fn lines_on_sessions_are_said(rt: HostRuntime) -> Result<(), Fail> {
+    assert!(rt; first_unlike(rt.alloc(), &SESSION_LINES)?.is_none());
+    Ok(())
+}
+
+// The first of these lines that is not bad.
+fn first_right(
+    alloc: Global,
+    lines: &[&'static [u8]],
+) -> Result<Option<&'static [u8]>, AllocError> {
+    for line in lines {
+        if !says(alloc, b"", line, b"", ("bad", b"", 0))? {
             return Ok(Some(line));
         }
     }
     Ok(None)
 }
 
-#[test]
-fn lines_say_commands(rt: HostRuntime) -> Result<(), Fail> {
-    assert_eq!(rt; first_unlike(rt.alloc(), &ACTIONS)?, None);
-    assert_eq!(rt; first_unlike(rt.alloc(), &LINES)?, None);
-    Ok(())
+// The first of these texts that says actions.
+fn first_action(alloc: Global, texts: &[&'static [u8]]) -> Option<&'static [u8]> {
+    for text in texts {
+        if count(alloc, text) != Err(ActionFault::BadAction) {
+            return Some(text);
+        }
+    }
+    None
 }
 
-// Lines that are no form.
-const BAD: [&[u8]; 52] = [
+// Lines that are no form, and texts that say no actions.
+const NO_FORMS: [&[u8]; 26] = [
     b"hello",
     b"trick",
     b"trick.",
@@ -195,6 +290,21 @@ const BAD: [&[u8]; 52] = [
     b"o.v == 1",
     b"o.v += 1",
     b"o.v = 1 2",
+];
+
+#[test]
+fn lines_of_no_form_are_bad(rt: HostRuntime) -> Result<(), Fail> {
+    assert!(rt; first_right(rt.alloc(), &NO_FORMS)?.is_none());
+    Ok(())
+}
+
+#[test]
+fn texts_of_no_form_say_no_actions(rt: HostRuntime) {
+    assert!(rt; first_action(rt.alloc(), &NO_FORMS).is_none());
+}
+
+// The other lines that are no form.
+const NO_LINES: [&[u8]; 26] = [
     b"o.v = 1; o.v = 2",
     b"o.v = 1 # one",
     b"o.v = 9223372036854775809",
@@ -223,40 +333,45 @@ const BAD: [&[u8]; 52] = [
     b"trick.var_set_copy_mode(3)",
 ];
 
-// The first of these lines that is not bad.
-fn first_right(
-    alloc: Global,
-    lines: &[&'static [u8]],
-) -> Result<Option<&'static [u8]>, AllocError> {
-    for line in lines {
-        if !says(alloc, b"", line, b"", ("bad", b"", 0))? {
-            return Ok(Some(line));
+#[test]
+fn other_lines_are_bad(rt: HostRuntime) -> Result<(), Fail> {
+    assert!(rt; first_right(rt.alloc(), &NO_LINES)?.is_none());
+    Ok(())
+}
+
+// Whether a byte is taken as it should be: as a line, after a line, and between quotes. White space says
+// nothing, and a quote may be any byte but itself.
+fn is_taken(alloc: Global, byte: u8) -> Result<bool, AllocError> {
+    let space = matches!(byte, b'\t' | b'\r' | b' ');
+    let alone = if space { "nothing" } else { "bad" };
+    let behind = if space { "send" } else { "bad" };
+    let name = [byte];
+    let quoted: Said = if byte == b'"' {
+        ("bad", b"", 0)
+    } else {
+        ("add", &name, 0)
+    };
+    Ok(
+        says(alloc, b"", &name, b"", (alone, b"", 0))?
+            && says(alloc, b"trick.var_send()", &name, b"", (behind, b"", 0))?
+            && says(alloc, b"trick.var_add(\"", &name, b"\")", quoted)?,
+    )
+}
+
+// The first byte that is wrongly taken; a line feed stands in no line.
+fn first_odd_byte(alloc: Global) -> Result<Option<u8>, AllocError> {
+    for byte in 0..=255u8 {
+        if !is_taken(alloc, byte)? && byte != b'\n' {
+            return Ok(Some(byte));
         }
     }
     Ok(None)
 }
 
-// The first byte that is wrongly taken: as a line, after a line, or between quotes. White space says
-// nothing, a line feed stands in no line, and a quote may be any byte but itself.
-fn first_odd_byte(alloc: Global) -> Result<Option<u8>, AllocError> {
-    for byte in 0..=255u8 {
-        let space = matches!(byte, b'\t' | b'\r' | b' ');
-        let alone = if space { "nothing" } else { "bad" };
-        let behind = if space { "send" } else { "bad" };
-        let name = [byte];
-        let quoted: Said = if byte == b'"' {
-            ("bad", b"", 0)
-        } else {
-            ("add", &name, 0)
-        };
-        let right = says(alloc, b"", &name, b"", (alone, b"", 0))?
-            && says(alloc, b"trick.var_send()", &name, b"", (behind, b"", 0))?
-            && says(alloc, b"trick.var_add(\"", &name, b"\")", quoted)?;
-        if !right && byte != b'\n' {
-            return Ok(Some(byte));
-        }
-    }
-    Ok(None)
+#[test]
+fn each_byte_is_taken_as_it_should_be(rt: HostRuntime) -> Result<(), Fail> {
+    assert_eq!(rt; first_odd_byte(rt.alloc())?, None);
+    Ok(())
 }
 
 // Whether a name of so many bytes reads, outside quotes and between them.
@@ -268,49 +383,13 @@ fn are_read(alloc: Global, len: usize) -> Result<(bool, bool), AllocError> {
 }
 
 #[test]
-fn other_lines_are_bad(rt: HostRuntime) -> Result<(), Fail> {
+fn a_name_outside_quotes_has_at_most_64_bytes(rt: HostRuntime) -> Result<(), Fail> {
     let alloc = rt.alloc();
-    assert_eq!(rt; first_right(alloc, &BAD)?, None);
-    assert_eq!(rt; first_odd_byte(alloc)?, None);
     assert_eq!(rt; are_read(alloc, 64)?, (true, true));
     assert_eq!(rt; are_read(alloc, 65)?, (false, true));
     // with its call it has 4,096 bytes
     assert_eq!(rt; are_read(alloc, 4079)?, (false, true));
     Ok(())
-}
-
-// How many actions a text says.
-fn count(alloc: Global, text: &[u8]) -> Result<usize, ActionFault> {
-    Ok(actions(alloc, text)?.len())
-}
-
-// The first of these lines that says another thing than one action alone, and two twice with `;`
-// between.
-fn first_no_action(alloc: Global, cases: &[Case]) -> Result<Option<&'static [u8]>, Fail> {
-    for (line, want) in cases {
-        let one = actions(alloc, line)?;
-        let mut two = line.to_vec(alloc)?;
-        two.extend_from_slice(b" ; ")?;
-        two.extend_from_slice(line)?;
-        let right = match one.as_slice() {
-            [action] => said_by_action(action) == *want,
-            _ => false,
-        };
-        if !right || count(alloc, &two) != Ok(2) {
-            return Ok(Some(line));
-        }
-    }
-    Ok(None)
-}
-
-// The first of these texts that says actions.
-fn first_action(alloc: Global, texts: &[&'static [u8]]) -> Option<&'static [u8]> {
-    for text in texts {
-        if count(alloc, text) != Err(ActionFault::BadAction) {
-            return Some(text);
-        }
-    }
-    None
 }
 
 // Texts that say no actions.
@@ -329,11 +408,7 @@ const NO_ACTIONS: [&[u8]; 9] = [
 const THREE: &[u8] = b"trick.exec_set_job_onoff('o.f', 1, -2);trick.freeze();x=1";
 
 #[test]
-fn texts_say_actions(rt: HostRuntime) -> Result<(), Fail> {
-    let alloc = rt.alloc();
-    assert!(rt; first_no_action(alloc, &ACTIONS)?.is_none());
-    assert!(rt; count(alloc, THREE) == Ok(3));
-    assert!(rt; first_action(alloc, &NO_ACTIONS).is_none());
-    assert!(rt; first_action(alloc, &BAD[..26]).is_none());
-    Ok(())
+fn texts_say_actions(rt: HostRuntime) {
+    assert!(rt; count(rt.alloc(), THREE) == Ok(3));
+    assert!(rt; first_action(rt.alloc(), &NO_ACTIONS).is_none());
 }

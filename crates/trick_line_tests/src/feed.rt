@@ -12,53 +12,62 @@ fn gives(feed: &mut Feed, want: &[u8]) -> bool {
     }
 }
 
-// Whether bytes in three pieces give these lines, and no other.
-fn gives_all(
-    alloc: Global,
-    bytes: &[u8],
-    cuts: (usize, usize),
-    lines: &[&[u8]],
-) -> Result<bool, FeedFault> {
-    let mut feed = Feed::new(alloc);
+// Whether the next lines are these, and there is no other.
+fn gives_all(feed: &mut Feed, lines: &[&[u8]]) -> bool {
+    for line in lines {
+        if !gives(feed, line) {
+            return false;
+        }
+    }
+    feed.pull().is_none()
+}
+
+// Puts bytes into a feed in three pieces.
+fn push_cut(feed: &mut Feed, bytes: &[u8], cuts: (usize, usize)) -> Result<(), FeedFault> {
     let (front, back) = bytes.split_at(cuts.1.min(bytes.len()));
     let (first, second) = front.split_at(cuts.0.min(front.len()));
     feed.push(first)?;
     feed.push(second)?;
-    feed.push(back)?;
-    for line in lines {
-        if !gives(&mut feed, line) {
-            return Ok(false);
-        }
-    }
-    Ok(feed.pull().is_none())
+    feed.push(back)
+}
+
+// Whether bytes in three pieces give these lines, and no other.
+fn come(alloc: Global, bytes: &[u8], cuts: (usize, usize), lines: &[&[u8]]) -> bool {
+    let mut feed = Feed::new(alloc);
+    push_cut(&mut feed, bytes, cuts).is_ok() && gives_all(&mut feed, lines)
 }
 
 // The first two places at which bytes are cut in three and other lines come than these.
-fn first_odd_cuts(
-    alloc: Global,
-    bytes: &[u8],
-    lines: &[&[u8]],
-) -> Result<Option<(usize, usize)>, FeedFault> {
+fn first_odd_cuts(alloc: Global, bytes: &[u8], lines: &[&[u8]]) -> Option<(usize, usize)> {
     for second in 0..=bytes.len() {
         for first in 0..=second {
-            if !gives_all(alloc, bytes, (first, second), lines)? {
-                return Ok(Some((first, second)));
+            if !come(alloc, bytes, (first, second), lines) {
+                return Some((first, second));
             }
         }
     }
-    Ok(None)
+    None
 }
+
+const BYTES: &[u8] = b"one\r\n\n\r\n\0\xff\r\r\n \rtwo\n\r\r\r\nrest\r";
+
+const LINES: [&[u8]; 6] = [b"one", b"", b"", b"\0\xff\r", b" \rtwo", b"\r\r"];
 
 #[test]
-fn lines_come_however_they_are_cut(rt: HostRuntime) -> Result<(), Fail> {
-    let bytes = b"one\r\n\n\r\n\0\xff\r\r\n \rtwo\n\r\r\r\nrest\r";
-    let lines = [b"one".as_slice(), b"", b"", b"\0\xff\r", b" \rtwo", b"\r\r"];
-    assert_eq!(rt; first_odd_cuts(rt.alloc(), bytes, &lines)?, None);
-    Ok(())
+fn lines_come_however_they_are_cut(rt: HostRuntime) {
+    assert_eq!(rt; first_odd_cuts(rt.alloc(), BYTES, &LINES), None);
 }
 
-// Of bytes that end with a line feed, and of another line after them, cut at a place: whether the first
-// piece and the second are taken, and whether this line and the other come of them.
+// Of two pieces of bytes: whether the first and the second are taken, and whether this line and then
+// `next` come of them.
+fn taken_in_two(alloc: Global, first: &[u8], second: &[u8], line: &[u8]) -> (bool, bool, bool) {
+    let mut feed = Feed::new(alloc);
+    let one = feed.push(first).is_ok();
+    let two = feed.push(second).is_ok();
+    (one, two, gives_all(&mut feed, &[line, b"next"]))
+}
+
+// The same of bytes that end with a line feed, and of the line `next` after them, cut at a place.
 fn taken(
     alloc: Global,
     bytes: &[u8],
@@ -68,11 +77,7 @@ fn taken(
     let mut all = bytes.to_vec(alloc)?;
     all.extend_from_slice(b"next\n")?;
     let (first, second) = all.split_at(cut.min(all.len()));
-    let mut feed = Feed::new(alloc);
-    let one = feed.push(first).is_ok();
-    let two = feed.push(second).is_ok();
-    let both = gives(&mut feed, line) && gives(&mut feed, b"next");
-    Ok((one, two, both && feed.pull().is_none()))
+    Ok(taken_in_two(alloc, first, second, line))
 }
 
 // Whether a line of so many bytes with this end, cut at a place, is taken as it should be. With at most
@@ -104,31 +109,65 @@ fn lines_of_4096_bytes_are_taken(rt: HostRuntime) -> Result<(), Fail> {
     Ok(())
 }
 
+// Whether a feed takes bytes one by one.
+fn takes_each(feed: &mut Feed, bytes: &[u8]) -> bool {
+    for byte in bytes {
+        if feed.push(&[*byte]).is_err() {
+            return false;
+        }
+    }
+    true
+}
+
+// Whether a feed takes a byte so many times.
+fn takes_many(feed: &mut Feed, byte: u8, count: usize) -> bool {
+    for _time in 0..count {
+        if feed.push(&[byte]).is_err() {
+            return false;
+        }
+    }
+    true
+}
+
+// Whether short lines, one that has 4,096 bytes with its carriage return, and a short one after it come
+// byte by byte.
+fn come_byte_by_byte(alloc: Global, feed: &mut Feed) -> Result<bool, AllocError> {
+    let long = vec![in alloc; b'x'; 4095]?;
+    Ok(
+        takes_each(feed, b"\r\n\r\r\n\0\xff\n")
+            && takes_each(feed, &long)
+            && takes_each(feed, b"\r\nend\n")
+            && gives_all(feed, &[b"", b"\r", b"\0\xff", &long, b"end"]),
+    )
+}
+
+// Whether each of some bytes is too many.
+fn refuses_each(feed: &mut Feed, bytes: &[u8]) -> bool {
+    for byte in bytes {
+        if feed.push(&[*byte]) != Err(FeedFault::LongLine) {
+            return false;
+        }
+    }
+    true
+}
+
+// Whether after a line and 4,096 bytes one byte more is too many, whatever comes after it, and the line
+// before them stays.
+fn refuses_a_long_line(feed: &mut Feed) -> bool {
+    takes_each(feed, b"last\n")
+        && takes_many(feed, b'x', 4096)
+        && refuses_each(feed, b"\r\nx")
+        && gives_all(feed, &[b"last"])
+}
+
+// Whether one feed does the one and then the other.
+fn does_both(alloc: Global) -> Result<bool, AllocError> {
+    let mut feed = Feed::new(alloc);
+    Ok(come_byte_by_byte(alloc, &mut feed)? && refuses_a_long_line(&mut feed))
+}
+
 #[test]
 fn lines_come_byte_by_byte(rt: HostRuntime) -> Result<(), Fail> {
-    let alloc = rt.alloc();
-    // the line feed ends a line that has 4,096 bytes with its carriage return
-    let mut bytes = Vec::new(alloc);
-    bytes.extend_from_slice(b"\r\n\r\r\n\0\xff\n")?;
-    let long = vec![in alloc; b'x'; 4095]?;
-    bytes.extend_from_slice(&long)?;
-    bytes.extend_from_slice(b"\r\nend\n")?;
-    let mut feed = Feed::new(alloc);
-    for byte in &bytes {
-        assert!(rt; feed.push(&[*byte]).is_ok());
-    }
-    for line in [b"".as_slice(), b"\r", b"\0\xff", long.as_slice(), b"end"] {
-        assert!(rt; gives(&mut feed, line));
-    }
-    // one byte more is too many, whatever comes after it, and the lines before it stay
-    assert!(rt; feed.push(b"last\n").is_ok());
-    for _byte in 0..4096 {
-        assert!(rt; feed.push(b"x").is_ok());
-    }
-    for byte in [b'\r', b'\n', b'x'] {
-        assert_eq!(rt; feed.push(&[byte]), Err(FeedFault::LongLine));
-    }
-    assert!(rt; gives(&mut feed, b"last"));
-    assert!(rt; feed.pull().is_none());
+    assert!(rt; does_both(rt.alloc())?);
     Ok(())
 }

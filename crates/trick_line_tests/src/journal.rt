@@ -7,7 +7,7 @@ use std::alloc::{AllocError, Global};
 use std::test::Fail;
 use trick_base::Items;
 use trick_journal::*;
-use trick_model::{Plan, Process, Thread};
+use trick_model::{Journal, Plan, Process, Thread};
 
 const MAIN: Thread = Thread {
     number: 0,
@@ -37,26 +37,25 @@ const SECOND_ASYNC: Thread = Thread {
     named: true,
 };
 
+// The four threads.
 fn threads(alloc: Global) -> Result<Items<Thread>, AllocError>
     ensures { IfOk result (λ threads. threads ≡ MAIN ∷ ASYNC ∷ MUST_FINISH ∷ SECOND_ASYNC ∷ []) }
 {
-    let mut threads = Items::new(alloc);
-    threads.push(MAIN)?;
-    threads.push(ASYNC)?;
-    threads.push(MUST_FINISH)?;
-    threads.push(SECOND_ASYNC)?;
-    Ok(threads)
+    let threads = vec![in alloc; MAIN, ASYNC, MUST_FINISH, SECOND_ASYNC]?;
+    Ok(Items::from_vec(threads))
 }
 
 // A plan whose threads 1 and 3 are asynchronous, while 2 must finish.
 fn plan(alloc: Global) -> Result<Plan, AllocError> {
+    let threads = threads(alloc)?;
+    let queues = queues(alloc)?;
     Ok(Plan {
         program: empty_program(alloc),
         frame: 1_000_000,
         limit: 5,
         frozen: false,
-        threads: threads(alloc)?,
-        queues: queues(alloc)?,
+        threads,
+        queues,
         depends: Items::new(alloc),
         groups: Items::new(alloc),
         events: Items::new(alloc),
@@ -98,36 +97,76 @@ fn refusal_of(fault: JournalFault) -> Refusal {
     }
 }
 
-// How a run that starts at turn 3 refuses two texts, one after the other.
-fn refusal(alloc: Global, front: &[u8], back: &[u8]) -> Result<Refusal, AllocError> {
-    let mut text = front.to_vec(alloc)?;
-    text.extend_from_slice(back)?;
-    let plan = plan(alloc)?;
-    match read(alloc, &plan, 3, &text) {
-        Ok(_) => Ok(("", 0)),
-        Err(fault) => Ok(refusal_of(fault)),
+// How a run that starts at turn 3 refuses a text.
+fn refusal(alloc: Global, plan: &Plan, text: &[u8]) -> Refusal {
+    match read(alloc, plan, 3, text) {
+        Ok(_) => ("", 0),
+        Err(fault) => refusal_of(fault),
     }
 }
 
+// How it refuses two texts, one after the other.
+fn refusal_of_both(
+    alloc: Global,
+    plan: &Plan,
+    front: &[u8],
+    back: &[u8],
+) -> Result<Refusal, AllocError> {
+    let mut text = front.to_vec(alloc)?;
+    text.extend_from_slice(back)?;
+    Ok(refusal(alloc, plan, &text))
+}
+
+// Whether a journal is printed as these bytes.
+fn is_printed(alloc: Global, journal: &Journal, text: &[u8]) -> Result<bool, AllocError> {
+    Ok(print(alloc, journal)?.as_slice() == text)
+}
+
 // Whether a text is a journal that is printed as the same bytes.
-fn is_printed_again(alloc: Global, start: u64, text: &[u8]) -> Result<bool, AllocError> {
-    let plan = plan(alloc)?;
-    match read(alloc, &plan, start, text) {
-        Ok(journal) => Ok(print(alloc, &journal)?.as_slice() == text),
+fn is_printed_again(
+    alloc: Global,
+    plan: &Plan,
+    start: u64,
+    text: &[u8],
+) -> Result<bool, AllocError> {
+    match read(alloc, plan, start, text) {
+        Ok(journal) => is_printed(alloc, &journal, text),
         Err(_) => Ok(false),
     }
 }
 
-// The first cause with which a session cannot leave.
+// Whether the journal above and one without entries are printed again.
+fn are_printed_again(alloc: Global, plan: &Plan) -> Result<bool, AllocError> {
+    Ok(
+        is_printed_again(alloc, plan, 3, WORKED)?
+            && is_printed_again(alloc, plan, 0, b"tricks journal 1\nfrom 0\nend 0\n")?,
+    )
+}
+
+const CAUSES: [&str; 7] = [
+    "Exit",
+    "HungUp",
+    "LinkFault",
+    "LongLine",
+    "Slow",
+    "NoThread",
+    "OutOfMemory",
+];
+
+// Whether a session can leave with this cause.
+fn is_cause(alloc: Global, plan: &Plan, cause: &str) -> Result<bool, AllocError> {
+    let text = format!(in alloc; "tricks journal 1\nfrom 0\n0 join 1\n5 leave 1 {cause}\nend 6\n")?;
+    is_printed_again(alloc, plan, 0, text.as_bytes())
+}
+
+// The first of these causes with which a session cannot leave.
 fn first_missing_cause(
     alloc: Global,
+    plan: &Plan,
     causes: &[&'static str],
 ) -> Result<Option<&'static str>, AllocError> {
     for cause in causes {
-        let text = format!(in alloc;
-            "tricks journal 1\nfrom 0\n0 join 1\n5 leave 1 {cause}\nend 6\n"
-        )?;
-        if !is_printed_again(alloc, 0, text.as_bytes())? {
+        if !is_cause(alloc, plan, cause)? {
             return Ok(Some(cause));
         }
     }
@@ -135,79 +174,109 @@ fn first_missing_cause(
 }
 
 // How a journal is refused whose one line of a client has so many bytes.
-fn of_long_line(alloc: Global, len: usize) -> Result<Refusal, AllocError> {
-    let mut line = b"2 cmd 1 ".to_vec(alloc)?;
-    line.extend_from_slice(&vec![in alloc; b' '; len]?)?;
-    line.extend_from_slice(b"\nend 4\n")?;
-    refusal(alloc, b"tricks journal 1\nfrom 2\n2 join 1\n", &line)
+fn of_long_line(alloc: Global, plan: &Plan, len: usize) -> Result<Refusal, AllocError> {
+    let mut text = b"tricks journal 1\nfrom 2\n2 join 1\n2 cmd 1 ".to_vec(alloc)?;
+    text.extend_from_slice(&vec![in alloc; b' '; len]?)?;
+    text.extend_from_slice(b"\nend 4\n")?;
+    Ok(refusal(alloc, plan, &text))
 }
 
-#[test]
-fn journals_are_read_and_printed(rt: HostRuntime) -> Result<(), Fail> {
-    let alloc = rt.alloc();
-    assert!(rt; is_printed_again(alloc, 3, WORKED)?);
-    assert!(rt; is_printed_again(alloc, 0, b"tricks journal 1\nfrom 0\nend 0\n")?);
-    let causes = [
-        "Exit",
-        "HungUp",
-        "LinkFault",
-        "LongLine",
-        "Slow",
-        "NoThread",
-        "OutOfMemory",
-    ];
-    assert_eq!(rt; first_missing_cause(alloc, &causes)?, None);
-    assert_eq!(rt; of_long_line(alloc, 4096)?, ("", 0));
-    assert_eq!(rt; of_long_line(alloc, 4097)?, ("BadLine", 4));
-    Ok(())
-}
-
-// How long the first prefix is that is not refused as it should be: as without its end where it has
-// whole lines alone, and else at the line that it breaks off.
-fn first_odd_prefix(alloc: Global, text: &[u8]) -> Result<Option<usize>, AllocError> {
-    for len in 0..text.len() {
-        let (front, _) = text.split_at(len);
-        let line = front
-            .iter()
-            .filter(|byte| **byte == b'\n')
-            .count()
-            .saturating_add(1);
-        let kind = match front.last() {
-            None | Some(b'\n') => "NoEnd",
-            Some(_) => "BadLine",
-        };
-        if refusal(alloc, front, b"")? != (kind, line) {
-            return Ok(Some(len));
-        }
+// What is wrong with journals that are to be read and printed, or refused for a line of 4,097 bytes.
+fn first_wrong_under(alloc: Global, plan: &Plan) -> Result<Option<&'static str>, AllocError> {
+    if !are_printed_again(alloc, plan)? {
+        return Ok(Some("texts"));
+    }
+    if first_missing_cause(alloc, plan, &CAUSES)?.is_some() {
+        return Ok(Some("causes"));
+    }
+    if of_long_line(alloc, plan, 4096)? != ("", 0) {
+        return Ok(Some("4,096 bytes"));
+    }
+    if of_long_line(alloc, plan, 4097)? != ("BadLine", 4) {
+        return Ok(Some("4,097 bytes"));
     }
     Ok(None)
 }
 
+// The same by a run of the plan above.
+fn first_wrong(alloc: Global) -> Result<Option<&'static str>, AllocError> {
+    let plan = plan(alloc)?;
+    first_wrong_under(alloc, &plan)
+}
+
+#[test]
+fn journals_are_read_and_printed(rt: HostRuntime) -> Result<(), Fail> {
+    assert_eq!(rt; first_wrong(rt.alloc())?, None);
+    Ok(())
+}
+
+// How a prefix is to be refused: as without its end where it has whole lines alone, and else at the
+// line that it breaks off.
+fn refusal_of_prefix(front: &[u8]) -> Refusal {
+    let line = front
+        .iter()
+        .filter(|byte| **byte == b'\n')
+        .count()
+        .saturating_add(1);
+    match front.last() {
+        None | Some(b'\n') => ("NoEnd", line),
+        Some(_) => ("BadLine", line),
+    }
+}
+
+// How long the first prefix is that is refused otherwise.
+fn first_odd_prefix(alloc: Global, plan: &Plan, text: &[u8]) -> Option<usize> {
+    for len in 0..text.len() {
+        let (front, _) = text.split_at(len);
+        if refusal(alloc, plan, front) != refusal_of_prefix(front) {
+            return Some(len);
+        }
+    }
+    None
+}
+
+// The same of the journal above.
+fn first_odd_front(alloc: Global) -> Result<Option<usize>, AllocError> {
+    let plan = plan(alloc)?;
+    Ok(first_odd_prefix(alloc, &plan, WORKED))
+}
+
 #[test]
 fn no_prefix_is_a_journal(rt: HostRuntime) -> Result<(), Fail> {
-    assert_eq!(rt; first_odd_prefix(rt.alloc(), WORKED)?, None);
+    assert_eq!(rt; first_odd_front(rt.alloc())?, None);
     Ok(())
 }
 
 // A text, and how it is refused.
 type Case = (&'static [u8], Refusal);
 
-// The first of these texts that is refused otherwise, after a front.
-fn first_unlike(
+// The first of these texts that is refused otherwise by a run of this plan, after a front.
+fn first_unlike_under(
     alloc: Global,
+    plan: &Plan,
     front: &[u8],
     cases: &[Case],
 ) -> Result<Option<&'static [u8]>, AllocError> {
     for (text, want) in cases {
-        if refusal(alloc, front, text)? != *want {
+        if refusal_of_both(alloc, plan, front, text)? != *want {
             return Ok(Some(text));
         }
     }
     Ok(None)
 }
 
-// The first two lines.
-const BEGIN: [Case; 20] = [
+// The same by a run of the plan above.
+fn first_unlike(
+    alloc: Global,
+    front: &[u8],
+    cases: &[Case],
+) -> Result<Option<&'static [u8]>, AllocError> {
+    let plan = plan(alloc)?;
+    first_unlike_under(alloc, &plan, front, cases)
+}
+
+// The first line.
+const HEADS: [Case; 8] = [
     (b"\n", ("BadLine", 1)),
     (b"tricks journal 1\r\n", ("BadLine", 1)),
     (b"tricks journal 01\n", ("BadLine", 1)),
@@ -216,6 +285,16 @@ const BEGIN: [Case; 20] = [
     (b" tricks journal 1\nfrom 0\nend 4\n", ("BadLine", 1)),
     (b"from 0\nend 4\n", ("BadLine", 1)),
     (b"from 0\ntricks journal 1\nend 4\n", ("BadLine", 1)),
+];
+
+#[test]
+fn a_journal_begins_with_its_head(rt: HostRuntime) -> Result<(), Fail> {
+    assert!(rt; first_unlike(rt.alloc(), b"", &HEADS)?.is_none());
+    Ok(())
+}
+
+// The second line.
+const FROMS: [Case; 12] = [
     (b"tricks journal 1\n\nfrom 0\nend 4\n", ("BadLine", 2)),
     (b"tricks journal 1\nend 4\n", ("BadLine", 2)),
     (
@@ -233,10 +312,16 @@ const BEGIN: [Case; 20] = [
     (b"tricks journal 1\nfrom 4\nend 5\n", ("BadLine", 2)),
 ];
 
+#[test]
+fn the_second_line_says_where_it_begins(rt: HostRuntime) -> Result<(), Fail> {
+    assert!(rt; first_unlike(rt.alloc(), b"", &FROMS)?.is_none());
+    Ok(())
+}
+
 const FRONT: &[u8] = b"tricks journal 1\nfrom 2\n2 join 1\n2 cmd 1 x = \"a b\"\n2 publish 1\n";
 
-// Lines after the front.
-const REST: [Case; 55] = [
+// Ends after the front.
+const ENDS: [Case; 19] = [
     (b"3 join 2\nend 4\n", ("", 0)),
     (b"end 3\n", ("", 0)),
     (b"end 3\nend 3\n", ("BadLine", 7)),
@@ -256,7 +341,16 @@ const REST: [Case; 55] = [
     (b"\nend 3\n", ("BadLine", 6)),
     (b"from 2\n", ("BadLine", 6)),
     (b"tricks journal 1\n", ("BadLine", 6)),
-    // numbers
+];
+
+#[test]
+fn a_journal_ends_once(rt: HostRuntime) -> Result<(), Fail> {
+    assert!(rt; first_unlike(rt.alloc(), FRONT, &ENDS)?.is_none());
+    Ok(())
+}
+
+// Numbers after it.
+const NUMBERS: [Case; 12] = [
     (b"03 join 2\n", ("BadLine", 6)),
     (b"+3 join 2\n", ("BadLine", 6)),
     (b"9223372036854775808 join 2\n", ("BadLine", 6)),
@@ -269,7 +363,16 @@ const REST: [Case; 55] = [
     (b"3 publish 0\n", ("BadLine", 6)),
     (b"3 publish 16\n", ("BadLine", 6)),
     (b"3 publish 257\n", ("BadLine", 6)),
-    // words
+];
+
+#[test]
+fn numbers_are_in_their_ranges(rt: HostRuntime) -> Result<(), Fail> {
+    assert!(rt; first_unlike(rt.alloc(), FRONT, &NUMBERS)?.is_none());
+    Ok(())
+}
+
+// Words after it.
+const WORDS: [Case; 10] = [
     (b"3 Join 2\n", ("BadLine", 6)),
     (b"3 join\n", ("BadLine", 6)),
     (b"3 join 2 \n", ("BadLine", 6)),
@@ -280,7 +383,16 @@ const REST: [Case; 55] = [
     (b"3 leave 1 exit\n", ("BadLine", 6)),
     (b"3 leave 1 Exit \n", ("BadLine", 6)),
     (b"3 stay 1\n", ("BadLine", 6)),
-    // turns, also where another rule is broken too
+];
+
+#[test]
+fn lines_have_their_words(rt: HostRuntime) -> Result<(), Fail> {
+    assert!(rt; first_unlike(rt.alloc(), FRONT, &WORDS)?.is_none());
+    Ok(())
+}
+
+// Turns after it, also where another rule is broken too.
+const TURNS: [Case; 8] = [
     (b"1 join 2\n", ("NotRising", 6)),
     (b"2 join 2\n", ("NotRising", 6)),
     (b"2 cmd 1 x\n", ("NotRising", 6)),
@@ -289,7 +401,16 @@ const REST: [Case; 55] = [
     (b"1 join 1\n", ("NotRising", 6)),
     (b"2 cmd 9 x\n", ("NotRising", 6)),
     (b"3 cmd 1 x\n2 cmd 1 x\n", ("NotRising", 7)),
-    // sessions
+];
+
+#[test]
+fn turns_never_fall(rt: HostRuntime) -> Result<(), Fail> {
+    assert!(rt; first_unlike(rt.alloc(), FRONT, &TURNS)?.is_none());
+    Ok(())
+}
+
+// Sessions after it.
+const SESSIONS: [Case; 6] = [
     (b"3 join 1\n", ("NotJoined", 6)),
     (b"3 cmd 2 x\n", ("NotJoined", 6)),
     (b"3 leave 2 Exit\n", ("NotJoined", 6)),
@@ -298,7 +419,13 @@ const REST: [Case; 55] = [
     (b"3 leave 1 Exit\n3 leave 1 Exit\n", ("NotJoined", 7)),
 ];
 
-// Publications after the front.
+#[test]
+fn sessions_join_before_they_speak(rt: HostRuntime) -> Result<(), Fail> {
+    assert!(rt; first_unlike(rt.alloc(), FRONT, &SESSIONS)?.is_none());
+    Ok(())
+}
+
+// Publications after it.
 const PUBLICATIONS: [Case; 14] = [
     (b"2 publish 2\n", ("NotAsync", 6)),
     (b"3 publish 2\n", ("NotAsync", 6)),
@@ -315,6 +442,12 @@ const PUBLICATIONS: [Case; 14] = [
     (b"3 publish 1\n4 publish 1\nend 5\n", ("", 0)),
     (b"3 publish 1\nend 3\n", ("NotRising", 7)),
 ];
+
+#[test]
+fn publications_come_last(rt: HostRuntime) -> Result<(), Fail> {
+    assert!(rt; first_unlike(rt.alloc(), FRONT, &PUBLICATIONS)?.is_none());
+    Ok(())
+}
 
 // A journal with two of its lines exchanged.
 const EXCHANGED: [Case; 6] = [
@@ -339,11 +472,7 @@ const EXCHANGED: [Case; 6] = [
 ];
 
 #[test]
-fn wrong_journals_are_refused(rt: HostRuntime) -> Result<(), Fail> {
-    let alloc = rt.alloc();
-    assert!(rt; first_unlike(alloc, b"", &BEGIN)?.is_none());
-    assert!(rt; first_unlike(alloc, FRONT, &REST)?.is_none());
-    assert!(rt; first_unlike(alloc, FRONT, &PUBLICATIONS)?.is_none());
-    assert!(rt; first_unlike(alloc, b"tricks journal 1\nfrom 0\n", &EXCHANGED)?.is_none());
+fn lines_stand_in_order(rt: HostRuntime) -> Result<(), Fail> {
+    assert!(rt; first_unlike(rt.alloc(), b"tricks journal 1\nfrom 0\n", &EXCHANGED)?.is_none());
     Ok(())
 }

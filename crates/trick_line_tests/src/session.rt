@@ -1,7 +1,6 @@
 //! What lines do to a session, and its samples, with ample memory: a plan of one cell.
 
 ghost use Rattle.std.specs.Prelude.{◌≡◌, ◌∷◌, [], IfOk, codes, false};
-ghost use Rattle.trick_lang.specs.Wrap.{IsOf};
 ghost use Rattle.trick_lang.specs.declared.scalar.Scalar.TheVariants.{Long};
 ghost use Rattle.trick_model.specs.declared.thread.Process.TheVariants.{Scheduled};
 ghost use Rattle.trick_session.specs.Kept.{AreThere};
@@ -10,25 +9,23 @@ use crate::parts::{no_flags, queues};
 use std::alloc::{AllocError, Global};
 use std::test::Fail;
 use trick_base::{Items, Word};
-use trick_lang::laws::wrap_law;
-use trick_lang::{Cell, Cells, Program, Scalar, Variable, wrap};
+use trick_lang::{Cell, Cells, Program, Scalar, Variable};
 use trick_model::{Action, Command, Faults, Mode, Plan, Process, Session, State, Thread};
-use trick_session::{apply, join, sample};
+use trick_session::{Reply, apply, join, sample};
 
 // A memory of one cell.
 #[derive(Drop)]
 struct One {
-    scalar: Scalar,
     number: i64,
-    ghost right: { IsOf scalar number },
 }
 
 impl Cells for One {
     ghost use Rattle.std.specs.Prelude.{[], ◌∷◌};
+    ghost use Rattle.trick_lang.specs.declared.scalar.Scalar.TheVariants.{Long};
 
     ghost numbers = { λ memory. memory.number ∷ [] };
 
-    ghost scalars = { λ memory. memory.scalar ∷ [] };
+    ghost scalars = { λ _. Long ∷ [] };
 
     fn len(&self) -> u32 {
         1
@@ -39,27 +36,17 @@ impl Cells for One {
     }
 
     fn set(&mut self, _cell: Cell, number: i64) {
-        *self = One {
-            scalar: self.scalar,
-            number,
-        };
-    }
-}
-
-fn memory(number: i64) -> One {
-    wrap_law();
-    One {
-        scalar: Scalar::Long,
-        number: wrap(Scalar::Long, i128::from(number)),
+        self.number = number;
     }
 }
 
 fn cells(alloc: Global) -> Result<Items<Variable>, AllocError>
     ensures { IfOk result (λ all. all ≡ record { name = codes "counter.n"; scalar = Long } ∷ []) }
 {
+    let name = Word::from_bytes(alloc, b"counter.n")?;
     let mut all = Items::new(alloc);
     all.push(Variable {
-        name: Word::from_bytes(alloc, b"counter.n")?,
+        name,
         scalar: Scalar::Long,
     })?;
     Ok(all)
@@ -119,18 +106,19 @@ fn plan(alloc: Global) -> Result<Plan, AllocError> {
 }
 
 fn state(alloc: Global, tic: u64) -> Result<State<One>, AllocError> {
+    let faults = Faults::new(alloc)?;
     Ok(State {
         turn: 0,
         tic,
         limit: 1,
         mode: Mode::Run,
-        memory: memory(-7),
+        memory: One { number: -7 },
         jobs: no_flags(alloc),
         events: no_flags(alloc),
         groups: no_flags(alloc),
         last: Items::new(alloc),
         taken: Items::new(alloc),
-        faults: Faults::new(alloc)?,
+        faults,
     })
 }
 
@@ -215,24 +203,14 @@ fn list_of(alloc: Global, variables: &[(Word, Option<Cell>)]) -> Result<Vec<u8>,
     Ok(list)
 }
 
-// Whether a session is then so, and the reply is this, where it was as `START` says before.
-fn is_answered(
+// Whether a session is so, and the reply is this.
+fn is(
     alloc: Global,
-    plan: &Plan,
-    said: Said,
+    session: &Session,
+    reply: &Reply,
     kept: Kept,
     answer: Answer,
 ) -> Result<bool, AllocError> {
-    let mut session = Session {
-        number: 3,
-        variables: variables(alloc)?,
-        cycle: 7,
-        paused: true,
-        copy: 2,
-        send: false,
-        leaving: false,
-    };
-    let reply = apply(alloc, plan, &mut session, command(alloc, said)?)?;
     let list = list_of(alloc, session.variables.as_slice())?;
     let seen: Kept = (
         &list,
@@ -243,6 +221,28 @@ fn is_answered(
     );
     let said: Answer = (&reply.bytes, word_of(&reply.act), reply.run);
     Ok(seen == kept && said == answer && session.number == 3 && !session.leaving)
+}
+
+// Whether a session is so after a command, and the reply is this, where it was as `START` says before.
+fn is_answered(
+    alloc: Global,
+    plan: &Plan,
+    command: Command,
+    kept: Kept,
+    answer: Answer,
+) -> Result<bool, AllocError> {
+    let variables = variables(alloc)?;
+    let mut session = Session {
+        number: 3,
+        variables,
+        cycle: 7,
+        paused: true,
+        copy: 2,
+        send: false,
+        leaving: false,
+    };
+    let reply = apply(alloc, plan, &mut session, command)?;
+    is(alloc, &session, &reply, kept, answer)
 }
 
 const LIST: &[u8] = b"+counter.n?counter.zz+counter.n";
@@ -260,19 +260,29 @@ const MISSING: Answer = (b"1\t0\n", "", false);
 // A command, and what is then kept and answered.
 type Case = (Said, Kept<'static>, Answer<'static>);
 
-// The first of these commands that changes or answers another thing.
-fn first_unlike(alloc: Global, cases: &[Case]) -> Result<Option<Said>, AllocError> {
-    let plan = plan(alloc)?;
+// The first of these commands that changes or answers another thing with this plan.
+fn first_unlike_under(
+    alloc: Global,
+    plan: &Plan,
+    cases: &[Case],
+) -> Result<Option<Said>, AllocError> {
     for (said, kept, answer) in cases {
-        if !is_answered(alloc, &plan, *said, *kept, *answer)? {
+        let command = command(alloc, *said)?;
+        if !is_answered(alloc, plan, command, *kept, *answer)? {
             return Ok(Some(*said));
         }
     }
     Ok(None)
 }
 
-// Commands that are no actions.
-const COMMANDS: [Case; 20] = [
+// The same with the plan above.
+fn first_unlike(alloc: Global, cases: &[Case]) -> Result<Option<Said>, AllocError> {
+    let plan = plan(alloc)?;
+    first_unlike_under(alloc, &plan, cases)
+}
+
+// Commands that are no actions, up to those that change the list.
+const LIST_COMMANDS: [Case; 10] = [
     (("nothing", b"", 0), START, QUIET),
     (("exit", b"", 0), START, QUIET),
     (("bad", b"", 0), START, BAD),
@@ -315,6 +325,16 @@ const COMMANDS: [Case; 20] = [
         QUIET,
     ),
     (("remove", b"counter.", 0), START, QUIET),
+];
+
+#[test]
+fn commands_change_the_list(rt: HostRuntime) -> Result<(), Fail> {
+    assert!(rt; first_unlike(rt.alloc(), &LIST_COMMANDS)?.is_none());
+    Ok(())
+}
+
+// The others that are no actions.
+const COMMANDS: [Case; 10] = [
     (("clear", b"", 0), (b"", 7, true, 2, false), QUIET),
     (("cycle", b"", 1), (LIST, 1, true, 2, false), QUIET),
     (("pause", b"", 0), START, QUIET),
@@ -329,7 +349,7 @@ const COMMANDS: [Case; 20] = [
 
 #[test]
 fn commands_change_their_session_alone(rt: HostRuntime) -> Result<(), Fail> {
-    assert_eq!(rt; first_unlike(rt.alloc(), &COMMANDS)?, None);
+    assert!(rt; first_unlike(rt.alloc(), &COMMANDS)?.is_none());
     Ok(())
 }
 
@@ -364,7 +384,7 @@ const ACTIONS: [Case; 13] = [
 
 #[test]
 fn actions_are_asked_for_where_they_can_be_done(rt: HostRuntime) -> Result<(), Fail> {
-    assert_eq!(rt; first_unlike(rt.alloc(), &ACTIONS)?, None);
+    assert!(rt; first_unlike(rt.alloc(), &ACTIONS)?.is_none());
     Ok(())
 }
 
@@ -384,23 +404,37 @@ fn after_adding(alloc: Global, plan: &Plan, count: usize) -> Result<(usize, bool
     Ok((session.variables.len(), bad))
 }
 
+// The same after 256, 257 and 300.
+fn counts(alloc: Global, plan: &Plan) -> Result<[(usize, bool); 3], AllocError> {
+    let full = after_adding(alloc, plan, 256)?;
+    let one_more = after_adding(alloc, plan, 257)?;
+    let many_more = after_adding(alloc, plan, 300)?;
+    Ok([full, one_more, many_more])
+}
+
+// The same with the plan above.
+fn after_adding_many(alloc: Global) -> Result<[(usize, bool); 3], AllocError> {
+    let plan = plan(alloc)?;
+    counts(alloc, &plan)
+}
+
 #[test]
 fn a_session_has_at_most_256_variables(rt: HostRuntime) -> Result<(), Fail> {
-    let alloc = rt.alloc();
-    let plan = plan(alloc)?;
-    assert_eq!(rt; after_adding(alloc, &plan, 256)?, (256, false));
-    assert_eq!(rt; after_adding(alloc, &plan, 257)?, (256, true));
-    assert_eq!(rt; after_adding(alloc, &plan, 300)?, (256, true));
+    let want = [(256, false), (256, true), (256, true)];
+    assert!(rt; after_adding_many(rt.alloc())? == want);
     Ok(())
 }
 
 fn variables(alloc: Global) -> Result<Items<(Word, Option<Cell>)>, AllocError>
     ensures { IfOk result (λ all. AreThere 1 all) }
 {
+    let first = Word::from_bytes(alloc, b"counter.n")?;
+    let second = Word::from_bytes(alloc, b"counter.zz")?;
+    let third = Word::from_bytes(alloc, b"counter.n")?;
     let mut all = Items::new(alloc);
-    all.push((Word::from_bytes(alloc, b"counter.n")?, Some(Cell(0))))?;
-    all.push((Word::from_bytes(alloc, b"counter.zz")?, None))?;
-    all.push((Word::from_bytes(alloc, b"counter.n")?, Some(Cell(0))))?;
+    all.push((first, Some(Cell(0))))?;
+    all.push((second, None))?;
+    all.push((third, Some(Cell(0))))?;
     Ok(all)
 }
 
@@ -410,20 +444,32 @@ type Times = (u64, u64, u64);
 // Whether the session is paused, asks for a sample, and leaves.
 type Flagged = (bool, bool, bool);
 
-// Whether a session of a cell, an unknown variable and the cell again is sent its sample.
-fn is_sent(alloc: Global, times: Times, flags: Flagged) -> Result<bool, AllocError> {
-    let (cycle, from, to) = times;
+// The sample of a session of a cell, an unknown variable and the cell again, in a state.
+fn sent(
+    alloc: Global,
+    state: &State<One>,
+    times: Times,
+    flags: Flagged,
+) -> Result<Option<Vec<u8>>, AllocError> {
+    let (cycle, from, _) = times;
     let (paused, send, leaving) = flags;
+    let variables = variables(alloc)?;
     let session = Session {
         number: 1,
-        variables: variables(alloc)?,
+        variables,
         cycle: cycle.max(1),
         paused,
         copy: 1,
         send,
         leaving,
     };
-    match sample(alloc, &session, &state(alloc, to)?, from)? {
+    sample(alloc, &session, state, from)
+}
+
+// Whether such a session is sent its sample.
+fn is_sent(alloc: Global, times: Times, flags: Flagged) -> Result<bool, AllocError> {
+    let state = state(alloc, times.2)?;
+    match sent(alloc, &state, times, flags)? {
         Some(line) => Ok(line.as_slice() == b"0\t-7\tBAD_REF\t-7\n".as_slice()),
         None => Ok(false),
     }
@@ -486,16 +532,20 @@ const SAMPLES: [(Times, Flagged, bool); 18] = [
 
 #[test]
 fn samples_are_sent_where_a_multiple_passed(rt: HostRuntime) -> Result<(), Fail> {
-    assert_eq!(rt; first_odd_sample(rt.alloc(), &SAMPLES)?, None);
+    assert!(rt; first_odd_sample(rt.alloc(), &SAMPLES)?.is_none());
     Ok(())
+}
+
+// Whether a session without variables is sent nothing, though a sample is asked for.
+fn is_silent(alloc: Global) -> Result<bool, AllocError> {
+    let state = state(alloc, 200_000)?;
+    let mut session = join(alloc, 1);
+    session.send = true;
+    Ok(sample(alloc, &session, &state, 0)?.is_none())
 }
 
 #[test]
 fn an_empty_list_is_not_sent(rt: HostRuntime) -> Result<(), Fail> {
-    let alloc = rt.alloc();
-    let state = state(alloc, 200_000)?;
-    let mut session = join(alloc, 1);
-    session.send = true;
-    assert!(rt; sample(alloc, &session, &state, 0)?.is_none());
+    assert!(rt; is_silent(rt.alloc())?);
     Ok(())
 }
