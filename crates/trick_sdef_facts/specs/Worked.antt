@@ -1,12 +1,15 @@
 -- Worked trees: for each test one that just passes it and one that just fails.
 use Rattle.std.specs.List.{list_all, list_any}
-use Rattle.std.specs.Prelude.{◌≡◌, ℕ, ℤ, pos, negsuc, Bool, true, false, not, List, [], ◌∷◌, codes, replicate, Option, Some, None}
+use Rattle.std.specs.Prelude.{◌≡◌, ℕ, ℤ, pos, negsuc, Bool, true, false, not, ◌||◌, List, [], ◌∷◌, codes, replicate, Option, Some, None}
+use Rattle.trick_body.specs.Expressions.{names}
+use Rattle.trick_body.specs.Symbols.{named_symbols, number_of}
+use Rattle.trick_grammar.specs.Classes.{is_one_of}
 use Rattle.trick_lang.specs.SyntaxTree as tree
 use Rattle.trick_lang.specs.SyntaxTree.{Declarator, EnumItem, JobLine, Members, Name, Part, SDefine}
 use Rattle.trick_lang.specs.declared.class.Class.{Class}
 use Rattle.trick_lang.specs.declared.class.Class.TheVariants as class
 use Rattle.trick_lang.specs.declared.scalar.Scalar.TheVariants as scalar
-use Rattle.trick_sdef_facts.specs.Facts.{give_no_trick, have_declarators, have_items, have_lists_within, have_no_keyword, have_right_lengths, have_right_phases, have_right_threads, have_right_times, have_right_values, have_short_names, have_spelled_names, is_keyword}
+use Rattle.trick_sdef_facts.specs.Facts.{give_no_trick, have_declarators, have_items, have_lists_within, have_no_keyword, have_right_lengths, have_right_phases, have_right_threads, have_right_times, have_right_values, have_short_lists, have_short_names, have_spelled_names, is_keyword}
 use Rattle.trick_sdef_facts.specs.Leaves.{anything, file_passes}
 
 -- ---- small trees
@@ -130,11 +133,15 @@ pub record AreTold : Type 0 where
   pub prefix_of_a_keyword : is_keyword (codes "in") ≡ false
   pub first_keyword : is_keyword (codes "include") ≡ true
   pub last_keyword : is_keyword (codes "job_class_order") ≡ true
+  -- each word that the reader takes for no name
+  pub words_of_the_reader : list_all (λ row. is_one_of number_of row.1 names || is_keyword row.0) named_symbols ≡ true
   pub trick_item : give_no_trick (enumeration (item (codes "trick") None ∷ [])) ≡ true
   pub trick_method : give_no_trick (class_of (method (codes "trick") ∷ [])) ≡ true
   pub trick : none_passes give_no_trick (given_places (codes "trick")) ≡ true
   pub lists_of_two : all_pass (have_lists_within 2) two_of_each ≡ true
   pub lists_of_more : none_passes (have_lists_within 1) two_of_each ≡ true
+  pub definitions_4096 : have_short_lists (replicate 4096 tree.Include) ≡ true
+  pub definitions_4097 : have_short_lists (replicate 4097 tree.Include) ≡ false
   pub one_item : have_items (enumeration (item (codes "A") None ∷ [])) ≡ true
   pub no_item : have_items (enumeration []) ≡ false
   pub one_declarator : have_declarators (structure (members (declarator (codes "x") [] ∷ []) ∷ [])) ≡ true
