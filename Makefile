@@ -23,12 +23,8 @@ edits:
 bench:
 	bench/run
 
-# `rt run` builds what it runs. With no words the program prints its usage and ends with status 1,
-# so what tells is that the program is there afterwards.
 tricks:
-	mkdir -p build && rm -f build/tricks crates/tricks/out/tricks
-	cd crates/tricks && rt run >../../build/build.log 2>&1; test -x out/tricks || { tail -n 20 ../../build/build.log; exit 1; }
-	cp crates/tricks/out/tricks build/tricks
+	.ci/program build/tricks
 
 install: tricks
 	install -D build/tricks $(DESTDIR)$(PREFIX)/bin/tricks
