@@ -1,6 +1,6 @@
 //! The case that is read, and what each line does to it.
 
-use crate::escapes::{bytes_of, is_numbered, numbers_of, words_of};
+use crate::escapes::{bytes_of, is_numbered, numbers_of, pieces_of, text_of, words_of};
 use crate::line::{Line, Piece, number};
 use crate::mistake::Mistake;
 use crate::outcome::{Outcome, outcome_of, shelf_of, sink_of};
@@ -70,10 +70,10 @@ impl Cases {
             Line::Text(name) => self.begin(alloc, Begun::Text, name),
             Line::File(name) => self.begin(alloc, Begun::File, name),
             Line::Pieces(times, piece) => self.add(alloc, times, piece),
-            Line::Hole => self.add_hole(alloc),
+            Line::Hole(number) => self.add_hole(alloc, number),
             Line::Run(words) => self.run(alloc, words, report),
             Line::Try(words) => self.attempt(alloc, words, report),
-            Line::With(piece) => self.with(alloc, piece, report),
+            Line::With(pieces) => self.with(alloc, pieces, report),
             setting => self.set(alloc, setting),
         }
     }
@@ -101,7 +101,7 @@ impl Cases {
 
     /// Begins a text or a file.
     fn begin(&mut self, alloc: Global, begun: Begun, name: &str) -> Result<(), Mistake> {
-        let text = Text::new(bytes_of(alloc, name, 0)?, Vec::new(alloc));
+        let text = Text::new(alloc, bytes_of(alloc, name)?, Vec::new(alloc));
         match begun {
             Begun::Text => put(&mut self.texts, text)?,
             _ => put(&mut self.files, text)?,
@@ -120,8 +120,8 @@ impl Cases {
         last.ok_or(Mistake::Closed)
     }
 
-    fn add_hole(&mut self, alloc: Global) -> Result<(), Mistake> {
-        self.last()?.add_hole(alloc);
+    fn add_hole(&mut self, alloc: Global, number: u64) -> Result<(), Mistake> {
+        self.last()?.add_hole(alloc, number)?;
         Ok(())
     }
 
@@ -135,8 +135,9 @@ impl Cases {
     }
 
     fn add_named(&mut self, alloc: Global, times: Range<u64>, name: &str) -> Result<(), Mistake> {
-        let name = bytes_of(alloc, name, 0)?;
-        let named = find(&self.texts, &name).ok_or(Mistake::Name)?.try_clone()?;
+        let name = bytes_of(alloc, name)?;
+        let mut named = Text::new(alloc, Vec::new(alloc), Vec::new(alloc));
+        named.add_text(alloc, find(&self.texts, &name).ok_or(Mistake::Name)?)?;
         let last = self.last()?;
         for _time in times {
             last.add_text(alloc, &named)?;
@@ -152,27 +153,27 @@ impl Cases {
         end: &[u8],
     ) -> Result<(), Mistake> {
         let last = self.last()?;
-        let mut bytes = bytes_of(alloc, text, 0)?;
+        let mut piece = text_of(alloc, text, 0)?;
         for time in times {
             if is_numbered(text) {
-                bytes = bytes_of(alloc, text, time)?;
+                piece = text_of(alloc, text, time)?;
             }
-            last.add(&bytes)?;
+            last.add_text(alloc, &piece)?;
             last.add(end)?;
         }
         Ok(())
     }
 
-    /// What a command comes to, with a piece in the holes.
+    /// What a command comes to, with these pieces in the holes.
     fn outcome(
         &mut self,
         alloc: Global,
         words: &[Word],
-        piece: &[u8],
+        pieces: &[Vec<u8>],
     ) -> Result<Outcome, AllocError> {
         let failing = mem::replace(&mut self.failing, Vec::new(alloc));
         let sink = mem::replace(&mut self.sink, Vec::new(alloc));
-        let before = all_filled(alloc, &self.files, piece)?;
+        let before = all_filled(alloc, &self.files, pieces)?;
         let mut shelf = shelf_of(alloc, failing, &before)?;
         let mut sink = sink_of(alloc, sink, mem::replace(&mut self.taking, u64::MAX));
         outcome_of(alloc, words, &mut shelf, &mut sink, &before)
@@ -181,7 +182,7 @@ impl Cases {
     /// Does a command, and keeps the files that it wrote.
     fn run(&mut self, alloc: Global, words: &str, report: &mut Report) -> Result<(), Mistake> {
         let words = words_of(alloc, words)?;
-        let outcome = self.outcome(alloc, &words, b"")?;
+        let outcome = self.outcome(alloc, &words, &[])?;
         report.outcome(&outcome, self.shown.as_ref())?;
         self.keep(outcome)?;
         Ok(())
@@ -197,16 +198,16 @@ impl Cases {
     /// Does a command, and keeps nothing.
     fn attempt(&mut self, alloc: Global, words: &str, report: &mut Report) -> Result<(), Mistake> {
         let words = words_of(alloc, words)?;
-        let outcome = self.outcome(alloc, &words, b"")?;
+        let outcome = self.outcome(alloc, &words, &[])?;
         report.outcome(&outcome, self.shown.as_ref())?;
         Ok(())
     }
 
-    /// Does the command of `each` with a piece in the holes, and keeps nothing.
-    fn with(&mut self, alloc: Global, piece: &str, report: &mut Report) -> Result<(), Mistake> {
-        let piece = bytes_of(alloc, piece, 0)?;
+    /// Does the command of `each` with these pieces in the holes, and keeps nothing.
+    fn with(&mut self, alloc: Global, pieces: &str, report: &mut Report) -> Result<(), Mistake> {
+        let pieces = pieces_of(alloc, pieces)?;
         let words = self.each.clone()?;
-        let outcome = self.outcome(alloc, &words, &piece)?;
+        let outcome = self.outcome(alloc, &words, &pieces)?;
         report.outcome(&outcome, self.shown.as_ref())?;
         Ok(())
     }

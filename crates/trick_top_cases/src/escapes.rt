@@ -1,6 +1,8 @@
 //! Bytes, words and numbers as they are written in the input.
 
+use crate::line::number as parsed;
 use crate::mistake::Mistake;
+use crate::text::Text;
 use std::alloc::{AllocError, Global};
 use trick_base::Word;
 
@@ -16,10 +18,10 @@ enum Awaits {
     SecondDigit(u8),
 }
 
-/// Bytes that are read so far.
+/// What is read so far.
 #[derive(Drop)]
 struct Reading {
-    bytes: Vec<u8>,
+    text: Text,
     awaits: Awaits,
 }
 
@@ -46,21 +48,27 @@ fn escaped(byte: u8) -> Result<u8, Mistake> {
 impl Reading {
     fn new(alloc: Global) -> Reading {
         Reading {
-            bytes: Vec::new(alloc),
+            text: Text::new(alloc, Vec::new(alloc), Vec::new(alloc)),
             awaits: Awaits::Any,
         }
     }
 
     /// One more byte of what is written.
     fn put(&mut self, byte: u8) -> Result<Awaits, AllocError> {
-        self.bytes.push(byte)?;
+        self.text.add(&[byte])?;
         Ok(Awaits::Any)
     }
 
     /// The number of a time.
     fn put_number(&mut self, alloc: Global, time: u64) -> Result<Awaits, AllocError> {
         let number = format!(in alloc; "{time}")?;
-        self.bytes.extend_from_slice(number.as_bytes())?;
+        self.text.add(number.as_bytes())?;
+        Ok(Awaits::Any)
+    }
+
+    /// A hole for the piece of a digit.
+    fn put_hole(&mut self, alloc: Global, number: u8) -> Result<Awaits, AllocError> {
+        self.text.add_hole(alloc, u64::from(number))?;
         Ok(Awaits::Any)
     }
 
@@ -72,6 +80,8 @@ impl Reading {
             (Awaits::Escaped, b'x') => Awaits::Digit,
             (Awaits::Escaped, b'#') => self.put_number(alloc, time)?,
             (Awaits::Escaped, b'-') => self.put_number(alloc, time.saturating_sub(1))?,
+            (Awaits::Escaped, b'e') => Awaits::Any,
+            (Awaits::Escaped, b'1'..=b'9') => self.put_hole(alloc, digit(byte)?)?,
             (Awaits::Escaped, _) => self.put(escaped(byte)?)?,
             (Awaits::Digit, _) => Awaits::SecondDigit(digit(byte)?),
             (Awaits::SecondDigit(high), _) => self.put((high << 4) | digit(byte)?)?,
@@ -79,23 +89,38 @@ impl Reading {
         Ok(())
     }
 
-    /// The bytes, where nothing is begun.
-    fn finish(self) -> Result<Vec<u8>, Mistake> {
-        let Reading { bytes, awaits } = self;
+    /// The text, where nothing is begun.
+    fn finish(self) -> Result<Text, Mistake> {
+        let Reading { text, awaits } = self;
         match awaits {
-            Awaits::Any => Ok(bytes),
+            Awaits::Any => Ok(text),
             _ => Err(Mistake::Escape),
         }
     }
 }
 
-/// The bytes that a text stands for, which is there for this time.
-pub(crate) fn bytes_of(alloc: Global, text: &str, time: u64) -> Result<Vec<u8>, Mistake> {
+/// The text, with no name, that a text of the input stands for, which is there for this time.
+pub(crate) fn text_of(alloc: Global, text: &str, time: u64) -> Result<Text, Mistake> {
     let mut reading = Reading::new(alloc);
     for byte in text.bytes() {
         reading.take(alloc, byte, time)?;
     }
     reading.finish()
+}
+
+/// The pieces that a text stands for.
+pub(crate) fn pieces_of(alloc: Global, text: &str) -> Result<Vec<Vec<u8>>, Mistake> {
+    let mut pieces = Vec::new(alloc);
+    for piece in text.split(" @ ") {
+        let piece = bytes_of(alloc, piece)?;
+        pieces.push(piece).map_err(AllocError::from)?;
+    }
+    Ok(pieces)
+}
+
+/// The bytes that a text of the input stands for.
+pub(crate) fn bytes_of(alloc: Global, text: &str) -> Result<Vec<u8>, Mistake> {
+    Ok(text_of(alloc, text, 0)?.into_bytes())
 }
 
 /// Whether each time of a text has its own bytes.
@@ -108,7 +133,7 @@ pub(crate) fn word_of(alloc: Global, text: &str) -> Result<Word, Mistake> {
     if text == "''" {
         return Ok(Word::new(alloc));
     }
-    Ok(Word::from_vec(bytes_of(alloc, text, 0)?))
+    Ok(Word::from_vec(bytes_of(alloc, text)?))
 }
 
 /// The words that a text stands for.
@@ -127,7 +152,7 @@ pub(crate) fn words_of(alloc: Global, text: &str) -> Result<Vec<Word>, Mistake> 
 pub(crate) fn numbers_of(alloc: Global, text: &str) -> Result<Vec<u64>, Mistake> {
     let mut numbers = Vec::new(alloc);
     for number in text.split(' ') {
-        numbers.push(crate::line::number(number)?).map_err(AllocError::from)?;
+        numbers.push(parsed(number)?).map_err(AllocError::from)?;
     }
     Ok(numbers)
 }

@@ -30,8 +30,9 @@ pub(crate) enum Line<'a> {
     /// `1000* : +1` adds a piece so many times to what is begun, with the numbers from 0, `1..1000* : +1`
     /// with those from 1, and `: +1` once.
     Pieces(Range<u64>, Piece<'a>),
-    /// `@` is a hole of the file, in which each `- long n;` puts its piece.
-    Hole,
+    /// `@` is a hole of the file, in which each `- long n;` puts its piece; so is `\1` within a line, and `\2`
+    /// or `@ 2` is one for the second piece of `- long @ n`.
+    Hole(u64),
     /// `failing 3 5` lets these calls of the next shelf fail, of which the first is 0.
     Failing(&'a str),
     /// `sink 0` lets these calls of the next sink fail.
@@ -46,7 +47,7 @@ pub(crate) enum Line<'a> {
     Try(&'a str),
     /// `each check s i` says what is done for each of the next lines.
     Each(&'a str),
-    /// `- long n;` does it with this piece in the hole, and keeps nothing.
+    /// `- long n;` does it with this piece in the holes, and keeps nothing.
     With(&'a str),
 }
 
@@ -60,7 +61,8 @@ impl<'a> Line<'a> {
             "text" => Ok(Line::Text(rest)),
             "case" => Ok(Line::Case),
             "file" => Ok(Line::File(rest)),
-            "@" => Ok(Line::Hole),
+            "@" if rest.is_empty() => Ok(Line::Hole(1)),
+            "@" => Ok(Line::Hole(number(rest)?)),
             "-" => Ok(Line::With(rest)),
             _ => command_or_piece(mark, rest),
         }

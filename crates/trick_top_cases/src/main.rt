@@ -17,12 +17,7 @@ use std::alloc::{AllocError, Global};
 use std::io;
 
 /// What is printed for a line, which has this number, from 0.
-fn told(
-    alloc: Global,
-    cases: &mut Cases,
-    number: usize,
-    line: &str,
-) -> Result<String, AllocError> {
+fn told(alloc: Global, cases: &mut Cases, number: usize, line: &str) -> Result<String, AllocError> {
     let mut report = Report::new(alloc);
     if let Err(mistake) = cases.take(alloc, line, &mut report) {
         report.mistake(number.saturating_add(1), mistake)?;

@@ -61,17 +61,13 @@ fn is_same(before: &[Text], name: &[u8], bytes: &[u8]) -> bool {
 }
 
 /// The files of a shelf that are new or have other bytes than before.
-fn written(
-    alloc: Global,
-    shelf: &MemoryShelf,
-    before: &[Text],
-) -> Result<Vec<Text>, AllocError> {
+fn written(alloc: Global, shelf: &MemoryShelf, before: &[Text]) -> Result<Vec<Text>, AllocError> {
     let mut written = Vec::new(alloc);
     for name in names_of(alloc, shelf)? {
         let bytes = shelf.file(&name).unwrap_or(&[]);
         if !is_same(before, &name, bytes) {
             let bytes = Vec::from_slice(alloc, bytes)?;
-            written.push(Text::new(name, bytes))?;
+            written.push(Text::new(alloc, name, bytes))?;
         }
     }
     Ok(written)

@@ -1,69 +1,83 @@
-//! Texts and files with their names.
+//! Texts and files with their names, and with holes for pieces.
 
 use std::alloc::{AllocError, Global};
+
+/// A place in a text for one of the pieces of a line.
+#[derive(Drop)]
+struct Hole {
+    /// The number of the piece, from 1.
+    number: u64,
+    /// The bytes up to the next hole.
+    after: Vec<u8>,
+}
 
 /// A text or a file.
 #[derive(Drop)]
 pub(crate) struct Text {
     pub(crate) name: Vec<u8>,
-    /// The bytes, up to the hole where there is one.
+    /// The bytes, up to the first hole where there is one.
     pub(crate) bytes: Vec<u8>,
-    /// The bytes after the hole.
-    after: Option<Vec<u8>>,
+    holes: Vec<Hole>,
 }
 
 impl Text {
     /// A text with no hole.
-    pub(crate) fn new(name: Vec<u8>, bytes: Vec<u8>) -> Text {
+    pub(crate) fn new(alloc: Global, name: Vec<u8>, bytes: Vec<u8>) -> Text {
         Text {
             name,
             bytes,
-            after: None,
+            holes: Vec::new(alloc),
         }
+    }
+
+    /// The bytes up to the first hole.
+    pub(crate) fn into_bytes(self) -> Vec<u8> {
+        let Text { bytes, .. } = self;
+        bytes
     }
 
     /// Adds bytes at the end.
     pub(crate) fn add(&mut self, bytes: &[u8]) -> Result<(), AllocError> {
-        match &mut self.after {
-            Some(after) => after.extend_from_slice(bytes),
+        match self.holes.last_mut() {
+            Some(hole) => hole.after.extend_from_slice(bytes),
             None => self.bytes.extend_from_slice(bytes),
         }
     }
 
-    /// Adds a hole at the end, unless there is one.
-    pub(crate) fn add_hole(&mut self, alloc: Global) {
-        if self.after.is_none() {
-            self.after = Some(Vec::new(alloc));
-        }
+    /// Adds a hole for the piece of this number.
+    pub(crate) fn add_hole(&mut self, alloc: Global, number: u64) -> Result<(), AllocError> {
+        let after = Vec::new(alloc);
+        self.holes.push(Hole { number, after })?;
+        Ok(())
     }
 
-    /// Adds a text with its hole.
+    /// Adds a text with its holes.
     pub(crate) fn add_text(&mut self, alloc: Global, text: &Text) -> Result<(), AllocError> {
         self.add(&text.bytes)?;
-        if let Some(after) = &text.after {
-            self.add_hole(alloc);
-            self.add(after)?;
+        for hole in &text.holes {
+            self.add_hole(alloc, hole.number)?;
+            self.add(&hole.after)?;
         }
         Ok(())
     }
 
-    /// The text with a piece in the place of its hole.
-    pub(crate) fn filled(&self, alloc: Global, piece: &[u8]) -> Result<Text, AllocError> {
-        let name = self.name.clone()?;
+    /// The bytes with these pieces in the holes, and nothing in those for which there is none.
+    fn filled(&self, alloc: Global, pieces: &[Vec<u8>]) -> Result<Vec<u8>, AllocError> {
         let mut bytes = Vec::from_slice(alloc, &self.bytes)?;
-        if let Some(after) = &self.after {
-            bytes.extend_from_slice(piece)?;
-            bytes.extend_from_slice(after)?;
+        for hole in &self.holes {
+            if let Some(piece) = piece_of(pieces, hole.number) {
+                bytes.extend_from_slice(piece)?;
+            }
+            bytes.extend_from_slice(&hole.after)?;
         }
-        Ok(Text::new(name, bytes))
+        Ok(bytes)
     }
+}
 
-    pub(crate) fn try_clone(&self) -> Result<Text, AllocError> {
-        let name = self.name.clone()?;
-        let bytes = self.bytes.clone()?;
-        let after = self.after.clone()?;
-        Ok(Text { name, bytes, after })
-    }
+/// The piece of this number, from 1.
+fn piece_of(pieces: &[Vec<u8>], number: u64) -> Option<&[u8]> {
+    let place = usize::try_from(number.checked_sub(1)?).ok()?;
+    Some(pieces.get(place)?.as_slice())
 }
 
 /// The text of this name.
@@ -73,20 +87,22 @@ pub(crate) fn find<'a>(texts: &'a [Text], name: &[u8]) -> Option<&'a Text> {
 
 /// Puts a text at the end, in the place of one of the same name.
 pub(crate) fn put(texts: &mut Vec<Text>, text: Text) -> Result<(), AllocError> {
-    texts.retain(|other| other.name != text.name);
+    texts.retain(|other| other.name.as_slice() != text.name.as_slice());
     texts.push(text)?;
     Ok(())
 }
 
-/// All of the texts, with a piece in the place of each hole.
+/// All of the texts, with these pieces in their holes.
 pub(crate) fn all_filled(
     alloc: Global,
     texts: &[Text],
-    piece: &[u8],
+    pieces: &[Vec<u8>],
 ) -> Result<Vec<Text>, AllocError> {
     let mut all = Vec::new(alloc);
     for text in texts {
-        all.push(text.filled(alloc, piece)?)?;
+        let name = text.name.clone()?;
+        let bytes = text.filled(alloc, pieces)?;
+        all.push(Text::new(alloc, name, bytes))?;
     }
     Ok(all)
 }
