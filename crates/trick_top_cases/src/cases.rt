@@ -1,0 +1,214 @@
+//! The case that is read, and what each line does to it.
+
+use crate::escapes::{bytes_of, is_numbered, numbers_of, pieces_of, text_of, words_of};
+use crate::line::{Line, Piece, number};
+use crate::mistake::Mistake;
+use crate::outcome::{Outcome, outcome_of, shelf_of, sink_of};
+use crate::report::Report;
+use crate::text::{Text, all_filled, find, put};
+use std::alloc::{AllocError, Global};
+use std::mem;
+use std::ops::Range;
+use trick_base::Word;
+
+/// What was begun, to which pieces are added: the last of its list.
+#[derive(Clone, Copy)]
+enum Begun {
+    Nothing,
+    Text,
+    File,
+}
+
+/// The texts with names, the case with its files, and how its next command is done.
+#[derive(Drop)]
+pub(crate) struct Cases {
+    texts: Vec<Text>,
+    files: Vec<Text>,
+    begun: Begun,
+    failing: Vec<u64>,
+    sink: Vec<u64>,
+    taking: u64,
+    each: Vec<Word>,
+    shown: Option<Vec<Word>>,
+}
+
+impl Cases {
+    /// No text and no case.
+    pub(crate) fn new(alloc: Global) -> Cases {
+        Cases {
+            texts: Vec::new(alloc),
+            files: Vec::new(alloc),
+            begun: Begun::Nothing,
+            failing: Vec::new(alloc),
+            sink: Vec::new(alloc),
+            taking: u64::MAX,
+            each: Vec::new(alloc),
+            shown: None,
+        }
+    }
+
+    /// Does a line, and reports what it comes to.
+    pub(crate) fn take(
+        &mut self,
+        alloc: Global,
+        text: &str,
+        report: &mut Report,
+    ) -> Result<(), Mistake> {
+        let line = Line::read(text)?;
+        if line.is_title() {
+            report.line("")?;
+        }
+        if line.is_printed() {
+            report.line(text)?;
+        }
+        self.perform(alloc, line, report)
+    }
+
+    fn perform(&mut self, alloc: Global, line: Line, report: &mut Report) -> Result<(), Mistake> {
+        match line {
+            Line::Comment | Line::Section => Ok(()),
+            Line::Text(name) => self.begin(alloc, Begun::Text, name),
+            Line::File(name) => self.begin(alloc, Begun::File, name),
+            Line::Pieces(times, piece) => self.add(alloc, times, piece),
+            Line::Hole(number) => self.add_hole(alloc, number),
+            Line::Run(words) => self.run(alloc, words, report),
+            Line::Try(words) => self.attempt(alloc, words, report),
+            Line::With(pieces) => self.with(alloc, pieces, report),
+            setting => self.set(alloc, setting),
+        }
+    }
+
+    /// Does a line that says how the next commands are done.
+    fn set(&mut self, alloc: Global, line: Line) -> Result<(), Mistake> {
+        match line {
+            Line::Case => self.begin_case(alloc),
+            Line::Failing(calls) => self.failing = numbers_of(alloc, calls)?,
+            Line::Sink(calls) => self.sink = numbers_of(alloc, calls)?,
+            Line::Taking(most) => self.taking = number(most)?,
+            Line::Show(names) => self.shown = Some(words_of(alloc, names)?),
+            Line::Each(words) => self.each = words_of(alloc, words)?,
+            _ => {}
+        }
+        Ok(())
+    }
+
+    fn begin_case(&mut self, alloc: Global) {
+        self.files = Vec::new(alloc);
+        self.begun = Begun::Nothing;
+        self.each = Vec::new(alloc);
+        self.shown = None;
+    }
+
+    /// Begins a text or a file.
+    fn begin(&mut self, alloc: Global, begun: Begun, name: &str) -> Result<(), Mistake> {
+        let text = Text::new(alloc, bytes_of(alloc, name)?, Vec::new(alloc));
+        match begun {
+            Begun::Text => put(&mut self.texts, text)?,
+            _ => put(&mut self.files, text)?,
+        }
+        self.begun = begun;
+        Ok(())
+    }
+
+    /// The text or the file that was begun.
+    fn last(&mut self) -> Result<&mut Text, Mistake> {
+        let last = match self.begun {
+            Begun::Nothing => None,
+            Begun::Text => self.texts.last_mut(),
+            Begun::File => self.files.last_mut(),
+        };
+        last.ok_or(Mistake::Closed)
+    }
+
+    fn add_hole(&mut self, alloc: Global, number: u64) -> Result<(), Mistake> {
+        self.last()?.add_hole(alloc, number)?;
+        Ok(())
+    }
+
+    /// Adds a piece so many times.
+    fn add(&mut self, alloc: Global, times: Range<u64>, piece: Piece) -> Result<(), Mistake> {
+        match piece {
+            Piece::Line(text) => self.add_part(alloc, times, text, b"\n"),
+            Piece::Part(text) => self.add_part(alloc, times, text, b""),
+            Piece::Named(name) => self.add_named(alloc, times, name),
+        }
+    }
+
+    fn add_named(&mut self, alloc: Global, times: Range<u64>, name: &str) -> Result<(), Mistake> {
+        let name = bytes_of(alloc, name)?;
+        let mut named = Text::new(alloc, Vec::new(alloc), Vec::new(alloc));
+        named.add_text(alloc, find(&self.texts, &name).ok_or(Mistake::Name)?)?;
+        let last = self.last()?;
+        for _time in times {
+            last.add_text(alloc, &named)?;
+        }
+        Ok(())
+    }
+
+    fn add_part(
+        &mut self,
+        alloc: Global,
+        times: Range<u64>,
+        text: &str,
+        end: &[u8],
+    ) -> Result<(), Mistake> {
+        let last = self.last()?;
+        let mut piece = text_of(alloc, text, 0)?;
+        for time in times {
+            if is_numbered(text) {
+                piece = text_of(alloc, text, time)?;
+            }
+            last.add_text(alloc, &piece)?;
+            last.add(end)?;
+        }
+        Ok(())
+    }
+
+    /// What a command comes to, with these pieces in the holes.
+    fn outcome(
+        &mut self,
+        alloc: Global,
+        words: &[Word],
+        pieces: &[Vec<u8>],
+    ) -> Result<Outcome, AllocError> {
+        let failing = mem::replace(&mut self.failing, Vec::new(alloc));
+        let sink = mem::replace(&mut self.sink, Vec::new(alloc));
+        let before = all_filled(alloc, &self.files, pieces)?;
+        let mut shelf = shelf_of(alloc, failing, &before)?;
+        let mut sink = sink_of(alloc, sink, mem::replace(&mut self.taking, u64::MAX));
+        outcome_of(alloc, words, &mut shelf, &mut sink, &before)
+    }
+
+    /// Does a command, and keeps the files that it wrote.
+    fn run(&mut self, alloc: Global, words: &str, report: &mut Report) -> Result<(), Mistake> {
+        let words = words_of(alloc, words)?;
+        let outcome = self.outcome(alloc, &words, &[])?;
+        report.outcome(&outcome, self.shown.as_ref())?;
+        self.keep(outcome)?;
+        Ok(())
+    }
+
+    fn keep(&mut self, outcome: Outcome) -> Result<(), AllocError> {
+        for file in outcome.written {
+            put(&mut self.files, file)?;
+        }
+        Ok(())
+    }
+
+    /// Does a command, and keeps nothing.
+    fn attempt(&mut self, alloc: Global, words: &str, report: &mut Report) -> Result<(), Mistake> {
+        let words = words_of(alloc, words)?;
+        let outcome = self.outcome(alloc, &words, &[])?;
+        report.outcome(&outcome, self.shown.as_ref())?;
+        Ok(())
+    }
+
+    /// Does the command of `each` with these pieces in the holes, and keeps nothing.
+    fn with(&mut self, alloc: Global, pieces: &str, report: &mut Report) -> Result<(), Mistake> {
+        let pieces = pieces_of(alloc, pieces)?;
+        let words = self.each.clone()?;
+        let outcome = self.outcome(alloc, &words, &pieces)?;
+        report.outcome(&outcome, self.shown.as_ref())?;
+        Ok(())
+    }
+}

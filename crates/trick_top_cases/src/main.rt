@@ -1,0 +1,36 @@
+//! A program that tests the product: it reads cases of whole commands from standard input, does each
+//! by the top call over the forms in memory, and prints what it comes to. The cases stand in the file
+//! `stdin`, and what they must print in the file `stdout`. Docs of their lines: `line.rt`.
+#![tactic(auto)]
+
+mod cases;
+mod escapes;
+mod line;
+mod mistake;
+mod outcome;
+mod report;
+mod text;
+
+use crate::cases::Cases;
+use crate::report::Report;
+use std::alloc::{AllocError, Global};
+use std::io;
+
+/// What is printed for a line, which has this number, from 0.
+fn told(alloc: Global, cases: &mut Cases, number: usize, line: &str) -> Result<String, AllocError> {
+    let mut report = Report::new(alloc);
+    if let Err(mistake) = cases.take(alloc, line, &mut report) {
+        report.mistake(number.saturating_add(1), mistake)?;
+    }
+    Ok(report.into_text())
+}
+
+fn main(rt: HostRuntime) -> io::Result<()> {
+    let alloc = rt.alloc();
+    let mut cases = Cases::new(alloc);
+    for (number, line) in rt.lines(alloc).enumerate() {
+        let text = told(alloc, &mut cases, number, line?.as_str())?;
+        print!(rt; "{text}")?;
+    }
+    Ok(())
+}
