@@ -1,11 +1,11 @@
 //! Bodies as deep as a text can make them, by calls, by blocks and by expressions, on the usual stack of a
 //! thread.
 
-use crate::told::{shelf_of, words};
 use std::alloc::{AllocError, Global};
 use std::test::Fail;
 use std::thread;
-use trick_outside::MemorySink;
+use trick_base::Word;
+use trick_outside::{MemoryShelf, MemorySink};
 use trick_top::tricks_alone;
 
 /// The methods of the class: with its variables and its constructor nearly the 4,096 parts that it may have.
@@ -74,6 +74,15 @@ K k;
     )
 }
 
+/// The words `serial s i`.
+fn words(alloc: Global) -> Result<Vec<Word>, AllocError> {
+    let mut all = Vec::new(alloc);
+    all.push(Word::from_bytes(alloc, b"serial")?)?;
+    all.push(Word::from_bytes(alloc, b"s")?)?;
+    all.push(Word::from_bytes(alloc, b"i")?)?;
+    Ok(all)
+}
+
 /// How a run ended.
 #[derive(Drop)]
 struct Ended {
@@ -84,9 +93,11 @@ struct Ended {
 /// Runs the class for four tics, and tells the status and whether 65 was added in each of them.
 fn run_deep(alloc: Global) -> Result<Ended, AllocError> {
     let s_define = deep_class(alloc)?;
-    let mut shelf = shelf_of(alloc, s_define.as_str(), "trick.stop(3.0)\n")?;
+    let mut shelf = MemoryShelf::new(alloc)
+        .with_file(b"s", s_define.as_bytes())?
+        .with_file(b"i", b"trick.stop(3.0)\n")?;
     let mut out = MemorySink::new(alloc);
-    let status = tricks_alone(alloc, &words(alloc, "serial")?, &mut shelf, &mut out);
+    let status = tricks_alone(alloc, &words(alloc)?, &mut shelf, &mut out);
     let counted = match shelf.file(b"final.chk") {
         Some(held) => match str::from_utf8(held) {
             Ok(text) => text.contains("\nk.n = 260;\n"),

@@ -3,7 +3,7 @@
 use crate::escapes::{bytes_of, is_numbered, numbers_of, pieces_of, text_of, words_of};
 use crate::line::{Line, Piece, number};
 use crate::mistake::Mistake;
-use crate::outcome::{Outcome, outcome_of, shelf_of, sink_of};
+use crate::outcome::{Outcome, Setting, outcome_of};
 use crate::report::Report;
 use crate::text::{Text, all_filled, find, put};
 use std::alloc::{AllocError, Global};
@@ -25,9 +25,7 @@ pub(crate) struct Cases {
     texts: Vec<Text>,
     files: Vec<Text>,
     begun: Begun,
-    failing: Vec<u64>,
-    sink: Vec<u64>,
-    taking: u64,
+    setting: Setting,
     each: Vec<Word>,
     shown: Option<Vec<Word>>,
 }
@@ -39,9 +37,7 @@ impl Cases {
             texts: Vec::new(alloc),
             files: Vec::new(alloc),
             begun: Begun::Nothing,
-            failing: Vec::new(alloc),
-            sink: Vec::new(alloc),
-            taking: u64::MAX,
+            setting: Setting::new(alloc),
             each: Vec::new(alloc),
             shown: None,
         }
@@ -74,6 +70,7 @@ impl Cases {
             Line::Run(words) => self.run(alloc, words, report),
             Line::Try(words) => self.attempt(alloc, words, report),
             Line::With(pieces) => self.with(alloc, pieces, report),
+            Line::Fronts(rest) => self.fronts(alloc, rest, report),
             setting => self.set(alloc, setting),
         }
     }
@@ -82,9 +79,10 @@ impl Cases {
     fn set(&mut self, alloc: Global, line: Line) -> Result<(), Mistake> {
         match line {
             Line::Case => self.begin_case(alloc),
-            Line::Failing(calls) => self.failing = numbers_of(alloc, calls)?,
-            Line::Sink(calls) => self.sink = numbers_of(alloc, calls)?,
-            Line::Taking(most) => self.taking = number(most)?,
+            Line::Failing(calls) => self.setting.failing = numbers_of(alloc, calls)?,
+            Line::Sink(calls) => self.setting.sink = numbers_of(alloc, calls)?,
+            Line::Taking(most) => self.setting.taking = number(most)?,
+            Line::Only(names) => self.setting.only = Some(words_of(alloc, names)?),
             Line::Show(names) => self.shown = Some(words_of(alloc, names)?),
             Line::Each(words) => self.each = words_of(alloc, words)?,
             _ => {}
@@ -171,12 +169,9 @@ impl Cases {
         words: &[Word],
         pieces: &[Vec<u8>],
     ) -> Result<Outcome, AllocError> {
-        let failing = mem::replace(&mut self.failing, Vec::new(alloc));
-        let sink = mem::replace(&mut self.sink, Vec::new(alloc));
+        let setting = mem::replace(&mut self.setting, Setting::new(alloc));
         let before = all_filled(alloc, &self.files, pieces)?;
-        let mut shelf = shelf_of(alloc, failing, &before)?;
-        let mut sink = sink_of(alloc, sink, mem::replace(&mut self.taking, u64::MAX));
-        outcome_of(alloc, words, &mut shelf, &mut sink, &before)
+        outcome_of(alloc, words, &setting, &before)
     }
 
     /// Does a command, and keeps the files that it wrote.
@@ -209,6 +204,25 @@ impl Cases {
         let words = self.each.clone()?;
         let outcome = self.outcome(alloc, &words, &pieces)?;
         report.outcome(&outcome, self.shown.as_ref())?;
+        Ok(())
+    }
+
+    /// Does the command of `each` with each beginning of a file and a piece behind it, and keeps nothing.
+    fn fronts(&mut self, alloc: Global, rest: &str, report: &mut Report) -> Result<(), Mistake> {
+        let (name, piece) = rest.split_once(' ').unwrap_or((rest, ""));
+        let name = bytes_of(alloc, name)?;
+        let piece = bytes_of(alloc, piece)?;
+        let words = self.each.clone()?;
+        let whole = find(&self.files, &name)
+            .ok_or(Mistake::Name)?
+            .bytes
+            .clone()?;
+        for count in 0..whole.len() {
+            let front = Text::joined(alloc, &name, &whole[..count], &piece)?;
+            put(&mut self.files, front)?;
+            report.front(count, &self.outcome(alloc, &words, &[])?)?;
+        }
+        put(&mut self.files, Text::new(alloc, name, whole))?;
         Ok(())
     }
 }

@@ -39,6 +39,8 @@ pub(crate) enum Line<'a> {
     Sink(&'a str),
     /// `taking 1` lets the next sink take at most so many bytes at a time.
     Taking(&'a str),
+    /// `only s i` lets the next command begin with these of the files alone.
+    Only(&'a str),
     /// `show final.chk` lets only these files be printed by their lines, up to the end of the case.
     Show(&'a str),
     /// `run serial s i` does a command, and keeps the files that it wrote.
@@ -49,6 +51,8 @@ pub(crate) enum Line<'a> {
     Each(&'a str),
     /// `- long n;` does it with this piece in the holes, and keeps nothing.
     With(&'a str),
+    /// `fronts c x` does it with each beginning of the file `c` and this piece behind it.
+    Fronts(&'a str),
 }
 
 impl<'a> Line<'a> {
@@ -73,6 +77,7 @@ impl<'a> Line<'a> {
         match self {
             Line::Section | Line::Case | Line::Failing(_) | Line::Sink(_) | Line::Taking(_) => true,
             Line::Run(_) | Line::Try(_) | Line::Each(_) | Line::With(_) => true,
+            Line::Only(_) | Line::Fronts(_) => true,
             _ => false,
         }
     }
@@ -94,10 +99,12 @@ fn command_or_piece<'a>(mark: &str, rest: &'a str) -> Result<Line<'a>, Mistake> 
         "failing" => Ok(Line::Failing(rest)),
         "sink" => Ok(Line::Sink(rest)),
         "taking" => Ok(Line::Taking(rest)),
+        "only" => Ok(Line::Only(rest)),
         "show" => Ok(Line::Show(rest)),
         "run" => Ok(Line::Run(rest)),
         "try" => Ok(Line::Try(rest)),
         "each" => Ok(Line::Each(rest)),
+        "fronts" => Ok(Line::Fronts(rest)),
         _ => pieces(mark, rest),
     }
 }
@@ -105,11 +112,11 @@ fn command_or_piece<'a>(mark: &str, rest: &'a str) -> Result<Line<'a>, Mistake> 
 /// A piece, with how many times it comes.
 fn pieces<'a>(mark: &str, rest: &'a str) -> Result<Line<'a>, Mistake> {
     let Some(times) = mark.strip_suffix('*') else {
-        return Ok(Line::Pieces(0..1, piece(mark, rest)?));
+        return Ok(Line::Pieces(0..1, marked(mark, rest)?));
     };
     let times = range(times)?;
     let (mark, rest) = halves(rest);
-    Ok(Line::Pieces(times, piece(mark, rest)?))
+    Ok(Line::Pieces(times, marked(mark, rest)?))
 }
 
 /// The numbers from 0, or from the first of two, up to the last one, which does not belong to them.
@@ -123,7 +130,8 @@ pub(crate) fn number(text: &str) -> Result<u64, Mistake> {
     text.parse().map_err(|_| Mistake::Number)
 }
 
-fn piece<'a>(mark: &str, rest: &'a str) -> Result<Piece<'a>, Mistake> {
+/// A piece after its mark.
+fn marked<'a>(mark: &str, rest: &'a str) -> Result<Piece<'a>, Mistake> {
     match mark {
         "|" => Ok(Piece::Line(rest)),
         ":" => Ok(Piece::Part(rest)),

@@ -6,6 +6,44 @@ use trick_base::Word;
 use trick_outside::{MemoryShelf, MemorySink, Shelf, Sink};
 use trick_top::tricks_alone;
 
+/// What the next command is done with.
+#[derive(Drop)]
+pub(crate) struct Setting {
+    /// The calls of the shelf that are to fail.
+    pub(crate) failing: Vec<u64>,
+    /// The writes of the sink that are to fail.
+    pub(crate) sink: Vec<u64>,
+    /// How many bytes of a piece the sink takes at most at a time; at least one is taken.
+    pub(crate) taking: u64,
+    /// The names of the only files that it begins with; with none it begins with all.
+    pub(crate) only: Option<Vec<Word>>,
+}
+
+impl Setting {
+    /// Nothing fails, and all of the files are there.
+    pub(crate) fn new(alloc: Global) -> Setting {
+        Setting {
+            failing: Vec::new(alloc),
+            sink: Vec::new(alloc),
+            taking: u64::MAX,
+            only: None,
+        }
+    }
+
+    /// Whether a command begins with this file.
+    fn has(&self, name: &[u8]) -> bool {
+        is_among(self.only.as_ref(), name)
+    }
+}
+
+/// Whether a name is one of these, which are all where none are said.
+pub(crate) fn is_among(names: Option<&Vec<Word>>, name: &[u8]) -> bool {
+    match names {
+        Some(names) => names.iter().any(|one| one.is(name)),
+        None => true,
+    }
+}
+
 /// What a command came to.
 #[derive(Drop)]
 pub(crate) struct Outcome {
@@ -18,27 +56,27 @@ pub(crate) struct Outcome {
     pub(crate) printed: Vec<u8>,
     /// The files that are new or have other bytes, in the order of their names.
     pub(crate) written: Vec<Text>,
+    /// The names of the files that it was not given and wrote as they are.
+    pub(crate) same: Vec<Vec<u8>>,
 }
 
-/// A shelf with these files, of which these calls are to fail.
-pub(crate) fn shelf_of(
-    alloc: Global,
-    failing: Vec<u64>,
-    files: &[Text],
-) -> Result<MemoryShelf, AllocError> {
-    let mut shelf = MemoryShelf::failing(alloc, failing);
+/// A shelf with those of the files that a command begins with.
+fn shelf_of(alloc: Global, setting: &Setting, files: &[Text]) -> Result<MemoryShelf, AllocError> {
+    let mut shelf = MemoryShelf::failing(alloc, setting.failing.clone()?);
     for file in files {
-        shelf = shelf.with_file(&file.name, &file.bytes)?;
+        if setting.has(&file.name) {
+            shelf = shelf.with_file(&file.name, &file.bytes)?;
+        }
     }
     Ok(shelf)
 }
 
-/// A sink of which these writes are to fail, and which takes at most so many bytes at a time, and at least one.
-pub(crate) fn sink_of(alloc: Global, failing: Vec<u64>, most: u64) -> MemorySink {
-    let sink = MemorySink::failing(alloc, failing);
-    match usize::try_from(most) {
-        Ok(most) if most > 0 => sink.with_most(most),
-        _ => sink,
+/// The sink of a command.
+fn sink_of(alloc: Global, setting: &Setting) -> Result<MemorySink, AllocError> {
+    let sink = MemorySink::failing(alloc, setting.sink.clone()?);
+    match usize::try_from(setting.taking) {
+        Ok(most) if most > 0 => Ok(sink.with_most(most)),
+        _ => Ok(sink),
     }
 }
 
@@ -73,22 +111,39 @@ fn written(alloc: Global, shelf: &MemoryShelf, before: &[Text]) -> Result<Vec<Te
     Ok(written)
 }
 
-/// What a command comes to over a shelf, which holds these files, and a sink.
+/// The names of the files of a shelf that a command was not given, and that are as they were before.
+fn same(
+    alloc: Global,
+    shelf: &MemoryShelf,
+    setting: &Setting,
+    before: &[Text],
+) -> Result<Vec<Vec<u8>>, AllocError> {
+    let mut same = Vec::new(alloc);
+    for name in names_of(alloc, shelf)? {
+        let bytes = shelf.file(&name).unwrap_or(&[]);
+        if !setting.has(&name) && is_same(before, &name, bytes) {
+            same.push(name)?;
+        }
+    }
+    Ok(same)
+}
+
+/// What a command comes to where there are these files.
 pub(crate) fn outcome_of(
     alloc: Global,
     words: &[Word],
-    shelf: &mut MemoryShelf,
-    sink: &mut MemorySink,
+    setting: &Setting,
     before: &[Text],
 ) -> Result<Outcome, AllocError> {
-    let status = tricks_alone(alloc, words, shelf, sink);
-    let printed = Vec::from_slice(alloc, sink.bytes())?;
-    let written = written(alloc, shelf, before)?;
+    let mut shelf = shelf_of(alloc, setting, before)?;
+    let mut sink = sink_of(alloc, setting)?;
+    let status = tricks_alone(alloc, words, &mut shelf, &mut sink);
     Ok(Outcome {
         status,
         shelf_faults: shelf.faults(),
         sink_faults: sink.faults(),
-        printed,
-        written,
+        printed: Vec::from_slice(alloc, sink.bytes())?,
+        written: written(alloc, &shelf, before)?,
+        same: same(alloc, &shelf, setting, before)?,
     })
 }

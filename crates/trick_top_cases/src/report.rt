@@ -1,7 +1,7 @@
 //! What is printed.
 
 use crate::mistake::Mistake;
-use crate::outcome::Outcome;
+use crate::outcome::{Outcome, is_among};
 use crate::text::Text;
 use md5::{Digest, Md5};
 use std::alloc::{AllocError, Global};
@@ -30,14 +30,6 @@ fn line_count(bytes: &[u8]) -> usize {
 /// Whether a file of so many lines is printed with the line of this number.
 fn is_shown(number: usize, count: usize) -> bool {
     count <= MOST_LINES || number < FIRST_LINES || count.saturating_sub(number) <= LAST_LINES
-}
-
-/// Whether a file is printed by its lines.
-fn is_among(shown: Option<&Vec<Word>>, name: &[u8]) -> bool {
-    match shown {
-        Some(names) => names.iter().any(|shown| shown.is(name)),
-        None => true,
-    }
 }
 
 impl Report {
@@ -78,6 +70,32 @@ impl Report {
         self.lines(">", ">:", &outcome.printed)?;
         for file in &outcome.written {
             self.file(file, is_among(shown, &file.name))?;
+        }
+        self.same(&outcome.same)
+    }
+
+    /// The names of files that were written as they are, where there are some.
+    fn same(&mut self, names: &[Vec<u8>]) -> Result<(), AllocError> {
+        if names.is_empty() {
+            return Ok(());
+        }
+        self.text.push_str("same")?;
+        for name in names {
+            self.text.push_str(" ")?;
+            self.bytes(name)?;
+        }
+        self.text.push_str("\n")
+    }
+
+    /// What a command came to with so many bytes of a file.
+    pub(crate) fn front(&mut self, count: usize, outcome: &Outcome) -> Result<(), AllocError> {
+        let status = outcome.status;
+        write!(self.text, "{count} bytes: status {status} > ")?;
+        let printed = outcome.printed.as_slice();
+        self.bytes(printed.strip_suffix(b"\n").unwrap_or(printed))?;
+        self.text.push_str("\n")?;
+        for file in &outcome.written {
+            self.file(file, true)?;
         }
         Ok(())
     }

@@ -30,6 +30,18 @@ impl Text {
         }
     }
 
+    /// A text of two pieces.
+    pub(crate) fn joined(
+        alloc: Global,
+        name: &[u8],
+        front: &[u8],
+        back: &[u8],
+    ) -> Result<Text, AllocError> {
+        let mut bytes = Vec::from_slice(alloc, front)?;
+        bytes.extend_from_slice(back)?;
+        Ok(Text::new(alloc, Vec::from_slice(alloc, name)?, bytes))
+    }
+
     /// The bytes up to the first hole.
     pub(crate) fn into_bytes(self) -> Vec<u8> {
         let Text { bytes, .. } = self;
