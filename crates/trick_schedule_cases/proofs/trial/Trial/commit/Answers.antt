@@ -2,8 +2,8 @@ use Rattle.std.proofs.Common.{◌≡◌, ◌∙◌, ap, refl, rules, subst, sym,
 use Rattle.trick_eval.specs.Bench.{BenchView, IsFor, the_job}
 use Rattle.trick_model.specs.declared.plan.Plan.{Plan}
 use Rattle.trick_schedule.specs.declared.step.Step.TheVariants.{Commit}
-use Rattle.trick_schedule_tests.proofs.Trials.{committed_trial, kept_trial}
-use Rattle.trick_schedule_tests.proofs.trial.Trial.commit.Goals as goal
+use Rattle.trick_schedule_cases.proofs.Trials.{committed_trial, kept_trial}
+use Rattle.trick_schedule_cases.proofs.trial.Trial.commit.Goals as goal
 
 pub eval-requires-clause-bench : goal.eval-requires-clause-bench
 eval-requires-clause-bench c =

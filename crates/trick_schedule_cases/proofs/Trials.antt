@@ -15,7 +15,7 @@ use Rattle.trick_lang.specs.declared.range.CellRange.{CellRange}
 use Rattle.trick_memory.specs.Stored.{Stored, zeros}
 use Rattle.trick_model.specs.declared.plan.Plan.{Plan}
 use Rattle.trick_schedule.specs.declared.step.Step.{Step}
-use Rattle.trick_schedule_tests.specs.Trial.{IsTrial}
+use Rattle.trick_schedule_cases.specs.Trial.{IsTrial}
 
 -- a step leaves the tic open
 pub stepped_open : (plan : Plan) (old new : BoardView) (opened : Option Opened) (x : Step) → is_some opened ≡ true

@@ -2,18 +2,37 @@
 
 ghost use Rattle.std.specs.Prelude.{◌≤◌, IfOk};
 ghost use Rattle.trick_base.specs.Time.{tic_limit};
-ghost use Rattle.trick_schedule_tests.specs.Trial.{IsTrial};
+ghost use Rattle.trick_schedule_cases.specs.Trial.{IsTrial};
 
-use crate::told::{Texts, plan_of, told};
+use crate::told::told;
 use std::alloc::{AllocError, Global};
 use std::mem::swap;
-use std::test::Fail;
+use trick_base::TIC_LIMIT;
 use trick_board::{Board, Closed};
 use trick_eval::{Bench, eval};
 use trick_lang::JobId;
 use trick_memory::Memory;
 use trick_model::{Accepted, Faults};
 use trick_queue::Queues;
+
+/// An act on a board and two benches.
+#[derive(Clone, Copy)]
+enum Act {
+    /// Opens a tic with a memory of zeros.
+    Open { tic: u64 },
+    /// Takes a job of a thread.
+    Take { thread: u8 },
+    /// Fills the bench by hand with a phase, a job and zeros.
+    Fill { phase: u64, job: u32 },
+    /// Evaluates the job in the bench and commits it.
+    Commit,
+    /// Looks at the phase and the job of the bench.
+    Look,
+    /// Goes on with the other bench, and looks at it.
+    Swap,
+    /// Closes the tic.
+    Close,
+}
 
 /// A board, whether a tic is open on it, and two benches.
 #[derive(Drop)]
@@ -129,88 +148,89 @@ impl Trial {
         format!(in alloc; "{phase} {job:?}")
     }
 
-    /// Does what the letters say: `o` opens a tic with a memory of zeros, `t` takes for a thread, `f` fills
-    /// the bench by hand with a phase, a job and zeros, `c` evaluates the job in the bench and commits it,
-    /// `l` looks at the phase and the job of the bench, `s` goes on with the other bench, and `e` closes.
-    fn act(&mut self, alloc: Global, accepted: &Accepted, act: &[u8]) -> Result<String, AllocError>
+    /// Does an act.
+    fn act(&mut self, alloc: Global, accepted: &Accepted, act: Act) -> Result<String, AllocError>
         requires { IsTrial accepted.now.plan self.old.board self.old.is_open self.old.bench self.old.other }
         ensures { IsTrial accepted.now.plan self.new.board self.new.is_open self.new.bench self.new.other }
     {
         match act {
-            [b'o', tic] => self.open(alloc, accepted, u64::from(digit(*tic))),
-            [b't', thread] => self.take(alloc, accepted, digit(*thread)),
-            [b'f', phase, job] => {
-                self.fill(
-                    alloc,
-                    accepted,
-                    u64::from(digit(*phase)),
-                    u32::from(digit(*job)),
-                )
-            }
-            [b'c'] => self.commit(alloc, accepted),
-            [b'e'] => self.close(alloc, accepted),
-            [b's'] => {
+            Act::Open { tic } => self.open(alloc, accepted, tic.min(TIC_LIMIT)),
+            Act::Take { thread } => self.take(alloc, accepted, thread),
+            Act::Fill { phase, job } => self.fill(alloc, accepted, phase, job),
+            Act::Commit => self.commit(alloc, accepted),
+            Act::Close => self.close(alloc, accepted),
+            Act::Swap => {
                 swap(&mut self.bench, &mut self.other);
                 self.look(alloc)
             }
-            _ => self.look(alloc),
+            Act::Look => self.look(alloc),
         }
     }
 
-    /// Whether the act of a line is answered so.
-    fn is_answered(
+    /// Does the act of a line. One of no form is to look.
+    fn do_line(
         &mut self,
         alloc: Global,
         accepted: &Accepted,
         line: &str,
-    ) -> Result<bool, AllocError>
+    ) -> Result<String, AllocError>
         requires { IsTrial accepted.now.plan self.old.board self.old.is_open self.old.bench self.old.other }
         ensures { IsTrial accepted.now.plan self.new.board self.new.is_open self.new.bench self.new.other }
     {
-        let (act, answer) = line.split_once(' ').unwrap_or((line, ""));
-        let got = self.act(alloc, accepted, act.as_bytes())?;
-        Ok(got.as_str() == answer)
+        let act = act_of(alloc, line)?;
+        self.act(alloc, accepted, act)
     }
 
-    /// The first of these acts, one a line, that is answered otherwise.
-    fn first_other(
+    /// Does the acts of some lines, and tells what each answers.
+    fn do_all(
         &mut self,
         alloc: Global,
         accepted: &Accepted,
-        lines: &'static str,
-    ) -> Result<&'static str, Fail>
+        lines: &str,
+    ) -> Result<String, AllocError>
         requires { IsTrial accepted.now.plan self.old.board self.old.is_open self.old.bench self.old.other }
     {
+        let mut text = String::new(alloc);
         for line in lines.lines() {
-            if !self.is_answered(alloc, accepted, line)? {
-                return Ok(line);
-            }
+            let answer = self.do_line(alloc, accepted, line)?;
+            write!(text, "{line} > {answer}\n")?;
         }
-        Ok("none")
+        Ok(text)
     }
 }
 
-/// The number of a digit.
-fn digit(letter: u8) -> u8 {
-    letter.saturating_sub(b'0')
+// The act of some words.
+fn act_of_words(words: &[&str]) -> Option<Act> {
+    Some(match words {
+        ["open", tic] => Act::Open {
+            tic: tic.parse().ok()?,
+        },
+        ["take", thread] => Act::Take {
+            thread: thread.parse().ok()?,
+        },
+        ["fill", phase, job] => Act::Fill {
+            phase: phase.parse().ok()?,
+            job: job.parse().ok()?,
+        },
+        ["commit"] => Act::Commit,
+        ["close"] => Act::Close,
+        ["swap"] => Act::Swap,
+        _ => Act::Look,
+    })
 }
 
-/// The first of these acts, one a line, that a new board answers otherwise.
-fn first_other(
+// The act of a line.
+fn act_of(alloc: Global, line: &str) -> Result<Act, AllocError> {
+    let words: Vec<&str> = line.split_whitespace().collect(alloc)?;
+    Ok(act_of_words(words.as_slice()).unwrap_or(Act::Look))
+}
+
+/// What acts answer, one a line, that are done on a new board.
+pub(crate) fn answers(
     alloc: Global,
     accepted: &Accepted,
-    lines: &'static str,
-) -> Result<&'static str, Fail> {
+    lines: &str,
+) -> Result<String, AllocError> {
     let mut trial = Trial::new(alloc, accepted)?;
-    trial.first_other(alloc, accepted, lines)
-}
-
-/// The same for the plan of two texts.
-pub(crate) fn other_answer(
-    alloc: Global,
-    texts: Texts,
-    lines: &'static str,
-) -> Result<&'static str, Fail> {
-    let accepted = plan_of(alloc, texts)?;
-    first_other(alloc, &accepted, lines)
+    trial.do_all(alloc, accepted, lines)
 }

@@ -4,8 +4,12 @@ use std::alloc::{AllocError, Global};
 use trick_lang::JobId;
 use trick_schedule::Step;
 
-/// The due jobs of a tic, each with its predecessors.
-pub(crate) type Due<'a> = &'a [(u8, &'a str)];
+/// A due job of a tic, and its predecessors, all by their letters.
+#[derive(Clone, Copy)]
+pub(crate) struct DueJob<'a> {
+    pub(crate) letter: u8,
+    pub(crate) predecessors: &'a str,
+}
 
 /// The letter of a job.
 pub(crate) fn letter_of(job: JobId) -> char {
@@ -29,16 +33,16 @@ pub(crate) fn steps_of(alloc: Global, word: &[u8]) -> Result<Vec<Step>, AllocErr
 
 /// Whether a step can follow others: it is of a due job and not among them; before a take stand the commits
 /// of the job's predecessors, and before a commit stands the take.
-pub(crate) fn can_follow(due: Due, before: &[u8], letter: u8) -> bool {
+pub(crate) fn can_follow(due: &[DueJob], before: &[u8], letter: u8) -> bool {
     let take = letter.to_ascii_uppercase();
-    let Some((_, predecessors)) = due.iter().find(|(job, _)| *job == take) else {
+    let Some(job) = due.iter().find(|job| job.letter == take) else {
         return false;
     };
     if before.contains(&letter) {
         return false;
     }
     if letter == take {
-        predecessors
+        job.predecessors
             .as_bytes()
             .iter()
             .all(|job| before.contains(&job.to_ascii_lowercase()))
@@ -48,12 +52,12 @@ pub(crate) fn can_follow(due: Due, before: &[u8], letter: u8) -> bool {
 }
 
 /// The first letter from one on that can follow.
-fn next_letter(due: Due, before: &[u8], from: u8) -> Option<u8> {
+fn next_letter(due: &[DueJob], before: &[u8], from: u8) -> Option<u8> {
     (from..=b'z').find(|letter| can_follow(due, before, *letter))
 }
 
 /// Goes on with the first letters that can follow, to a whole schedule.
-pub(crate) fn complete(due: Due, word: &mut Vec<u8>) -> Result<(), AllocError> {
+pub(crate) fn complete(due: &[DueJob], word: &mut Vec<u8>) -> Result<(), AllocError> {
     for _step in 0..52u8 {
         let Some(letter) = next_letter(due, word.as_slice(), b'A') else {
             break;
@@ -64,7 +68,7 @@ pub(crate) fn complete(due: Due, word: &mut Vec<u8>) -> Result<(), AllocError> {
 }
 
 /// The next schedule in the order of letters. After the last one the word is empty.
-pub(crate) fn advance(due: Due, word: &mut Vec<u8>) -> Result<(), AllocError> {
+pub(crate) fn advance(due: &[DueJob], word: &mut Vec<u8>) -> Result<(), AllocError> {
     for _step in 0..word.len() {
         let last = word.pop().unwrap_or(b'z');
         if let Some(letter) = next_letter(due, word.as_slice(), last.saturating_add(1)) {
