@@ -133,14 +133,15 @@ impl Cases {
     }
 
     fn add_named(&mut self, alloc: Global, times: Range<u64>, name: &str) -> Result<(), Mistake> {
+        let named = self.named(alloc, name)?;
+        self.add_times(alloc, times, &named, b"")
+    }
+
+    /// The bytes and holes of the text of this name.
+    fn named(&self, alloc: Global, name: &str) -> Result<Text, Mistake> {
         let name = bytes_of(alloc, name)?;
-        let mut named = Text::new(alloc, Vec::new(alloc), Vec::new(alloc));
-        named.add_text(alloc, find(&self.texts, &name).ok_or(Mistake::Name)?)?;
-        let last = self.last()?;
-        for _time in times {
-            last.add_text(alloc, &named)?;
-        }
-        Ok(())
+        let named = find(&self.texts, &name).ok_or(Mistake::Name)?;
+        Ok(named.copied(alloc)?)
     }
 
     fn add_part(
@@ -150,13 +151,39 @@ impl Cases {
         text: &str,
         end: &[u8],
     ) -> Result<(), Mistake> {
-        let last = self.last()?;
-        let mut piece = text_of(alloc, text, 0)?;
+        if is_numbered(text) {
+            return self.add_numbered(alloc, times, text, end);
+        }
+        let piece = text_of(alloc, text, 0)?;
+        self.add_times(alloc, times, &piece, end)
+    }
+
+    /// Adds a piece so many times, each with its number.
+    fn add_numbered(
+        &mut self,
+        alloc: Global,
+        times: Range<u64>,
+        text: &str,
+        end: &[u8],
+    ) -> Result<(), Mistake> {
         for time in times {
-            if is_numbered(text) {
-                piece = text_of(alloc, text, time)?;
-            }
-            last.add_text(alloc, &piece)?;
+            let piece = text_of(alloc, text, time)?;
+            self.add_times(alloc, 0..1, &piece, end)?;
+        }
+        Ok(())
+    }
+
+    /// Adds the same piece so many times, and its end after it.
+    fn add_times(
+        &mut self,
+        alloc: Global,
+        times: Range<u64>,
+        piece: &Text,
+        end: &[u8],
+    ) -> Result<(), Mistake> {
+        let last = self.last()?;
+        for _time in times {
+            last.add_text(alloc, piece)?;
             last.add(end)?;
         }
         Ok(())
@@ -174,11 +201,23 @@ impl Cases {
         outcome_of(alloc, words, &setting, &before)
     }
 
+    /// Does a command with these pieces in the holes, and reports what it comes to.
+    fn tell(
+        &mut self,
+        alloc: Global,
+        words: &[Word],
+        pieces: &[Vec<u8>],
+        report: &mut Report,
+    ) -> Result<Outcome, AllocError> {
+        let outcome = self.outcome(alloc, words, pieces)?;
+        report.outcome(&outcome, self.shown.as_ref())?;
+        Ok(outcome)
+    }
+
     /// Does a command, and keeps the files that it wrote.
     fn run(&mut self, alloc: Global, words: &str, report: &mut Report) -> Result<(), Mistake> {
         let words = words_of(alloc, words)?;
-        let outcome = self.outcome(alloc, &words, &[])?;
-        report.outcome(&outcome, self.shown.as_ref())?;
+        let outcome = self.tell(alloc, &words, &[], report)?;
         self.keep(outcome)?;
         Ok(())
     }
@@ -193,8 +232,7 @@ impl Cases {
     /// Does a command, and keeps nothing.
     fn attempt(&mut self, alloc: Global, words: &str, report: &mut Report) -> Result<(), Mistake> {
         let words = words_of(alloc, words)?;
-        let outcome = self.outcome(alloc, &words, &[])?;
-        report.outcome(&outcome, self.shown.as_ref())?;
+        self.tell(alloc, &words, &[], report)?;
         Ok(())
     }
 
@@ -202,27 +240,50 @@ impl Cases {
     fn with(&mut self, alloc: Global, pieces: &str, report: &mut Report) -> Result<(), Mistake> {
         let pieces = pieces_of(alloc, pieces)?;
         let words = self.each.clone()?;
-        let outcome = self.outcome(alloc, &words, &pieces)?;
-        report.outcome(&outcome, self.shown.as_ref())?;
+        self.tell(alloc, &words, &pieces, report)?;
         Ok(())
     }
 
     /// Does the command of `each` with each beginning of a file and a piece behind it, and keeps nothing.
     fn fronts(&mut self, alloc: Global, rest: &str, report: &mut Report) -> Result<(), Mistake> {
         let (name, piece) = rest.split_once(' ').unwrap_or((rest, ""));
-        let name = bytes_of(alloc, name)?;
         let piece = bytes_of(alloc, piece)?;
-        let words = self.each.clone()?;
-        let whole = find(&self.files, &name)
-            .ok_or(Mistake::Name)?
-            .bytes
-            .clone()?;
-        for count in 0..whole.len() {
-            let front = Text::joined(alloc, &name, &whole[..count], &piece)?;
-            put(&mut self.files, front)?;
-            report.front(count, &self.outcome(alloc, &words, &[])?)?;
-        }
-        put(&mut self.files, Text::new(alloc, name, whole))?;
+        let whole = self.file(alloc, name)?;
+        self.each_front(alloc, &whole, &piece, report)?;
+        put(&mut self.files, whole)?;
         Ok(())
+    }
+
+    /// The file of this name without what follows a hole.
+    fn file(&self, alloc: Global, name: &str) -> Result<Text, Mistake> {
+        let name = bytes_of(alloc, name)?;
+        let file = find(&self.files, &name).ok_or(Mistake::Name)?;
+        Ok(file.front(alloc, file.bytes.len(), b"")?)
+    }
+
+    fn each_front(
+        &mut self,
+        alloc: Global,
+        whole: &Text,
+        piece: &[u8],
+        report: &mut Report,
+    ) -> Result<(), AllocError> {
+        for count in 0..whole.bytes.len() {
+            put(&mut self.files, whole.front(alloc, count, piece)?)?;
+            self.tell_front(alloc, count, report)?;
+        }
+        Ok(())
+    }
+
+    /// Does the command of `each`, and reports in a line what it comes to with so many bytes.
+    fn tell_front(
+        &mut self,
+        alloc: Global,
+        count: usize,
+        report: &mut Report,
+    ) -> Result<(), AllocError> {
+        let words = self.each.clone()?;
+        let outcome = self.outcome(alloc, &words, &[])?;
+        report.front(count, &outcome)
     }
 }

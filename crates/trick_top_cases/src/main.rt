@@ -1,6 +1,6 @@
 //! A program that tests the product: it reads cases of whole commands from standard input, does each
 //! by the top call over the forms in memory, and prints what it comes to. The cases stand in the file
-//! `stdin`, and what they must print in the file `stdout`. Docs of their lines: `line.rt`.
+//! `stdin`, and what they must print in the file `stdout`. The page FORMATS of the documents has their lines.
 #![tactic(auto)]
 
 mod cases;

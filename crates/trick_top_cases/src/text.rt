@@ -30,16 +30,24 @@ impl Text {
         }
     }
 
-    /// A text of two pieces.
-    pub(crate) fn joined(
+    /// Its first bytes, at most so many, and a piece behind them, under its name.
+    pub(crate) fn front(
+        &self,
         alloc: Global,
-        name: &[u8],
-        front: &[u8],
-        back: &[u8],
+        count: usize,
+        piece: &[u8],
     ) -> Result<Text, AllocError> {
-        let mut bytes = Vec::from_slice(alloc, front)?;
-        bytes.extend_from_slice(back)?;
-        Ok(Text::new(alloc, Vec::from_slice(alloc, name)?, bytes))
+        let name = self.name.clone()?;
+        let mut bytes = Vec::from_slice(alloc, self.bytes.get(..count).unwrap_or(&self.bytes))?;
+        bytes.extend_from_slice(piece)?;
+        Ok(Text::new(alloc, name, bytes))
+    }
+
+    /// Its bytes and holes, without its name.
+    pub(crate) fn copied(&self, alloc: Global) -> Result<Text, AllocError> {
+        let mut copy = Text::new(alloc, Vec::new(alloc), Vec::new(alloc));
+        copy.add_text(alloc, self)?;
+        Ok(copy)
     }
 
     /// The bytes up to the first hole.
