@@ -4,7 +4,7 @@ use crate::words::DueJob;
 use std::alloc::{AllocError, Global};
 
 /// A call with the plan of the texts `s_define` and `input`.
-#[derive(Drop)]
+#[derive(Clone, Copy)]
 pub(crate) enum Call<'a> {
     /// Plays a list of steps in a tic.
     Play {
@@ -14,13 +14,13 @@ pub(crate) enum Call<'a> {
     /// Plays all schedules of a tic with these due jobs.
     PlayAll {
         tic: u64,
-        due: Vec<DueJob<'a>>,
+        due: &'a str,
     },
     /// Plays each beginning of these schedules, and each of them with a wrong one of these steps after it.
     PlayWrong {
         tic: u64,
         letters: &'a str,
-        due: Vec<DueJob<'a>>,
+        due: &'a str,
     },
     /// Runs the due jobs of a tic in key order, as a single phase.
     OnePhase {
@@ -37,7 +37,7 @@ pub(crate) enum Call<'a> {
 }
 
 /// What a line says.
-#[derive(Drop)]
+#[derive(Clone, Copy)]
 pub(crate) enum Directive<'a> {
     /// An empty line, or a comment.
     Nothing,
@@ -62,9 +62,12 @@ fn due_job(word: &str) -> DueJob {
     }
 }
 
-// The due jobs of some words.
-fn due_jobs<'a>(alloc: Global, words: &[&'a str]) -> Result<Vec<DueJob<'a>>, AllocError> {
-    words.iter().map(|word| due_job(word)).collect(alloc)
+/// The due jobs of some words.
+pub(crate) fn due_jobs(alloc: Global, words: &str) -> Result<Vec<DueJob>, AllocError> {
+    words
+        .split_whitespace()
+        .map(|word| due_job(word))
+        .collect(alloc)
 }
 
 // The number of a word; 0 for another word.
@@ -72,45 +75,54 @@ fn number(word: &str) -> u64 {
     word.parse::<u64>().unwrap_or(0)
 }
 
+// The first word of a text, and what stands after it.
+fn first_word(text: &str) -> (&str, &str) {
+    text.split_once(" ").unwrap_or((text, ""))
+}
+
+// The call that plays wrong lists: the letters that are tried, and then the due jobs.
+fn wrong_call(tic: u64, words: &str) -> Call {
+    let (letters, due) = first_word(words);
+    Call::PlayWrong { tic, letters, due }
+}
+
+// The call of a word and what stands after it.
+fn call_of<'a>(name: &str, words: &'a str) -> Option<Call<'a>> {
+    let (first, behind) = first_word(words);
+    let tic = number(first);
+    match name {
+        "play" => Some(Call::Play { tic, word: behind }),
+        "play_all" => Some(Call::PlayAll { tic, due: behind }),
+        "play_wrong" => Some(wrong_call(tic, behind)),
+        "one_phase" => Some(Call::OnePhase { tic }),
+        "one_bench" => Some(Call::OneBench { tic }),
+        "acts" => Some(Call::Acts { name: words }),
+        _ => None,
+    }
+}
+
 // What a line of words says.
-fn of_words<'a>(alloc: Global, words: &[&'a str]) -> Result<Directive<'a>, AllocError> {
-    Ok(match words {
-        ["text", name] => Directive::Text(name),
-        ["play", tic] => Directive::Call(Call::Play {
-            tic: number(tic),
-            word: "",
-        }),
-        ["play", tic, word] => Directive::Call(Call::Play {
-            tic: number(tic),
-            word,
-        }),
-        ["play_all", tic, due @ ..] => Directive::Call(Call::PlayAll {
-            tic: number(tic),
-            due: due_jobs(alloc, due)?,
-        }),
-        ["play_wrong", tic, letters, due @ ..] => Directive::Call(Call::PlayWrong {
-            tic: number(tic),
-            letters,
-            due: due_jobs(alloc, due)?,
-        }),
-        ["one_phase", tic] => Directive::Call(Call::OnePhase { tic: number(tic) }),
-        ["one_bench", tic] => Directive::Call(Call::OneBench { tic: number(tic) }),
-        ["acts", name] => Directive::Call(Call::Acts { name }),
-        _ => Directive::Unknown,
-    })
+fn of_words(line: &str) -> Directive {
+    let (name, words) = first_word(line);
+    if name == "text" {
+        return Directive::Text(words);
+    }
+    match call_of(name, words) {
+        Some(call) => Directive::Call(call),
+        None => Directive::Unknown,
+    }
 }
 
 /// What a line says.
-pub(crate) fn directive_of(alloc: Global, line: &str) -> Result<Directive, AllocError> {
+pub(crate) fn directive_of(line: &str) -> Directive {
     if let Some(text) = line.strip_prefix("| ") {
-        return Ok(Directive::Line(text));
+        return Directive::Line(text);
     }
     if line.starts_with("##") {
-        return Ok(Directive::Head);
+        return Directive::Head;
     }
     if line.is_empty() || line.starts_with("#") {
-        return Ok(Directive::Nothing);
+        return Directive::Nothing;
     }
-    let words: Vec<&str> = line.split_whitespace().collect(alloc)?;
-    of_words(alloc, words.as_slice())
+    of_words(line)
 }

@@ -1,6 +1,6 @@
 //! What goes on from line to line: the texts.
 
-use crate::directive::{Call, Directive, directive_of};
+use crate::directive::{Call, Directive, directive_of, due_jobs};
 use crate::forms::{by_one_bench, by_one_phase};
 use crate::schedules::{Wrong, played, played_all};
 use crate::texts::Texts;
@@ -15,6 +15,30 @@ pub(crate) struct World {
     texts: Texts,
 }
 
+// All schedules of a tic with these due jobs.
+fn all_of(alloc: Global, accepted: &Accepted, tic: u64, due: &str) -> Result<String, AllocError> {
+    let due = due_jobs(alloc, due)?;
+    played_all(alloc, accepted, tic, &due)
+}
+
+// Lists that are wrong, of a tic with these due jobs.
+fn wrong_of(
+    alloc: Global,
+    accepted: &Accepted,
+    tic: u64,
+    letters: &str,
+    due: &str,
+) -> Result<String, AllocError> {
+    let due = due_jobs(alloc, due)?;
+    let wrong = Wrong {
+        accepted,
+        tic,
+        due: &due,
+        letters,
+    };
+    wrong.played(alloc)
+}
+
 // What a call answers with this plan.
 fn answer_under(
     alloc: Global,
@@ -27,16 +51,8 @@ fn answer_under(
             let outcome = played(alloc, accepted, tic, word.as_bytes())?;
             format!(in alloc; "> {outcome}\n")
         }
-        Call::PlayAll { tic, due } => played_all(alloc, accepted, tic, &due),
-        Call::PlayWrong { tic, letters, due } => {
-            let wrong = Wrong {
-                accepted,
-                tic,
-                due: &due,
-                letters,
-            };
-            wrong.played(alloc)
-        }
+        Call::PlayAll { tic, due } => all_of(alloc, accepted, tic, due),
+        Call::PlayWrong { tic, letters, due } => wrong_of(alloc, accepted, tic, letters, due),
         Call::OnePhase { tic } => by_one_phase(alloc, accepted, tic),
         Call::OneBench { tic } => by_one_bench(alloc, accepted, tic),
         Call::Acts { name } => answers(alloc, accepted, texts.named(name)),
@@ -72,7 +88,7 @@ impl World {
 
     /// What is printed for a line: itself where it is a head or a call, and what the call answers.
     pub(crate) fn told(&mut self, alloc: Global, line: &str) -> Result<String, AllocError> {
-        match directive_of(alloc, line)? {
+        match directive_of(line) {
             Directive::Nothing => Ok(String::new(alloc)),
             Directive::Head => format!(in alloc; "\n{line}\n"),
             Directive::Text(name) => {
