@@ -4,4 +4,5 @@ pub mod DoesLemmas
 pub mod WriteLemmas
 pub mod PieceLemmas
 pub mod KeptLemmas
+pub mod LinkLemmas
 mod Examples
