@@ -1,5 +1,5 @@
 ghost use Rattle.std.specs.Option.{IfSome};
-ghost use Rattle.std.specs.Prelude.{◌≡◌, ◌≢◌, ℕ, ℤ, ◌<◌, ◌≤◌, List, IfOk, IsSome, MatchOption, None, Some, length};
+ghost use Rattle.std.specs.Prelude.{◌≡◌, ◌≢◌, ℕ, ℤ, ◌<◌, ◌≤◌, List, IfOk, IsSome, MatchOption, None, Some, is_some, length};
 ghost use Rattle.trick_board.specs.Answers.{CanDo, ComesTo, Commits, Counts, HasCopy, IfLeft, IfMemory, IsFilledBy, IsLeftBy, IsStale, Takes, open_count};
 ghost use Rattle.trick_board.specs.Search.{is_in_flight};
 ghost use Rattle.trick_board.specs.Board.{IsBoardOf, IsOpenedWith, next_phase as next_phase_of, stepped, tic_at};
@@ -100,6 +100,27 @@ impl<M: Cells> Board<M> {
             tables,
             passed,
         })
+    }
+
+    /// Whether a tic is open.
+    pub fn is_open(&self) -> bool
+        ensures { result ≡ is_some self.now.opened }
+    {
+        self.memory.is_some()
+    }
+
+    /// The phase: a number for each tic that was opened, from 1 on, and 0 before the first.
+    pub fn phase(&self) -> u64
+        ensures { result ≡ self.now.phase }
+    {
+        self.phase
+    }
+
+    /// The tic that is open, and without one the last that was, or 0.
+    pub fn tic(&self) -> u64
+        ensures { IfSome self.now.opened (λ o. result ≡ o.tic) }
+    {
+        self.tic
     }
 
     // Opens a tic.

@@ -34,3 +34,6 @@ pub mod States
 pub mod Turns
 -- A run from the state after some turns goes on as the original.
 pub mod Continue
+-- A program, and a plan, may cross threads.
+pub mod ProgramCrossings
+pub mod Crossings

@@ -282,7 +282,7 @@ pub record GoesOn (plan : PlanValue) (on : Flags) (tic : ℕ) (first : List ℤ)
   pub benches_are : AreBenches plan b benches
 
 module _ (laws : Laws) (plan : PlanValue) (accepted : ∥ IsAccepted (plan_of plan) ∥₁) (on : Flags) (tic : ℕ) (first : List ℤ) where
-  told_at : (steps : List Step) (o : Opened) → IsPlayed plan on tic first steps o → IsTold (tic_at plan o) steps o.progress.stages
+  pub told_at : (steps : List Step) (o : Opened) → IsPlayed plan on tic first steps o → IsTold (tic_at plan o) steps o.progress.stages
   told_at steps o h =
       subst (λ (p : Progress). IsTold (tic_at plan o) steps p.stages) (sym h.along.progress)
       (told (tic_at plan o) first steps (right_tic laws plan o.on o.tic accepted) h.begun)
@@ -291,7 +291,7 @@ module _ (laws : Laws) (plan : PlanValue) (accepted : ∥ IsAccepted (plan_of pl
   small job = let le : thread_of plan.program.jobs job.0 ≤ 15 = thread_small plan.program.jobs job.0 plan.program.right_threads in omega arith
 
   -- the steps so far with one more
-  played_more : (steps : List Step) (o : Opened) (x : Step) → IsPlayed plan on tic first steps o → CanFollow (tic_at plan o) steps x
+  pub played_more : (steps : List Step) (o : Opened) (x : Step) → IsPlayed plan on tic first steps o → CanFollow (tic_at plan o) steps x
       → IsPlayed plan on tic first (steps ++ x ∷ []) (record o { progress = move (tic_at plan o) o.progress x })
   played_more steps o x h may = record {
     along = along_more plan on tic first steps o x h.along;
@@ -364,7 +364,7 @@ module _ (laws : Laws) (plan : PlanValue) (accepted : ∥ IsAccepted (plan_of pl
 
   -- ---- the answers
 
-  begun_at : (steps : List Step) (b : BoardView) → IsBoardPlayed plan on tic first steps b → IsBegun (tic_of plan on tic) steps
+  pub begun_at : (steps : List Step) (b : BoardView) → IsBoardPlayed plan on tic first steps b → IsBegun (tic_of plan on tic) steps
   begun_at steps b along = let open_ = open_played plan on tic first steps b along in
       begun_of plan on tic open_.opened steps open_.so_far.along.tic_is open_.so_far.begun
 
@@ -438,7 +438,7 @@ goes_start laws plan accepted on tic first b benches open_ many own empty = reco
 
 -- ---- the end
 
-all_committed : (stages : List Stage) (ks : List ℕ) → open_count stages ks ≡ 0 → (k : ℕ) → IsTrue (is_among k ks) → IsTrue (is_done (stage_at stages k))
+pub all_committed : (stages : List Stage) (ks : List ℕ) → open_count stages ks ≡ 0 → (k : ℕ) → IsTrue (is_among k ks) → IsTrue (is_done (stage_at stages k))
 all_committed stages [] none k among = absurd (none_among k among)
 all_committed stages (j ∷ ks) none k among = by_stage (λ rest. all_committed stages ks rest k) (is_done (stage_at stages j)) refl none
   where
