@@ -1,6 +1,6 @@
 -- The next token decides each step of the grammar of expressions.
 use Rattle.std.proofs.Common.{◌≡◌, ℕ, zero, suc, ◌<◌, true, refl, List, [], length, Ok}
-use Rattle.trick_body.specs.Expressions.{Of, choice, or, expression_body, step_body, place_body, operand_body, nested_body, nested, operand, expression}
+use Rattle.trick_body.specs.Expressions.{choice, or, expression_body, step_body, place_body, operand_body, nested_body, nested, operand, expression}
 use Rattle.trick_body.specs.declared.nested.Nested.{Nested}
 use Rattle.trick_body.specs.declared.nested.Nested.TheVariants.{Prefixed, Parenthesized, Indexed, Chosen}
 use Rattle.trick_body.specs.Symbols.{number_of, spelled, Token}

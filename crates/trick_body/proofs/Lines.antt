@@ -1,5 +1,5 @@
 -- The lines of refusals.
-use Rattle.std.proofs.Common.{◌≡◌, ℕ, ◌-◌, List, [], ◌∷◌, ◌++◌, length, take, refl, ap, ◌∙◌, arith, length-append}
+use Rattle.std.proofs.Common.{◌≡◌, ◌-◌, List, [], ◌∷◌, ◌++◌, length, take, refl, ap, ◌∙◌, arith, length-append}
 
 take_front : {A : Type 0} (front rest : List A) → take (length front) (front ++ rest) ≡ front
 take_front [] rest = refl

@@ -14,7 +14,7 @@ use Rattle.trick_grammar.specs.Reading.{Reading, ◌>>=◌, read}
 use Rattle.trick_grammar.specs.StartsWith.{next_in}
 use Rattle.trick_body.specs.declared.symbol.Symbol.{Symbol}
 use Rattle.trick_grammar.specs.declared.stop.Stop.{Stop}
-use Rattle.trick_lang.specs.Syntax.{expression_of, path_of, parts_of_list, links_of_list, choices_of_list, statement_of, statements_of_list, branches_of_list}
+use Rattle.trick_lang.specs.Syntax.{expression_of, parts_of_list, links_of_list, choices_of_list, statement_of, statements_of_list, branches_of_list}
 use Rattle.trick_lang.specs.SyntaxTree
 use Rattle.trick_lang.specs.SyntaxTree.{Expression, Choices, Statement}
 use Rattle.trick_lang.specs.declared.operator.Operator.{Operator}
@@ -22,7 +22,6 @@ use Rattle.trick_lang.proofs.SyntaxLists.{chain_is, choose_is, block_is, if_is}
 use Rattle.trick_lang.specs.declared.syntax.expression.Choice.{Choice}
 use Rattle.trick_lang.specs.declared.syntax.expression.Expr.{Expr, Chain, Choose}
 use Rattle.trick_lang.specs.declared.syntax.expression.Link.{Link}
-use Rattle.trick_lang.specs.declared.syntax.expression.Path.{Path}
 use Rattle.trick_lang.specs.declared.syntax.expression.Part.{Part, Member, Index}
 use Rattle.trick_lang.specs.declared.syntax.statement.Branch.{Branch}
 use Rattle.trick_lang.specs.declared.syntax.statement.Stmt.{Stmt, Block, If}

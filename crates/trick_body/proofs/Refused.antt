@@ -1,5 +1,5 @@
 -- The answers of the whole readers, from what reading gives.
-use Rattle.std.proofs.Common.{◌≡◌, ◌≢◌, ◌⊎◌, ℕ, ◌+◌, ◌-◌, ◌≤◌, ◌<◌, List, [], ◌∷◌, ◌++◌, All, length, take, Option, Some, None, Ok, Err, refl, sym, ap, ◌∙◌, subst, arith, inl, inr}
+use Rattle.std.proofs.Common.{◌≡◌, ◌≢◌, ◌⊎◌, ℕ, ◌+◌, ◌-◌, ◌≤◌, ◌<◌, List, [], ◌∷◌, ◌++◌, All, length, take, Option, Some, None, Ok, Err, refl, sym, ap, ◌∙◌, subst, arith}
 use Rattle.trick_body.specs.Answers.{IsBody, IsRead, IsToldBy, condition, fault_of, method}
 use Rattle.trick_body.specs.Limits.{list_limit, nesting_limit, method_levels}
 use Rattle.trick_body.specs.Symbols.{number_of, spelled, Token}
@@ -14,7 +14,7 @@ use Rattle.trick_grammar.specs.Cut.{at_token, IsFirst}
 use Rattle.trick_grammar.specs.Gives.{class_of}
 use Rattle.trick_grammar.specs.Larger.{Leaves}
 use Rattle.trick_grammar.specs.Reading.{Refused, read}
-use Rattle.trick_grammar.specs.Text.{IsExact, IsExactFront, IsRefusedAt, read_all}
+use Rattle.trick_grammar.specs.Text.{IsExact, IsExactFront, read_all}
 use Rattle.trick_grammar.specs.declared.refusal.Refusal.{Refusal}
 use Rattle.trick_grammar.specs.declared.refusal.Refusal.TheVariants.{Expected, NotInProfile, TooLong, TooDeep, BadHeader, BadLoop, BadName, BadTime}
 use Rattle.trick_lang.specs.Syntax.{expression_of, method_of}

@@ -1,5 +1,5 @@
 -- The next token decides each step of the grammar of statements.
-use Rattle.std.proofs.Common.{◌≡◌, ℕ, zero, suc, ◌<◌, true, refl, List, [], length, Ok}
+use Rattle.std.proofs.Common.{◌≡◌, ℕ, zero, suc, ◌<◌, true, refl, List, length, Ok}
 use Rattle.trick_body.specs.Expressions.{step_body}
 use Rattle.trick_body.specs.Statements.{basic, basic_body, plain_header, header_body, loop_step_body, loop_test_body, value_body, call_body, call, operation_body, free_change_body, bound_change_body, named_body, by_name, by_name_body, free_steps_body, bound_steps_body, counted, counted_body, declaration, declaration_body, simple, simple_body, block_body, test_body, else_body, choice_body, loop_body, unbranched_body, unblocked_body, statement_body, branch_body, Branch, nested_body, nested, statement, block, unblocked, unbranched, branch, otherwise, test, else_link}
 use Rattle.trick_body.specs.declared.statements.Level.{Level}

@@ -1,5 +1,5 @@
 -- What the readers of bodies and conditions answer.
-use Rattle.std.specs.Prelude.{◌≡◌, ◌≢◌, ℕ, ◌+◌, List, [], ◌∷◌, ◌++◌, length, Option, Some, None, Result, Ok, Err, ◌⊎◌}
+use Rattle.std.specs.Prelude.{◌≡◌, ◌≢◌, ℕ, ◌+◌, List, [], ◌++◌, length, Option, Some, None, Result, Ok, Err, ◌⊎◌}
 use Rattle.trick_body.specs.Expressions.{Of}
 use Rattle.trick_body.specs.Lexemes.{lexemes_of}
 use Rattle.trick_body.specs.Limits.{list_limit, nesting_limit, method_levels}
@@ -8,7 +8,7 @@ use Rattle.trick_body.specs.Symbols.{number_of, spelled, Token}
 use Rattle.trick_body.specs.Told.{told, told_line}
 use Rattle.trick_body.specs.declared.fault.BodyFault.{BodyFault}
 use Rattle.trick_body.specs.declared.fault.BodyFault.TheVariants as faults
-use Rattle.trick_grammar.specs.Cut.{at_token, IsFirst}
+use Rattle.trick_grammar.specs.Cut.{IsFirst}
 use Rattle.trick_grammar.specs.Gives.{class_of}
 use Rattle.trick_grammar.specs.Reading.{Refused, read}
 use Rattle.trick_grammar.specs.Text.{IsExact, IsExactFront, read_all}

@@ -203,6 +203,19 @@ module _ (text : List ℕ) where
   named_of t calls = tree.Call t.line (name_of text t)
   named_of t (changes steps change) = tree.Assign t.line (tree.path t.line (name_of text t) (parts_of steps)) change
 
+  -- `++` or `--` before the place of this name and these steps
+  abbrev pub counted_of : Token → Token → List Step → Statement
+  counted_of mark t steps = tree.Assign mark.line (tree.path t.line (name_of text t) (parts_of steps))
+      (counting_of mark.class)
+
+  -- a local of a type of keywords
+  abbrev pub declared_of : ℕ × Scalar → Token → Option Expression → Statement
+  declared_of kind t value = tree.Declare kind.0 (tree.Basic kind.1) (name_of text t) value
+
+  -- the loop of this name with this header
+  abbrev pub loop_of : Token → Header → Statement → Statement
+  loop_of t header body = tree.For (name_of text t) header.0 header.1 body
+
 module _ (text : List ℕ) (limit : ℕ) where
   -- [ "=" expression ] ";": what stands after the name of a local
   unfoldable pub value_body : ℕ → Of (Option Expression)
@@ -228,10 +241,13 @@ module _ (text : List ℕ) (limit : ℕ) where
   abbrev pub operation : ℕ → Of Change
   operation n = rule (outline operation_first expression_more []) (operation_body n)
 
+  -- operation ";"
+  abbrev pub ended_operation : ℕ → Of (Change × Token)
+  ended_operation n = operation n ⨾ one the.Semicolon
+
   -- { step } operation ";": what stands after the first name of a place that is changed
   unfoldable pub free_change_body : ℕ → Of AfterName
-  free_change_body n = act (λ v. changes v.0 v.1.0) (repetition limit (step text limit n) ⨾ operation n
-      ⨾ one the.Semicolon)
+  free_change_body n = act (λ v. changes v.0 v.1.0) (repetition limit (step text limit n) ⨾ ended_operation n)
 
   abbrev pub free_change : ℕ → Of AfterName
   free_change n = rule (outline change_first [] []) (free_change_body n)
@@ -240,7 +256,7 @@ module _ (text : List ℕ) (limit : ℕ) where
   -- is refused
   unfoldable pub bound_change_body : ℕ → Of AfterName
   bound_change_body n =
-      act (λ v. changes v.0 v.1.0) (some_steps text limit n ⨾ operation n ⨾ one the.Semicolon)
+      act (λ v. changes v.0 v.1.0) (some_steps text limit n ⨾ ended_operation n)
       ∣ refuse BadLoop operation_first
 
   abbrev pub bound_change : ℕ → Of AfterName
@@ -283,8 +299,7 @@ module _ (text : List ℕ) (limit : ℕ) where
   -- ( "++" | "--" ) place ";"
   unfoldable pub counted_body : ℕ → Of Statement
   counted_body n =
-      act (λ v. tree.Assign v.0.line (tree.path v.1.0.line (name_of text v.1.0) (parts_of v.1.1))
-      (counting_of v.0.class))
+      act (λ v. counted_of text v.0 v.1.0 v.1.1)
       (token counting ⨾ after Expected names (is_in_scope text) (alone (bound_steps n)) (alone (free_steps n)))
 
   abbrev pub counted : ℕ → Of Statement
@@ -292,8 +307,7 @@ module _ (text : List ℕ) (limit : ℕ) where
 
   -- basic NAME [ "=" expression ] ";"
   unfoldable pub declaration_body : ℕ → Of Statement
-  declaration_body n = act (λ v. tree.Declare v.0.0 (tree.Basic v.0.1) (name_of text v.1.0) v.1.1) (basic
-      ⨾ token names ⨾ value n)
+  declaration_body n = act (λ v. declared_of text v.0 v.1.0 v.1.1) (basic ⨾ token names ⨾ value n)
 
   abbrev pub declaration : ℕ → Of Statement
   declaration n = rule (outline basic_first [] []) (declaration_body n)
@@ -352,7 +366,7 @@ module _ (text : List ℕ) (limit : ℕ) where
   -- loop = "for" "(" ( "int" | "long" ) scoped
   unfoldable pub loop_body : Of Statement → Of Statement
   loop_body branch =
-      act (λ v. tree.For (name_of text v.1.1.1.0) v.1.1.1.1.0.0 v.1.1.1.1.0.1 v.1.1.1.1.1)
+      act (λ v. loop_of text v.1.1.1.0 v.1.1.1.1.0 v.1.1.1.1.1)
       (one the.For ⨾ hint BadHeader (one the.OpenParen) ⨾ hint BadHeader (token (the.Int ∷ the.Long ∷ []))
       ⨾ scoped_with branch)
 

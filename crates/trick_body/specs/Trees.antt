@@ -1,5 +1,5 @@
 -- The trees that values of the readers hold.
-use Rattle.std.specs.Prelude.{ℕ, List, map}
+use Rattle.std.specs.Prelude.{map}
 use Rattle.trick_body.specs.Expressions.{Step, member, index}
 use Rattle.trick_body.specs.Statements as grammar
 use Rattle.trick_body.specs.declared.simple.AfterName.{AfterName}

@@ -3,6 +3,7 @@
 ghost use Rattle.std.specs.Prelude.{◌≡◌, ◌≤◌, All, IfOk, map};
 ghost use Rattle.trick_body.specs.Lexemes.{lexeme_of, lexemes_of, symbol_as};
 ghost use Rattle.trick_body.specs.Symbols.{decimal_of, looked_up, mark_symbols, name_symbol, named_symbols, numbered, plain_name, text_symbols, whole_of, whole_symbol};
+ghost use Rattle.trick_body.specs.declared.symbol.Symbol.TheVariants as the;
 ghost use Rattle.trick_text.specs.Numbers.{whole_value};
 ghost use Rattle.trick_text.specs.Tokens.{ReadsAsToken, spelling};
 
@@ -206,6 +207,20 @@ fn whole_symbol(bytes: &[u8], value: u64) -> Symbol
     }
 }
 
+// The symbol of a string with these bytes.
+fn text_symbol(bytes: &[u8]) -> Symbol
+    ensures { result ≡ looked_up bytes.now text_symbols the.Text }
+{
+    looked_up(bytes, &TEXTS, Symbol::Text)
+}
+
+// The symbol of a mark with these bytes.
+fn mark_symbol(bytes: &[u8]) -> Symbol
+    ensures { result ≡ looked_up bytes.now mark_symbols the.OtherMark }
+{
+    looked_up(bytes, &MARKS, Symbol::OtherMark)
+}
+
 /// The symbol of a token of this text.
 fn symbol_of(text: &[u8], token: &trick_text::Token) -> Symbol
     requires { ReadsAsToken text.now token.now }
@@ -216,8 +231,8 @@ fn symbol_of(text: &[u8], token: &trick_text::Token) -> Symbol
         TokenKind::Name => name_symbol(bytes),
         TokenKind::Whole => whole_symbol(bytes, whole(token, text)),
         TokenKind::Decimal => decimal_of(seconds(token, text)),
-        TokenKind::Text => looked_up(bytes, &TEXTS, Symbol::Text),
-        TokenKind::Mark => looked_up(bytes, &MARKS, Symbol::OtherMark),
+        TokenKind::Text => text_symbol(bytes),
+        TokenKind::Mark => mark_symbol(bytes),
     }
 }
 

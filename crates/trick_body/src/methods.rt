@@ -1,17 +1,17 @@
 //! Methods: one function for each production, with its line of the grammar. `depth` is how many levels
 //! may nest in the braces of the method.
 
-ghost use Rattle.std.specs.Prelude.{◌≡◌, [], map};
-ghost use Rattle.trick_body.specs.Methods.{int_inside, int_rest, method, return_line, void_inside, void_rest};
+ghost use Rattle.std.specs.Prelude.{◌≡◌, [], IfOk, map};
+ghost use Rattle.trick_body.specs.Methods.{int_inside, int_method, int_rest, last_line, method, return_line, void_inside, void_method, void_rest};
 ghost use Rattle.trick_body.specs.Symbols.{number_of};
-ghost use Rattle.trick_grammar.specs.Gives.{Gives, class_of};
+ghost use Rattle.trick_grammar.specs.Gives.{Gives, class_of, text_of};
 ghost use Rattle.trick_grammar.specs.Reading.{read};
 ghost use Rattle.trick_lang.specs.Syntax.{method_of, statements_of_list};
 
 use crate::source::{Source, name_of};
 use crate::statements::read_statements;
 use crate::symbol::{NAMES, Symbol, Token};
-use std::alloc::Global;
+use std::alloc::{AllocError, Global};
 use trick_base::Items;
 use trick_grammar::{Stop, next_is, take, take_one_of};
 use trick_lang::syntax::{Method, Stmt};
@@ -33,6 +33,18 @@ fn read_return<'a>(rest: &'a [Token]) -> Result<(&'a Token, &'a [Token]), Stop<'
     let (_, rest) = take(rest, Symbol::CloseParen)?;
     let (_, rest) = take(rest, Symbol::Semicolon)?;
     Ok((word, rest))
+}
+
+/// return "}"
+fn read_last_line<'a>(
+    rest: &'a [Token],
+) -> Result<((&'a Token, &'a Token), &'a [Token]), Stop<'a, Symbol>>
+    ensures { Gives (λ x. ((x.0.0.now, x.0.1.now), x.1.now)) result
+        (read number_of class_of [] last_line rest.now) }
+{
+    let (word, rest) = read_return(rest)?;
+    let (brace, rest) = take(rest, Symbol::CloseBrace)?;
+    Ok(((word, brace), rest))
 }
 
 /// ")" block, which is after "void" NAME "("
@@ -67,8 +79,7 @@ pub fn read_int_inside<'a>(
     let (_, rest) = take(rest, Symbol::CloseParen)?;
     let (_, rest) = take(rest, Symbol::OpenBrace)?;
     let (statements, rest) = read_statements(alloc, source.outside(), depth, rest)?;
-    let (_, rest) = read_return(rest)?;
-    let (_, rest) = take(rest, Symbol::CloseBrace)?;
+    let (_, rest) = read_last_line(rest)?;
     Ok((Items::from_vec(statements), rest))
 }
 
@@ -102,6 +113,20 @@ pub fn read_int_rest<'a>(
     read_int_inside(alloc, source, depth, rest)
 }
 
+/// The method of this name with these statements.
+fn method_from(
+    alloc: Global,
+    text: &[u8],
+    name: &Token,
+    body: Items<Stmt>,
+) -> Result<Method, AllocError>
+    ensures { IfOk result (λ m. method_of m
+        ≡ record { name = text_of text.now name.now; body = statements_of_list body }) }
+{
+    let name = name_of(alloc, text, name)?;
+    Ok(Method { name, body })
+}
+
 /// method = "void" NAME "(" ")" block | "int" NAME "(" ")" "{" { stmt } return "}"
 #[tactic(auto, unfolding(crate::specs::Methods::method_body))]
 pub fn read_method<'a>(
@@ -114,15 +139,39 @@ pub fn read_method<'a>(
         (read number_of class_of [] (method source.entry.text.now source.entry.limit depth) rest.now) }
 {
     if next_is(rest, Symbol::Void) {
-        let (_, rest) = take(rest, Symbol::Void)?;
-        let (name, rest) = take_one_of(rest, &NAMES)?;
-        let (body, rest) = read_void_rest(alloc, source, depth, rest)?;
-        let name = name_of(alloc, source.text, name)?;
-        return Ok((Method { name, body }, rest));
+        return read_void_method(alloc, source, depth, rest);
     }
+    read_int_method(alloc, source, depth, rest)
+}
+
+/// "void" NAME "(" ")" block
+fn read_void_method<'a>(
+    alloc: Global,
+    source: Source,
+    depth: usize,
+    rest: &'a [Token],
+) -> Result<(Method, &'a [Token]), Stop<'a, Symbol>>
+    ensures { Gives (λ x. (method_of x.0, x.1.now)) result
+        (read number_of class_of [] (void_method source.entry.text.now source.entry.limit depth) rest.now) }
+{
+    let (_, rest) = take(rest, Symbol::Void)?;
+    let (name, rest) = take_one_of(rest, &NAMES)?;
+    let (body, rest) = read_void_rest(alloc, source, depth, rest)?;
+    Ok((method_from(alloc, source.text, name, body)?, rest))
+}
+
+/// "int" NAME "(" ")" "{" { stmt } return "}"
+fn read_int_method<'a>(
+    alloc: Global,
+    source: Source,
+    depth: usize,
+    rest: &'a [Token],
+) -> Result<(Method, &'a [Token]), Stop<'a, Symbol>>
+    ensures { Gives (λ x. (method_of x.0, x.1.now)) result
+        (read number_of class_of [] (int_method source.entry.text.now source.entry.limit depth) rest.now) }
+{
     let (_, rest) = take(rest, Symbol::Int)?;
     let (name, rest) = take_one_of(rest, &NAMES)?;
     let (body, rest) = read_int_rest(alloc, source, depth, rest)?;
-    let name = name_of(alloc, source.text, name)?;
-    Ok((Method { name, body }, rest))
+    Ok((method_from(alloc, source.text, name, body)?, rest))
 }

@@ -2,7 +2,7 @@
 
 ghost use Rattle.std.specs.Prelude.{◌≡◌, ◌∷◌, [], IfOk, ℕ, suc, map};
 ghost use Rattle.trick_body.specs.Statements as grammar;
-ghost use Rattle.trick_body.specs.Statements.{bound_change, bound_steps, by_name, call, counted, counting_of, declaration, free_change, free_steps, local, named, named_of, operation, simple, value};
+ghost use Rattle.trick_body.specs.Statements.{bound_change, bound_steps, by_name, call, counted, counting_of, declaration, ended_operation, free_change, free_steps, local, named, named_of, operation, simple, value};
 ghost use Rattle.trick_body.specs.Symbols.{number_of};
 ghost use Rattle.trick_body.specs.Trees.{after_name_of, step_of};
 ghost use Rattle.trick_grammar.specs.Gives.{Gives, class_of};
@@ -17,8 +17,8 @@ use std::alloc::{AllocError, Global};
 use trick_grammar::{
     Refusal, Stop, is_in_scope, next_is, next_is_one_of, reason_at, take, take_one_of,
 };
-use trick_lang::Arithmetic;
 use trick_lang::syntax::{Change, Expr, Part, Path, Stmt, TypeName};
+use trick_lang::{Arithmetic, Scalar};
 
 /// What stands after the NAME that a statement begins with.
 #[derive(Drop)]
@@ -102,6 +102,21 @@ fn read_operation<'a>(
     Ok((counting_of(mark.class), rest))
 }
 
+/// operation ";"
+fn read_ended_operation<'a>(
+    alloc: Global,
+    source: Source,
+    depth: usize,
+    rest: &'a [Token],
+) -> Result<((Change, &'a Token), &'a [Token]), Stop<'a, Symbol>>
+    ensures { Gives (λ x. ((change_of x.0.0, x.0.1.now), x.1.now)) result
+        (read number_of class_of [] (ended_operation source.entry.text.now source.entry.limit depth) rest.now) }
+{
+    let (change, rest) = read_operation(alloc, source, depth, rest)?;
+    let (end, rest) = take(rest, Symbol::Semicolon)?;
+    Ok(((change, end), rest))
+}
+
 /// "(" ")" ";", which is a call
 fn read_call<'a>(
     source: Source,
@@ -158,8 +173,7 @@ fn read_free_change<'a>(
         (read number_of class_of [] (free_change source.entry.text.now source.entry.limit depth) rest.now) }
 {
     let (parts, rest) = read_steps(alloc, source, depth, rest)?;
-    let (change, rest) = read_operation(alloc, source, depth, rest)?;
-    let (_, rest) = take(rest, Symbol::Semicolon)?;
+    let ((change, _), rest) = read_ended_operation(alloc, source, depth, rest)?;
     Ok((AfterName::Changes(parts, change), rest))
 }
 
@@ -178,8 +192,7 @@ fn read_bound_change<'a>(
         return Err(Stop::At(reason_at(rest, Refusal::BadLoop, &OPERATIONS), rest));
     }
     let (parts, rest) = read_some_steps(alloc, source, depth, rest)?;
-    let (change, rest) = read_operation(alloc, source, depth, rest)?;
-    let (_, rest) = take(rest, Symbol::Semicolon)?;
+    let ((change, _), rest) = read_ended_operation(alloc, source, depth, rest)?;
     Ok((AfterName::Changes(parts, change), rest))
 }
 
@@ -326,8 +339,32 @@ fn read_bound_steps<'a>(
     Ok((parts, rest))
 }
 
+/// The statement of `++` or `--` before the place of this name and these steps.
+#[tactic(auto, using(crate::proofs::Lists::parts_are))]
+fn counted_of(
+    alloc: Global,
+    text: &[u8],
+    mark: &Token,
+    name: &Token,
+    parts: Vec<Part>,
+) -> Result<Stmt, AllocError>
+    ensures { IfOk result (λ s. statement_of s
+        ≡ grammar.counted_of text.now mark.now name.now (map step_of parts.items)) }
+{
+    let path = Path {
+        line: name.line,
+        name: name_of(alloc, text, name)?,
+        parts,
+    };
+    Ok(Stmt::Assign {
+        line: mark.line,
+        path,
+        change: counting_of(mark.class),
+    })
+}
+
 /// ( "++" | "--" ) place ";"
-#[tactic(auto, using(crate::proofs::Lists::parts_are), unfolding(crate::specs::Statements::counted_body))]
+#[tactic(auto, unfolding(crate::specs::Statements::counted_body))]
 fn read_counted<'a>(
     alloc: Global,
     source: Source,
@@ -345,17 +382,27 @@ fn read_counted<'a>(
     } else {
         read_free_steps(alloc, source, depth, rest)?
     };
-    let path = Path {
-        line: name.line,
-        name: name_of(alloc, source.text, name)?,
-        parts,
-    };
-    let statement = Stmt::Assign {
-        line: mark.line,
-        path,
-        change: counting_of(mark.class),
-    };
-    Ok((statement, rest))
+    Ok((counted_of(alloc, source.text, mark, name, parts)?, rest))
+}
+
+/// The declaration of a local of a type of keywords, which is on this line.
+fn declared_of(
+    alloc: Global,
+    text: &[u8],
+    basic: (u32, Scalar),
+    name: &Token,
+    value: Option<Expr>,
+) -> Result<Stmt, AllocError>
+    ensures { IfOk result (λ s. statement_of s
+        ≡ grammar.declared_of text.now basic name.now (first_value_of value)) }
+{
+    let (line, scalar) = basic;
+    Ok(Stmt::Declare {
+        line,
+        written: TypeName::Basic(scalar),
+        name: name_of(alloc, text, name)?,
+        value,
+    })
 }
 
 /// basic NAME [ "=" expression ] ";"
@@ -369,16 +416,10 @@ fn read_declaration<'a>(
     ensures { Gives (λ x. (statement_of x.0, x.1.now)) result
         (read number_of class_of [] (declaration source.entry.text.now source.entry.limit depth) rest.now) }
 {
-    let ((line, scalar), rest) = read_basic(rest)?;
+    let (basic, rest) = read_basic(rest)?;
     let (name, rest) = take_one_of(rest, &NAMES)?;
     let (value, rest) = read_value(alloc, source, depth, rest)?;
-    let statement = Stmt::Declare {
-        line,
-        written: TypeName::Basic(scalar),
-        name: name_of(alloc, source.text, name)?,
-        value,
-    };
-    Ok((statement, rest))
+    Ok((declared_of(alloc, source.text, basic, name, value)?, rest))
 }
 
 /// simple = NAME .. | basic NAME .. | "++" .. | "--" .. | ";"

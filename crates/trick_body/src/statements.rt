@@ -1,13 +1,14 @@
 //! Statements that hold others: one function for each production, with its line of the grammar.
 
 ghost use Rattle.std.specs.Prelude.{◌≡◌, ◌∷◌, [], IfOk, ℕ, suc, map, option_map};
-ghost use Rattle.trick_body.specs.Statements.{block, bound_of, branch, branches_of, choice_rest, chosen, else_link, header, level_first, loop_step, loop_test, loop_with, nested, otherwise, plain_header, scoped_with, statement, test, turns_with, unblocked, unbranched};
+ghost use Rattle.trick_body.specs.Heads.{Leads, looped, tested};
+ghost use Rattle.trick_body.specs.Statements.{block, bound_of, branch, branches_of, choice_rest, chosen, else_link, header, level_first, loop_of, loop_step, loop_test, loop_with, nested, otherwise, plain_header, scoped_with, statement, test, turns_with, unblocked, unbranched};
 ghost use Rattle.trick_body.specs.Symbols.{number_of};
 ghost use Rattle.trick_body.specs.Trees.{branch_of, else_of};
 ghost use Rattle.trick_grammar.specs.Gives.{Gives, class_of};
 ghost use Rattle.trick_grammar.specs.Grammar.{act, nearest, repetition};
 ghost use Rattle.trick_grammar.specs.Reading.{read};
-ghost use Rattle.trick_lang.specs.Syntax.{statement_of};
+ghost use Rattle.trick_lang.specs.Syntax.{expression_of, statement_of};
 ghost use Rattle.trick_lang.specs.SyntaxTree;
 
 use crate::expressions::read_expression;
@@ -18,7 +19,7 @@ use std::alloc::{AllocError, Global};
 use trick_grammar::{
     Refusal, Stop, hinted, next_is, next_is_one_of, reason_at, take, take_again, take_one_of,
 };
-use trick_lang::syntax::{Branch, Stmt};
+use trick_lang::syntax::{Branch, Expr, Stmt};
 use trick_lang::{BOUND_LIMIT, Bound};
 
 /// What counts as one level of nesting, beside the statement of an `if`, an `else` or a `for` that is
@@ -228,11 +229,19 @@ fn read_choice<'a>(
         (read number_of class_of source.entry.scope.now (chosen source.entry.text.now source.entry.limit depth)
         rest.now) }
 {
-    let mut found = Vec::new(alloc);
     let (first, rest) = read_test(alloc, source, depth, rest)?;
-    found.push(first)?;
+    let found = one_branch(alloc, first)?;
     let ((branches, last), rest) = read_elses(alloc, source, depth, found, rest)?;
     Ok((choice_of(alloc, branches, last)?, rest))
+}
+
+/// A list of one branch.
+fn one_branch(alloc: Global, first: Branch) -> Result<Vec<Branch>, AllocError>
+    ensures { IfOk result (λ found. found.items ≡ first ∷ []) }
+{
+    let mut found = Vec::new(alloc);
+    found.push(first)?;
+    Ok(found)
 }
 
 /// The statement of some branches and what stands after the last `else`.
@@ -305,7 +314,6 @@ fn read_else<'a>(
 
 /// test = "if" "(" expression ")" statement
 #[cycle(statements)]
-#[tactic(auto, unfolding(crate::specs::Statements::test_body))]
 fn read_test<'a>(
     alloc: Global,
     source: Source,
@@ -316,19 +324,30 @@ fn read_test<'a>(
         (read number_of class_of source.entry.scope.now (test source.entry.text.now source.entry.limit depth)
         rest.now) }
 {
+    let ((line, test), rest) = read_test_head(alloc, source, depth, rest)?;
+    let (body, rest) = read_branch(alloc, source, depth, rest)?;
+    Ok((Branch { line, test, body }, rest))
+}
+
+/// "if" "(" expression ")"
+#[tactic(auto, unfolding(crate::specs::Statements::test_body))]
+fn read_test_head<'a>(
+    alloc: Global,
+    source: Source,
+    depth: usize,
+    rest: &'a [Token],
+) -> Result<((u32, Expr), &'a [Token]), Stop<'a, Symbol>>
+    ensures { Leads (λ x. tested x.0.0 (expression_of x.0.1)
+        (read number_of class_of source.entry.scope.now (branch source.entry.text.now source.entry.limit depth)
+        x.1.now)) result
+        (read number_of class_of source.entry.scope.now (test source.entry.text.now source.entry.limit depth)
+        rest.now) }
+{
     let (word, rest) = take(rest, Symbol::If)?;
     let (_, rest) = take(rest, Symbol::OpenParen)?;
     let (test, rest) = read_expression(alloc, source, depth, rest)?;
     let (_, rest) = take(rest, Symbol::CloseParen)?;
-    let (body, rest) = read_branch(alloc, source, depth, rest)?;
-    Ok((
-        Branch {
-            line: word.line,
-            test,
-            body,
-        },
-        rest,
-    ))
+    Ok(((word.line, test), rest))
 }
 
 /// The statement of an `if` or a `for`.
@@ -371,7 +390,6 @@ fn read_otherwise<'a>(
 
 /// loop = "for" "(" ( "int" | "long" ) v header statement, with v in scope
 #[cycle(statements)]
-#[tactic(auto, unfolding(crate::specs::Statements::loop_body))]
 fn read_loop<'a>(
     alloc: Global,
     source: Source,
@@ -382,19 +400,49 @@ fn read_loop<'a>(
         (read number_of class_of source.entry.scope.now (loop_with source.entry.text.now source.entry.limit
         (branch source.entry.text.now source.entry.limit depth)) rest.now) }
 {
+    let rest = read_loop_head(source, depth, rest)?;
+    let ((name, header, body), rest) = read_scoped(alloc, source, depth, rest)?;
+    Ok((loop_of(alloc, source.text, name, header, body)?, rest))
+}
+
+/// "for" "(" ( "int" | "long" )
+#[tactic(auto, unfolding(crate::specs::Statements::loop_body))]
+fn read_loop_head<'a>(
+    source: Source,
+    depth: usize,
+    rest: &'a [Token],
+) -> Result<&'a [Token], Stop<'a, Symbol>>
+    ensures { Leads (λ after. looped source.entry.text.now
+        (read number_of class_of source.entry.scope.now (scoped_with source.entry.text.now source.entry.limit
+        (branch source.entry.text.now source.entry.limit depth)) after.now)) result
+        (read number_of class_of source.entry.scope.now (loop_with source.entry.text.now source.entry.limit
+        (branch source.entry.text.now source.entry.limit depth)) rest.now) }
+{
     let (_, rest) = take(rest, Symbol::For)?;
     let (_, rest) = take_hinted(rest, &[Symbol::OpenParen], Refusal::BadHeader)?;
     let (_, rest) = take_hinted(rest, &[Symbol::Int, Symbol::Long], Refusal::BadHeader)?;
-    let ((name, (from, bound), body), rest) = read_scoped(alloc, source, depth, rest)?;
-    Ok((
-        Stmt::For {
-            name: name_of(alloc, source.text, name)?,
-            from,
-            bound,
-            body: Box::new(alloc, body)?,
-        },
-        rest,
-    ))
+    Ok(rest)
+}
+
+/// The statement of a loop: of its name, of its first number and its bound, and of what it repeats.
+fn loop_of(
+    alloc: Global,
+    text: &[u8],
+    name: &Token,
+    header: (u64, Bound),
+    body: Stmt,
+) -> Result<Stmt, AllocError>
+    ensures { IfOk result (λ s. statement_of s ≡ loop_of text.now name.now header (statement_of body)) }
+{
+    let (from, bound) = header;
+    let name = name_of(alloc, text, name)?;
+    let body = Box::new(alloc, body)?;
+    Ok(Stmt::For {
+        name,
+        from,
+        bound,
+        body,
+    })
 }
 
 /// v header statement, with v in scope

@@ -1,20 +1,21 @@
 //! Classes: one function for each production, with its line of the grammar. `depth` is how many levels
 //! may nest in the braces of a method.
 
-ghost use Rattle.std.specs.Prelude.{◌≡◌, [], map, Some};
+ghost use Rattle.std.specs.Prelude.{◌≡◌, [], IfOk, map, Some};
 ghost use Rattle.trick_body.specs.Symbols.{number_of};
-ghost use Rattle.trick_grammar.specs.Gives.{Gives, class_of};
+ghost use Rattle.trick_grammar.specs.Gives.{Gives, class_of, text_of};
 ghost use Rattle.trick_grammar.specs.Reading.{read};
 ghost use Rattle.trick_body.specs.Statements.{scalar_of, unsigned_of};
 ghost use Rattle.trick_grammar.specs.Grammar.{act, repetition};
-ghost use Rattle.trick_lang.specs.Syntax.{class_part_of, definition_of};
+ghost use Rattle.trick_lang.specs.Syntax.{class_part_of, definition_of, statements_of_list};
+ghost use Rattle.trick_lang.specs.SyntaxTree;
 ghost use Rattle.trick_sdef.specs.Files.{after_int, after_name, basic_part, class, class_head, constructor_rest, int_member, int_part, int_part_of, named_part, named_part_of, other_type, part, trick_method, void_method};
 ghost use Rattle.trick_sdef.specs.Trees.{job_line_of};
 
 use crate::jobs::read_jobs;
-use crate::members::{read_declarators, read_lengths, read_more_declarators};
+use crate::members::{read_declarators, read_lengths, read_more_declarators, take_closing};
 use crate::names::{FREE_NAMES, take_free_name};
-use std::alloc::Global;
+use std::alloc::{AllocError, Global};
 use trick_base::Items;
 use trick_body::{
     NAMES, Source, Symbol, Token, UNSIGNED, name_of, read_int_inside, read_int_rest,
@@ -22,7 +23,9 @@ use trick_body::{
 };
 use trick_grammar::{Refusal, Stop, next_is, next_is_one_of, reason_at, take, take_one_of};
 use trick_lang::Scalar;
-use trick_lang::syntax::{ClassPart, Declarator, Definition, JobLine, Members, Method, TypeName};
+use trick_lang::syntax::{
+    ClassPart, Declarator, Definition, JobLine, Members, Method, Stmt, TypeName,
+};
 
 // The types of members that are one keyword other than `int`.
 const OTHER_SCALARS: [Symbol; 4] = [Symbol::Bool, Symbol::Char, Symbol::Short, Symbol::Long];
@@ -122,6 +125,20 @@ fn read_int_member<'a>(
     ))
 }
 
+// The method of this name with these statements.
+fn method_part(
+    alloc: Global,
+    text: &[u8],
+    name: &Token,
+    body: Items<Stmt>,
+) -> Result<ClassPart, AllocError>
+    ensures { IfOk result (λ p. class_part_of p ≡ SyntaxTree.HasMethod
+        (record { name = text_of text.now name.now; body = statements_of_list body })) }
+{
+    let name = name_of(alloc, text, name)?;
+    Ok(ClassPart::Method(Method { name, body }))
+}
+
 // What stands after "int" NAME: a method or members
 #[tactic(auto, unfolding(crate::specs::Files::after_int_body))]
 fn read_after_int<'a>(
@@ -139,8 +156,7 @@ fn read_after_int<'a>(
         return read_int_member(alloc, source, name, rest);
     }
     let (body, rest) = read_int_rest(alloc, source, depth, rest)?;
-    let name = name_of(alloc, source.text, name)?;
-    Ok((ClassPart::Method(Method { name, body }), rest))
+    Ok((method_part(alloc, source.text, name, body)?, rest))
 }
 
 // `trick` "(" ")" "{" { stmt } return "}"
@@ -156,8 +172,7 @@ fn read_trick_method<'a>(
     let (name, rest) = take(rest, Symbol::LowerTrick)?;
     let (_, rest) = take_hinted(rest, &[Symbol::OpenParen], Refusal::BadName)?;
     let (body, rest) = read_int_inside(alloc, source, depth, rest)?;
-    let name = name_of(alloc, source.text, name)?;
-    Ok((ClassPart::Method(Method { name, body }), rest))
+    Ok((method_part(alloc, source.text, name, body)?, rest))
 }
 
 // NAME and what stands after it, after "int"
@@ -223,8 +238,7 @@ fn read_void_method<'a>(
     let (_, rest) = take(rest, Symbol::Void)?;
     let (name, rest) = take_one_of(rest, &NAMES)?;
     let (body, rest) = read_void_rest(alloc, source, depth, rest)?;
-    let name = name_of(alloc, source.text, name)?;
-    Ok((ClassPart::Method(Method { name, body }), rest))
+    Ok((method_part(alloc, source.text, name, body)?, rest))
 }
 
 // Members of a type of keywords other than "int"
@@ -326,8 +340,25 @@ fn read_class_head(rest: &[Token]) -> Result<(&Token, &[Token]), Stop<Symbol>>
     Ok((name, rest))
 }
 
+// The class of this name with these parts.
+#[tactic(auto, using(crate::proofs::Lists::parts_are))]
+fn class_from(
+    alloc: Global,
+    text: &[u8],
+    name: &Token,
+    parts: Vec<ClassPart>,
+) -> Result<Definition, AllocError>
+    ensures { IfOk result (λ d. definition_of d
+        ≡ SyntaxTree.ClassOf (text_of text.now name.now) (map class_part_of parts.items)) }
+{
+    Ok(Definition::Class {
+        name: name_of(alloc, text, name)?,
+        parts: Items::from_vec(parts),
+    })
+}
+
 /// class = "class" NAME ":" "public" "Trick" "::" "SimObject" "{" { part } "}" ";"
-#[tactic(auto, using(crate::proofs::Lists::parts_are), unfolding(crate::specs::Files::class_body))]
+#[tactic(auto, unfolding(crate::specs::Files::class_body))]
 pub fn read_class<'a>(
     alloc: Global,
     source: Source,
@@ -339,11 +370,6 @@ pub fn read_class<'a>(
 {
     let (name, rest) = read_class_head(rest)?;
     let (parts, rest) = read_parts(alloc, source, depth, rest)?;
-    let (_, rest) = take(rest, Symbol::CloseBrace)?;
-    let (_, rest) = take(rest, Symbol::Semicolon)?;
-    let definition = Definition::Class {
-        name: name_of(alloc, source.text, name)?,
-        parts: Items::from_vec(parts),
-    };
-    Ok((definition, rest))
+    let (_, rest) = take_closing(rest)?;
+    Ok((class_from(alloc, source.text, name, parts)?, rest))
 }

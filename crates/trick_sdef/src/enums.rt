@@ -1,19 +1,21 @@
 //! Enums.
 
-ghost use Rattle.std.specs.Prelude.{◌≡◌, ◌≤◌, ◌-◌, ◌∷◌, [], map};
+ghost use Rattle.std.specs.Prelude.{◌≡◌, ◌≤◌, ◌-◌, ◌∷◌, [], IfOk, map};
 ghost use Rattle.trick_body.specs.Symbols.{number_of};
-ghost use Rattle.trick_grammar.specs.Gives.{Gives, class_of};
+ghost use Rattle.trick_grammar.specs.Gives.{Gives, class_of, text_of};
 ghost use Rattle.trick_grammar.specs.Reading.{prefixed, read};
 ghost use Rattle.trick_body.specs.Expressions.{names};
 ghost use Rattle.trick_body.specs.declared.symbol.Symbol.TheVariants.{Assign, Comma};
 ghost use Rattle.trick_grammar.specs.Grammar.{optional};
 ghost use Rattle.trick_grammar.specs.Separated.{more_items};
 ghost use Rattle.trick_lang.specs.Syntax.{definition_of};
+ghost use Rattle.trick_lang.specs.SyntaxTree;
 ghost use Rattle.trick_sdef.specs.Members.{enum, item, item_body, item_value, items};
 ghost use Rattle.trick_sdef.specs.Trees.{item_of};
 
+use crate::members::take_closing;
 use crate::names::take_free_name;
-use std::alloc::Global;
+use std::alloc::{AllocError, Global};
 use trick_base::Items;
 use trick_body::{NAMES, Source, Symbol, Token, WHOLES, name_of};
 use trick_grammar::{Refusal, Stop, next_is, next_is_one_of, take, take_one_of};
@@ -111,8 +113,25 @@ fn read_more_items<'a>(
     Ok((found, rest))
 }
 
+// The enum of this name with these items.
+#[tactic(auto, using(crate::proofs::Lists::items_are))]
+fn enum_from(
+    alloc: Global,
+    text: &[u8],
+    name: &Token,
+    items: Vec<EnumItem>,
+) -> Result<Definition, AllocError>
+    ensures { IfOk result (λ d. definition_of d
+        ≡ SyntaxTree.Enum (text_of text.now name.now) (map item_of items.items)) }
+{
+    Ok(Definition::Enum {
+        name: name_of(alloc, text, name)?,
+        items: Items::from_vec(items),
+    })
+}
+
 /// enum = "enum" NAME "{" item { "," item } [ "," ] "}" ";"
-#[tactic(auto, using(crate::proofs::Lists::items_are), unfolding(crate::specs::Members::enum_body))]
+#[tactic(auto, unfolding(crate::specs::Members::enum_body))]
 pub fn read_enum<'a>(
     alloc: Global,
     source: Source,
@@ -126,11 +145,6 @@ pub fn read_enum<'a>(
     let (name, rest) = take_free_name(rest)?;
     let (_, rest) = take(rest, Symbol::OpenBrace)?;
     let (items, rest) = read_items(alloc, source, rest)?;
-    let (_, rest) = take(rest, Symbol::CloseBrace)?;
-    let (_, rest) = take(rest, Symbol::Semicolon)?;
-    let definition = Definition::Enum {
-        name: name_of(alloc, source.text, name)?,
-        items: Items::from_vec(items),
-    };
-    Ok((definition, rest))
+    let (_, rest) = take_closing(rest)?;
+    Ok((enum_from(alloc, source.text, name, items)?, rest))
 }

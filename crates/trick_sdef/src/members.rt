@@ -1,16 +1,17 @@
 //! Members of structs and classes.
 
-ghost use Rattle.std.specs.Prelude.{◌≡◌, ◌≤◌, ◌-◌, [], map};
+ghost use Rattle.std.specs.Prelude.{◌≡◌, ◌≤◌, ◌-◌, [], IfOk, map};
 ghost use Rattle.trick_body.specs.Symbols.{number_of};
-ghost use Rattle.trick_grammar.specs.Gives.{Gives, class_of};
+ghost use Rattle.trick_grammar.specs.Gives.{Gives, class_of, text_of};
 ghost use Rattle.trick_grammar.specs.Reading.{read};
 ghost use Rattle.trick_grammar.specs.Grammar.{repetition};
 ghost use Rattle.trick_lang.specs.Syntax.{definition_of, members_of};
-ghost use Rattle.trick_sdef.specs.Members.{declared_name, declarator, declarators, length, length_end, length_number, lengths, member, more_declarators, next_declarator, struct};
+ghost use Rattle.trick_lang.specs.SyntaxTree;
+ghost use Rattle.trick_sdef.specs.Members.{closing, declared_name, declarator, declarators, length, length_end, length_number, lengths, member, more_declarators, next_declarator, struct};
 ghost use Rattle.trick_sdef.specs.Trees.{declarator_of};
 
 use crate::names::take_free_name;
-use std::alloc::Global;
+use std::alloc::{AllocError, Global};
 use trick_base::Items;
 use trick_body::{NAMES, Source, Symbol, Token, name_of, read_basic};
 use trick_grammar::{Refusal, Stop, next_is, next_is_one_of, reason_at, take, take_one_of};
@@ -266,8 +267,37 @@ fn read_members<'a>(
     Ok((found, rest))
 }
 
+/// "}" ";", which ends an enum, a struct and a class
+pub fn take_closing<'a>(
+    rest: &'a [Token],
+) -> Result<((&'a Token, &'a Token), &'a [Token]), Stop<'a, Symbol>>
+    ensures { Gives (λ x. ((x.0.0.now, x.0.1.now), x.1.now)) result
+        (read number_of class_of [] closing rest.now) }
+{
+    let (brace, rest) = take(rest, Symbol::CloseBrace)?;
+    let (end, rest) = take(rest, Symbol::Semicolon)?;
+    Ok(((brace, end), rest))
+}
+
+// The struct of this name with these members.
+#[tactic(auto, using(crate::proofs::Lists::members_are))]
+fn struct_from(
+    alloc: Global,
+    text: &[u8],
+    name: &Token,
+    members: Vec<Members>,
+) -> Result<Definition, AllocError>
+    ensures { IfOk result (λ d. definition_of d
+        ≡ SyntaxTree.Struct (text_of text.now name.now) (map members_of members.items)) }
+{
+    Ok(Definition::Struct {
+        name: name_of(alloc, text, name)?,
+        members: Items::from_vec(members),
+    })
+}
+
 /// struct = "struct" NAME "{" { member } "}" ";"
-#[tactic(auto, using(crate::proofs::Lists::members_are), unfolding(crate::specs::Members::struct_body))]
+#[tactic(auto, unfolding(crate::specs::Members::struct_body))]
 pub fn read_struct<'a>(
     alloc: Global,
     source: Source,
@@ -280,11 +310,6 @@ pub fn read_struct<'a>(
     let (name, rest) = take_free_name(rest)?;
     let (_, rest) = take(rest, Symbol::OpenBrace)?;
     let (members, rest) = read_members(alloc, source, rest)?;
-    let (_, rest) = take(rest, Symbol::CloseBrace)?;
-    let (_, rest) = take(rest, Symbol::Semicolon)?;
-    let definition = Definition::Struct {
-        name: name_of(alloc, source.text, name)?,
-        members: Items::from_vec(members),
-    };
-    Ok((definition, rest))
+    let (_, rest) = take_closing(rest)?;
+    Ok((struct_from(alloc, source.text, name, members)?, rest))
 }

@@ -1,7 +1,7 @@
-use Rattle.std.proofs.Common.{arith, ◌≡◌, length, [], ◌∷◌, Ok, List, sym, ◌∙◌, ap}
+use Rattle.std.proofs.Common.{arith, length, [], ◌∷◌, Ok, sym, ◌∙◌, ap}
 use Rattle.std.proofs.lemmas.Result.{err_from_is_err_and}
 use Rattle.trick_body.specs.Expressions.{binary, choice, link, nested, operand, step}
-use Rattle.trick_body.specs.Symbols.{number_of, Token}
+use Rattle.trick_body.specs.Symbols.{number_of}
 use Rattle.trick_body.specs.Trees.{link_of, step_of}
 use Rattle.trick_body.specs.declared.nested.Nested.TheVariants.{Chosen}
 use Rattle.trick_body.specs.declared.symbol.Symbol.TheVariants.{Dot, OpenBracket}

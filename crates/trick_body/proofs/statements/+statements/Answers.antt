@@ -1,13 +1,12 @@
-use Rattle.std.proofs.Common.{◌≡◌, [], ◌∷◌, sym, arith, ◌∙◌, ap}
+use Rattle.std.proofs.Common.{[], ◌∷◌, sym, arith, ◌∙◌}
 use Rattle.std.proofs.lemmas.Result.{err_from_is_err_and}
 use Rattle.trick_body.specs.Expressions.{names}
 use Rattle.trick_body.specs.Statements.{branch, else_link, statement, statement_first, turns_with}
 use Rattle.trick_body.specs.Symbols.{number_of}
 use Rattle.trick_body.specs.Trees.{branch_of}
 use Rattle.trick_body.specs.declared.symbol.Symbol.TheVariants.{Else}
-use Rattle.trick_body.proofs.Lists.{items_halt}
 use Rattle.trick_body.proofs.StatementTests.{else_shrinks}
-use Rattle.trick_grammar.proofs.Loops.{items_down, items_end, links_next}
+use Rattle.trick_grammar.proofs.Loops.{items_down, links_next}
 use Rattle.trick_grammar.proofs.Scopes.{scope_reads, scope_stops}
 use Rattle.trick_grammar.specs.Gives.{class_of}
 use Rattle.trick_grammar.specs.Reading.{read}

@@ -1,5 +1,0 @@
-use Rattle.trick_sdef.proofs.ProductionProofs.{files_have_productions}
-use Rattle.trick_sdef.proofs.laws.files_have_productions.Goals as goal
-
-pub returns : goal.returns
-returns c = files_have_productions

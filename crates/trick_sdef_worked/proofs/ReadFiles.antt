@@ -1,0 +1,100 @@
+-- The worked texts, as reading computes.
+use Rattle.std.proofs.Common.{refl}
+use Rattle.trick_sdef.specs.Members.{free_name_body}
+use Rattle.trick_sdef.specs.Members.{item_value_body}
+use Rattle.trick_sdef.specs.Members.{item_body}
+use Rattle.trick_sdef.specs.Members.{enum_body}
+use Rattle.trick_sdef.specs.Members.{length_body}
+use Rattle.trick_sdef.specs.Members.{lengths_body}
+use Rattle.trick_sdef.specs.Members.{declarator_body}
+use Rattle.trick_sdef.specs.Members.{more_declarators_body}
+use Rattle.trick_sdef.specs.Members.{declarators_body}
+use Rattle.trick_sdef.specs.Members.{member_body}
+use Rattle.trick_sdef.specs.Members.{struct_body}
+use Rattle.trick_sdef.specs.Jobs.{time_body}
+use Rattle.trick_sdef.specs.Jobs.{cycle_body}
+use Rattle.trick_sdef.specs.Jobs.{scheduled_class_body}
+use Rattle.trick_sdef.specs.Jobs.{other_class_body}
+use Rattle.trick_sdef.specs.Jobs.{times_body}
+use Rattle.trick_sdef.specs.Jobs.{thread_body}
+use Rattle.trick_sdef.specs.Jobs.{phase_body}
+use Rattle.trick_sdef.specs.Jobs.{job_body}
+use Rattle.trick_sdef.specs.Files.{include_body}
+use Rattle.trick_sdef.specs.Files.{constructor_body}
+use Rattle.trick_sdef.specs.Files.{other_type_body}
+use Rattle.trick_sdef.specs.Files.{after_int_body}
+use Rattle.trick_sdef.specs.Files.{int_part_body}
+use Rattle.trick_sdef.specs.Files.{part_body}
+use Rattle.trick_sdef.specs.Files.{after_name_body, class_body, class_head_body}
+use Rattle.trick_sdef.specs.Jobs.{timed_body, every_body, called_body}
+use Rattle.trick_sdef.specs.Files.{object_body}
+use Rattle.trick_sdef.specs.Files.{definition_body, file_body}
+use Rattle.trick_grammar.specs.Separated.{separated_body, behind_item}
+use Rattle.trick_body.specs.Expressions.{expression_body, step_body, place_body, operand_body, nested_body as expressions_nested}
+use Rattle.trick_body.specs.Statements.{basic_body, loop_step_body, loop_test_body, header_body, value_body, call_body, operation_body, free_change_body, bound_change_body, named_body, by_name_body, free_steps_body, bound_steps_body, counted_body, declaration_body, simple_body, block_body, test_body, else_body, choice_body, loop_body, unbranched_body, unblocked_body, statement_body, branch_body, nested_body as statements_nested}
+use Rattle.trick_body.specs.Methods.{return_body, void_inside_body, int_inside_body, void_body, int_body, method_body}
+use Rattle.trick_sdef_worked.specs.ReadFiles.{FilesAreRead, IncludeLine, Items, LastComma, Types, Declarators, ClassMembers, Methods, JobClasses, MoreJobClasses, TimesOfJobs, ThreadsAndPhases, Objects}
+
+include_line_read : IncludeLine
+unfolding expression_body step_body place_body operand_body expressions_nested basic_body loop_step_body loop_test_body header_body value_body call_body operation_body free_change_body bound_change_body named_body by_name_body free_steps_body bound_steps_body counted_body declaration_body simple_body block_body test_body else_body choice_body loop_body unbranched_body unblocked_body statement_body branch_body statements_nested return_body void_inside_body int_inside_body void_body int_body method_body free_name_body item_value_body item_body enum_body length_body lengths_body declarator_body more_declarators_body declarators_body member_body struct_body time_body cycle_body scheduled_class_body other_class_body times_body timed_body every_body called_body thread_body phase_body job_body include_body constructor_body other_type_body after_int_body int_part_body after_name_body part_body class_head_body class_body object_body definition_body file_body separated_body behind_item
+include_line_read = (refl, refl)
+
+items_read : Items
+unfolding expression_body step_body place_body operand_body expressions_nested basic_body loop_step_body loop_test_body header_body value_body call_body operation_body free_change_body bound_change_body named_body by_name_body free_steps_body bound_steps_body counted_body declaration_body simple_body block_body test_body else_body choice_body loop_body unbranched_body unblocked_body statement_body branch_body statements_nested return_body void_inside_body int_inside_body void_body int_body method_body free_name_body item_value_body item_body enum_body length_body lengths_body declarator_body more_declarators_body declarators_body member_body struct_body time_body cycle_body scheduled_class_body other_class_body times_body timed_body every_body called_body thread_body phase_body job_body include_body constructor_body other_type_body after_int_body int_part_body after_name_body part_body class_head_body class_body object_body definition_body file_body separated_body behind_item
+items_read = (refl, refl)
+
+last_comma_read : LastComma
+unfolding expression_body step_body place_body operand_body expressions_nested basic_body loop_step_body loop_test_body header_body value_body call_body operation_body free_change_body bound_change_body named_body by_name_body free_steps_body bound_steps_body counted_body declaration_body simple_body block_body test_body else_body choice_body loop_body unbranched_body unblocked_body statement_body branch_body statements_nested return_body void_inside_body int_inside_body void_body int_body method_body free_name_body item_value_body item_body enum_body length_body lengths_body declarator_body more_declarators_body declarators_body member_body struct_body time_body cycle_body scheduled_class_body other_class_body times_body timed_body every_body called_body thread_body phase_body job_body include_body constructor_body other_type_body after_int_body int_part_body after_name_body part_body class_head_body class_body object_body definition_body file_body separated_body behind_item
+last_comma_read = (refl, refl)
+
+types_read : Types
+unfolding expression_body step_body place_body operand_body expressions_nested basic_body loop_step_body loop_test_body header_body value_body call_body operation_body free_change_body bound_change_body named_body by_name_body free_steps_body bound_steps_body counted_body declaration_body simple_body block_body test_body else_body choice_body loop_body unbranched_body unblocked_body statement_body branch_body statements_nested return_body void_inside_body int_inside_body void_body int_body method_body free_name_body item_value_body item_body enum_body length_body lengths_body declarator_body more_declarators_body declarators_body member_body struct_body time_body cycle_body scheduled_class_body other_class_body times_body timed_body every_body called_body thread_body phase_body job_body include_body constructor_body other_type_body after_int_body int_part_body after_name_body part_body class_head_body class_body object_body definition_body file_body separated_body behind_item
+types_read = (refl, refl)
+
+declarators_read : Declarators
+unfolding expression_body step_body place_body operand_body expressions_nested basic_body loop_step_body loop_test_body header_body value_body call_body operation_body free_change_body bound_change_body named_body by_name_body free_steps_body bound_steps_body counted_body declaration_body simple_body block_body test_body else_body choice_body loop_body unbranched_body unblocked_body statement_body branch_body statements_nested return_body void_inside_body int_inside_body void_body int_body method_body free_name_body item_value_body item_body enum_body length_body lengths_body declarator_body more_declarators_body declarators_body member_body struct_body time_body cycle_body scheduled_class_body other_class_body times_body timed_body every_body called_body thread_body phase_body job_body include_body constructor_body other_type_body after_int_body int_part_body after_name_body part_body class_head_body class_body object_body definition_body file_body separated_body behind_item
+declarators_read = (refl, refl)
+
+class_members_read : ClassMembers
+unfolding expression_body step_body place_body operand_body expressions_nested basic_body loop_step_body loop_test_body header_body value_body call_body operation_body free_change_body bound_change_body named_body by_name_body free_steps_body bound_steps_body counted_body declaration_body simple_body block_body test_body else_body choice_body loop_body unbranched_body unblocked_body statement_body branch_body statements_nested return_body void_inside_body int_inside_body void_body int_body method_body free_name_body item_value_body item_body enum_body length_body lengths_body declarator_body more_declarators_body declarators_body member_body struct_body time_body cycle_body scheduled_class_body other_class_body times_body timed_body every_body called_body thread_body phase_body job_body include_body constructor_body other_type_body after_int_body int_part_body after_name_body part_body class_head_body class_body object_body definition_body file_body separated_body behind_item
+class_members_read = (refl, refl)
+
+methods_read : Methods
+unfolding expression_body step_body place_body operand_body expressions_nested basic_body loop_step_body loop_test_body header_body value_body call_body operation_body free_change_body bound_change_body named_body by_name_body free_steps_body bound_steps_body counted_body declaration_body simple_body block_body test_body else_body choice_body loop_body unbranched_body unblocked_body statement_body branch_body statements_nested return_body void_inside_body int_inside_body void_body int_body method_body free_name_body item_value_body item_body enum_body length_body lengths_body declarator_body more_declarators_body declarators_body member_body struct_body time_body cycle_body scheduled_class_body other_class_body times_body timed_body every_body called_body thread_body phase_body job_body include_body constructor_body other_type_body after_int_body int_part_body after_name_body part_body class_head_body class_body object_body definition_body file_body separated_body behind_item
+methods_read = (refl, refl)
+
+job_classes_read : JobClasses
+unfolding expression_body step_body place_body operand_body expressions_nested basic_body loop_step_body loop_test_body header_body value_body call_body operation_body free_change_body bound_change_body named_body by_name_body free_steps_body bound_steps_body counted_body declaration_body simple_body block_body test_body else_body choice_body loop_body unbranched_body unblocked_body statement_body branch_body statements_nested return_body void_inside_body int_inside_body void_body int_body method_body free_name_body item_value_body item_body enum_body length_body lengths_body declarator_body more_declarators_body declarators_body member_body struct_body time_body cycle_body scheduled_class_body other_class_body times_body timed_body every_body called_body thread_body phase_body job_body include_body constructor_body other_type_body after_int_body int_part_body after_name_body part_body class_head_body class_body object_body definition_body file_body separated_body behind_item
+job_classes_read = (refl, refl)
+
+more_job_classes_read : MoreJobClasses
+unfolding expression_body step_body place_body operand_body expressions_nested basic_body loop_step_body loop_test_body header_body value_body call_body operation_body free_change_body bound_change_body named_body by_name_body free_steps_body bound_steps_body counted_body declaration_body simple_body block_body test_body else_body choice_body loop_body unbranched_body unblocked_body statement_body branch_body statements_nested return_body void_inside_body int_inside_body void_body int_body method_body free_name_body item_value_body item_body enum_body length_body lengths_body declarator_body more_declarators_body declarators_body member_body struct_body time_body cycle_body scheduled_class_body other_class_body times_body timed_body every_body called_body thread_body phase_body job_body include_body constructor_body other_type_body after_int_body int_part_body after_name_body part_body class_head_body class_body object_body definition_body file_body separated_body behind_item
+more_job_classes_read = (refl, refl)
+
+times_of_jobs_read : TimesOfJobs
+unfolding expression_body step_body place_body operand_body expressions_nested basic_body loop_step_body loop_test_body header_body value_body call_body operation_body free_change_body bound_change_body named_body by_name_body free_steps_body bound_steps_body counted_body declaration_body simple_body block_body test_body else_body choice_body loop_body unbranched_body unblocked_body statement_body branch_body statements_nested return_body void_inside_body int_inside_body void_body int_body method_body free_name_body item_value_body item_body enum_body length_body lengths_body declarator_body more_declarators_body declarators_body member_body struct_body time_body cycle_body scheduled_class_body other_class_body times_body timed_body every_body called_body thread_body phase_body job_body include_body constructor_body other_type_body after_int_body int_part_body after_name_body part_body class_head_body class_body object_body definition_body file_body separated_body behind_item
+times_of_jobs_read = (refl, refl)
+
+threads_and_phases_read : ThreadsAndPhases
+unfolding expression_body step_body place_body operand_body expressions_nested basic_body loop_step_body loop_test_body header_body value_body call_body operation_body free_change_body bound_change_body named_body by_name_body free_steps_body bound_steps_body counted_body declaration_body simple_body block_body test_body else_body choice_body loop_body unbranched_body unblocked_body statement_body branch_body statements_nested return_body void_inside_body int_inside_body void_body int_body method_body free_name_body item_value_body item_body enum_body length_body lengths_body declarator_body more_declarators_body declarators_body member_body struct_body time_body cycle_body scheduled_class_body other_class_body times_body timed_body every_body called_body thread_body phase_body job_body include_body constructor_body other_type_body after_int_body int_part_body after_name_body part_body class_head_body class_body object_body definition_body file_body separated_body behind_item
+threads_and_phases_read = (refl, refl)
+
+objects_read : Objects
+unfolding expression_body step_body place_body operand_body expressions_nested basic_body loop_step_body loop_test_body header_body value_body call_body operation_body free_change_body bound_change_body named_body by_name_body free_steps_body bound_steps_body counted_body declaration_body simple_body block_body test_body else_body choice_body loop_body unbranched_body unblocked_body statement_body branch_body statements_nested return_body void_inside_body int_inside_body void_body int_body method_body free_name_body item_value_body item_body enum_body length_body lengths_body declarator_body more_declarators_body declarators_body member_body struct_body time_body cycle_body scheduled_class_body other_class_body times_body timed_body every_body called_body thread_body phase_body job_body include_body constructor_body other_type_body after_int_body int_part_body after_name_body part_body class_head_body class_body object_body definition_body file_body separated_body behind_item
+objects_read = (refl, refl)
+
+pub read_files : FilesAreRead
+read_files = record {
+  include_line = include_line_read;
+  items = items_read;
+  last_comma = last_comma_read;
+  types = types_read;
+  declarators = declarators_read;
+  class_members = class_members_read;
+  methods = methods_read;
+  job_classes = job_classes_read;
+  more_job_classes = more_job_classes_read;
+  times_of_jobs = times_of_jobs_read;
+  threads_and_phases = threads_and_phases_read;
+  objects = objects_read;
+}
