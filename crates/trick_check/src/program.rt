@@ -1,11 +1,12 @@
-ghost use Rattle.std.specs.Prelude.{◌≡◌, IfErr, IfOk, length};
+ghost use Rattle.std.specs.Prelude.{◌≡◌, IfErr, IfOk, IsTrue, length};
 ghost use Rattle.trick_bodies.specs.Classes.{AreWhole, made};
 ghost use Rattle.trick_check.specs.Draft.{IsDraft, IsWhole};
 ghost use Rattle.trick_check.specs.Named.{IsNamed};
 ghost use Rattle.trick_check.specs.Parts.{AreOrders};
 ghost use Rattle.trick_check.specs.Refused.{IsRefused, JobsAreRight, NamesAreRight};
-ghost use Rattle.trick_check.specs.Walk.{all_made, objects_of, sizes_of};
+ghost use Rattle.trick_check.specs.Walk.{all_made, jobs_named, objects_of, sizes_of};
 ghost use Rattle.trick_lang.specs.Syntax.{definitions_of, sdefine_of};
+ghost use Rattle.trick_lang.specs.Valid.{are_short};
 ghost use Rattle.trick_names.specs.Tables.{tables_of};
 
 use crate::CheckFault;
@@ -20,8 +21,8 @@ use trick_base::Items;
 use trick_bodies::Bodies;
 use trick_cells::{cells, items, laws as cell_laws, lay_out};
 use trick_jobs::jobs;
-use trick_lang::Program;
 use trick_lang::syntax::{Definition, SDefine};
+use trick_lang::{Job, Object, Program};
 use trick_names::Tables;
 
 // What is made of the classes.
@@ -55,6 +56,27 @@ fn make_bodies(
     )
 }
 
+// The jobs, each with few enough steps, where this is made of the classes.
+fn make_jobs(
+    alloc: Memory,
+    definitions: &[Definition],
+    bodies: &Bodies,
+    objects: &[Object],
+) -> Result<Items<Job>, CheckFault>
+    requires objects { objects.now ≡ objects_of (definitions_of definitions.now) }
+    requires made { made bodies.now ≡ all_made (definitions_of definitions.now) }
+    requires right { JobsAreRight (definitions_of definitions.now) }
+    ensures jobs { IfOk result (λ jobs. jobs ≡ jobs_named (definitions_of definitions.now)) }
+    ensures short { IfOk result (λ jobs. IsTrue (are_short bodies.now.blocks.items bodies.now.methods jobs)) }
+    ensures refused { IfErr result (λ fault. IsRefused (definitions_of definitions.now) fault) }
+{
+    let jobs = jobs(alloc, definitions, bodies.numbers.as_slice(), objects)?;
+    match check_steps(alloc, bodies, objects, jobs.as_slice()) {
+        Ok(()) => Ok(jobs),
+        Err(fault) => Err(fault),
+    }
+}
+
 // All parts of the program.
 fn make(
     alloc: Memory,
@@ -76,26 +98,30 @@ fn make(
     cell_laws::declared_law();
     cell_laws::unfold_law();
     cell_laws::count_law();
-    let bodies = make_bodies(alloc, definitions, tables, orders, &counted)?;
-    let objects = counted.objects;
-    let jobs = jobs(
-        alloc,
-        definitions,
-        bodies.numbers.as_slice(),
-        objects.as_slice(),
-    )?;
     let cells = cells(alloc, &counted.sizes, tables)?;
     let items = items(alloc, &tables.names)?;
-    match check_steps(alloc, &bodies, objects.as_slice(), jobs.as_slice()) {
-        Ok(()) => Ok(Draft {
-            cells,
-            items,
-            objects,
-            bodies,
-            jobs,
-        }),
-        Err(fault) => Err(fault),
-    }
+    let bodies = make_bodies(alloc, definitions, tables, orders, &counted)?;
+    let jobs = make_jobs(alloc, definitions, &bodies, counted.objects.as_slice())?;
+    Ok(Draft {
+        cells,
+        items,
+        objects: counted.objects,
+        bodies,
+        jobs,
+    })
+}
+
+// All parts of the program of a file whose names are right.
+fn draft_of(alloc: Memory, definitions: &[Definition], tables: &Tables) -> Result<Draft, CheckFault>
+    requires tables { tables.now ≡ tables_of (definitions_of definitions.now) }
+    requires right { NamesAreRight (definitions_of definitions.now) }
+    ensures draft { IfOk result (λ draft. IsDraft (definitions_of definitions.now) draft) }
+    ensures whole { IfOk result (λ draft. IsWhole draft) }
+    ensures refused { IfErr result (λ fault. IsRefused (definitions_of definitions.now) fault) }
+{
+    let orders = orders(alloc, definitions, tables)?;
+    let counted = count(alloc, definitions, tables)?;
+    make(alloc, definitions, tables, orders.as_slice(), counted)
 }
 
 // The program of a file whose names are right.
@@ -109,14 +135,11 @@ fn resolve_definitions(
     ensures named { IfOk result (λ program. IsNamed (definitions_of definitions.now) program) }
     ensures refused { IfErr result (λ fault. IsRefused (definitions_of definitions.now) fault) }
 {
-    let orders = orders(alloc, definitions, tables)?;
-    let counted = count(alloc, definitions, tables)?;
-    let draft = make(alloc, definitions, tables, orders.as_slice(), counted)?;
-    let tested = is_tested(alloc, &draft)?;
-    if !tested {
-        return Err(CheckFault::OutOfMemory);
+    let draft = draft_of(alloc, definitions, tables)?;
+    match is_tested(alloc, &draft) {
+        Ok(true) => Ok(join(draft)),
+        Ok(false) | Err(_) => Err(CheckFault::OutOfMemory),
     }
-    Ok(join(draft))
 }
 
 /// The program that a file names, or the first refusal of the first kind that the file has

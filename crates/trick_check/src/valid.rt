@@ -25,19 +25,34 @@ fn is_short(name: &Word) -> bool
 fn objects_are_short(objects: &[Object]) -> bool
     ensures { result ≡ list_all (λ object. is_short object.name) objects.now }
 {
-    objects.iter().all(|object| is_short(&object.name))
+    for object in objects {
+        if !is_short(&object.name) {
+            return false;
+        }
+    }
+    true
 }
 
 fn methods_are_short(methods: &[Method]) -> bool
     ensures { result ≡ list_all (λ method. is_short method.name) methods.now }
 {
-    methods.iter().all(|method| is_short(&method.name))
+    for method in methods {
+        if !is_short(&method.name) {
+            return false;
+        }
+    }
+    true
 }
 
 fn items_are_short(items: &[EnumItem]) -> bool
     ensures { result ≡ list_all (λ item. is_short item.name) items.now }
 {
-    items.iter().all(|item| is_short(&item.name))
+    for item in items {
+        if !is_short(&item.name) {
+            return false;
+        }
+    }
+    true
 }
 
 /// Whether names of objects, methods and enum items have at most 64 bytes.
@@ -138,14 +153,24 @@ fn has_right_times(job: &Job) -> bool
 pub fn have_right_times(jobs: &[Job]) -> bool
     ensures { result ≡ have_right_times jobs.now }
 {
-    jobs.iter().all(|job| has_right_times(job))
+    for job in jobs {
+        if !has_right_times(job) {
+            return false;
+        }
+    }
+    true
 }
 
 /// Whether threads go from 0 to 15.
 pub fn have_right_threads(jobs: &[Job]) -> bool
     ensures { result ≡ have_right_threads jobs.now }
 {
-    jobs.iter().all(|job| job.thread <= 15)
+    for job in jobs {
+        if job.thread > 15 {
+            return false;
+        }
+    }
+    true
 }
 
 // Whether the object and the method of a job are there, and of one class.
@@ -163,5 +188,10 @@ fn job_stands(objects: &[Object], methods: &[Method], job: &Job) -> bool
 pub fn jobs_stand(objects: &[Object], methods: &[Method], jobs: &[Job]) -> bool
     ensures { result ≡ jobs_stand objects.now methods.now jobs.now }
 {
-    jobs.iter().all(|job| job_stands(objects, methods, job))
+    for job in jobs {
+        if !job_stands(objects, methods, job) {
+            return false;
+        }
+    }
+    true
 }

@@ -7,7 +7,7 @@ use trick_text::TimeFault;
 pub type Time = Result<u64, TimeFault>;
 
 /// One line of an input.
-#[derive(Debug, Drop)]
+#[derive(Drop)]
 pub struct Call {
     /// What the line says.
     pub form: Form,
@@ -17,7 +17,7 @@ pub struct Call {
 
 /// What a line of an input says. The page FORMATS of the documents has the form of each. Names of
 /// variables, jobs, groups and events are as they are written; nothing here is looked up.
-#[derive(Debug, Drop)]
+#[derive(Drop)]
 pub enum Form {
     /// The cell of this full name begins with a number, from -(2^63) to 2^63.
     Assign {

@@ -4,7 +4,7 @@ ghost use Rattle.std.specs.Prelude.{◌≡◌, nat_eq, nat_lt};
 ghost use Rattle.trick_input.specs.Classes.{is_name, number_of};
 
 /// The class of a token: all that the forms of lines see of it. Names, and words of forms, stand first.
-#[derive(Clone, Copy, Debug, PartialEq, Eq)]
+#[derive(Clone, Copy, PartialEq, Eq)]
 pub enum Class {
     /// Another name.
     Name,

@@ -6,7 +6,7 @@ ghost use Rattle.trick_input.specs.Forms.{fits, pieces, rows};
 use crate::class::Class;
 
 /// A sort of token.
-#[derive(Clone, Copy, Debug, PartialEq, Eq)]
+#[derive(Clone, Copy, PartialEq, Eq)]
 pub enum Sort {
     /// A token of this class.
     Is(Class),
@@ -31,7 +31,7 @@ pub enum Sort {
 }
 
 /// A piece of a form.
-#[derive(Clone, Copy, Debug, PartialEq, Eq)]
+#[derive(Clone, Copy, PartialEq, Eq)]
 pub enum Piece {
     /// One token.
     One(Sort),
@@ -40,7 +40,7 @@ pub enum Piece {
 }
 
 /// A form of a line. `Minus` at the end of its name says that its literal has a `-`.
-#[derive(Clone, Copy, Debug, PartialEq, Eq)]
+#[derive(Clone, Copy, PartialEq, Eq)]
 pub enum Row {
     ThisOwn,
     ThisOwnMinus,

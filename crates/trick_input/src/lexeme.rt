@@ -14,7 +14,7 @@ use std::alloc::{AllocError, Global};
 use trick_text::{Token, TokenKind, seconds, whole};
 
 /// A token of an input.
-#[derive(Clone, Copy, Debug)]
+#[derive(Clone, Copy)]
 pub struct Lexeme<'a> {
     pub class: Class,
     pub bytes: &'a [u8],
@@ -103,13 +103,23 @@ fn begins_name(byte: u8) -> bool
     byte.is_ascii_alphabetic() || byte == b'_'
 }
 
+// Whether this byte may stand in a name.
+fn is_in_name(byte: u8) -> bool
+    ensures { result ≡ is_in_name byte }
+{
+    byte.is_ascii_alphanumeric() || byte == b'_'
+}
+
 // Whether these bytes may stand in a name.
 fn are_in_name(bytes: &[u8]) -> bool
     ensures { result ≡ list_all is_in_name bytes.now }
 {
-    bytes
-        .iter()
-        .all(|byte| byte.is_ascii_alphanumeric() || *byte == b'_')
+    for byte in bytes {
+        if !is_in_name(*byte) {
+            return false;
+        }
+    }
+    true
 }
 
 // Whether the bytes are a name.

@@ -10,14 +10,14 @@ use crate::form::{Piece, Row, Sort, fits, pieces, rows};
 use crate::lexeme::Lexeme;
 
 /// Where a form stands: how many tokens are left, and whether a literal is due.
-#[derive(Clone, Copy, Debug, PartialEq, Eq)]
+#[derive(Clone, Copy, PartialEq, Eq)]
 pub struct Place {
     pub left: usize,
     pub due: bool,
 }
 
 /// Where in the rest of a path.
-#[derive(Clone, Copy, Debug, PartialEq, Eq)]
+#[derive(Clone, Copy, PartialEq, Eq)]
 pub enum Inside {
     Nowhere,
     Member,
