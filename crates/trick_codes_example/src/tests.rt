@@ -1,8 +1,10 @@
+//! The file of a panel, which is loaded and printed again, and files that differ from it.
+
 use super::*;
 use std::alloc::{AllocError, Global};
 use std::test::Fail;
 use trick_base::Word;
-use trick_codes::{LoadFault, Miss, Range, free, integer, number, word_line};
+use trick_codes::{LoadFault, Range};
 
 const LINES: [&[u8]; 10] = [
     b"panel = 1;",
@@ -15,6 +17,58 @@ const LINES: [&[u8]; 10] = [
     b"note[0] = 12;",
     b"note[1] = 0;",
     b"end;",
+];
+
+// The line that is another, counted from 1, what stands there, and what is told of that file.
+const OTHERS: [(usize, &[u8], LoadFault); 37] = [
+    (2, b"turn = +7;", LoadFault::BadLine { line: 2 }),
+    (2, b"turn = 07;", LoadFault::BadLine { line: 2 }),
+    (2, b"turn = -0;", LoadFault::BadLine { line: 2 }),
+    (2, b"turn = ;", LoadFault::BadLine { line: 2 }),
+    (2, b"turn = 7", LoadFault::BadLine { line: 2 }),
+    (2, b"turn=7;", LoadFault::BadLine { line: 2 }),
+    (2, b" = 7;", LoadFault::BadLine { line: 2 }),
+    (2, b"end;", LoadFault::BadLine { line: 2 }),
+    (2, b"turn = 7;\n", LoadFault::BadLine { line: 3 }),
+    (3, b"mode = Off;", LoadFault::BadLine { line: 3 }),
+    (3, b"mode = 1;", LoadFault::BadLine { line: 3 }),
+    (4, b"tank.level = -;", LoadFault::BadLine { line: 4 }),
+    (4, b"tank.level = -0;", LoadFault::BadLine { line: 4 }),
+    (4, b"tank.level = 01;", LoadFault::BadLine { line: 4 }),
+    (6, b"last = 3;", LoadFault::BadLine { line: 6 }),
+    (6, b"last = 3,;", LoadFault::BadLine { line: 6 }),
+    (6, b"last = nil;", LoadFault::BadLine { line: 6 }),
+    (7, b"notes = 3;", LoadFault::BadLine { line: 10 }),
+    (10, b"end;;", LoadFault::BadLine { line: 10 }),
+    // Lines with another name than the one that is due.
+    (1, b"Panel = 1;", LoadFault::WrongPlan { line: 1 }),
+    (4, b"valve = 1;", LoadFault::WrongPlan { line: 4 }),
+    (6, b"mode = Run;", LoadFault::WrongPlan { line: 6 }),
+    (7, b"notes = 1;", LoadFault::WrongPlan { line: 9 }),
+    (9, b"note[2] = 0;", LoadFault::WrongPlan { line: 9 }),
+    (10, b"x y = z;", LoadFault::WrongPlan { line: 10 }),
+    // Numbers that are written rightly and out of their ranges.
+    (1, b"panel = 0;", LoadFault::OutOfRange { line: 1 }),
+    (1, b"panel = 2;", LoadFault::OutOfRange { line: 1 }),
+    (
+        2,
+        b"turn = 9223372036854775808;",
+        LoadFault::OutOfRange { line: 2 },
+    ),
+    (2, b"turn = -1;", LoadFault::OutOfRange { line: 2 }),
+    (4, b"tank.level = -6;", LoadFault::OutOfRange { line: 4 }),
+    (4, b"tank.level = 11;", LoadFault::OutOfRange { line: 4 }),
+    (5, b"valve = -1;", LoadFault::OutOfRange { line: 5 }),
+    (6, b"last = 3,2;", LoadFault::OutOfRange { line: 6 }),
+    (7, b"notes = 1001;", LoadFault::OutOfRange { line: 7 }),
+    (
+        8,
+        b"note[0] = 4294967296;",
+        LoadFault::OutOfRange { line: 8 },
+    ),
+    // More than the file.
+    (10, b"end;\nx", LoadFault::Trailing { at: 119 }),
+    (10, b"end;\n", LoadFault::Trailing { at: 119 }),
 ];
 
 // A tank's level from -5 to 10, and a valve of 0 or 1.
@@ -36,7 +90,7 @@ fn gauges(alloc: Global) -> Result<Vec<Gauge>, AllocError> {
     Ok(gauges)
 }
 
-// The file above, with another line, counted from 1, in the place of that one.
+// The file, with another line, counted from 1, in the place of that one; none is counted 0.
 fn file(alloc: Global, line: usize, text: &[u8]) -> Result<Vec<u8>, AllocError> {
     let mut all = Vec::new(alloc);
     for (place, right) in LINES.iter().enumerate() {
@@ -50,144 +104,60 @@ fn file(alloc: Global, line: usize, text: &[u8]) -> Result<Vec<u8>, AllocError> 
     Ok(all)
 }
 
-// The refusal of a text.
-fn refusal(alloc: Global, text: &[u8]) -> Result<Option<LoadFault>, AllocError> {
-    let gauges = gauges(alloc)?;
-    match load(alloc, &gauges, text) {
-        Ok(_) => Ok(None),
-        Err(fault) => Ok(Some(fault)),
-    }
+fn shows_the_file(readings: &Readings) -> bool {
+    readings.turn == 7
+        && readings.mode == Mode::Freeze
+        && readings.values.as_slice() == [-5, 1].as_slice()
+        && readings.notes.as_slice() == [12, 0].as_slice()
 }
 
-#[test]
-fn loads_what_was_printed(rt: HostRuntime) -> Result<(), Fail> {
-    let alloc = rt.alloc();
-    let gauges = gauges(alloc)?;
-    let text = file(alloc, 0, b"")?;
-    match load(alloc, &gauges, &text) {
+// Whether the file is loaded, and printed again as it is.
+fn is_printed_again(alloc: Global, gauges: &[Gauge], text: &[u8]) -> Result<bool, AllocError> {
+    match load(alloc, gauges, text) {
         Ok(readings) => {
-            assert_eq!(rt; readings.turn, 7);
-            assert_eq!(rt; readings.mode, Mode::Freeze);
-            assert_eq!(rt; readings.values.as_slice(), [-5, 1].as_slice());
-            assert_eq!(rt; readings.notes.as_slice(), [12, 0].as_slice());
-            let again = print(alloc, &gauges, &readings)?;
-            assert_eq!(rt; again.as_slice(), text.as_slice());
+            let again = print(alloc, gauges, &readings)?;
+            Ok(shows_the_file(&readings) && again.as_slice() == text)
         }
-        Err(fault) => assert_eq!(rt; Some(fault), None),
+        Err(_) => Ok(false),
     }
-    Ok(())
 }
 
-#[test]
-fn each_proper_prefix_is_truncated(rt: HostRuntime) -> Result<(), Fail> {
-    let alloc = rt.alloc();
-    let text = file(alloc, 0, b"")?;
+// The refusal of a text.
+fn refusal(alloc: Global, gauges: &[Gauge], text: &[u8]) -> Option<LoadFault> {
+    load(alloc, gauges, text).err()
+}
+
+// Whether each proper beginning of the file is refused as one that is cut.
+fn are_cut(alloc: Global, gauges: &[Gauge], text: &[u8]) -> bool {
     for at in 0..text.len() {
-        let (front, _) = text.split_at(at);
-        assert_eq!(rt; refusal(alloc, front)?, Some(LoadFault::Truncated { at }));
+        if refusal(alloc, gauges, &text[..at]) != Some(LoadFault::Truncated { at }) {
+            return false;
+        }
     }
-    let mut longer = file(alloc, 0, b"")?;
-    let at = longer.len();
-    longer.push(b'x')?;
-    assert_eq!(rt; refusal(alloc, &longer)?, Some(LoadFault::Trailing { at }));
-    Ok(())
+    true
 }
 
-// The refusal of the file with another line, counted from 1.
+// Whether the file is loaded, and no proper beginning of it.
+fn loads_the_whole(alloc: Global) -> Result<bool, AllocError> {
+    let gauges = gauges(alloc)?;
+    let text = file(alloc, 0, b"")?;
+    let again = is_printed_again(alloc, &gauges, &text)?;
+    Ok(again && are_cut(alloc, &gauges, &text))
+}
+
+// What is told of the file with another line, counted from 1.
 fn fault(alloc: Global, line: usize, text: &[u8]) -> Result<Option<LoadFault>, AllocError> {
-    let text = file(alloc, line, text)?;
-    refusal(alloc, &text)
+    let gauges = gauges(alloc)?;
+    let other = file(alloc, line, text)?;
+    Ok(refusal(alloc, &gauges, &other))
 }
 
 #[test]
-fn refuses_at_the_first_wrong_line(rt: HostRuntime) -> Result<(), Fail> {
+fn loads_the_file_and_refuses_others(rt: HostRuntime) -> Result<(), Fail> {
     let alloc = rt.alloc();
-    let bad = [
-        (2, b"turn = +7;".as_slice(), 2),
-        (2, b"turn = 07;", 2),
-        (2, b"turn = -0;", 2),
-        (2, b"turn = ;", 2),
-        (2, b"turn = 7", 2),
-        (2, b"turn=7;", 2),
-        (2, b" = 7;", 2),
-        (2, b"end;", 2),
-        (2, b"turn = 7;\n", 3),
-        (3, b"mode = Off;", 3),
-        (3, b"mode = 1;", 3),
-        (4, b"tank.level = -;", 4),
-        (6, b"last = 3;", 6),
-        (6, b"last = 3,;", 6),
-        (6, b"last = nil;", 6),
-        (7, b"notes = 3;", 10),
-        (10, b"end;;", 10),
-    ];
-    for (place, text, line) in bad {
-        assert_eq!(rt;
-            fault(alloc, place, text)?,
-            Some(LoadFault::BadLine { line }),
-            "{text:?}"
-        );
-    }
-    let wrong = [
-        (1, b"Panel = 1;".as_slice(), 1),
-        (4, b"valve = 1;", 4),
-        (6, b"mode = Run;", 6),
-        (7, b"notes = 1;", 9),
-        (9, b"note[2] = 0;", 9),
-        (10, b"x y = z;", 10),
-    ];
-    for (place, text, line) in wrong {
-        assert_eq!(rt;
-            fault(alloc, place, text)?,
-            Some(LoadFault::WrongPlan { line }),
-            "{text:?}"
-        );
-    }
-    let out_of_range = [
-        (1, b"panel = 2;".as_slice(), 1),
-        (2, b"turn = 9223372036854775808;", 2),
-        (2, b"turn = -1;", 2),
-        (4, b"tank.level = -6;", 4),
-        (4, b"tank.level = 11;", 4),
-        (5, b"valve = -1;", 5),
-        (6, b"last = 3,2;", 6),
-        (7, b"notes = 1001;", 7),
-        (8, b"note[0] = 4294967296;", 8),
-    ];
-    for (place, text, line) in out_of_range {
-        assert_eq!(rt;
-            fault(alloc, place, text)?,
-            Some(LoadFault::OutOfRange { line }),
-            "{text:?}"
-        );
+    assert!(rt; loads_the_whole(alloc)?);
+    for (line, text, want) in OTHERS {
+        assert_eq!(rt; fault(alloc, line, text)?, Some(want), "{text:?}");
     }
     Ok(())
-}
-
-#[test]
-fn reads_within_a_line(rt: HostRuntime) {
-    let cases: [(&[u8], Result<(i64, &[u8]), Miss>); 7] = [
-        (b"10;x", Ok((10, b"x"))),
-        (b"-5;", Ok((-5, b""))),
-        (b"-", Err(Miss::Ends)),
-        (b"1", Err(Miss::Ends)),
-        (b"-0;", Err(Miss::Differs)),
-        (b"11;", Err(Miss::Differs)),
-        (b"01;", Err(Miss::Differs)),
-    ];
-    let range = Range {
-        below: 5,
-        above: 10,
-    };
-    for (text, want) in cases {
-        assert_eq!(rt; integer(range, b';', text), want, "{text:?}");
-    }
-    assert_eq!(rt; number(1, 15, b' ', b"0 "), Err(Miss::Differs));
-    assert_eq!(rt;
-        free(3, 10, b"abc\nd"),
-        Ok((b"abc".as_slice(), b"d".as_slice()))
-    );
-    assert_eq!(rt; free(2, 10, b"abc\nd"), Err(Miss::Differs));
-    let words: [&[u8]; 2] = [b"Run;", b"Freeze;"];
-    assert!(rt; word_line(b"mode", &words, b"mode = Freeze;\n").is_ok());
 }

@@ -1,5 +1,5 @@
 -- the next token decides each step of the grammar
-pub mod Tests
+pub mod Predictive
 -- the trees of chains are what the grammar makes
 pub mod Chains
 -- the tokens before the rest

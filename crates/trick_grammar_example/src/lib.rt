@@ -12,5 +12,7 @@ mod source;
 mod statements;
 mod sums;
 mod telling;
+#[cfg(test)]
+mod tests;
 pub mod tree;
 pub mod word;

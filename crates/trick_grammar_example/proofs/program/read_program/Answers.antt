@@ -6,7 +6,7 @@ use Rattle.trick_grammar_example.specs.Statements.{program}
 use Rattle.trick_grammar_example.specs.Told.{told_line}
 use Rattle.trick_grammar_example.specs.Words.{number_of, spelled}
 use Rattle.trick_grammar_example.proofs.Fronts.{front_is}
-use Rattle.trick_grammar_example.proofs.Tests.{program_test}
+use Rattle.trick_grammar_example.proofs.Predictive.{program_test}
 use Rattle.trick_grammar_example.proofs.program.read_program.Goals as goal
 
 pub returns-in-Ok : goal.returns-in-Ok

@@ -9,7 +9,7 @@ use Rattle.trick_grammar_example.specs.Statements.{statement, statement_first, l
 use Rattle.trick_grammar_example.specs.Trees.{statement_of}
 use Rattle.trick_grammar_example.specs.Words.{number_of}
 use Rattle.trick_grammar_example.specs.declared.word.Word.TheVariants.{Else, Name}
-use Rattle.trick_grammar_example.proofs.Tests.{link_shrinks}
+use Rattle.trick_grammar_example.proofs.Predictive.{link_shrinks}
 use Rattle.trick_grammar_example.proofs.statements.+statements.Goals as goal
 
 pub read_statements-loop-alloc-preserved : goal.read_statements-loop-alloc-preserved

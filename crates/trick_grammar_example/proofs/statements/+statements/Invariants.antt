@@ -7,7 +7,7 @@ use Rattle.trick_grammar_example.specs.Statements.{statement, statement_first, l
 use Rattle.trick_grammar_example.specs.Trees.{statement_of}
 use Rattle.trick_grammar_example.specs.Words.{number_of}
 use Rattle.trick_grammar_example.specs.declared.word.Word.TheVariants.{Else}
-use Rattle.trick_grammar_example.proofs.Tests.{link_shrinks}
+use Rattle.trick_grammar_example.proofs.Predictive.{link_shrinks}
 use Rattle.trick_grammar_example.proofs.statements.+statements.Given as goal
 
 -- 10 for each level that may still nest
