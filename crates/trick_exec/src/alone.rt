@@ -2,6 +2,7 @@
 
 ghost use Rattle.std.specs.Prelude.{◌≡◌, ℕ, IfOk, List, None, [], true};
 ghost use Rattle.trick_beside.specs.Flight.{AsksNothing};
+ghost use Rattle.trick_eval.specs.Bench.{IsFor};
 ghost use Rattle.trick_exec.specs.Alone.{IsAfterTurns, RunsAlone, TurnsAlone};
 ghost use Rattle.trick_job.specs.Belongs.{IsMemoryOf};
 ghost use Rattle.trick_model.specs.Files.{turn_writes};
@@ -13,6 +14,7 @@ ghost use Rattle.trick_model.specs.ValidState.{IsStateOf};
 ghost use Rattle.trick_model.specs.declared.entry.Entry.{Entry as EntryValue};
 ghost use Rattle.trick_outside.specs.Does.{Does};
 ghost use Rattle.trick_pass.specs.Pass.{IsEquipped};
+ghost use Rattle.trick_tic.specs.Course.{IsCourseOf};
 ghost use Rattle.trick_tic.specs.Steps.{steps_of};
 
 use std::alloc::Global;
@@ -131,6 +133,37 @@ fn turns<M: Cells + Drop, F: Shelf, H: Phases<M>, P: Posts>(
     Ok(state)
 }
 
+// Runs a plan from a state without clients, with an equipment that the caller owns.
+fn run_alone_with<M: Cells + Drop, F: Shelf, H: Phases<M>, P: Posts>(
+    alloc: Global,
+    accepted: &Accepted,
+    state: State<M>,
+    equipment: &mut Equipment,
+    shelf: &mut F,
+    workers: &mut Workers<H, P>,
+) -> Result<State<M>, Stop>
+    requires own { H.is_for workers.old.phases accepted.now.plan }
+    requires posts { P.plan workers.old.posts ≡ accepted.now.plan }
+    requires free { (n : ℕ) → P.in_flight workers.old.posts n ≡ None }
+    requires valid { IsStateOf (plan_of accepted.now.plan) (seen M.numbers state) }
+    requires memory { IsMemoryOf accepted.now.plan.program (M.numbers state.memory) (M.scalars state.memory) }
+    requires course { IsCourseOf accepted.now.plan equipment.old.course (seen M.numbers state) }
+    requires bench { IsFor accepted.now.plan.program equipment.old.bench.parts }
+    ensures run { (lists : List (List EntryValue))
+        × RunsAlone F.Shelf (plan_of accepted.now.plan) (seen M.numbers state) lists shelf.old shelf.new result
+        × IfOk result (λ last. seen M.numbers last ≡ final (plan_of accepted.now.plan) (seen M.numbers state) lists) }
+    ensures own { H.is_for workers.new.phases accepted.now.plan }
+    ensures asks { AsksNothing P.Posts workers.old.posts workers.new.posts }
+{
+    let plan = accepted.plan();
+    start_held(equipment.course.stations(), &state, &mut workers.posts);
+    begin_files(alloc, plan, state.turn, equipment.course.logs(), shelf)?;
+    let mut state = turns(alloc, accepted, state, equipment, shelf, workers)?;
+    shut(plan, &mut state, &mut equipment.bench);
+    end_files(alloc, plan, &state, shelf)?;
+    Ok(state)
+}
+
 /// Runs a plan from a state, without clients, until the run is over, and gives the last state. It writes
 /// the files of the run: the journal, the logs, the checkpoints that are asked for, `final.chk` and
 /// `faults.txt`. `docs/RULES.md` has the rules of a run and `docs/FORMATS.md` the files. What the state
@@ -155,14 +188,8 @@ pub fn run_alone<M: Cells + Drop, F: Shelf, H: Phases<M>, P: Posts>(
     ensures own { H.is_for workers.new.phases accepted.now.plan }
     ensures asks { AsksNothing P.Posts workers.old.posts workers.new.posts }
 {
-    let plan = accepted.plan();
-    let Ok(mut equipment) = Equipment::new(alloc, plan, &state) else {
+    let Ok(mut equipment) = Equipment::new(alloc, accepted.plan(), &state) else {
         return Err(Stop::Memory);
     };
-    start_held(equipment.course.stations(), &state, &mut workers.posts);
-    begin_files(alloc, plan, state.turn, equipment.course.logs(), shelf)?;
-    let mut state = turns(alloc, accepted, state, &mut equipment, shelf, workers)?;
-    shut(plan, &mut state, &mut equipment.bench);
-    end_files(alloc, plan, &state, shelf)?;
-    Ok(state)
+    run_alone_with(alloc, accepted, state, &mut equipment, shelf, workers)
 }

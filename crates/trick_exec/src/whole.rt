@@ -108,6 +108,60 @@ fn end_run<M: Cells + Drop, F: Shelf, T: Turns<M>>(
     Ok(Ended::Done(world))
 }
 
+// Runs a plan from a state with what it keeps beside its world, which the caller owns.
+fn run_with<M: Cells + Drop, F: Shelf, H: Phases<M>, P: Posts, T: Turns<M>>(
+    alloc: Global,
+    accepted: &Accepted,
+    state: State<M>,
+    keeping: &mut Keeping,
+    shelf: &mut F,
+    workers: &mut Workers<H, P>,
+    turns: &mut T,
+) -> Result<Ended<M>, Stop>
+    requires own { H.is_for workers.old.phases accepted.now.plan }
+    requires posts { P.plan workers.old.posts ≡ accepted.now.plan }
+    requires free { IsFree (plan_of accepted.now.plan) (P.in_flight workers.old.posts) }
+    requires valid { IsStateOf (plan_of accepted.now.plan) (seen M.numbers state) }
+    requires memory { IsMemoryOf accepted.now.plan.program (M.numbers state.memory) (M.scalars state.memory) }
+    requires unknown { T.sessions turns.old ≡ no_sessions }
+    requires paid { T.owes turns.old ≡ false }
+    requires course { IsCourseOf accepted.now.plan keeping.old.equipment.course (seen M.numbers state) }
+    requires bench { IsFor accepted.now.plan.program keeping.old.equipment.bench.parts }
+    requires waits { keeping.old.waits.items ≡ no_waits (plan_of accepted.now.plan) }
+    ensures run { IsRun (hosts F.Shelf T.Turns P.Posts) M.numbers (plan_of accepted.now.plan) (seen M.numbers state)
+        (at shelf.old turns.old workers.old.posts) (at shelf.new turns.new workers.new.posts) result }
+{
+    laws::runs_join();
+    let plan = accepted.plan();
+    start_held(
+        keeping.equipment.course.stations(),
+        &state,
+        &mut workers.posts,
+    );
+    begin_files(
+        alloc,
+        plan,
+        state.turn,
+        keeping.equipment.course.logs(),
+        shelf,
+    )?;
+    let world = World {
+        state,
+        sessions: Vec::new(alloc),
+    };
+    match go(alloc, accepted, world, keeping, shelf, workers, turns)? {
+        Ended::Done(world) => end_run(
+            alloc,
+            plan,
+            world,
+            &mut keeping.equipment.bench,
+            shelf,
+            turns,
+        ),
+        Ended::Length { kept, given } => Ok(Ended::Length { kept, given }),
+    }
+}
+
 /// Runs a plan from a state over a shelf, workers and a source of entries, until the run is over, and says
 /// how it ends. It writes the files of the run: the journal, the logs, the checkpoints that are asked for,
 /// `final.chk` and `faults.txt`; no message is handed to the source before the entries that it answers are
@@ -133,35 +187,8 @@ pub fn run<M: Cells + Drop, F: Shelf, H: Phases<M>, P: Posts, T: Turns<M>>(
         (at shelf.old turns.old workers.old.posts) (at shelf.new turns.new workers.new.posts) result }
 {
     laws::runs_join();
-    let plan = accepted.plan();
-    let Ok(mut keeping) = keep(alloc, plan, &state) else {
+    let Ok(mut keeping) = keep(alloc, accepted.plan(), &state) else {
         return Err(Stop::Memory);
     };
-    start_held(
-        keeping.equipment.course.stations(),
-        &state,
-        &mut workers.posts,
-    );
-    begin_files(
-        alloc,
-        plan,
-        state.turn,
-        keeping.equipment.course.logs(),
-        shelf,
-    )?;
-    let world = World {
-        state,
-        sessions: Vec::new(alloc),
-    };
-    match go(alloc, accepted, world, &mut keeping, shelf, workers, turns)? {
-        Ended::Done(world) => end_run(
-            alloc,
-            plan,
-            world,
-            &mut keeping.equipment.bench,
-            shelf,
-            turns,
-        ),
-        Ended::Length { kept, given } => Ok(Ended::Length { kept, given }),
-    }
+    run_with(alloc, accepted, state, &mut keeping, shelf, workers, turns)
 }

@@ -1,6 +1,6 @@
 // The commands as `clap` takes them.
 
-ghost use Rattle.std.specs.Prelude.{◌≡◌, ◌∷◌, [], IfOk, false, codes};
+ghost use Rattle.std.specs.Prelude.{◌≡◌, ◌∷◌, [], IfOk, IsOkAnd, false, codes};
 ghost use Rattle.clap.specs.Words.{app_of, new_app, with_rule, with_subcommand};
 ghost use Rattle.clap.specs.Simple.{shape_of};
 ghost use Rattle.clap.specs.declared.builder.command.Command.TheViews.{out-Command as fields_of};
@@ -26,12 +26,19 @@ fn option<'a>(alloc: Global, command: Command<'a>, name: &'a str) -> Result<Comm
     command.arg(Arg::new(alloc, name).long(name).action(ArgAction::Set))
 }
 
-// One more subcommand.
-fn subcommand<'a>(command: Command<'a>, below: Command<'a>) -> Result<Command<'a>, AllocError>
-    requires { ((fields_of command).has_globals ≡ false) × ((fields_of below).has_globals ≡ false) }
-    ensures { IfOk result (λ r. (app_of r ≡ with_subcommand (app_of command.entry) (shape_of below.entry))
-        × ((fields_of r).has_globals ≡ false)) }
+// One more subcommand, if there was memory to make it. Whether there was is asked here, so that the caller
+// owns no command where it gives up.
+fn subcommand<'a>(
+    command: Command<'a>,
+    below: Result<Command<'a>, AllocError>,
+) -> Result<Command<'a>, AllocError>
+    requires above { (fields_of command).has_globals ≡ false }
+    requires below { IfOk below (λ b. (fields_of b).has_globals ≡ false) }
+    ensures app { IfOk result (λ r. IsOkAnd below.entry (λ b. app_of r
+        ≡ with_subcommand (app_of command.entry) (shape_of b))) }
+    ensures globals { IfOk result (λ r. (fields_of r).has_globals ≡ false) }
 {
+    let below = below?;
     command.subcommand(below)
 }
 
@@ -45,14 +52,16 @@ fn two_places<'a>(alloc: Global, name: &'a str) -> Result<Command<'a>, AllocErro
 }
 
 fn serial<'a>(alloc: Global) -> Result<Command<'a>, AllocError>
-    ensures { IfOk result (λ r. (app_of r ≡ form_app kind.Serial) × ((fields_of r).has_globals ≡ false)) }
+    ensures app { IfOk result (λ r. app_of r ≡ form_app kind.Serial) }
+    ensures globals { IfOk result (λ r. (fields_of r).has_globals ≡ false) }
 {
     let command = two_places(alloc, "serial")?;
     option(alloc, command, "from")
 }
 
 fn run<'a>(alloc: Global) -> Result<Command<'a>, AllocError>
-    ensures { IfOk result (λ r. (app_of r ≡ form_app kind.Run) × ((fields_of r).has_globals ≡ false)) }
+    ensures app { IfOk result (λ r. app_of r ≡ form_app kind.Run) }
+    ensures globals { IfOk result (λ r. (fields_of r).has_globals ≡ false) }
 {
     let command = two_places(alloc, "run")?;
     let command = option(alloc, command, "from")?;
@@ -60,7 +69,8 @@ fn run<'a>(alloc: Global) -> Result<Command<'a>, AllocError>
 }
 
 fn replay<'a>(alloc: Global) -> Result<Command<'a>, AllocError>
-    ensures { IfOk result (λ r. (app_of r ≡ form_app kind.Replay) × ((fields_of r).has_globals ≡ false)) }
+    ensures app { IfOk result (λ r. app_of r ≡ form_app kind.Replay) }
+    ensures globals { IfOk result (λ r. (fields_of r).has_globals ≡ false) }
 {
     let command = two_places(alloc, "replay")?;
     let command = place(alloc, command, "JOURNAL")?;
@@ -68,19 +78,22 @@ fn replay<'a>(alloc: Global) -> Result<Command<'a>, AllocError>
 }
 
 fn check<'a>(alloc: Global) -> Result<Command<'a>, AllocError>
-    ensures { IfOk result (λ r. (app_of r ≡ form_app kind.Check) × ((fields_of r).has_globals ≡ false)) }
+    ensures app { IfOk result (λ r. app_of r ≡ form_app kind.Check) }
+    ensures globals { IfOk result (λ r. (fields_of r).has_globals ≡ false) }
 {
     two_places(alloc, "check")
 }
 
 fn list<'a>(alloc: Global) -> Result<Command<'a>, AllocError>
-    ensures { IfOk result (λ r. (app_of r ≡ form_app kind.List) × ((fields_of r).has_globals ≡ false)) }
+    ensures app { IfOk result (λ r. app_of r ≡ form_app kind.List) }
+    ensures globals { IfOk result (λ r. (fields_of r).has_globals ≡ false) }
 {
     two_places(alloc, "list")
 }
 
 fn generate<'a>(alloc: Global) -> Result<Command<'a>, AllocError>
-    ensures { IfOk result (λ r. (app_of r ≡ form_app kind.Gen) × ((fields_of r).has_globals ≡ false)) }
+    ensures app { IfOk result (λ r. app_of r ≡ form_app kind.Gen) }
+    ensures globals { IfOk result (λ r. (fields_of r).has_globals ≡ false) }
 {
     let command = Command::new(alloc, "gen");
     place(alloc, command, "N")
@@ -100,12 +113,13 @@ fn top<'a>(alloc: Global) -> Command<'a>
 
 /// The whole command line.
 pub(crate) fn all<'a>(alloc: Global) -> Result<Command<'a>, AllocError>
-    ensures { IfOk result (λ r. (app_of r ≡ all_app) × ((fields_of r).has_globals ≡ false)) }
+    ensures app { IfOk result (λ r. app_of r ≡ all_app) }
+    ensures globals { IfOk result (λ r. (fields_of r).has_globals ≡ false) }
 {
-    let command = subcommand(top(alloc), serial(alloc)?)?;
-    let command = subcommand(command, run(alloc)?)?;
-    let command = subcommand(command, replay(alloc)?)?;
-    let command = subcommand(command, check(alloc)?)?;
-    let command = subcommand(command, list(alloc)?)?;
-    subcommand(command, generate(alloc)?)
+    let command = subcommand(top(alloc), serial(alloc))?;
+    let command = subcommand(command, run(alloc))?;
+    let command = subcommand(command, replay(alloc))?;
+    let command = subcommand(command, check(alloc))?;
+    let command = subcommand(command, list(alloc))?;
+    subcommand(command, generate(alloc))
 }

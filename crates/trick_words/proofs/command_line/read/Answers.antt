@@ -21,7 +21,7 @@ pub unwrap-inner-requires : goal.unwrap-inner-requires
 unwrap-inner-requires c =
     let some = some_words (length c.args.words.now) c.is_empty.result c.is_empty.ensures c.if-is_empty.false in
     let whole = rest_words c.args.words.now _ some ∙ ap (λ (n : Text). n ∷ rest_of c.args.words.now) c.in-Some.ensures in
-    let (given, command, sub) = met_of _ (map (λ w. w.now) c.args.words.now) c.in-Some.kind (rest_of c.args.words.now) c.in-Ok.matches c.in_ok-all.ensures.0 whole
+    let (given, command, sub) = met_of _ (map (λ w. w.now) c.args.words.now) c.in-Some.kind (rest_of c.args.words.now) c.in-Ok.matches c.in_ok-all.ensures.app whole
     (sym c.all_allowed.ensures ∙ c.if-not-all_allowed.false) c.in-Ok.ensures.kinds c.in-Ok.ensures.matches in
     c.subcommand_matches.ensures.found.1 (name_met c.in-Ok.matches (name_of c.in-Some.kind) (rows given) sub ∙ ap Some (sym c.name.ensures))
 
@@ -29,7 +29,7 @@ pub returns-in-Ok : goal.returns-in-Ok
 returns-in-Ok c =
     let some = some_words (length c.args.words.now) c.is_empty.result c.is_empty.ensures c.if-is_empty.false in
     let whole = rest_words c.args.words.now _ some ∙ ap (λ (n : Text). n ∷ rest_of c.args.words.now) c.in-Some.ensures in
-    let (given, command, sub) = met_of _ (map (λ w. w.now) c.args.words.now) c.in-Some.kind (rest_of c.args.words.now) c.in-Ok.matches c.in_ok-all.ensures.0 whole
+    let (given, command, sub) = met_of _ (map (λ w. w.now) c.args.words.now) c.in-Some.kind (rest_of c.args.words.now) c.in-Ok.matches c.in_ok-all.ensures.app whole
     (sym c.all_allowed.ensures ∙ c.if-not-all_allowed.false) c.in-Ok.ensures.kinds c.in-Ok.ensures.matches in
     let inner = c.unwrap-inner.result.now in
     let seen = rw c.unwrap-inner.ensures at c.subcommand_matches.ensures.rows in
@@ -51,5 +51,5 @@ pub returns : goal.returns
 returns c =
     let some = some_words (length c.args.words.now) c.is_empty.result c.is_empty.ensures c.if-is_empty.false in
     let whole = rest_words c.args.words.now _ some ∙ ap (λ (n : Text). n ∷ rest_of c.args.words.now) c.in-Some.ensures in
-    usage_of _ (map (λ w. w.now) c.args.words.now) c.in-Some.kind (rest_of c.args.words.now) c.in-Err.error c.in_ok-all.ensures.0 whole c.in-Err.ensures.kinds
+    usage_of _ (map (λ w. w.now) c.args.words.now) c.in-Some.kind (rest_of c.args.words.now) c.in-Err.error c.in_ok-all.ensures.app whole c.in-Err.ensures.kinds
     (λ memory. cc (rw (c.kind.ensures, memory) at c.if-eq.ensures))
