@@ -3,9 +3,9 @@ use Rattle.std.proofs.Common.{refl, subst, sym, zero-le}
 use Rattle.std.specs.List.{slice_index_or}
 use Rattle.std.specs.Prelude.{◌≡◌, ℕ, suc, cond, List, [], ◌∷◌, ◌++◌, Option, None, map}
 use Rattle.trick_model.specs.declared.plan.Plan.{Plan as PlanValue}
-use Rattle.trick_one_post.specs.Trays.{AreTraysOf, IsWorkerOf, held_in}
-use Rattle.trick_one_post.specs.declared.tray.Tray.{Tray}
-use Rattle.trick_one_post.specs.declared.worker.Worker.{Worker}
+use Rattle.trick_tray.specs.Trays.{AreTraysOf, IsWorkerOf, held_in}
+use Rattle.trick_tray.specs.declared.tray.Tray.{Tray}
+use Rattle.trick_tray.specs.declared.worker.Worker.{Worker}
 use Rattle.trick_outside.specs.Causes.{RoseBy}
 use Rattle.trick_post.specs.Polls.{Poll, is_ready, not_ready}
 use Rattle.trick_post.specs.Work.{Started}

@@ -1,18 +1,13 @@
 ghost use Rattle.std.specs.Arc.{arc_value};
 ghost use Rattle.std.specs.Prelude.{◌≡◌, ℕ, IfOk, None};
 ghost use Rattle.trick_one_post.specs.Posting.{AreParts, started_at};
-ghost use Rattle.trick_one_post.specs.Trays.{AreEmptyTraysOf};
 
-use crate::tray::Tray;
-use crate::worker::Worker;
 use std::alloc::{AllocError, Global};
 use std::sync::Arc;
 use trick_lang::Cells;
-use trick_model::{Accepted, Faults, Plan, Taken};
+use trick_model::{Accepted, Faults, Taken};
 use trick_post::{Job1, Posted, Posts};
-
-// Threads go from 0 to 15.
-const THREADS: u8 = 16;
+use trick_tray::{Tray, Worker};
 
 /// The work of must-finish and asynchronous threads on the caller's thread: each is done where it is to
 /// be published. A round is always ready.
@@ -26,24 +21,13 @@ pub struct OnePost {
     ghost parts: { AreParts (arc_value accepted).plan trays.items worker },
 }
 
-// A tray for each thread.
-fn trays(alloc: Global, plan: &Plan) -> Result<Vec<Tray>, AllocError>
-    ensures { IfOk result (λ trays. AreEmptyTraysOf plan.now trays.items) }
-{
-    let mut trays = Vec::new(alloc);
-    for number in 0..THREADS {
-        trays.push(Tray::new(alloc, plan, number)?)?;
-    }
-    Ok(trays)
-}
-
 impl OnePost {
     /// For a plan, with nothing started. This call alone takes memory.
     pub fn new(alloc: Global, accepted: Arc<Accepted, Global>) -> Result<Self, AllocError>
         ensures plan { IfOk result (λ post. arc_value post.accepted ≡ arc_value accepted) }
         ensures none { IfOk result (λ post. (n : ℕ) → started_at post.trays.items n ≡ None) }
     {
-        let trays = trays(alloc, accepted.plan())?;
+        let trays = Tray::all(alloc, accepted.plan())?;
         let worker = Worker::new(alloc, accepted.plan())?;
         Ok(OnePost {
             accepted,

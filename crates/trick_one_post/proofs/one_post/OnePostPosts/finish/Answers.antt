@@ -4,10 +4,11 @@ use Rattle.std.specs.List.{slice_index_or}
 use Rattle.std.specs.Option.{option_map}
 use Rattle.trick_model.specs.declared.accepted.Accepted.{Accepted}
 use Rattle.trick_model.specs.declared.plan.Plan.{Plan as PlanValue}
-use Rattle.trick_one_post.proofs.Finish.{handed}
-use Rattle.trick_one_post.proofs.Trays.{set_here, set_other, started_there, tray_set}
-use Rattle.trick_one_post.specs.Trays.{IsTrayOf, IsWorkerOf}
-use Rattle.trick_one_post.specs.declared.tray.Tray.{Tray}
+use Rattle.trick_tray.proofs.Finish.{handed}
+use Rattle.trick_one_post.proofs.Trays.{set_here, set_other, started_there}
+use Rattle.trick_tray.proofs.Trays.{tray_set}
+use Rattle.trick_tray.specs.Trays.{IsTrayOf, IsWorkerOf}
+use Rattle.trick_tray.specs.declared.tray.Tray.{Tray}
 use Rattle.trick_one_post.proofs.one_post.OnePostPosts.finish.Goals as goal
 
 pub finish-requires-clause-tray : goal.finish-requires-clause-tray

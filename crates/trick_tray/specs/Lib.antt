@@ -1,0 +1,6 @@
+-- The jobs of a thread, with the next tic of each.
+pub mod Calendars
+-- A memory that nobody else sees, and what is written of it into another one.
+pub mod Scratch
+-- What was handed to a thread, and what a worker has.
+pub mod Trays

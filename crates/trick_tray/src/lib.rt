@@ -1,0 +1,15 @@
+//! The work of a must-finish or asynchronous thread: a tray keeps what the thread was handed, and a worker does it and
+//! publishes it.
+#![tactic(auto)]
+
+mod calendar;
+mod lines;
+mod scratch;
+mod tray;
+mod worker;
+mod write;
+
+pub use calendar::Calendar;
+pub use scratch::Scratch;
+pub use tray::Tray;
+pub use worker::Worker;
