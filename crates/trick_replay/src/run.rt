@@ -1,5 +1,6 @@
 //! The run under a journal.
 
+ghost use Rattle.std.specs.Arc.{arc_value};
 ghost use Rattle.std.specs.Prelude.{◌≡◌, ℕ, None};
 ghost use Rattle.trick_job.specs.Belongs.{IsMemoryOf};
 ghost use Rattle.trick_model.specs.PlanOf.{plan_of};
@@ -54,50 +55,48 @@ fn replay_by<M: Cells + Drop, F: Shelf, H: Phases<M> + Drop, P: Posts + Drop>(
     }
 }
 
-/// Runs an accepted plan from a state under a journal, on the caller's thread, until the run is over: so a
-/// replay goes on from a checkpoint. Entries of turns before the state's are skipped, and the sessions that
-/// are there then join first at its turn. It writes the files of the run, and where it stops a part of them:
-/// at `Stop::Shelf` the shelf failed, and at `Stop::Memory` there was no memory. Where the run is over at
-/// another turn than the journal's end, or would go on there, the journal does not fit: what was written so
-/// far stays, and nothing is written after it.
+/// Runs an accepted plan, which it shares with its workers, from a state under a journal, on the caller's
+/// thread, until the run is over: so a replay goes on from a checkpoint. Entries of turns before the state's
+/// are skipped, and the sessions that are there then join first at its turn. It writes the files of the run,
+/// and where it stops a part of them: at `Stop::Shelf` the shelf failed, and at `Stop::Memory` there was no
+/// memory. Where the run is over at another turn than the journal's end, or would go on there, the journal
+/// does not fit: what was written so far stays, and nothing is written after it.
 pub fn replay_from<M: Cells + Drop, F: Shelf>(
     alloc: Global,
-    accepted: Accepted,
+    accepted: &Arc<Accepted, Global>,
     journal: Journal,
     state: State<M>,
     shelf: &mut F,
 ) -> Result<Replayed, Stop>
-    requires valid { IsStateOf (plan_of accepted.plan) (seen M.numbers state) }
-    requires memory { IsMemoryOf accepted.plan.program (M.numbers state.memory) (M.scalars state.memory) }
-    ensures run { RunsReplay F.Shelf (plan_of accepted.plan) (seen M.numbers state) journal
+    requires valid { IsStateOf (plan_of (arc_value accepted.now).plan) (seen M.numbers state) }
+    requires memory { IsMemoryOf (arc_value accepted.now).plan.program (M.numbers state.memory)
+        (M.scalars state.memory) }
+    ensures run { RunsReplay F.Shelf (plan_of (arc_value accepted.now).plan) (seen M.numbers state) journal
         shelf.old shelf.new result }
 {
-    let Ok(accepted) = Arc::new(alloc, accepted) else {
+    let Ok(workers) = one_thread::<M>(alloc, accepted) else {
         return Err(Stop::Memory);
     };
-    let Ok(workers) = one_thread::<M>(alloc, &accepted) else {
-        return Err(Stop::Memory);
-    };
-    replay_by(alloc, &accepted, journal, state, shelf, workers)
+    replay_by(alloc, accepted, journal, state, shelf, workers)
 }
 
-/// Runs an accepted plan from its start under a journal, on the caller's thread, until the run is over. It
-/// writes the files of the run, and where it stops a part of them: at `Stop::Shelf` the shelf failed, and at
-/// `Stop::Memory` there was no memory. Where the journal does not fit, what was written so far stays, and
-/// nothing is written after it.
+/// Runs an accepted plan, which it shares with its workers, from its start under a journal, on the caller's
+/// thread, until the run is over. It writes the files of the run, and where it stops a part of them: at
+/// `Stop::Shelf` the shelf failed, and at `Stop::Memory` there was no memory. Where the journal does not fit,
+/// what was written so far stays, and nothing is written after it.
 pub fn replay<F: Shelf>(
     alloc: Global,
-    accepted: Accepted,
+    accepted: &Arc<Accepted, Global>,
     journal: Journal,
     shelf: &mut F,
 ) -> Result<Replayed, Stop>
-    ensures run { RunsReplay F.Shelf (plan_of accepted.plan) (start_of (plan_of accepted.plan)) journal
-        shelf.old shelf.new result }
+    ensures run { RunsReplay F.Shelf (plan_of (arc_value accepted.now).plan)
+        (start_of (plan_of (arc_value accepted.now).plan)) journal shelf.old shelf.new result }
 {
     laws::plans_are_sound();
     laws::runs_start_valid();
-    let Ok(state) = first_state(alloc, &accepted) else {
-        return Err(Stop::Memory);
-    };
-    replay_from(alloc, accepted, journal, state, shelf)
+    match first_state(alloc, accepted) {
+        Ok(state) => replay_from(alloc, accepted, journal, state, shelf),
+        Err(_) => Err(Stop::Memory),
+    }
 }

@@ -1,6 +1,7 @@
 //! The run of a plan, and that of a state.
 
 ghost use Rattle.std.specs.Arc.{arc_value};
+ghost use Rattle.std.specs.Prelude.{◌≡◌, ℕ, None};
 ghost use Rattle.trick_job.specs.Belongs.{IsMemoryOf};
 ghost use Rattle.trick_model.specs.PlanOf.{plan_of};
 ghost use Rattle.trick_model.specs.Run.{start as start_of};
@@ -18,9 +19,33 @@ use trick_exec::run_alone;
 use trick_lang::Cells;
 use trick_model::{Accepted, State, laws};
 use trick_outside::{Shelf, Stop};
+use trick_phase::Phases;
+use trick_post::Posts;
+use trick_tic::Workers;
 
-// Runs a plan that is shared with its workers.
-fn run_shared<M: Cells + Drop, F: Shelf>(
+// Runs a plan from a state by these workers, and tells of its last state.
+fn serial_by<M: Cells + Drop, F: Shelf, H: Phases<M>, P: Posts>(
+    alloc: Global,
+    accepted: &Accepted,
+    state: State<M>,
+    shelf: &mut F,
+    workers: &mut Workers<H, P>,
+) -> Result<Ended, Stop>
+    requires own { H.is_for workers.old.phases accepted.now.plan }
+    requires posts { P.plan workers.old.posts ≡ accepted.now.plan }
+    requires free { (n : ℕ) → P.in_flight workers.old.posts n ≡ None }
+    requires valid { IsStateOf (plan_of accepted.now.plan) (seen M.numbers state) }
+    requires memory { IsMemoryOf accepted.now.plan.program (M.numbers state.memory) (M.scalars state.memory) }
+    ensures run { RunsSerially F.Shelf (plan_of accepted.now.plan) (seen M.numbers state) shelf.old shelf.new result }
+{
+    let last = run_alone(alloc, accepted, state, shelf, workers)?;
+    Ok(ended_by(&last))
+}
+
+/// Runs an accepted plan, which it shares with its workers, from a state, on the caller's thread and without
+/// clients, until the run is over: so a run goes on from a checkpoint. It writes the files of the run, and
+/// where it stops a part of them: at `Stop::Shelf` the shelf failed, and at `Stop::Memory` there was no memory.
+pub fn serial_from<M: Cells + Drop, F: Shelf>(
     alloc: Global,
     accepted: &Arc<Accepted, Global>,
     state: State<M>,
@@ -35,40 +60,24 @@ fn run_shared<M: Cells + Drop, F: Shelf>(
     let Ok(mut workers) = one_thread::<M>(alloc, accepted) else {
         return Err(Stop::Memory);
     };
-    let last = run_alone(alloc, accepted, state, shelf, &mut workers)?;
-    Ok(ended_by(&last))
+    serial_by(alloc, accepted, state, shelf, &mut workers)
 }
 
-/// Runs an accepted plan from a state, on the caller's thread and without clients, until the run is
-/// over: so a run goes on from a checkpoint. It writes the files of the run, and where it stops a part of
-/// them: at `Stop::Shelf` the shelf failed, and at `Stop::Memory` there was no memory.
-pub fn serial_from<M: Cells + Drop, F: Shelf>(
+/// Runs an accepted plan, which it shares with its workers, from its start, on the caller's thread and without
+/// clients, until the run is over. It writes the files of the run, and where it stops a part of them: at
+/// `Stop::Shelf` the shelf failed, and at `Stop::Memory` there was no memory.
+pub fn serial<F: Shelf>(
     alloc: Global,
-    accepted: Accepted,
-    state: State<M>,
+    accepted: &Arc<Accepted, Global>,
     shelf: &mut F,
 ) -> Result<Ended, Stop>
-    requires valid { IsStateOf (plan_of accepted.plan) (seen M.numbers state) }
-    requires memory { IsMemoryOf accepted.plan.program (M.numbers state.memory) (M.scalars state.memory) }
-    ensures run { RunsSerially F.Shelf (plan_of accepted.plan) (seen M.numbers state) shelf.old shelf.new result }
-{
-    let Ok(accepted) = Arc::new(alloc, accepted) else {
-        return Err(Stop::Memory);
-    };
-    run_shared(alloc, &accepted, state, shelf)
-}
-
-/// Runs an accepted plan from its start, on the caller's thread and without clients, until the run is
-/// over. It writes the files of the run, and where it stops a part of them: at `Stop::Shelf` the shelf
-/// failed, and at `Stop::Memory` there was no memory.
-pub fn serial<F: Shelf>(alloc: Global, accepted: Accepted, shelf: &mut F) -> Result<Ended, Stop>
-    ensures run { RunsSerially F.Shelf (plan_of accepted.plan) (start_of (plan_of accepted.plan))
-        shelf.old shelf.new result }
+    ensures run { RunsSerially F.Shelf (plan_of (arc_value accepted.now).plan)
+        (start_of (plan_of (arc_value accepted.now).plan)) shelf.old shelf.new result }
 {
     laws::plans_are_sound();
     laws::runs_start_valid();
-    let Ok(state) = first_state(alloc, &accepted) else {
-        return Err(Stop::Memory);
-    };
-    serial_from(alloc, accepted, state, shelf)
+    match first_state(alloc, accepted) {
+        Ok(state) => serial_from(alloc, accepted, state, shelf),
+        Err(_) => Err(Stop::Memory),
+    }
 }

@@ -32,6 +32,11 @@ pub acted_quiet : {S : Type 0} {shelf : Ghosts S} (s : S) (plan : Plan) (from jo
     → Acts plan from journal t [] verdict → HasActed shelf s s plan from journal t verdict
 acted_quiet s plan from journal t verdict none is = record { calls = []; went = went_none s none; acts = is }
 
+-- there was no memory before the shelf was called
+pub acted_no_memory : {S : Type 0} {shelf : Ghosts S} (s : S) (plan : Plan) (from journal : Option (List ℕ)) (t : Task) → shelf.called s [] s
+    → HasActed shelf s s plan from journal t OutOfMemory
+acted_no_memory s plan from journal t none = acted_quiet s plan from journal t OutOfMemory none no_memory
+
 -- the plan that was looked at is this one
 module _ {S : Type 0} {shelf : Ghosts S} (s : S) (plan shown : Plan) (from journal : Option (List ℕ)) (verdict : Verdict) (none : shelf.called s [] s) (same : shown ≡ plan) where
   pub acted_checked : (t : Task) → t ≡ task.Check → verdict ≡ accepted_verdict shown → HasActed shelf s s plan from journal t verdict

@@ -1,5 +1,6 @@
 //! What a command does with an accepted plan.
 
+ghost use Rattle.std.specs.Arc.{arc_value};
 ghost use Rattle.std.specs.Prelude.{◌≡◌, ◌⊎◌};
 ghost use Rattle.trick_top.specs.Acts.{HasActed, accepted_verdict, listed_verdict};
 ghost use Rattle.trick_top.specs.Sources.{sources_of};
@@ -12,6 +13,7 @@ use crate::sources::Sources;
 use crate::verdict::Verdict;
 use crate::words::Task;
 use std::alloc::Global;
+use std::sync::Arc;
 use trick_memory::listing;
 use trick_model::{Accepted, Plan};
 use trick_outside::Shelf;
@@ -43,6 +45,22 @@ fn listed(alloc: Global, plan: &Plan) -> Verdict<'static>
 /// Runs an accepted plan, under the journal where its text is given.
 fn run_given<F: Shelf>(
     alloc: Global,
+    accepted: &Arc<Accepted, Global>,
+    given: Sources,
+    shelf: &mut F,
+) -> Verdict<'static>
+    ensures { HasActed F.Shelf shelf.old shelf.new (arc_value accepted.now).plan (sources_of given.entry).from
+        (sources_of given.entry).journal tasks.Run (verdict_of result) }
+{
+    match given.journal {
+        None => run(alloc, accepted, given.from, shelf),
+        Some(journal) => replay(alloc, accepted, given.from, journal, shelf),
+    }
+}
+
+/// Shares an accepted plan with whoever works for its run, and runs it.
+fn run_shared<F: Shelf>(
+    alloc: Global,
     accepted: Accepted,
     given: Sources,
     shelf: &mut F,
@@ -50,9 +68,9 @@ fn run_given<F: Shelf>(
     ensures { HasActed F.Shelf shelf.old shelf.new accepted.plan (sources_of given.entry).from
         (sources_of given.entry).journal tasks.Run (verdict_of result) }
 {
-    match given.journal {
-        None => run(alloc, accepted, given.from, shelf),
-        Some(journal) => replay(alloc, accepted, given.from, journal, shelf),
+    match Arc::new(alloc, accepted) {
+        Ok(accepted) => run_given(alloc, &accepted, given, shelf),
+        Err(_) => Verdict::OutOfMemory,
     }
 }
 
@@ -69,7 +87,7 @@ pub(crate) fn act<F: Shelf>(
         (sources_of given.entry).journal task (verdict_of result) }
 {
     match task {
-        Task::Run => run_given(alloc, accepted_plan, given, shelf),
+        Task::Run => run_shared(alloc, accepted_plan, given, shelf),
         Task::Check => accepted(accepted_plan.plan()),
         Task::List => listed(alloc, accepted_plan.plan()),
     }

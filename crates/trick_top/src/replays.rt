@@ -1,5 +1,6 @@
 //! The run of an accepted plan under a journal, from its start or from a checkpoint.
 
+ghost use Rattle.std.specs.Arc.{arc_value};
 ghost use Rattle.std.specs.Prelude.{◌≡◌, ◌⊎◌, Some, None, option_map};
 ghost use Rattle.trick_top.specs.Acts.{HasActed};
 ghost use Rattle.trick_top.specs.Verdict.{OutOfMemory, replay_verdict, unread_verdict, verdict_of};
@@ -8,6 +9,7 @@ ghost use Rattle.trick_top.specs.declared.words.Task.TheVariants as task;
 use crate::runs::unloaded;
 use crate::verdict::Verdict;
 use std::alloc::Global;
+use std::sync::Arc;
 use trick_journal::{JournalFault, read};
 use trick_journal_facts::laws;
 use trick_model::Accepted;
@@ -50,11 +52,12 @@ fn unread(alloc: Global, fault: JournalFault) -> Verdict<'static>
 /// Runs an accepted plan from its start under the journal of a text.
 fn replay_from_start<F: Shelf>(
     alloc: Global,
-    accepted: Accepted,
+    accepted: &Arc<Accepted, Global>,
     journal: &[u8],
     shelf: &mut F,
 ) -> Verdict<'static>
-    ensures { HasActed F.Shelf shelf.old shelf.new accepted.plan None (Some journal.now) task.Run (verdict_of result) }
+    ensures { HasActed F.Shelf shelf.old shelf.new (arc_value accepted.now).plan None (Some journal.now) task.Run
+        (verdict_of result) }
 {
     laws::refused_texts_are_no_journals();
     match read(alloc, accepted.plan(), FIRST_TURN, journal) {
@@ -66,13 +69,13 @@ fn replay_from_start<F: Shelf>(
 /// Runs an accepted plan from the state of which one text is the checkpoint under the journal of another.
 fn replay_from_checkpoint<F: Shelf>(
     alloc: Global,
-    accepted: Accepted,
+    accepted: &Arc<Accepted, Global>,
     from: &[u8],
     journal: &[u8],
     shelf: &mut F,
 ) -> Verdict<'static>
-    ensures { HasActed F.Shelf shelf.old shelf.new accepted.plan (Some from.now) (Some journal.now) task.Run
-        (verdict_of result) }
+    ensures { HasActed F.Shelf shelf.old shelf.new (arc_value accepted.now).plan (Some from.now) (Some journal.now)
+        task.Run (verdict_of result) }
 {
     laws::refused_texts_are_no_journals();
     let state = match resume(alloc, accepted.plan(), from) {
@@ -88,13 +91,13 @@ fn replay_from_checkpoint<F: Shelf>(
 /// Runs an accepted plan under the journal of a text, from its start or from a checkpoint.
 pub(crate) fn replay<F: Shelf>(
     alloc: Global,
-    accepted: Accepted,
+    accepted: &Arc<Accepted, Global>,
     from: Option<&[u8]>,
     journal: &[u8],
     shelf: &mut F,
 ) -> Verdict<'static>
-    ensures { HasActed F.Shelf shelf.old shelf.new accepted.plan (option_map (λ text. text.now) from.entry)
-        (Some journal.now) task.Run (verdict_of result) }
+    ensures { HasActed F.Shelf shelf.old shelf.new (arc_value accepted.now).plan
+        (option_map (λ text. text.now) from.entry) (Some journal.now) task.Run (verdict_of result) }
 {
     match from {
         None => replay_from_start(alloc, accepted, journal, shelf),

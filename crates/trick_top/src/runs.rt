@@ -1,5 +1,6 @@
 //! The run of an accepted plan without clients, from its start or from a checkpoint.
 
+ghost use Rattle.std.specs.Arc.{arc_value};
 ghost use Rattle.std.specs.Prelude.{◌≡◌, ◌⊎◌, Some, None, option_map};
 ghost use Rattle.trick_top.specs.Acts.{HasActed};
 ghost use Rattle.trick_top.specs.Verdict.{OutOfMemory, run_verdict, unloaded_verdict, verdict_of};
@@ -7,6 +8,7 @@ ghost use Rattle.trick_top.specs.declared.words.Task.TheVariants as task;
 
 use crate::verdict::Verdict;
 use std::alloc::Global;
+use std::sync::Arc;
 use trick_codes::LoadFault;
 use trick_model::Accepted;
 use trick_outside::{Shelf, Stop};
@@ -39,8 +41,13 @@ pub(crate) fn unloaded(alloc: Global, fault: LoadFault) -> Verdict<'static>
 }
 
 /// Runs an accepted plan without clients from its start.
-fn run_new<F: Shelf>(alloc: Global, accepted: Accepted, shelf: &mut F) -> Verdict<'static>
-    ensures { HasActed F.Shelf shelf.old shelf.new accepted.plan None None task.Run (verdict_of result) }
+fn run_new<F: Shelf>(
+    alloc: Global,
+    accepted: &Arc<Accepted, Global>,
+    shelf: &mut F,
+) -> Verdict<'static>
+    ensures { HasActed F.Shelf shelf.old shelf.new (arc_value accepted.now).plan None None task.Run
+        (verdict_of result) }
 {
     ended(serial(alloc, accepted, shelf))
 }
@@ -48,11 +55,12 @@ fn run_new<F: Shelf>(alloc: Global, accepted: Accepted, shelf: &mut F) -> Verdic
 /// Runs an accepted plan without clients from the state of which the text is the checkpoint.
 fn run_from<F: Shelf>(
     alloc: Global,
-    accepted: Accepted,
+    accepted: &Arc<Accepted, Global>,
     text: &[u8],
     shelf: &mut F,
 ) -> Verdict<'static>
-    ensures { HasActed F.Shelf shelf.old shelf.new accepted.plan (Some text.now) None task.Run (verdict_of result) }
+    ensures { HasActed F.Shelf shelf.old shelf.new (arc_value accepted.now).plan (Some text.now) None task.Run
+        (verdict_of result) }
 {
     match resume(alloc, accepted.plan(), text) {
         Ok(state) => ended(serial_from(alloc, accepted, state, shelf)),
@@ -63,12 +71,12 @@ fn run_from<F: Shelf>(
 /// Runs an accepted plan without clients, from its start or from a checkpoint.
 pub(crate) fn run<F: Shelf>(
     alloc: Global,
-    accepted: Accepted,
+    accepted: &Arc<Accepted, Global>,
     from: Option<&[u8]>,
     shelf: &mut F,
 ) -> Verdict<'static>
-    ensures { HasActed F.Shelf shelf.old shelf.new accepted.plan (option_map (λ text. text.now) from.entry) None
-        task.Run (verdict_of result) }
+    ensures { HasActed F.Shelf shelf.old shelf.new (arc_value accepted.now).plan
+        (option_map (λ text. text.now) from.entry) None task.Run (verdict_of result) }
 {
     match from {
         None => run_new(alloc, accepted, shelf),

@@ -1,4 +1,5 @@
 use Rattle.std.proofs.Common.{subst, sym}
+use Rattle.std.specs.Arc.{arc_value}
 use Rattle.trick_model.specs.PlanOf.{plan_of}
 use Rattle.trick_model.specs.Run.{start}
 use Rattle.trick_model.specs.ValidState.{IsStateOf}
@@ -7,10 +8,13 @@ use Rattle.trick_replay.proofs.run.replay.Goals as goal
 
 pub replay_from-requires-clause-valid : goal.replay_from-requires-clause-valid
 replay_from-requires-clause-valid g c =
-    let p = plan_of c.args.accepted.plan in
-    subst (IsStateOf p) (sym c.in-Ok.ensures.started) (c.runs_start_valid.ensures.start p (c.plans_are_sound.ensures c.args.accepted.plan))
+    let p = plan_of c.deref.result.now.plan in
+    rw (← c.deref.ensures) (subst (IsStateOf p) (sym c.in-Ok.ensures.started) (c.runs_start_valid.ensures.start p (c.plans_are_sound.ensures c.deref.result.now.plan)))
 
-pub returns-in_default : goal.returns-in_default
-returns-in_default g c =
-    let p = plan_of c.args.accepted.plan in
+pub returns-in-Err : goal.returns-in-Err
+returns-in-Err g c =
+    let p = plan_of (arc_value c.args.accepted.now).plan in
     record { run = none_kept _ p (start p) c.args.journal (g.met.F.Shelf.called_none _) }
+
+pub replay_from-requires-clause-memory : goal.replay_from-requires-clause-memory
+replay_from-requires-clause-memory g c = rw c.deref.ensures at c.in-Ok.ensures.memory

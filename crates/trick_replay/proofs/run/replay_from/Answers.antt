@@ -1,4 +1,4 @@
-use Rattle.std.proofs.Common.{◌≡◌, ◌∙◌}
+use Rattle.std.specs.Arc.{arc_value}
 use Rattle.trick_model.specs.PlanOf.{plan_of}
 use Rattle.trick_model.specs.State.{seen}
 use Rattle.trick_replay.proofs.ReplayLemmas.{none_kept}
@@ -6,13 +6,7 @@ use Rattle.trick_replay.proofs.run.replay_from.Goals as goal
 
 pub returns-in_default : goal.returns-in_default
 returns-in_default g c =
-    record { run = none_kept _ (plan_of c.args.accepted.plan) (seen g.M.Cells.numbers c.args.state) c.args.journal (g.met.F.Shelf.called_none _) }
-
-pub returns-in_default-one_thread : goal.returns-in_default-one_thread
-returns-in_default-one_thread g c =
-    record { run = none_kept _ (plan_of c.args.accepted.plan) (seen g.M.Cells.numbers c.args.state) c.args.journal (g.met.F.Shelf.called_none _) }
+    record { run = none_kept _ (plan_of (arc_value c.args.accepted.now).plan) (seen g.M.Cells.numbers c.args.state) c.args.journal (g.met.F.Shelf.called_none _) }
 
 pub returns : goal.returns
-returns g c =
-    let same : c.deref.result.now ≡ c.args.accepted = c.deref.ensures ∙ c.in-Ok.ensures.ok in
-    record { run = rw same at c.replay_by.ensures.run }
+returns g c = record { run = rw c.deref.ensures at c.replay_by.ensures.run }

@@ -1,3 +1,4 @@
+use Rattle.std.specs.Arc.{arc_value}
 use Rattle.trick_model.specs.PlanOf.{plan_of}
 use Rattle.trick_model.specs.State.{seen}
 use Rattle.trick_serial.proofs.SerialLemmas.{none_kept}
@@ -5,7 +6,7 @@ use Rattle.trick_serial.proofs.run.serial_from.Goals as goal
 
 pub returns-in_default : goal.returns-in_default
 returns-in_default g c =
-    record { run = none_kept _ (plan_of c.args.accepted.plan) (seen g.M.Cells.numbers c.args.state) (g.met.F.Shelf.called_none _) }
+    record { run = none_kept _ (plan_of (arc_value c.args.accepted.now).plan) (seen g.M.Cells.numbers c.args.state) (g.met.F.Shelf.called_none _) }
 
 pub returns : goal.returns
-returns g c = record { run = rw c.in-Ok.ensures.ok at c.run_shared.ensures.run }
+returns g c = record { run = rw c.deref.ensures at c.serial_by.ensures.run }

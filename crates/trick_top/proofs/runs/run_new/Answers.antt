@@ -1,4 +1,5 @@
 use Rattle.std.proofs.Common.{None, refl}
+use Rattle.std.specs.Arc.{arc_value}
 use Rattle.trick_model.specs.PlanOf.{plan_of}
 use Rattle.trick_model.specs.Run.{start}
 use Rattle.trick_top.proofs.ActedLemmas.{acted_run}
@@ -7,4 +8,4 @@ use Rattle.trick_top.proofs.runs.run_new.Goals as goal
 pub returns : goal.returns
 returns g c =
     rw c.ended.ensures
-    (acted_run c.args.accepted.plan None (start (plan_of c.args.accepted.plan)) refl c.serial.result c.serial.ensures.run)
+    (acted_run (arc_value c.args.accepted.now).plan None (start (plan_of (arc_value c.args.accepted.now).plan)) refl c.serial.result c.serial.ensures.run)
