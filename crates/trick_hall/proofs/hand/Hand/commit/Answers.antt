@@ -1,0 +1,37 @@
+use Rattle.std.proofs.Common.{◌≡◌, ◌∙◌, refl, sym, ap, subst, List, Option, ◌++◌}
+use Rattle.std.specs.Option.{option_map}
+use Rattle.trick_hall.proofs.Entries.{stands_picked}
+use Rattle.trick_hall.proofs.Turns.{waits_looked, commit_at, names_pass}
+use Rattle.trick_hall.specs.Answers.{job_committed}
+use Rattle.trick_hall.specs.HallView.{HallView}
+use Rattle.trick_hall.specs.Standing.{StandsAt}
+use Rattle.trick_hall.specs.declared.entry.Entry.{Entry}
+use Rattle.trick_hall.specs.declared.entry.Entry.TheVariants.{Commit}
+use Rattle.trick_lang.specs.declared.job.JobId.{JobId}
+use Rattle.trick_turn.specs.Passes.{number_of, seen}
+use Rattle.trick_turn.specs.Views.{entries_told}
+use Rattle.trick_hall.proofs.hand.Hand.commit.Goals as goal
+
+pub commit-committed-requires-clause-standing : goal.commit-committed-requires-clause-standing
+commit-committed-requires-clause-standing g c =
+    let plan = c.args.accepted.now.plan in let log : List Entry = seen c.claim-turn.result.pass.now in
+    (log, subst (λ (hall : HallView). StandsAt plan hall log) (sym c.value.ensures.value) (c.claim-turn.ensures.got.state plan c.requires.plan))
+
+pub end_turn-requires-clause-names : goal.end_turn-requires-clause-names
+end_turn-requires-clause-names g c = names_pass (Commit (number_of c.claim-turn.result.pass.now)) _ (λ _. refl) c.job_committed.result
+
+pub end_turn-requires-clause-stands : goal.end_turn-requires-clause-stands
+end_turn-requires-clause-stands g c =
+    let plan = c.args.accepted.now.plan in let log : List Entry = seen c.claim-turn.result.pass.now in let seat = number_of c.claim-turn.result.pass.now in
+    let stands = subst (λ (hall : HallView). StandsAt plan hall log) (sym c.value.ensures.value) (c.claim-turn.ensures.got.state plan c.requires.plan) in
+    let is : c.job_committed.result ≡ job_committed c.args.bench.now.job c.commit-committed.result = c.job_committed.ensures ∙ ap (λ (job : Option JobId). job_committed job c.commit-committed.result) c.job-job.ensures in
+    stands_picked _ plan _ _ c.requires.plan
+    (subst (λ (job : Option JobId). StandsAt plan c.commit-committed.new.self (log ++ entries_told (option_map (Commit seat) job))) (sym is) (c.commit-committed.ensures.stands log seat stands))
+
+pub returns-clause-answer : goal.returns-clause-answer
+returns-clause-answer g c =
+    let plan = c.args.accepted.now.plan in let log : List Entry = seen c.claim-turn.result.pass.now in
+    let stands = subst (λ (hall : HallView). StandsAt plan hall log) (sym c.value.ensures.value) (c.claim-turn.ensures.got.state plan c.requires.plan) in
+    let is : c.job_committed.result ≡ job_committed c.args.bench.now.job c.commit-committed.result = c.job_committed.ensures ∙ ap (λ (job : Option JobId). job_committed job c.commit-committed.result) c.job-job.ensures in
+    commit_at _ _ _ (waits_looked _ _ _ _ _ c.claim-turn.ensures.got) plan c.args.bench.now c.commit-committed.new.bench c.commit-committed.result c.job_committed.result is
+    c.end_turn.ensures (c.commit-committed.ensures.answer log stands) c.commit-committed.new.self (c.commit-committed.ensures.stands log (number_of c.args.self.now.pass) stands)
