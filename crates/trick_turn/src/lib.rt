@@ -1,5 +1,5 @@
 //! A value behind a turn: one pass at a time has the value, and all that was ever done behind the lock is one list, its
-//! history.
+//! history. The bell by which threads sleep until there is something to do stands by itself too.
 #![tactic(auto)]
 
 mod claim;
@@ -15,6 +15,7 @@ pub use claim::Claim;
 pub use keeps::{Adds, Keeps, MayAdd, Nothing};
 pub use lock::TurnLock;
 pub use pass::Pass;
+pub use sleep::Bell;
 pub use turn::Turn;
 pub use view::View;
 
