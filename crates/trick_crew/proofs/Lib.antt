@@ -1,0 +1,8 @@
+-- A list that is kept of another is no longer than that.
+pub mod Short
+-- What the chief's own entries say.
+pub mod Openings
+-- What a worker is made of may cross threads.
+pub mod Parts
+-- Workers that are started one after another.
+pub mod Starting

@@ -1,0 +1,105 @@
+//! The workers of a crew, each started in a thread of its own or refused.
+ghost use Rattle.std.specs.Prelude.{◌≡◌, ◌+◌, ◌++◌, ◌<◌, ◌≤◌, [], length, reverse, vec_capacity, vec_len};
+ghost use Rattle.trick_crew.specs.Members.{AddsRefused, AreMembers, ForWork, IsRefusedAny, refused};
+ghost use Rattle.trick_crew.specs.Working.{HasWorked};
+ghost use Rattle.trick_outside.specs.Causes.{HasCause};
+
+use crate::worker::Worker;
+use std::alloc::Global;
+use std::sync::Wait;
+use std::thread::Threads;
+use trick_hall::Hand;
+use trick_lang::Cells;
+use trick_model::Planned;
+use trick_outside::{Begun, Gate, Spawner, start};
+
+/// Starts each of these workers, the last one first, as far as the spawner and the system admit it. It takes no memory
+/// but what a start takes.
+pub(crate) fn start_each<
+    M: Cells + Drop + Send + 'static,
+    P: Planned + Send + 'static,
+    G: Gate + Send + Sync + Drop + 'static,
+    R: Threads + Wait + Copy + Send + Drop + 'static,
+    S: Spawner,
+>(
+    rt: &R,
+    alloc: Global,
+    spawner: &mut S,
+    workers: Vec<Worker<M, P, G, R>>,
+    members: &mut Vec<Begun<Worker<M, P, G, R>>>,
+)
+    requires empty { members.old.items ≡ [] }
+    requires room { vec_len workers ≤ vec_capacity members.old }
+    requires none { vec_len members.old ≡ 0 }
+    ensures many { vec_len members.new ≡ vec_len workers }
+    ensures members { AreMembers HasWorked workers.items (reverse members.new.items) }
+    ensures cause { HasCause (S.failures spawner.old) (S.failures spawner.new) (IsRefusedAny members.new.items) }
+{
+    let mut workers = workers;
+    while let Some(worker) = workers.pop() {
+        let member = start(rt, alloc, spawner, worker);
+        members.push_reserved(member);
+    }
+}
+
+// Adds the thread of a worker that was refused.
+fn add_if_refused<
+    M: Cells + Drop + Send + 'static,
+    P: Planned + Send + 'static,
+    G: Gate + Send + Sync + Drop + 'static,
+    R: Threads + Wait + Copy + Send + Drop + 'static,
+>(member: &Begun<Worker<M, P, G, R>>, threads: &mut Vec<u8>)
+    requires room { vec_len threads.old < vec_capacity threads.old }
+    ensures added { AddsRefused (λ w. w.thread) member.now threads.old.items threads.new.items }
+    ensures len { vec_len threads.new ≤ vec_len threads.old + 1 }
+    ensures capacity { vec_capacity threads.new ≡ vec_capacity threads.old }
+{
+    if let Begun::Refused(worker) = member {
+        threads.push_reserved(worker.thread);
+    }
+}
+
+/// Adds the threads of the workers that were refused.
+pub(crate) fn add_refused<
+    M: Cells + Drop + Send + 'static,
+    P: Planned + Send + 'static,
+    G: Gate + Send + Sync + Drop + 'static,
+    R: Threads + Wait + Copy + Send + Drop + 'static,
+>(members: &[Begun<Worker<M, P, G, R>>], threads: &mut Vec<u8>)
+    requires room { vec_len threads.old + length members.now ≤ vec_capacity threads.old }
+    ensures { threads.new.items ≡ threads.old.items ++ refused (λ w. w.thread) members.now }
+{
+    for member in members {
+        add_if_refused(member, threads);
+    }
+}
+
+// Waits for a worker, and takes its hand out.
+fn hand_of<
+    M: Cells + Drop + Send + 'static,
+    P: Planned + Send + 'static,
+    G: Gate + Send + Sync + Drop + 'static,
+    R: Threads + Wait + Copy + Send + Drop + 'static,
+>(rt: &R, member: Begun<Worker<M, P, G, R>>) -> Hand<M, P>
+    ensures lock { ForWork HasWorked (λ w. result.lock ≡ w.hand.lock) member }
+{
+    match member {
+        Begun::Started(running) => running.finish(rt),
+        Begun::Refused(worker) => {
+            let Worker { hand, .. } = worker;
+            hand
+        }
+    }
+}
+
+/// Waits for all workers. The hall has to be shut.
+pub(crate) fn wait_for_each<
+    M: Cells + Drop + Send + 'static,
+    P: Planned + Send + 'static,
+    G: Gate + Send + Sync + Drop + 'static,
+    R: Threads + Wait + Copy + Send + Drop + 'static,
+>(rt: &R, members: Vec<Begun<Worker<M, P, G, R>>>) {
+    for member in members {
+        hand_of(rt, member);
+    }
+}
