@@ -16,6 +16,7 @@ demo: tricks
 test:
 	rt ci
 	examples/check
+	.ci/hostile
 
 edits:
 	.ci/edits

@@ -96,6 +96,17 @@ impl<'a, R: Files> Folder<'a, R> {
         }
     }
 
+    /// Makes an empty file. Where that fails it is tried once more with all other files closed.
+    fn make_file(&mut self, name: &Word) -> io::Result<()>
+        ensures { self.new.faults ≡ self.old.faults }
+    {
+        self.open.close(name.as_slice());
+        match make_empty(self.rt, name) {
+            Err(_) if self.open.close_all() => make_empty(self.rt, name),
+            made => made,
+        }
+    }
+
     /// Adds bytes at a file's end, and keeps it open.
     fn append_to(&mut self, name: &Word, bytes: &[u8]) -> io::Result<()>
         ensures { self.new.faults ≡ self.old.faults }
@@ -156,8 +167,7 @@ impl<R: Files> Shelf for Folder<'_, R> {
     }
 
     fn create(&mut self, name: &Word) -> Wrote {
-        self.open.close(name.as_slice());
-        let done = make_empty(self.rt, name);
+        let done = self.make_file(name);
         self.wrote(done)
     }
 

@@ -2,6 +2,8 @@
 //! output, handed to the top call. All that matters is decided there.
 #![tactic(auto)]
 
+#[cfg(test)]
+mod deep;
 mod folder;
 mod open_files;
 mod standard_output;
@@ -10,10 +12,19 @@ use crate::folder::Folder;
 use crate::standard_output::StandardOutput;
 use std::alloc::Global;
 use std::process::ExitCode;
-use std::rt::Env;
-use std::{env, io};
+use std::rt::{Env, Files};
+use std::{env, fs, io};
 use trick_base::Word;
 use trick_top::{print_out_of_memory, tricks_alone};
+
+/// The status where standard output cannot be written.
+const NO_OUTPUT: u8 = 8;
+
+/// Three files that are open and never read or written. Where a standard stream was closed before the
+/// program began one of them has its number, so that no file of a run has it, and printing there fails.
+fn hold_streams<R: Files>(rt: &R) -> io::Result<[R::File; 3]> {
+    Ok([fs::open(rt, "/")?, fs::open(rt, "/")?, fs::open(rt, "/")?])
+}
 
 /// The words of the command line, without the program's name.
 fn read_words<R: Env + AllocGlobal>(rt: &R, alloc: Global) -> io::Result<Vec<Word>> {
@@ -26,6 +37,9 @@ fn read_words<R: Env + AllocGlobal>(rt: &R, alloc: Global) -> io::Result<Vec<Wor
 
 fn main(rt: HostRuntime) -> ExitCode {
     let alloc = rt.alloc();
+    let Ok(_streams) = hold_streams(&rt) else {
+        return ExitCode::from(NO_OUTPUT);
+    };
     let mut out = StandardOutput::new(&rt);
     let words = match read_words(&rt, alloc) {
         Ok(words) => words,
