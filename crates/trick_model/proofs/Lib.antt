@@ -37,3 +37,5 @@ pub mod Continue
 -- A program, and a plan, may cross threads.
 pub mod ProgramCrossings
 pub mod Crossings
+-- The jobs of a plan stand in queues by class, and are jobs of its program.
+pub mod PlanJobs

@@ -62,6 +62,14 @@ impl Faults {
         self.count = self.count.saturating_add(1);
     }
 
+    /// Drops all faults, and keeps their room. Takes no memory.
+    pub fn clear(&mut self)
+        ensures { self.new ≡ record { count = 0; first = [] } }
+    {
+        self.count = 0;
+        self.first.clear();
+    }
+
     /// Counts `more` faults that are not kept, as where a list is made again from its text: there are
     /// 1,000 already. Takes no memory.
     pub fn count_more(&mut self, more: u64)

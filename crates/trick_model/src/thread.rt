@@ -1,3 +1,6 @@
+ghost use Rattle.std.specs.Prelude.{◌≡◌};
+ghost use Rattle.trick_model.specs.Plan.{is_async as is_async_of, is_beside as is_beside_of, is_in_tics as is_in_tics_of, process_in};
+
 /// How the jobs of a thread run.
 #[derive(Clone, Copy, Debug, PartialEq, Eq)]
 pub enum Process {
@@ -7,6 +10,38 @@ pub enum Process {
     Async,
     /// Beside the tics, and published where the thread's cycle ends.
     MustFinish,
+}
+
+impl Process {
+    /// Whether such jobs run in the tics.
+    pub fn is_in_tics(self) -> bool
+        ensures { result ≡ is_in_tics_of self }
+    {
+        match self {
+            Process::Scheduled => true,
+            Process::Async | Process::MustFinish => false,
+        }
+    }
+
+    /// Whether such jobs work beside the tics.
+    pub fn is_beside(self) -> bool
+        ensures { result ≡ is_beside_of self }
+    {
+        match self {
+            Process::Scheduled => false,
+            Process::Async | Process::MustFinish => true,
+        }
+    }
+
+    /// Whether such jobs run in rounds.
+    pub fn is_async(self) -> bool
+        ensures { result ≡ is_async_of self }
+    {
+        match self {
+            Process::Async => true,
+            Process::Scheduled | Process::MustFinish => false,
+        }
+    }
 }
 
 /// A thread of a plan.
@@ -19,4 +54,16 @@ pub struct Thread {
     pub cycle: u64,
     /// Whether the input names the thread, for a process type or a cycle.
     pub named: bool,
+}
+
+/// How the jobs of a thread run, by its number among threads; in the tics, where there is none of it.
+pub fn process_of(threads: &[Thread], number: u8) -> Process
+    ensures { result ≡ process_in threads.now number }
+{
+    for thread in threads {
+        if thread.number == number {
+            return thread.process;
+        }
+    }
+    Process::Scheduled
 }
