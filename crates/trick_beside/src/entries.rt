@@ -10,8 +10,7 @@ ghost use Rattle.trick_model.specs.State.{seen};
 ghost use Rattle.trick_model.specs.declared.plan.Plan.{Plan as PlanValue};
 
 use crate::Station;
-use crate::rounds::is_async;
-use crate::seat::{Seat, is_held};
+use crate::seat::Seat;
 use std::alloc::AllocError;
 use trick_base::Items;
 use trick_lang::Cells;
@@ -27,10 +26,10 @@ fn push_publication<M: Cells>(
         ++ publication_of (seen M.numbers state.now) seat.entry.place seat.entry.station.now.thread) }
 {
     let thread = seat.station.thread;
-    if !is_async(thread.process) {
+    if !thread.process.is_async() {
         return Ok(());
     }
-    if !is_held(state, seat.place) {
+    if !state.is_held(seat.place) {
         return Ok(());
     }
     entries.push(Entry::Publish {

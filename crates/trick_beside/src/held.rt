@@ -10,7 +10,7 @@ ghost use Rattle.trick_model.specs.ValidState.{IsStateOf};
 
 use crate::Station;
 use crate::frames::work_at;
-use crate::seat::{Seat, is_held};
+use crate::seat::Seat;
 use trick_lang::Cells;
 use trick_model::State;
 use trick_post::Posts;
@@ -26,7 +26,7 @@ fn start_seat<M: Cells, P: Posts>(seat: Seat, state: &State<M>, posts: &mut P)
         → P.in_flight posts.new n ≡ P.in_flight posts.old n }
     ensures asks { AsksNothing P.Posts posts.old posts.new }
 {
-    if !is_held(state, seat.place) {
+    if !state.is_held(seat.place) {
         return;
     }
     let thread = seat.station.thread;

@@ -4,7 +4,7 @@ ghost use Rattle.std.specs.Prelude.{◌≡◌, OnOk, map};
 ghost use Rattle.trick_beside.specs.Stations.{record_of};
 ghost use Rattle.trick_lang.specs.declared.cells.Cell.{Cell as CellValue};
 ghost use Rattle.trick_lang.specs.declared.job.JobId.{JobId as JobIdValue};
-ghost use Rattle.trick_model.specs.Plan.{is_on as is_on_of};
+ghost use Rattle.trick_model.specs.Plan.{is_on};
 ghost use Rattle.trick_model.specs.State.{nothing_taken, number_at};
 
 use crate::Station;
@@ -21,16 +21,6 @@ fn number<M: Cells>(memory: &M, cell: Cell) -> i64
         memory.get(cell)
     } else {
         0
-    }
-}
-
-// The flag of a job; past the last one it is off.
-fn is_on(flags: &Flags, job: JobId) -> bool
-    ensures { result ≡ is_on_of flags.now job.0 }
-{
-    match flags.on.as_slice().get(job.0 as usize) {
-        Some(on) => *on,
-        None => false,
     }
 }
 
@@ -52,11 +42,11 @@ fn put_numbers<M: Cells>(
 
 // Puts the flags of these jobs in place of what was there.
 fn put_flags(flags: &Flags, jobs: &[JobId], on: &mut Items<bool>) -> Result<(), AllocError>
-    ensures { OnOk result (on.new ≡ map (λ (job : JobIdValue). is_on_of flags.now job.0) jobs.now) }
+    ensures { OnOk result (on.new ≡ map (λ (job : JobIdValue). is_on flags.now job.0) jobs.now) }
 {
     on.clear();
     for job in jobs {
-        on.push(is_on(flags, *job))?;
+        on.push(flags.is_on(job.0 as usize))?;
     }
     Ok(())
 }

@@ -6,16 +6,15 @@ ghost use Rattle.trick_beside.specs.Flight.{AsksNothing, GoesWith};
 ghost use Rattle.trick_beside.specs.Stations.{AreStations, IsSeat};
 ghost use Rattle.trick_beside.specs.declared.station.Station.{Station as StationValue};
 ghost use Rattle.trick_model.specs.Beside.{publish_round as publish_round_of, start_round as start_round_of, start_rounds as start_rounds_of};
-ghost use Rattle.trick_model.specs.Plan.{is_async as is_async_of};
 ghost use Rattle.trick_model.specs.PlanOf.{plan_of};
 ghost use Rattle.trick_model.specs.State.{seen};
 ghost use Rattle.trick_model.specs.Turn.{publish_all as publish_all_of};
 
 use crate::Station;
-use crate::seat::{Seat, is_held, publish, take};
+use crate::seat::{Seat, publish, take};
 use std::alloc::{AllocError, Global};
 use trick_lang::Cells;
-use trick_model::{Entry, Process, State};
+use trick_model::{Entry, State};
 use trick_post::Posts;
 
 // The place of the thread of a number.
@@ -25,16 +24,6 @@ fn find(stations: &[Station], number: u8) -> Option<usize>
     stations
         .iter()
         .position(|station| station.thread.number == number)
-}
-
-/// Whether a thread is asynchronous.
-pub(crate) fn is_async(process: Process) -> bool
-    ensures { result ≡ is_async_of process }
-{
-    match process {
-        Process::Async => true,
-        Process::Scheduled | Process::MustFinish => false,
-    }
 }
 
 // Publishes the round of the thread of a number, where it has one in flight.
@@ -58,7 +47,7 @@ fn publish_round<M: Cells, P: Posts>(
         return;
     };
     let station = &stations[place];
-    if is_async(station.thread.process) {
+    if station.thread.process.is_async() {
         let tic = state.tic;
         publish(alloc, Seat { place, station }, tic, state, posts);
     }
@@ -127,10 +116,10 @@ fn start_round<M: Cells, P: Posts>(
         (M.scalars state.new.memory)) }
     ensures asks { AsksNothing P.Posts posts.old posts.new }
 {
-    if !is_async(seat.station.thread.process) {
+    if !seat.station.thread.process.is_async() {
         return Ok(());
     }
-    if is_held(state, seat.place) {
+    if state.is_held(seat.place) {
         return Ok(());
     }
     let tic = state.tic;

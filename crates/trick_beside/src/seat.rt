@@ -25,16 +25,6 @@ pub(crate) struct Seat<'a> {
     pub(crate) station: &'a Station,
 }
 
-/// Whether the record of a place is held.
-pub(crate) fn is_held<M: Cells>(state: &State<M>, place: usize) -> bool
-    ensures { result ≡ (taken_at (seen M.numbers state.now) place).held }
-{
-    match state.taken.as_slice().get(place) {
-        Some(taken) => taken.held,
-        None => false,
-    }
-}
-
 // Fills the record of a thread.
 fn fill<M: Cells>(alloc: Global, seat: Seat, state: &mut State<M>) -> Result<(), AllocError>
     requires { seat.place < length state.old.taken }
@@ -86,7 +76,7 @@ pub(crate) fn publish<M: Cells, P: Posts>(
 {
     laws::plans_are_sound();
     started_work_is_published();
-    if !is_held(state, seat.place) {
+    if !state.is_held(seat.place) {
         return;
     }
     let number = seat.station.thread.number;

@@ -14,3 +14,5 @@ pub mod Ends
 pub mod Calls
 -- jobs that are passed
 pub mod Passed
+-- jobs that are found in tables
+pub mod Found

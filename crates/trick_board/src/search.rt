@@ -1,18 +1,18 @@
 //! Plain searches for the next job of a thread.
 
 ghost use Rattle.std.specs.List.{slice_index_or};
-ghost use Rattle.std.specs.Prelude.{◌≡◌, []};
+ghost use Rattle.std.specs.Option.{IfSome};
+ghost use Rattle.std.specs.Prelude.{◌≡◌, ◌<◌, [], length};
 ghost use Rattle.trick_board.specs.Search.{IsPassed, find_wanted, least_of, meets, next_in, other_than};
+ghost use Rattle.trick_board.specs.Tables.{IsFor};
 ghost use Rattle.trick_board.specs.declared.search.Wanted.TheVariants.{Open};
-ghost use Rattle.trick_model.specs.Order.{is_below, key as key_of, precedes as precedes_of, rank as rank_of};
-ghost use Rattle.trick_model.specs.Plan.{job_at as job_at_of};
 ghost use Rattle.trick_model.specs.PlanOf.{plan_of};
 ghost use Rattle.trick_schedule.specs.Play.{stage_at};
 
 use crate::Tables;
 use crate::tables::list_at;
-use trick_lang::{Class, Job, JobId};
-use trick_model::Plan;
+use trick_lang::JobId;
+use trick_model::{Plan, precedes};
 use trick_schedule::Stage;
 
 /// Which jobs are looked for.
@@ -104,59 +104,6 @@ pub fn pass(stages: &[Stage], jobs: &[JobId], passed: usize) -> usize
     passed
 }
 
-// A job of a number; one that is not there is none of class scheduled.
-fn job_at(jobs: &[Job], job: JobId) -> Job
-    ensures { result ≡ job_at_of jobs.now job.0 }
-{
-    match jobs.get(job.0 as usize) {
-        Some(job) => *job,
-        None => Job {
-            object: 0,
-            method: 0,
-            instance: 0,
-            class: Class::Restart,
-            thread: 0,
-            phase: 0,
-            start: 0,
-            cycle: 0,
-            stop: 0,
-            number: 0,
-        },
-    }
-}
-
-// The rank of a class, which comes first in the keys of its jobs.
-fn rank(class: Class) -> u8
-    ensures { result ≡ rank_of class }
-{
-    class as u8
-}
-
-// Whether the key of the first job is the smaller one.
-fn is_smaller(one: Job, other: Job) -> bool
-    ensures { result ≡ is_below (key_of one) (key_of other) }
-{
-    let (first, second) = (rank(one.class), rank(other.class));
-    if first != second {
-        return first < second;
-    }
-    if one.phase != other.phase {
-        return one.phase < other.phase;
-    }
-    if one.object != other.object {
-        return one.object < other.object;
-    }
-    one.number < other.number
-}
-
-// Whether the first job comes before the second one in key order.
-fn precedes(plan: &Plan, one: JobId, other: JobId) -> bool
-    ensures { result ≡ precedes_of plan.now.program.jobs one.0 other.0 }
-{
-    let jobs = plan.program.jobs.as_slice();
-    is_smaller(job_at(jobs, one), job_at(jobs, other))
-}
-
 // A job that is another one.
 fn other(job: JobId, found: Option<JobId>) -> Option<JobId>
     ensures { result ≡ other_than job found }
@@ -169,6 +116,8 @@ fn other(job: JobId, found: Option<JobId>) -> Option<JobId>
 
 // The one of smaller key, if there is one.
 fn least(plan: &Plan, one: Option<JobId>, other: Option<JobId>) -> Option<JobId>
+    requires one { IfSome one (λ job. job.0 < length plan.now.program.jobs) }
+    requires other { IfSome other (λ job. job.0 < length plan.now.program.jobs) }
     ensures { result ≡ least_of (plan_of plan.now) one other }
 {
     let Some(first) = one else {
@@ -177,7 +126,7 @@ fn least(plan: &Plan, one: Option<JobId>, other: Option<JobId>) -> Option<JobId>
     let Some(second) = other else {
         return one;
     };
-    if precedes(plan, second, first) {
+    if precedes(plan.job(second), plan.job(first)) {
         Some(second)
     } else {
         Some(first)
@@ -193,6 +142,9 @@ fn missing(
     first: Option<JobId>,
     job: JobId,
 ) -> Option<JobId>
+    requires tables { IsFor (plan_of plan.now) tables.now }
+    requires first { IfSome first (λ job. job.0 < length plan.now.program.jobs) }
+    requires job { job.0 < length plan.now.program.jobs }
     ensures { result ≡ least_of (plan_of plan.now) (other_than job first)
         (find_wanted Open stages.now (slice_index_or tables.now.depended job.0 [])) }
 {
@@ -204,7 +156,8 @@ fn missing(
 /// What a thread can do next, where none of its first `passed` jobs is open. It costs the jobs after them
 /// up to the next one, and those that this depends on.
 pub fn next_of(plan: &Plan, tables: &Tables, stages: &[Stage], thread: u8, passed: usize) -> Next
-    requires { IsPassed stages.now (slice_index_or tables.now.lines thread []) passed }
+    requires tables { IsFor (plan_of plan.now) tables.now }
+    requires passed { IsPassed stages.now (slice_index_or tables.now.lines thread []) passed }
     ensures { result ≡ next_in (plan_of plan.now) tables.now stages.now thread }
 {
     let line = list_at(tables.lines.as_slice(), thread as usize);

@@ -30,16 +30,6 @@ pub fn next_phase(phase: u64) -> u64
     if phase == u64::MAX { 1 } else { phase + 1 }
 }
 
-// The flag of a job.
-fn flag(on: &Flags, job: usize) -> bool
-    ensures { result ≡ is_on on.now job }
-{
-    match on.on.as_slice().get(job) {
-        Some(on) => *on,
-        None => false,
-    }
-}
-
 /// Whether a flag is on.
 pub fn is_flagged(on: &[bool], job: JobId) -> bool
     ensures { result ≡ slice_index_or on.now job.0 false }
@@ -56,7 +46,7 @@ fn copy_each_flag(on: &Flags, into: &mut Vec<bool>)
     ensures flags { (k : ℕ) → k < length into.old.items → slice_index_or into.new.items k false ≡ is_on on.now k }
 {
     for job in 0..into.len() {
-        into[job] = flag(on, job);
+        into[job] = on.is_on(job);
     }
 }
 

@@ -1,7 +1,6 @@
 ghost use Rattle.std.specs.List.{slice_index_or};
 ghost use Rattle.std.specs.Prelude.{◌≡◌, ℕ, ◌==◌, ◌∷◌, ◌++◌, ◌<◌, [], IfOk, cond, filter, length};
 ghost use Rattle.trick_board.specs.Tables.{IsFor, depended_of, ids_at, line_of};
-ghost use Rattle.trick_model.specs.Plan.{thread_of};
 ghost use Rattle.trick_model.specs.PlanOf.{plan_of};
 ghost use Rattle.trick_model.specs.Valid.{ids};
 ghost use Rattle.trick_model.specs.declared.depends.Depends.{Depends as Pair};
@@ -9,7 +8,7 @@ ghost use Rattle.trick_schedule.specs.Tics.{depends_on as depends_on_of};
 
 use std::alloc::{AllocError, Global};
 use trick_base::Items;
-use trick_lang::JobId;
+use trick_lang::{Class, JobId};
 use trick_model::{Depends, Plan};
 
 // Threads go from 0 to 15.
@@ -22,26 +21,6 @@ pub struct Tables {
     pub(crate) lines: Items<Items<JobId>>,
     /// By job, those that it depends on.
     pub(crate) depended: Items<Items<JobId>>,
-}
-
-// The jobs of class scheduled, in key order.
-fn class_scheduled(plan: &Plan) -> &[JobId]
-    ensures { result.now ≡ slice_index_or plan.now.queues 2 [] }
-{
-    match plan.queues.as_slice().get(2) {
-        Some(jobs) => jobs.as_slice(),
-        None => &[],
-    }
-}
-
-// The thread of a job.
-pub(crate) fn thread_at(plan: &Plan, job: JobId) -> u8
-    ensures { result ≡ thread_of plan.now.program.jobs job.0 }
-{
-    match plan.program.jobs.as_slice().get(job.0 as usize) {
-        Some(job) => job.thread,
-        None => 0,
-    }
 }
 
 // Whether a job depends on another one.
@@ -66,9 +45,9 @@ fn line(alloc: Global, plan: &Plan, thread: u8) -> Result<Items<JobId>, AllocErr
     ensures { IfOk result (λ jobs. ids jobs ≡ line_of (plan_of plan.now) thread) }
 {
     let mut jobs = Items::new(alloc);
-    let all = class_scheduled(plan);
+    let all = plan.jobs_of_class(Class::Scheduled);
     for job in all {
-        add(&mut jobs, *job, thread_at(plan, *job) == thread)?;
+        add(&mut jobs, *job, plan.job(*job).thread == thread)?;
     }
     Ok(jobs)
 }
@@ -94,7 +73,7 @@ fn depended(alloc: Global, plan: &Plan, target: JobId) -> Result<Items<JobId>, A
     if own.is_empty() {
         return Ok(jobs);
     }
-    let all = class_scheduled(plan);
+    let all = plan.jobs_of_class(Class::Scheduled);
     for job in all {
         let wanted = depends_on(own.as_slice(), target, *job);
         add(&mut jobs, *job, wanted)?;

@@ -5,23 +5,14 @@ ghost use Rattle.trick_event.specs.Asking.{asking, IsTimely, moment_of};
 ghost use Rattle.trick_deed.specs.Deeds.{deed_as};
 ghost use Rattle.trick_event.specs.Deeds.{CanDo, IsTimeOf};
 ghost use Rattle.trick_job.specs.Belongs.{IsMemoryOf};
-ghost use Rattle.trick_model.specs.Events.{act as acted, do_deed, stopped, with_flag};
+ghost use Rattle.trick_model.specs.Events.{act as acted, do_deed, stopped};
 ghost use Rattle.trick_model.specs.PlanOf.{plan_of};
 ghost use Rattle.trick_model.specs.State.{seen};
 
 use crate::{Asked, Moment};
 use trick_deed::{Deed, deed_in_plan};
 use trick_lang::Cells;
-use trick_model::{Action, Flags, Plan, State};
-
-/// Sets one flag.
-pub(crate) fn set_flag(flags: &mut Flags, place: usize, on: bool)
-    ensures { flags.new ≡ with_flag flags.old place on }
-{
-    if place < flags.on.len() {
-        flags.on.set(place, on);
-    }
-}
+use trick_model::{Action, Plan, State};
 
 // The limit after a stop.
 fn limit<M: Cells>(state: &State<M>, moment: Moment, at: Option<u64>) -> u64
@@ -48,12 +39,12 @@ fn perform<M: Cells>(deed: Deed, state: &mut State<M>, asked: &mut Asked, moment
 {
     match deed {
         Deed::SetCell { cell, number } => state.memory.set(cell, number),
-        Deed::SetJob { job, on } => set_flag(&mut state.jobs, job.0 as usize, on),
+        Deed::SetJob { job, on } => state.jobs.turn(job.0 as usize, on),
         Deed::Freeze => asked.freeze = true,
         Deed::Stop { at } => state.limit = limit(state, moment, at),
         Deed::Checkpoint => asked.checkpoint = true,
-        Deed::SetGroup { group, on } => set_flag(&mut state.groups, group, on),
-        Deed::SetEvent { event, on } => set_flag(&mut state.events, event, on),
+        Deed::SetGroup { group, on } => state.groups.turn(group, on),
+        Deed::SetEvent { event, on } => state.events.turn(event, on),
     }
 }
 

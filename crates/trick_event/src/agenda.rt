@@ -15,7 +15,7 @@ ghost use Rattle.trick_model.specs.declared.event.Event.{Event as EventValue};
 ghost use Rattle.trick_queue.specs.Tree.{never};
 
 use crate::Asked;
-use crate::due::{events_done, is_on, read_done};
+use crate::due::{events_done, read_done};
 use std::alloc::{AllocError, Global};
 use std::marker::Model;
 use trick_base::TIC_LIMIT;
@@ -148,7 +148,7 @@ fn next_event(events: &[Event], on: &Flags, from: u64) -> u64
 {
     let mut next = NEVER;
     for place in 0..events.len() {
-        let tic = next_of(times(events, place), is_on(on, place), from);
+        let tic = next_of(times(events, place), on.is_on(place), from);
         next = next.min(tic);
     }
     next

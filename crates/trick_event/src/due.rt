@@ -7,18 +7,18 @@ ghost use Rattle.trick_event.specs.Event.{event_done, read_done};
 ghost use Rattle.trick_job.specs.Belongs.{IsMemoryOf};
 ghost use Rattle.trick_model.specs.Condition.{is_condition_of};
 ghost use Rattle.trick_model.specs.Events.{act_all, event_acts, events_done, fire as fired_of, fires, reads_done};
-ghost use Rattle.trick_model.specs.Plan.{Event as EventOf, is_on as is_on_of};
+ghost use Rattle.trick_model.specs.Plan.{Event as EventOf};
 ghost use Rattle.trick_model.specs.PlanOf.{event_of, plan_of};
 ghost use Rattle.trick_model.specs.State.{seen};
 ghost use Rattle.trick_base.specs.Time.{tic_limit};
 ghost use Rattle.trick_model.specs.declared.read_at.ReadAt.{ReadAt};
 
-use crate::action::{act, set_flag};
+use crate::action::act;
 use crate::condition::holds;
 use crate::{Asked, Moment};
 use trick_base::Items;
 use trick_lang::Cells;
-use trick_model::{Action, Event, Flags, Plan, State};
+use trick_model::{Action, Event, Plan, State};
 
 // Does actions one after another, in a tic.
 fn act_all<M: Cells>(
@@ -58,23 +58,13 @@ fn event_acts<M: Cells>(
     }
 }
 
-/// Whether an entry is on.
-pub(crate) fn is_on(flags: &Flags, place: usize) -> bool
-    ensures { result ≡ is_on_of flags.now place }
-{
-    match flags.on.as_slice().get(place) {
-        Some(on) => *on,
-        None => false,
-    }
-}
-
 // Whether an event fires: it is active, its cycle divides the tic, and its condition is not 0.
 fn fires<M: Cells>(event: &Event, place: usize, state: &State<M>, tic: u64) -> bool
     requires cycle { 0 < event.now.cycle }
     requires condition { IsTrue (is_condition_of (length (M.numbers state.now.memory)) event.now.condition) }
     ensures { result ≡ fires tic place (event_of event.now) (seen M.numbers state.now) }
 {
-    is_on(&state.events, place) && tic % event.cycle == 0 && holds(&event.condition, &state.memory)
+    state.events.is_on(place) && tic % event.cycle == 0 && holds(&event.condition, &state.memory)
 }
 
 // The event of a place, which fires or does nothing. It is inactive after its actions.
@@ -96,7 +86,7 @@ fn event_done<M: Cells>(
     let event = &plan.events.as_slice()[place];
     if fires(event, place, state, tic) {
         event_acts(plan, state, asked, event.actions.as_slice(), tic);
-        set_flag(&mut state.events, place, false);
+        state.events.turn(place, false);
     }
 }
 

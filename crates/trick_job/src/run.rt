@@ -11,17 +11,7 @@ use crate::Setting;
 use trick_eval::{Bench, eval};
 use trick_lang::laws::{frame_law, overwrite_law};
 use trick_lang::{Cells, JobFault, JobId};
-use trick_model::{Faults, Flags};
-
-// The flag of a job.
-fn flag(on: &Flags, job: JobId) -> bool
-    ensures { result ≡ is_on on.now job.0 }
-{
-    match on.on.as_slice().get(job.0 as usize) {
-        Some(on) => *on,
-        None => false,
-    }
-}
+use trick_model::Faults;
 
 /// Runs a job where it is on: what it stores is stored, or its fault is added, with the setting's tic.
 /// Takes no memory, and costs what the job reads, does and stores.
@@ -46,7 +36,7 @@ pub fn run_job<M: Cells>(
 {
     frame_law();
     overwrite_law();
-    if !flag(setting.on, job) {
+    if !setting.on.is_on(job.0 as usize) {
         return;
     }
     let program = &setting.plan.program;

@@ -3,7 +3,7 @@
 ghost use Rattle.std.specs.Prelude.{◌≡◌, [], IfOk, map, None};
 ghost use Rattle.trick_job.specs.Belongs.{IsMemoryOf};
 ghost use Rattle.trick_model.specs.Beside.{zeros};
-ghost use Rattle.trick_model.specs.Plan.{is_beside as is_beside_of, threads_beside};
+ghost use Rattle.trick_model.specs.Plan.{threads_beside};
 ghost use Rattle.trick_model.specs.PlanOf.{plan_of};
 ghost use Rattle.trick_model.specs.Run.{assigned, empty, start as start_of};
 ghost use Rattle.trick_model.specs.State.{nothing_taken, seen};
@@ -16,7 +16,7 @@ use std::alloc::{AllocError, Global};
 use trick_base::Items;
 use trick_eval::Bench;
 use trick_lang::{Cell, Cells, Class};
-use trick_model::{Accepted, Faults, Flags, Group, Mode, Plan, Process, State, Taken, Thread};
+use trick_model::{Accepted, Faults, Flags, Group, Mode, Plan, State, Taken};
 
 // Gives every cell the number 0.
 fn clear<M: Cells>(plan: &Plan, memory: &mut M)
@@ -61,16 +61,6 @@ fn no_rows(alloc: Global, groups: &[Group]) -> Result<Items<Option<Items<i64>>>,
     Ok(Items::from_vec(rows))
 }
 
-// Whether the thread works beside the tics.
-fn is_beside(thread: &Thread) -> bool
-    ensures { result ≡ is_beside_of thread.now.process }
-{
-    match thread.process {
-        Process::Scheduled => false,
-        Process::Async | Process::MustFinish => true,
-    }
-}
-
 // A record of which nothing is held.
 fn nothing(alloc: Global) -> Taken
     ensures { result ≡ nothing_taken }
@@ -91,7 +81,7 @@ fn no_records(alloc: Global, plan: &Plan) -> Result<Items<Taken>, AllocError>
 {
     let mut records = Vec::new(alloc);
     for thread in plan.threads.as_slice() {
-        if is_beside(thread) {
+        if thread.process.is_beside() {
             records.push(nothing(alloc))?;
         }
     }

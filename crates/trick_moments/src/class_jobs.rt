@@ -3,39 +3,21 @@
 ghost use Rattle.std.specs.Prelude.{◌≡◌, [], false};
 ghost use Rattle.trick_eval.specs.Bench.{IsFor};
 ghost use Rattle.trick_job.specs.Belongs.{IsMemoryOf};
-ghost use Rattle.trick_model.specs.Order.{jobs_in, rank as rank_of};
+ghost use Rattle.trick_model.specs.Order.{jobs_in};
 ghost use Rattle.trick_model.specs.PlanOf.{plan_of};
 ghost use Rattle.trick_model.specs.Running.{run_class as class_ran};
 ghost use Rattle.trick_model.specs.State.{seen};
-ghost use Rattle.trick_model.specs.Valid.{ids};
 
 use trick_eval::Bench;
 use trick_job::{Setting, run_jobs};
-use trick_lang::{Cells, Class, JobId};
+use trick_lang::{Cells, Class};
 use trick_model::{Plan, State};
-
-// The rank of a class, by which queues stand.
-fn rank(class: Class) -> usize
-    ensures { result ≡ rank_of class }
-{
-    class as usize
-}
-
-// The jobs of a class, in key order.
-fn class_jobs(plan: &Plan, class: Class) -> &[JobId]
-    ensures { ids result.now ≡ jobs_in plan.now.program.jobs class }
-{
-    match plan.queues.as_slice().get(rank(class)) {
-        Some(jobs) => jobs.as_slice(),
-        None => &[],
-    }
-}
 
 /// Whether a plan has a job of a class.
 pub fn has_jobs(plan: &Plan, class: Class) -> bool
     ensures { result ≡ false → jobs_in plan.now.program.jobs class ≡ [] }
 {
-    !class_jobs(plan, class).is_empty()
+    !plan.jobs_of_class(class).is_empty()
 }
 
 /// Runs the jobs of a class that are on, one after another in key order. Their faults have the state's
@@ -52,6 +34,6 @@ pub fn run_class<M: Cells>(plan: &Plan, class: Class, state: &mut State<M>, benc
         on: &state.jobs,
         tic: state.tic,
     };
-    let jobs = class_jobs(plan, class);
+    let jobs = plan.jobs_of_class(class);
     run_jobs(setting, jobs, bench, &mut state.memory, &mut state.faults);
 }

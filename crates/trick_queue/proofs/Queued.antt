@@ -11,7 +11,7 @@ use Rattle.trick_lang.specs.declared.class.Class.{Class}
 use Rattle.trick_lang.specs.declared.class.Class.TheVariants as class
 use Rattle.trick_lang.specs.declared.job.Job.{Job}
 use Rattle.trick_lang.specs.declared.job.JobId.{JobId}
-use Rattle.trick_model.specs.Order.{classes, in_key_order, is_of_class, jobs_in, precedes, put_in, rank}
+use Rattle.trick_model.specs.Order.{in_key_order, is_of_class, jobs_in, precedes, put_in, rank}
 use Rattle.trick_model.specs.Plan.{Plan, is_on_scheduled, job_at, job_numbers, no_job, numbers_from}
 use Rattle.trick_model.specs.Valid.{ids}
 use Rattle.trick_queue.proofs.Trees.{below_or, past}
@@ -42,6 +42,13 @@ in_range_of job right = record {
 pub times_in_range : (jobs : List Job) (k : ℕ) → have_right_times jobs ≡ true → is_of_class jobs class.Scheduled k ≡ true → IsInRange (times_at jobs k)
 times_in_range jobs k right is = elim (below_or k (length jobs)) [
   | inl less ↦ in_range_of (job_at jobs k) (right_of (job_at jobs k).class (job_at jobs k) is (AllPass-from_list_all (λ (job : Job). has_right_times job.class job) jobs right k no_job less))
+  | inr all ↦ let none : (rank class.Restart == 2) ≡ true = subst (λ (j : Job). (rank j.class == 2) ≡ true) (past jobs k no_job all) is in cc
+]
+
+-- a job of class scheduled is one of the program
+pub scheduled_there : (jobs : List Job) (k : ℕ) → is_of_class jobs class.Scheduled k ≡ true → k < length jobs
+scheduled_there jobs k is = elim (below_or k (length jobs)) [
+  | inl less ↦ less
   | inr all ↦ let none : (rank class.Restart == 2) ≡ true = subst (λ (j : Job). (rank j.class == 2) ≡ true) (past jobs k no_job all) is in cc
 ]
 
@@ -158,6 +165,3 @@ queue_more test all i d job jobs less is so_far =
     ids_more jobs job (test job.0) ∙ ap (λ l. l ++ cond (test job.0) (job.0 ∷ []) []) so_far
     ∙ sym (filter_more test (ids all) i 0 (omega (arith, ids_length all))
     ∙ ap (λ k. filter test (take i (ids all)) ++ cond (test k) (k ∷ []) []) (ids_at all i d less ∙ ap (λ (j : JobId). j.0) (sym is)))
-
-pub third : (queues : List (List JobId)) (jobs : List Job) → map ids queues ≡ map (jobs_in jobs) classes → ids (get_or queues 2 []) ≡ jobs_in jobs class.Scheduled
-third queues jobs is = sym (get_or-map ids queues 2 []) ∙ ap (λ l. get_or l 2 []) is

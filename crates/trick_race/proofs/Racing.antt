@@ -1,5 +1,5 @@
 -- Jobs that may race, in key order.
-use Rattle.std.proofs.Common.{◌≡◌, ℕ, zero, suc, ◌+◌, ◌<◌, ◌≤◌, Bool, true, false, ◌||◌, ◌==◌, nat_lt, ◌⊎◌, inl, inr, IsTrue, List, [], ◌∷◌, ◌++◌, length, get_or, cond, map, take, refl, sym, ap, subst, ◌∙◌, arith}
+use Rattle.std.proofs.Common.{◌≡◌, ℕ, zero, suc, ◌+◌, ◌<◌, ◌≤◌, Bool, true, false, ◌||◌, ◌==◌, nat_lt, ◌⊎◌, inl, inr, IsTrue, List, [], ◌∷◌, ◌++◌, length, get_or, cond, take, refl, sym, ap, subst, ◌∙◌, arith}
 use Rattle.std.proofs.lemmas.Bool.{cases_lt, cases_eq}
 use Rattle.std.proofs.lemmas.Bool.Decides.{nat_tests}
 use Rattle.std.specs.List.{filter}
@@ -12,7 +12,7 @@ use Rattle.trick_model.specs.Laws.{AreInKeyOrder, AreJobs, IsBefore, KeyOrderIsO
 use Rattle.trick_model.specs.Order.{is_below, is_of_class, jobs_in, key, precedes}
 use Rattle.trick_model.specs.Plan.{Plan, is_on_scheduled, job_at, job_numbers, numbers_from}
 use Rattle.trick_model.specs.PlanOf.{plan_of}
-use Rattle.trick_model.specs.Valid.{ids, queues_of}
+use Rattle.trick_model.specs.Valid.{ids}
 use Rattle.trick_model.specs.declared.plan.Plan.{Plan as PlanValue}
 use Rattle.trick_race.proofs.Merging.{either}
 use Rattle.trick_race.specs.Racers.{AreRacers, IsFineAt, IsFirstOther, IsRacer, racer_at}
@@ -166,20 +166,6 @@ ids_at [] i d there = absurd (omega arith)
 ids_at (j ∷ js) zero d there = refl
 ids_at (j ∷ js) (suc i) d there = ids_at js i d (omega arith)
 
-queue_length : (queues : List (List JobId)) → length (map ids queues) ≡ length queues
-queue_length [] = refl
-queue_length (q ∷ qs) = ap suc (queue_length qs)
-
-pub queue_there : (queues : List (List JobId)) (jobs : List Job) → map ids queues ≡ queues_of jobs → 2 < length queues
-queue_there queues jobs e = let long = sym (queue_length queues) ∙ ap length e in omega arith
-
-pub queue_is : (queues : List (List JobId)) (jobs : List Job) (d : List JobId) → map ids queues ≡ queues_of jobs
-    → ids (get_or queues 2 d) ≡ jobs_in jobs class.Scheduled
-queue_is [] jobs d e = let long = ap length e in absurd (omega arith)
-queue_is (a ∷ []) jobs d e = let long = ap length e in absurd (omega arith)
-queue_is (a ∷ b ∷ []) jobs d e = let long = ap length e in absurd (omega arith)
-queue_is (a ∷ b ∷ q ∷ qs) jobs d e = ap (λ (lists : List (List ℕ)). get_or lists 2 []) e
-
 -- a job of the queue is there, and of its class
 record IsQueued (jobs : List Job) (k : ℕ) : Type 0 where
   there : k < length jobs
@@ -201,17 +187,6 @@ to_queue law jobs k queued =
     let there = queued.there in
     sym (law.same jobs chosen k) ∙ to_filter (is_of_class jobs class.Scheduled) (job_numbers jobs) k queued.scheduled
     (to_numbers 0 jobs k (record { from = omega arith; below = omega arith }))
-
-pub queued_there : KeyOrderIsOne → (jobs : List Job) (queue : List JobId) (i : ℕ) (d : JobId)
-    → ids queue ≡ jobs_in jobs class.Scheduled
-    → i < length queue → (get_or queue i d).0 < length jobs
-queued_there law jobs queue i d e there =
-    let size = ids_length queue in
-    let among = among_at (ids queue) i (omega arith) in
-    let here : IsTrue (is_among (get_or queue i d).0 (jobs_in jobs class.Scheduled)) =
-    subst (λ k. IsTrue (is_among k (jobs_in jobs class.Scheduled))) (ids_at queue i d there)
-    (subst (λ ks. IsTrue (is_among (get_or (ids queue) i 0) ks)) e among) in
-    (of_queue law jobs (get_or queue i d).0 here).there
 
 -- ---- the racers
 

@@ -8,7 +8,6 @@
 mod accesses;
 mod cell_set;
 mod fault;
-mod jobs;
 pub mod laws;
 mod race;
 mod ranges;

@@ -2,31 +2,21 @@
 
 ghost use Rattle.std.specs.Prelude.{◌≡◌, ◌↔◌, ◌<◌, IfOk, IsTrue, MatchBool, MatchOption, length};
 ghost use Rattle.trick_cycle.specs.Due.{IsInRange};
-ghost use Rattle.trick_lang.specs.declared.class.Class.TheVariants as class;
 ghost use Rattle.trick_model.specs.Acceptance.{AreIndependent, IsFine, IsOrderedBefore, Orders};
-ghost use Rattle.trick_model.specs.Order.{jobs_in, precedes as precedes_of};
+ghost use Rattle.trick_model.specs.Order.{precedes as precedes_of};
 ghost use Rattle.trick_model.specs.PlanOf.{plan_of};
 ghost use Rattle.trick_model.specs.Time.{due_of as due_of_job};
-ghost use Rattle.trick_model.specs.Valid.{ids};
 ghost use Rattle.trick_race.specs.Accesses.{AreAccesses};
 ghost use Rattle.trick_race.specs.Racers.{AreRacers, IsFineAt, IsFirstOther, IsRaceAt, IsRacer};
 ghost use Rattle.trick_race.specs.Refusals.{HaveNoRace, IsRace};
 
-use crate::jobs::{is_on_scheduled, job_of, precedes};
 use crate::ranges::are_separate;
 use std::alloc::{AllocError, Global};
 use trick_access::Access;
 use trick_cycle::{Due, covers, first_shared};
 use trick_lang::{Class, JobId};
 use trick_model::laws::key_order_is_one;
-use trick_model::{Depends, Plan};
-
-// The queue of the jobs of class scheduled.
-fn scheduled_queue(plan: &Plan) -> &[JobId]
-    ensures { ids result.now ≡ jobs_in plan.now.program.jobs class.Scheduled }
-{
-    plan.queues.as_slice()[Class::Scheduled as usize].as_slice()
-}
+use trick_model::{Depends, Plan, precedes};
 
 // The jobs of class scheduled on scheduled threads, in key order.
 fn racers(alloc: Global, plan: &Plan) -> Result<Vec<JobId>, AllocError>
@@ -34,8 +24,8 @@ fn racers(alloc: Global, plan: &Plan) -> Result<Vec<JobId>, AllocError>
 {
     key_order_is_one();
     let mut racers = Vec::new(alloc);
-    for job in scheduled_queue(plan) {
-        if is_on_scheduled(plan, *job) {
+    for job in plan.jobs_of_class(Class::Scheduled) {
+        if plan.is_on_scheduled(*job) {
             racers.push(*job)?;
         }
     }
@@ -59,11 +49,11 @@ fn due_of(plan: &Plan, job: JobId) -> Due
     ensures is { result ≡ due_of_job (plan_of plan.now) plan.now.jobs job.0 }
     ensures in_range { IsInRange result }
 {
-    let job = job_of(plan.program.jobs.as_slice(), job);
+    let found = plan.job(job);
     Due {
-        start: job.start,
-        cycle: job.cycle,
-        stop: job.stop,
+        start: found.start,
+        cycle: found.cycle,
+        stop: found.stop,
     }
 }
 
@@ -75,9 +65,8 @@ fn orders(plan: &Plan, a: JobId, b: JobId, pair: Depends) -> bool
     requires depended { IsRacer (plan_of plan.now) pair.depended.0 }
     ensures { IsTrue result ↔ Orders (plan_of plan.now) a.0 b.0 pair }
 {
-    let jobs = plan.program.jobs.as_slice();
-    let (first, second) = (job_of(jobs, a), job_of(jobs, b));
-    let (depended, target) = (job_of(jobs, pair.depended), job_of(jobs, pair.target));
+    let (first, second) = (plan.job(a), plan.job(b));
+    let (depended, target) = (plan.job(pair.depended), plan.job(pair.target));
     if depended.thread != first.thread || target.thread != second.thread {
         return false;
     }
@@ -111,8 +100,7 @@ fn race_of(plan: &Plan, accesses: &[Access], a: JobId, b: JobId) -> Option<u64>
     requires in_order { IsTrue (precedes_of plan.now.program.jobs a.0 b.0) }
     ensures { MatchOption result (IsFine (plan_of plan.now) a.0 b.0) (IsRaceAt (plan_of plan.now) a.0 b.0) }
 {
-    let jobs = plan.program.jobs.as_slice();
-    let (first, second) = (job_of(jobs, a), job_of(jobs, b));
+    let (first, second) = (plan.job(a), plan.job(b));
     if first.thread == second.thread {
         return None;
     }

@@ -9,20 +9,16 @@ ghost use Rattle.trick_race.specs.Reached.{AddsFed, AreReaching, IsWaiting};
 
 use crate::accesses::written_by;
 use crate::cell_set::CellSet;
-use crate::jobs::process_of;
 use crate::ranges::common_cell;
 use std::alloc::{AllocError, Global};
 use trick_access::Access;
 use trick_lang::Job;
-use trick_model::{Plan, Process, Thread};
+use trick_model::{Plan, Thread, process_of};
 
 fn is_on_async_thread(threads: &[Thread], job: &Job) -> bool
     ensures { result ≡ is_async_of (process_in threads.now job.now.thread) }
 {
-    match process_of(threads, job.thread) {
-        Process::Async => true,
-        Process::Scheduled | Process::MustFinish => false,
-    }
+    process_of(threads, job.thread).is_async()
 }
 
 // The jobs of asynchronous threads.

@@ -2,12 +2,19 @@
 
 ghost use Rattle.std.specs.Prelude.{◌≡◌, ◌<◌, ◌↔◌, ℕ, IsTrue, MatchOption, length};
 ghost use Rattle.trick_model.specs.Acceptance.{IsForward, IsNamedRight, IsOnMain};
+ghost use Rattle.trick_model.specs.Plan.{has_job as has_job_of};
 ghost use Rattle.trick_model.specs.PlanOf.{plan_of};
 ghost use Rattle.trick_race.specs.Refusals.{AreForward, AreNamedRight, AreOnMain, IsFirstItemWithout};
 
-use crate::jobs::{has_job, is_scheduled, job_of, precedes};
-use trick_lang::JobId;
-use trick_model::{Depends, Plan, Thread};
+use trick_lang::{Class, Job, JobId};
+use trick_model::{Depends, Plan, Thread, is_of_class, precedes};
+
+// Whether some job is on the thread.
+fn has_job(jobs: &[Job], thread: Thread) -> bool
+    ensures { result ≡ has_job_of jobs.now thread }
+{
+    jobs.iter().any(|job| job.thread == thread.number)
+}
 
 fn is_named_right(plan: &Plan, thread: Thread) -> bool
     ensures { IsTrue result ↔ IsNamedRight (plan_of plan.now) thread }
@@ -37,7 +44,7 @@ pub(crate) fn class_on_child(plan: &Plan) -> Option<JobId>
     let jobs = plan.program.jobs.as_slice();
     for number in 0..jobs.len() {
         let job = &jobs[number];
-        if !is_scheduled(job) && job.thread != 0 {
+        if !is_of_class(job, Class::Scheduled) && job.thread != 0 {
             return Some(JobId(number as u32));
         }
     }
@@ -49,8 +56,7 @@ fn is_forward(plan: &Plan, pair: Depends) -> bool
     requires depended { pair.depended.0 < length plan.now.program.jobs }
     ensures { IsTrue result ↔ IsForward (plan_of plan.now) pair }
 {
-    let jobs = plan.program.jobs.as_slice();
-    precedes(job_of(jobs, pair.depended), job_of(jobs, pair.target))
+    precedes(plan.job(pair.depended), plan.job(pair.target))
 }
 
 // The first pair whose depended job has not the smaller key.

@@ -5,7 +5,7 @@ ghost use Rattle.trick_lang.specs.declared.class.Class.TheVariants as class;
 ghost use Rattle.trick_model.specs.Acceptance.{IsWrittenOnce, may_write_on};
 ghost use Rattle.trick_lang.specs.declared.job.Job.{Job};
 ghost use Rattle.trick_model.specs.Order.{rank};
-ghost use Rattle.trick_model.specs.Plan.{is_beside as is_beside_of};
+ghost use Rattle.trick_model.specs.Plan.{is_beside};
 ghost use Rattle.trick_model.specs.PlanOf.{plan_of};
 ghost use Rattle.trick_model.specs.declared.thread.Thread.{Thread as ThreadValue};
 ghost use Rattle.trick_race.specs.Accesses.{AreAccesses};
@@ -14,11 +14,10 @@ ghost use Rattle.trick_race.specs.Writers.{AreFirstWriters, AreThreadWrites};
 
 use crate::accesses::written_by;
 use crate::cell_set::CellSet;
-use crate::jobs::is_scheduled;
 use std::alloc::{AllocError, Global};
 use trick_access::Access;
-use trick_lang::{Cell, Job};
-use trick_model::{Plan, Process, Thread};
+use trick_lang::{Cell, Class, Job};
+use trick_model::{Plan, Thread, is_of_class};
 
 // The scheduled jobs of a thread.
 fn jobs_of(alloc: Global, jobs: &[Job], thread: Thread) -> Result<Vec<bool>, AllocError>
@@ -27,7 +26,7 @@ fn jobs_of(alloc: Global, jobs: &[Job], thread: Thread) -> Result<Vec<bool>, All
 {
     let mut set = Vec::new(alloc);
     for job in jobs {
-        set.push(is_scheduled(job) && job.thread == thread.number)?;
+        set.push(is_of_class(job, Class::Scheduled) && job.thread == thread.number)?;
     }
     Ok(set)
 }
@@ -58,25 +57,16 @@ fn thread_writes(
     Ok(sets)
 }
 
-fn is_beside(process: Process) -> bool
-    ensures { result ≡ is_beside_of process }
-{
-    match process {
-        Process::Scheduled => false,
-        Process::Async | Process::MustFinish => true,
-    }
-}
-
 // Whether two threads do not both write a cell, where they must not.
 fn is_written_once(one: Thread, other: Thread, one_writes: bool, other_writes: bool) -> bool
     ensures { IsTrue result ↔ (one.number ≢ other.number
-        → IsTrue (is_beside_of one.process || is_beside_of other.process)
+        → IsTrue (is_beside one.process || is_beside other.process)
         → IsTrue (one_writes && other_writes) → ⊥) }
 {
     if one.number == other.number {
         return true;
     }
-    if !is_beside(one.process) && !is_beside(other.process) {
+    if !one.process.is_beside() && !other.process.is_beside() {
         return true;
     }
     !(one_writes && other_writes)

@@ -3,7 +3,7 @@
 ghost use Rattle.std.specs.Prelude.{◌≡◌, ◌==◌, ◌≤◌, All, IfOk, OnOk, IsPermutation, filter, length, map};
 ghost use Rattle.std.specs.List.Sorted.{IsNonDecreasingBy};
 ghost use Rattle.trick_lang.specs.declared.class.Class.{Class};
-ghost use Rattle.trick_model.specs.Order.{is_of_class, jobs_in, rank};
+ghost use Rattle.trick_model.specs.Order.{jobs_in};
 ghost use Rattle.trick_model.specs.Plan.{job_numbers};
 ghost use Rattle.trick_model.specs.Valid.{ids, queues_of};
 ghost use Rattle.trick_threads.specs.Keys.{HasSmallKey, entry_of, jobs_of, key_number, key_of, numbers_of};
@@ -12,6 +12,7 @@ ghost use Rattle.trick_threads.specs.declared.queue.Entry.{Entry};
 use std::alloc::{AllocError, Global};
 use trick_base::Items;
 use trick_lang::{Class, Job, JobId, Program};
+use trick_model::is_of_class;
 
 // A job with the number that its key is among the jobs of its class.
 #[derive(Clone, Copy, Debug)]
@@ -34,13 +35,6 @@ const CLASSES: [Class; 10] = [
     Class::Shutdown,
 ];
 
-// The rank of a class.
-fn rank(class: Class) -> u8
-    ensures { result ≡ rank class }
-{
-    class as u8
-}
-
 // Phase, object and number in the constructor, compared in this order, as one number.
 fn key_number(job: &Job) -> u128
     ensures key { result ≡ key_number job.now }
@@ -60,7 +54,7 @@ fn entries(alloc: Global, jobs: &[Job], class: Class) -> Result<Vec<Entry>, Allo
     let mut found = Vec::new(alloc);
     for place in 0..jobs.len() {
         let key = key_number(&jobs[place]);
-        if rank(jobs[place].class) == rank(class) {
+        if is_of_class(&jobs[place], class) {
             let job = JobId(place as u32);
             found.push(Entry { key, job })?;
         }

@@ -17,7 +17,7 @@ returns-then-is_empty c =
 
 pub loop-job-preserved : goal.loop-job-preserved
 loop-job-preserved c =
-    let all = c.class_scheduled-all.result.now in
+    let all = c.jobs_of_class-all.result.now in
     let i = c.loop-job.job-index in
     let job = get_or all i no_id in
     let jobs = c.loop-job.jobs in

@@ -9,12 +9,12 @@ returns-then-covers c =
     let p = plan_of c.args.plan.now in
     let jobs = c.args.plan.now.program.jobs in
     let pair = c.args.pair in
-    let x_is : c.job_of-depended.result.now ≡ job_at jobs pair.depended.0 = cc in
-    let y_is : c.job_of-first.result.now ≡ job_at jobs c.args.a.0 = cc in
-    let u_is : c.job_of-target.result.now ≡ job_at jobs pair.target.0 = cc in
-    let v_is : c.job_of-second.result.now ≡ job_at jobs c.args.b.0 = cc in
-    orders_is p c.args.a.0 c.args.b.0 pair c.job_of-depended.result.now c.job_of-first.result.now
-    c.job_of-target.result.now c.job_of-second.result.now
+    let x_is : c.job-depended.result.now ≡ job_at jobs pair.depended.0 = cc in
+    let y_is : c.job-first.result.now ≡ job_at jobs c.args.a.0 = cc in
+    let u_is : c.job-target.result.now ≡ job_at jobs pair.target.0 = cc in
+    let v_is : c.job-second.result.now ≡ job_at jobs c.args.b.0 = cc in
+    orders_is p c.args.a.0 c.args.b.0 pair c.job-depended.result.now c.job-first.result.now
+    c.job-target.result.now c.job-second.result.now
     c.precedes.result c.precedes-else-precedes.result c.due_of.result c.due_of-one.result c.due_of-other.result
     c.due_of-then-covers.result c.covers-then-covers.result
     x_is y_is u_is v_is c.if-depended-first.false c.if-target-second.false

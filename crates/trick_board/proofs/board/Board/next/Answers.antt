@@ -17,3 +17,7 @@ returns g c =
     c.next_of.result c.key_order_is_one.ensures belongs.tables
     (c.next_of.ensures ∙ ap (λ (s : List Stage). next_in (plan_of c.args.plan.now) b.tables s c.args.thread) c.deref-2.ensures.value)
     belongs.opened)
+
+pub next_of-requires-clause-tables : goal.next_of-requires-clause-tables
+next_of-requires-clause-tables g c =
+    (subst (λ (v : BoardView). IsBoardOf c.args.plan.now v) (sym c.self.view_is) c.requires.belongs).tables
