@@ -6,12 +6,12 @@ use Rattle.std.specs.Prelude.{pos, int_lt, true, false, [], ◌∷◌, ◌++◌,
 use Rattle.trick_lang.specs.declared.class.Class.TheVariants as class
 use Rattle.trick_lang.specs.declared.fault.FaultKind.TheVariants as kind
 use Rattle.trick_model.proofs.Samples.{Ends, all_on, cells, effects, one_of, job, main_thread, plan_of_cells, plus, scheduled, stops, stores, read, thread, turns}
-use Rattle.trick_model.specs.Journal.{lists_of}
 use Rattle.trick_model.specs.Plan.{Plan}
-use Rattle.trick_model.specs.Run.{IsOwnJournal, start}
+use Rattle.trick_model.specs.Run.{IsOwnJournal, lists_of, start}
 use Rattle.trick_model.specs.State.{number_at}
 use Rattle.trick_model.specs.declared.action.Action.TheVariants as action
 use Rattle.trick_model.specs.declared.entry.Entry.TheVariants.{Publish}
+use Rattle.trick_model.specs.declared.mode.Mode.TheVariants as mode
 use Rattle.trick_model.specs.declared.thread.Process.TheVariants as process
 
 -- thread 0 counts n at each tic, and thread 1 copies n to y
@@ -99,7 +99,7 @@ unfolding int_wrap digits
 rounds_end = record { goes = refl; over = refl; files = refl }
 
 -- A journal that publishes in turn 3 alone gives another y and the same log.
-pub late_rounds_end : Ends rounds (start rounds) (lists_of ((3, Publish 1) ∷ []) 4 0) (
+pub late_rounds_end : Ends rounds (start rounds) (lists_of ((3, Publish 1) ∷ []) 4 0 mode.Run) (
     (codes "final.chk", codes "checkpoint = 1;\nturn = 4;\ntic = 7;\nlimit = 7;\nmode = Shutdown;\no.n = 4;\no.y = 1;\n" ++ codes "job[0] = 1;\njob[1] = 1;\ngroup[0] = 1;\ntaken[1] = held;\ntaken[1].o.n = 4;\ntaken[1].o.y = 1;\n" ++ codes "taken[1].job[1] = 1;\nfaults = 0;\nend;\n")
     ∷ (codes "journal.txt", codes "tricks journal 1\nfrom 0\n3 publish 1\nend 4\n")
     ∷ (codes "log_g.csv", codes "tic,o.n\n0,1\n2,2\n4,3\n6,4\n")

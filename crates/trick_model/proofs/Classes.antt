@@ -10,12 +10,13 @@ use Rattle.trick_lang.specs.declared.class.Class.TheVariants as class
 use Rattle.trick_lang.specs.declared.scalar.Scalar.TheVariants as scalar
 use Rattle.trick_model.proofs.Samples.{Effect, Ends, all_on, effects, job, one_of, plan_of_cells, plus, scheduled, stores}
 use Rattle.trick_model.specs.Files.{session_text}
-use Rattle.trick_model.specs.Journal.{Noted, lists_of}
+use Rattle.trick_model.specs.Journal.{Noted}
 use Rattle.trick_model.specs.Plan.{Plan, Event}
-use Rattle.trick_model.specs.Run.{start}
+use Rattle.trick_model.specs.Run.{lists_of, start}
 use Rattle.trick_model.specs.State.{number_at}
 use Rattle.trick_model.specs.declared.action.Action.TheVariants as action
 use Rattle.trick_model.specs.declared.entry.Entry.TheVariants.{Join, Said}
+use Rattle.trick_model.specs.declared.mode.Mode.TheVariants as mode
 use Rattle.trick_text.specs.Pieces as pieces
 
 -- a cell gets a digit more, to a base
@@ -78,7 +79,7 @@ client =
     ∷ (4, Said 3 (codes "trick.exec_set_job_onoff(\"o.top\", 1, 0)")) ∷ (4, Said 3 (codes "o.c = 300"))
     ∷ (4, Said 3 (codes "trick.exec_run()")) ∷ (4, Said 3 (codes "trick.deactivate_event(\"e\")")) ∷ []
 
-pub classes_end : Ends classes (start classes) (lists_of client 5 0) (
+pub classes_end : Ends classes (start classes) (lists_of client 5 0 mode.Run) (
     (codes "chkpnt_3.chk", codes "checkpoint = 1;\nturn = 3;\ntic = 9;\nlimit = 12;\nmode = Freeze;\no.a = 1017;\no.s = 302;\no.c = 100;\n" ++ codes "job[0] = 1;\njob[1] = 1;\njob[2] = 1;\njob[3] = 1;\njob[4] = 1;\njob[5] = 1;\njob[6] = 1;\njob[7] = 1;\n" ++ codes "job[8] = 1;\njob[9] = 1;\nevent[0] = 0;\nfaults = 0;\nend;\n")
     ∷ (codes "final.chk", codes "checkpoint = 1;\nturn = 5;\ntic = 12;\nlimit = 12;\nmode = Shutdown;\no.a = -1019;\no.s = 1118;\no.c = -70;\n" ++ codes "job[0] = 1;\njob[1] = 1;\njob[2] = 0;\njob[3] = 1;\njob[4] = 1;\njob[5] = 1;\njob[6] = 1;\njob[7] = 1;\n" ++ codes "job[8] = 1;\njob[9] = 1;\nevent[0] = 0;\nfaults = 0;\nend;\n")
     ∷ [])
@@ -86,6 +87,6 @@ unfolding int_wrap digits pieces.front pieces.name_front pieces.number_front pie
 classes_end = record { goes = refl; over = refl; files = refl }
 
 -- A number that is no `char` is a bad command.
-pub client_is_told : session_text classes (start classes) (lists_of client 5 0) 3 ≡ (codes "0\t-63\n" ∷ codes "4\tbad command\n" ∷ [])
+pub client_is_told : session_text classes (start classes) (lists_of client 5 0 mode.Run) 3 ≡ (codes "0\t-63\n" ∷ codes "4\tbad command\n" ∷ [])
 unfolding int_wrap digits pieces.front pieces.name_front pieces.number_front pieces.mark_len pieces.text_front
 client_is_told = refl

@@ -1,12 +1,14 @@
 -- Runs, cut in two, and under a journal.
-use Rattle.std.proofs.Common.{◌≡◌, List, [], ◌∷◌, ◌++◌, Bool, true, false, not, ◌&&◌, IsTrue, refl, sym, ap, ◌∙◌, append_assoc}
+use Rattle.std.proofs.Common.{◌≡◌, ℕ, ◌-◌, List, [], ◌∷◌, ◌++◌, Bool, true, false, not, ◌&&◌, ◌||◌, IsTrue, refl, sym, ap, ◌∙◌, append_assoc}
 use native.Mathlib.Omega.{arith}
 use Rattle.trick_model.specs.Files.{turn_writes, turns_said, turns_writes}
-use Rattle.trick_model.specs.Laws.{FittingLasts, OneRun, RunsJoin}
+use Rattle.std.specs.Prelude.{nat_le}
+use Rattle.trick_model.specs.Journal.{lists_from, live_before, with_joins}
+use Rattle.trick_model.specs.Laws.{FittingLasts, JournalEnds, OneRun, RunsJoin}
 use Rattle.trick_model.specs.Plan.{Plan}
-use Rattle.trick_model.specs.Run.{Lasts, after_turns, goes_on, is_over, next_of, on, opened, over}
+use Rattle.trick_model.specs.Run.{Lasts, after_turns, goes_on, has_session_entry, is_over, is_shut, next_of, on, opened, over}
 use Rattle.trick_model.specs.State.{World}
-use Rattle.trick_model.specs.Turn.{turn}
+use Rattle.trick_model.specs.Turn.{is_frozen, turn}
 use Rattle.trick_model.specs.declared.entry.Entry.{Entry}
 
 writes_join : (p : Plan) (w : World) (early late : List (List Entry))
@@ -59,3 +61,25 @@ lasts p w (entries ∷ lists) goes done =
 
 pub fitting_lasts : FittingLasts
 fitting_lasts p s lists fits = lasts p (opened s) lists fits.goes fits.over
+
+-- ---- the end by the journal
+
+-- joins in front of lists in which a line is left
+joins_with_line : (live : List ℕ) (lists : List (List Entry)) → has_session_entry lists ≡ true → has_session_entry (with_joins live lists) ≡ true
+joins_with_line live [] line = line
+joins_with_line [] (entries ∷ lists) line = line
+joins_with_line (session ∷ live) (entries ∷ lists) line = refl
+
+-- in Freeze or not, with a line left or not, the joins make no difference
+pub line_is_left : (live : List ℕ) (lists : List (List Entry)) (frozen some : Bool) → has_session_entry lists ≡ some
+    → (frozen && not (has_session_entry (elim (frozen && not some) [ true ↦ lists | false ↦ with_joins live lists ])))
+    ≡ (frozen && not (has_session_entry lists))
+line_is_left live lists false some is = refl
+line_is_left live lists true true is = ap not (joins_with_line live lists is ∙ sym is)
+line_is_left live lists true false is = refl
+
+pub journal_ends : JournalEnds
+journal_ends s entries end start =
+    let lists = lists_from start (end - start) entries in
+    ap (λ (b : Bool). is_shut s.mode || (nat_le s.limit s.tic || b))
+    (line_is_left (live_before start entries []) lists (is_frozen s.mode) (has_session_entry lists) refl)

@@ -1,4 +1,4 @@
--- Journals: their rules and texts, and the lists of entries that one gives a run.
+-- Journals: their rules and texts, and their entries turn by turn.
 use Rattle.std.specs.Prelude.{ℕ, zero, suc, ◌+◌, ◌-◌, ◌==◌, nat_le, nat_lt, Bool, true, false, ◌&&◌, ◌||◌, not, List, [], ◌∷◌, ◌++◌, codes, decimal, filter, map, length}
 use Rattle.std.specs.List.{list_any}
 use Rattle.trick_model.specs.Time.{last_turn}
@@ -107,10 +107,6 @@ live_before start (e ∷ es) live = live_before start es (live_after start e liv
 abbrev pub with_joins : List ℕ → List (List Entry) → List (List Entry)
 with_joins live [] = []
 with_joins live (entries ∷ lists) = (map (λ session. Join session) live ++ entries) ∷ lists
-
--- What a journal gives a run that starts at a turn: entries of earlier turns are skipped.
-abbrev pub lists_of : List Noted → (end start : ℕ) → List (List Entry)
-lists_of entries end start = with_joins (live_before start entries []) (lists_from start (end - start) entries)
 
 -- ---- texts
 

@@ -1,14 +1,15 @@
 -- Laws of a run.
 use Rattle.std.specs.List.{list_any}
-use Rattle.std.specs.Prelude.{◌≡◌, ℕ, ◌<◌, ◌≤◌, ◌+◌, ◌%◌, ◌==◌, suc, Bool, false, ◌&&◌, ◌||◌, IsTrue, List, [], ◌∷◌, ◌++◌, length, map}
+use Rattle.std.specs.Prelude.{◌≡◌, ℕ, ◌<◌, ◌≤◌, ◌+◌, ◌-◌, ◌%◌, ◌==◌, suc, Bool, false, ◌&&◌, ◌||◌, IsTrue, List, [], ◌∷◌, ◌++◌, length, map}
 use Rattle.trick_lang.specs.declared.job.Job.{Job}
 use Rattle.trick_model.specs.Beside.{ends_at}
 use Rattle.trick_model.specs.Events.{Asking}
 use Rattle.trick_model.specs.Files.{end_writes, run_writes, start_writes, turns_said, turns_writes}
+use Rattle.trick_model.specs.Journal.{Noted, lists_from}
 use Rattle.trick_model.specs.Order.{in_key_order, jobs_at, key, precedes}
 use Rattle.trick_model.specs.Plan.{Event, Plan, is_on, job_at, threads_beside}
 use Rattle.trick_model.specs.PlanOf.{plan_of}
-use Rattle.trick_model.specs.Run.{Fits, Lasts, after_turns, final, opened, shut, start}
+use Rattle.trick_model.specs.Run.{Fits, Lasts, after_turns, final, is_over, lists_of, opened, shut, start}
 use Rattle.trick_model.specs.State.{State, World}
 use Rattle.trick_model.specs.Tic.{tics}
 use Rattle.trick_model.specs.Turn.{Turned, turn}
@@ -126,6 +127,12 @@ pub record JoinsAreNoted : Type 0 where
       ≡ map (λ session. Join session) live ++ (turn p w entries).noted
   pub writes : (p : Plan) (w : World) (live : List ℕ) (entries : List Entry)
       → (turn p w (map (λ session. Join session) live ++ entries)).writes ≡ (turn p w entries).writes
+
+-- The test of the end looks at the journal alone: the joins of sessions that are there already do not count.
+abbrev pub JournalEnds : Type 0
+JournalEnds =
+    (s : State) (entries : List Noted) (end start : ℕ)
+    → is_over s (lists_of entries end start s.mode) ≡ is_over s (lists_from start (end - start) entries)
 
 -- A journal gives a world one run at most.
 abbrev pub OneRun : Type 0

@@ -26,13 +26,13 @@ pub mod Records
 pub mod Tic
 -- The text of a checkpoint, and the list of faults.
 pub mod Checkpoint
--- Journals: their rules and texts, and the lists of entries that one gives a run.
+-- Journals: their rules and texts, and their entries turn by turn.
 pub mod Journal
 -- Sessions of clients.
 pub mod Session
 -- One turn.
 pub mod Turn
--- The run.
+-- The run, and what a journal gives it.
 pub mod Run
 -- The files of a run, and session texts.
 pub mod Files

@@ -1,11 +1,11 @@
 -- The run: its start, its turns, and its end by the journal.
 use Rattle.std.specs.List.{list_any}
-use Rattle.std.specs.Prelude.{◌≡◌, ◌≤◌, ℕ, ◌+◌, nat_le, nat_lt, ℤ, Bool, true, false, ◌&&◌, ◌||◌, not, List, [], ◌∷◌, IsTrue, map, slice_set, None}
+use Rattle.std.specs.Prelude.{◌≡◌, ◌≤◌, ℕ, ◌+◌, ◌-◌, nat_le, nat_lt, ℤ, Bool, true, false, ◌&&◌, ◌||◌, not, List, [], ◌∷◌, IsTrue, map, slice_set, None}
 use Rattle.trick_lang.specs.declared.cells.Cell.{Cell}
 use Rattle.trick_lang.specs.declared.class.Class.TheVariants as class
 use Rattle.trick_model.specs.Beside.{is_in_flight, zeros}
 use Rattle.trick_model.specs.Events.{enter_freeze}
-use Rattle.trick_model.specs.Journal.{Noted, is_of_session, lists_of}
+use Rattle.trick_model.specs.Journal.{Noted, is_of_session, lists_from, live_before, with_joins}
 use Rattle.trick_model.specs.Plan.{Plan, threads_beside}
 use Rattle.trick_model.specs.Running.{run_class}
 use Rattle.trick_model.specs.State.{State, World, nothing_taken}
@@ -81,6 +81,20 @@ is_over s left = is_shut s.mode || (nat_le s.limit s.tic || (is_frozen s.mode &&
 abbrev pub shut : Plan → State → State
 shut p s = elim (is_shut s.mode) [ true ↦ s | false ↦ run_class p class.Shutdown (record s { mode = mode.Shutdown }) ]
 
+-- ---- the lists of a journal
+
+-- What a journal gives a run that starts at a turn, in a mode: a list for each turn up to its end. Entries of
+-- earlier turns are skipped, and the sessions that are there join first. These joins do not keep a run from its
+-- end: one that starts in Freeze, with no join, line or leave in the turns that are left, is over at once, and
+-- nobody joins.
+abbrev pub lists_of : List Noted → (end start : ℕ) → Mode → List (List Entry)
+lists_of entries end start begun =
+    let left = lists_from start (end - start) entries in
+    elim (is_frozen begun && not (has_session_entry left)) [
+      | true ↦ left
+      | false ↦ with_joins (live_before start entries []) left
+    ]
+
 -- ---- the turns
 
 -- the entries of the next turn; after its last list a journal has no entries
@@ -126,7 +140,7 @@ final p s lists = shut p (after_turns p (opened s) lists).state
 -- A journal fits a state where the run that it gives is over at the journal's end.
 pub record JournalFits (p : Plan) (s : State) (entries : List Noted) (end : ℕ) : Type 0 where
   pub not_below : s.turn ≤ end
-  pub fits : Fits p s (lists_of entries end s.turn)
+  pub fits : Fits p s (lists_of entries end s.turn s.mode)
 
 -- The turn at which a run under these lists is over, or one past their end where it would go on.
 abbrev pub ended_at : Plan → World → List (List Entry) → ℕ
@@ -140,7 +154,7 @@ ended_at p w (entries ∷ lists) =
 abbrev pub given : Plan → State → List Noted → (end : ℕ) → ℕ
 given p s entries end = elim (nat_lt end s.turn) [
   | true ↦ s.turn
-  | false ↦ ended_at p (opened s) (lists_of entries end s.turn)
+  | false ↦ ended_at p (opened s) (lists_of entries end s.turn s.mode)
 ]
 
 -- ---- the run without clients

@@ -1,7 +1,7 @@
 //! Laws of a run, for every plan, state and journal. A function that calls one of them may rest on
 //! what it says; the call itself does nothing.
 
-ghost use Rattle.trick_model.specs.Laws.{FittingLasts, IdleTicsPass, JoinsAreNoted, KeepsSizes, KeepsValidity, KeyOrderIsOne, KeysDiffer, LimitStops, OneRun, PlansAreSound, RunsContinue, RunsJoin, SessionsDoNotMatter, StartsValid};
+ghost use Rattle.trick_model.specs.Laws.{FittingLasts, IdleTicsPass, JoinsAreNoted, JournalEnds, KeepsSizes, KeepsValidity, KeyOrderIsOne, KeysDiffer, LimitStops, OneRun, PlansAreSound, RunsContinue, RunsJoin, SessionsDoNotMatter, StartsValid};
 
 /// Idle tics below the limit pass and do nothing else.
 pub fn idle_tics_pass()
@@ -53,6 +53,11 @@ pub fn runs_continue()
 /// Joins in front of a turn's entries are noted and change nothing else but sessions.
 pub fn joins_are_noted()
     ensures { JoinsAreNoted }
+{}
+
+/// Whether a run is over is seen in its journal alone.
+pub fn journal_ends()
+    ensures { JournalEnds }
 {}
 
 /// A journal gives a world one run at most.
