@@ -11,7 +11,7 @@ use Rattle.std.specs.declared.cmp.Ordering.{Ordering}
 use Rattle.std.specs.declared.cmp.Ordering.TheVariants.{Greater}
 use Rattle.std.specs.Prelude.{◌&&◌, ◌||◌, ◌==◌, IsTrue, filter, nat_le, nat_lt, not}
 use Rattle.trick_journal_turns.proofs.Turns.{late_first, none_within, range_since, rising_since, rising_tail, since_all, since_late, since_one, since_within, step_up, within_head, within_since}
-use Rattle.trick_journal_turns.specs.Due.{MayCome, before, joins_at, live_with, may_go_on, resumed, rise_between, since}
+use Rattle.trick_journal_turns.specs.Due.{MayCome, before, is_line, joins_at, live_with, may_go_on, resumed, rise_between, since}
 use Rattle.trick_model.specs.Journal.{Noted, are_in_range, are_joined, are_rising, are_within, is_entry, is_session, live_after, live_before, may_follow}
 use Rattle.trick_model.specs.Time.{last_turn}
 use Rattle.trick_model.specs.declared.entry.Entry.{Entry}
@@ -333,27 +333,50 @@ skips_last start all es live none s =
 
 -- ---- what a run from a start is given
 
-pub resumed_joins : (start end : ℕ) (es : List Noted) → start < end
-    → resumed start end es ≡ joins_at start (live_before start es []) ++ since start es
-resumed_joins start end es up =
-    let h : nat_lt start end ≡ true = grind (arith, nat_tests) in
-    ap (λ (b : Bool). cond b (joins_at start (live_before start es []) ++ since start es) (since start es)) h
+pub resumed_by : (start end : ℕ) (frozen : Bool) (es : List Noted) (b c : Bool) → nat_lt start end ≡ b
+    → (frozen && not (list_any is_line (since start es))) ≡ c
+    → resumed start end frozen es ≡ cond (b && not c) (joins_at start (live_before start es []) ++ since start es) (since start es)
+resumed_by start end frozen es b c up none =
+    ap (λ (d : Bool). cond (d && not (frozen && not (list_any is_line (since start es))))
+    (joins_at start (live_before start es []) ++ since start es) (since start es)) up
+    ∙ ap (λ (d : Bool). cond (b && not d) (joins_at start (live_before start es []) ++ since start es) (since start es)) none
 
-pub resumed_none : (start end : ℕ) (es : List Noted) → end ≤ start → resumed start end es ≡ since start es
-resumed_none start end es up =
-    let h : nat_lt start end ≡ false = grind (arith, nat_tests) in
-    ap (λ (b : Bool). cond b (joins_at start (live_before start es []) ++ since start es) (since start es)) h
+-- publications may come whoever is there
+joined_quiet : (highest : ℕ) (live : List ℕ) (es : List Noted) → list_any is_line es ≡ false → are_joined highest live es ≡ true
+joined_quiet highest live [] none = refl
+joined_quiet highest live ((turn, Join session) ∷ es) none = cc none
+joined_quiet highest live ((turn, Said session line) ∷ es) none = cc none
+joined_quiet highest live ((turn, Leave session cause) ∷ es) none = cc none
+joined_quiet highest live ((turn, Publish thread) ∷ es) none = joined_quiet highest live es none
 
-pub resumed_keeps : (start from end : ℕ) (es : List Noted) → IsJournal from end es → end ≤ last_turn
-    → may_go_on start end no_sessions (resumed start end es) ≡ true
-resumed_keeps start from end es j right = go (nat_lt start end) refl
+-- where no line is left nobody has to join
+quiet_keeps : (start from end : ℕ) (es : List Noted) → IsJournal from end es → list_any is_line (since start es) ≡ false
+    → may_go_on start end no_sessions (since start es) ≡ true
+quiet_keeps start from end es j none =
+    and_from _ _ (range_since start es j.in_range)
+    (and_from _ _ (rising_since start es j.rising)
+    (and_from _ _ (within_since start from end es j.rising j.within) (joined_quiet 0 [] (since start es) none)))
+
+pub resumed_keeps : (start from end : ℕ) (frozen : Bool) (es : List Noted) → IsJournal from end es → end ≤ last_turn
+    → may_go_on start end no_sessions (resumed start end frozen es) ≡ true
+resumed_keeps start from end frozen es j right =
+    go (nat_lt start end) (frozen && not (list_any is_line (since start es))) refl refl
   where
-    go : (b : Bool) → nat_lt start end ≡ b → may_go_on start end no_sessions (resumed start end es) ≡ true
-    go true h =
-        let up : start < end = grind (arith, nat_tests) in
-        subst (λ (xs : List Noted). may_go_on start end no_sessions xs ≡ true) (sym (resumed_joins start end es up))
-        (resumes start from end es j right up)
-    go false h =
-        let up : end ≤ start = grind (arith, nat_tests) in
-        subst (λ (xs : List Noted). may_go_on start end no_sessions xs ≡ true)
-        (sym (resumed_none start end es up ∙ nothing_left start from end es j up)) refl
+    some_line : (b c : Bool) → (b && not c) ≡ true → c ≡ false
+    some_line b false h = refl
+    some_line true true h = cc h
+    some_line false true h = cc h
+
+    go : (b c : Bool) → nat_lt start end ≡ b → (frozen && not (list_any is_line (since start es))) ≡ c
+        → may_go_on start end no_sessions (resumed start end frozen es) ≡ true
+    go true false up none =
+        let below : start < end = grind (arith, nat_tests) in
+        subst (λ (xs : List Noted). may_go_on start end no_sessions xs ≡ true) (sym (resumed_by start end frozen es true false up none))
+        (resumes start from end es j right below)
+    go true true up none =
+        subst (λ (xs : List Noted). may_go_on start end no_sessions xs ≡ true) (sym (resumed_by start end frozen es true true up none))
+        (quiet_keeps start from end es j (some_line frozen (list_any is_line (since start es)) none))
+    go false c up none =
+        let over : end ≤ start = grind (arith, nat_tests) in
+        subst (λ (xs : List Noted). may_go_on start end no_sessions xs ≡ true) (sym (resumed_by start end frozen es false c up none))
+        (quiet_keeps start from end es j (ap (list_any is_line) (nothing_left start from end es j over)))

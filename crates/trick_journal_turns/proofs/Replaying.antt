@@ -6,14 +6,16 @@ use Rattle.std.specs.List.{list_any}
 use Rattle.std.specs.Prelude.{◌&&◌, ◌||◌, nat_le, nat_lt, not}
 use Rattle.trick_journal_turns.proofs.Coming.{goes_on, rising_of, within_of}
 use Rattle.trick_journal_turns.proofs.Joins.{joins_in_lists}
-use Rattle.trick_journal_turns.proofs.Joining.{IsJournal, resumed_joins, resumed_keeps, resumed_none}
+use Rattle.trick_journal_turns.proofs.Joining.{IsJournal, resumed_by, resumed_keeps}
 use Rattle.trick_journal_turns.proofs.Lists.{lines_in_lists, lists_resumed, lists_since, sessions_next}
-use Rattle.trick_journal_turns.proofs.Turns.{any_split, at_since, before_is_at, none_within, since_since, since_within}
+use Rattle.trick_journal_turns.proofs.Turns.{any_split, at_since, before_is_at, none_within, since_since, since_within, within_since}
 use Rattle.trick_journal_turns.specs.Due.{after_lists, before, is_line, joins_at, joins_in, may_go_on, resumed, sessions_at, sessions_so_far, since}
-use Rattle.trick_model.specs.Journal.{Noted, entries_at, is_of_session, lists_from, lists_of, live_before, with_joins}
-use Rattle.trick_model.specs.Run.{has_session_entry, next_of, rest_of}
+use Rattle.trick_model.specs.Journal.{Noted, entries_at, is_of_session, lists_from, live_before, with_joins}
+use Rattle.trick_model.specs.Run.{has_session_entry, lists_of, next_of, rest_of}
 use Rattle.trick_model.specs.Time.{last_turn}
+use Rattle.trick_model.specs.Turn.{is_frozen}
 use Rattle.trick_model.specs.declared.entry.Entry.{Entry}
+use Rattle.trick_model.specs.declared.mode.Mode.{Mode}
 use Rattle.trick_turns.specs.Joins.{joins_of}
 use Rattle.trick_turns.specs.Turns.{Sessions, Told, after_entries, in_next, may_all_come, no_sessions}
 
@@ -149,11 +151,11 @@ done_else false some h f = cc
 sessions_first : (start : ℕ) (es : List Noted) → sessions_at start start es ≡ no_sessions
 sessions_first start es = ap (λ (n : ℕ). after_lists (lists_from start n es) no_sessions) (sub_self start)
 
-pub stands_first : (start from end : ℕ) (es due whole : List Noted) → IsJournal from end es → end ≤ last_turn
-    → due ≡ resumed start end es → whole ≡ due → Stands false start start end whole due
-stands_first start from end es due whole j right is same =
+pub stands_first : (start from end : ℕ) (frozen : Bool) (es due whole : List Noted) → IsJournal from end es → end ≤ last_turn
+    → due ≡ resumed start end frozen es → whole ≡ due → Stands false start start end whole due
+stands_first start from end frozen es due whole j right is same =
     let rules : may_go_on start end no_sessions due ≡ true =
-    subst (λ (xs : List Noted). may_go_on start end no_sessions xs ≡ true) (sym is) (resumed_keeps start from end es j right) in
+    subst (λ (xs : List Noted). may_go_on start end no_sessions xs ≡ true) (sym is) (resumed_keeps start from end frozen es j right) in
     record {
       forward = omega arith;
       left = sym (since_within start end due (within_of start end no_sessions due rules)) ∙ ap (since start) (sym same);
@@ -161,16 +163,53 @@ stands_first start from end es due whole j right is same =
       behind_end = refl;
     }
 
-pub lists_first : (start end : ℕ) (es due : List Noted) → due ≡ resumed start end es
-    → lists_from start (end - start) due ≡ lists_of es end start
-lists_first start end es due is = ap (lists_from start (end - start)) is ∙ go (nat_lt start end) refl
+-- the lists without joins, which have a line where one is left
+lists_quiet : (start count : ℕ) (es : List Noted) → lists_from start count (since start es) ≡ lists_from start count es
+lists_quiet start count es = let same : start ≤ start = omega arith in lists_since start start count same es
+
+lines_first : (start from end : ℕ) (es : List Noted) → IsJournal from end es
+    → has_session_entry (lists_from start (end - start) es) ≡ list_any is_line (since start es)
+lines_first start from end es j =
+    let enough : end ≤ start + (end - start) = omega arith in
+    sym (ap has_session_entry (lists_quiet start (end - start) es))
+    ∙ lines_in_lists start (end - start) end (since start es) enough (within_since start from end es j.rising j.within)
+
+-- with no turn left there are no lists, with joins or without
+no_turns : (c : Bool) (start count : ℕ) (live : List ℕ) (es : List Noted) → count ≡ 0
+    → lists_from start count es ≡ (elim c [ true ↦ lists_from start count es | false ↦ with_joins live (lists_from start count es) ])
+no_turns true start count live es none = refl
+no_turns false start zero live es none = refl
+no_turns false start (suc count) live es none = absurd (omega (arith, none))
+
+pub lists_first : (start from end : ℕ) (begun : Mode) (es due : List Noted) → IsJournal from end es → due ≡ resumed start end (is_frozen begun) es
+    → lists_from start (end - start) due ≡ lists_of es end start begun
+lists_first start from end begun es due j is =
+    ap (lists_from start (end - start)) is ∙ go (nat_lt start end) (is_frozen begun && not (list_any is_line (since start es))) refl refl
   where
-    go : (b : Bool) → nat_lt start end ≡ b → lists_from start (end - start) (resumed start end es) ≡ lists_of es end start
-    go true h =
-        let up : start < end = grind (arith, nat_tests) in
-        ap (lists_from start (end - start)) (resumed_joins start end es up)
-        ∙ lists_resumed start (end - start) (live_before start es []) es
-    go false h =
-        let none : end - start ≡ 0 = grind (arith, nat_tests) in
-        ap (λ (n : ℕ). lists_from start n (resumed start end es)) none
-        ∙ sym (ap (λ (n : ℕ). with_joins (live_before start es []) (lists_from start n es)) none)
+    lists_by : (c : Bool) → (is_frozen begun && not (list_any is_line (since start es))) ≡ c
+        → lists_of es end start begun ≡ (elim c [
+          | true ↦ lists_from start (end - start) es
+          | false ↦ with_joins (live_before start es []) (lists_from start (end - start) es)
+        ])
+    lists_by c none =
+        ap (λ (d : Bool). elim (is_frozen begun && not d) [
+          | true ↦ lists_from start (end - start) es
+          | false ↦ with_joins (live_before start es []) (lists_from start (end - start) es)
+        ]) (lines_first start from end es j)
+        ∙ ap (λ (d : Bool). elim d [
+          | true ↦ lists_from start (end - start) es
+          | false ↦ with_joins (live_before start es []) (lists_from start (end - start) es)
+        ]) none
+
+    go : (b c : Bool) → nat_lt start end ≡ b → (is_frozen begun && not (list_any is_line (since start es))) ≡ c
+        → lists_from start (end - start) (resumed start end (is_frozen begun) es) ≡ lists_of es end start begun
+    go true false up none =
+        ap (lists_from start (end - start)) (resumed_by start end (is_frozen begun) es true false up none)
+        ∙ lists_resumed start (end - start) (live_before start es []) es ∙ sym (lists_by false none)
+    go true true up none =
+        ap (lists_from start (end - start)) (resumed_by start end (is_frozen begun) es true true up none)
+        ∙ lists_quiet start (end - start) es ∙ sym (lists_by true none)
+    go false c up none =
+        let short : end - start ≡ 0 = grind (arith, nat_tests) in
+        ap (lists_from start (end - start)) (resumed_by start end (is_frozen begun) es false c up none)
+        ∙ lists_quiet start (end - start) es ∙ no_turns c start (end - start) (live_before start es []) es short ∙ sym (lists_by c none)

@@ -56,11 +56,17 @@ MayCome live entry = (highest : ℕ) × IsTrue (rise_between 0 live highest)
 abbrev pub joins_at : ℕ → List ℕ → List Noted
 joins_at turn live = map (λ session. (turn, Join session)) live
 
--- What is left for a run from a start: the entries from there on, and below the end the joins of the
--- sessions that are there then, in front.
-abbrev pub resumed : (start end : ℕ) → List Noted → List Noted
-resumed start end es =
-    cond (nat_lt start end) (joins_at start (live_before start es []) ++ since start es) (since start es)
+-- whether the sessions that are there join at a start, in Freeze or not, where these entries are left: below the
+-- end, but not in Freeze where no line is left
+abbrev pub they_join : (start end : ℕ) → Bool → List Noted → Bool
+they_join start end frozen left = nat_lt start end && not (frozen && not (list_any is_line left))
+
+-- What is left for a run from a start, in Freeze or not: the entries from there on, and in front the joins of the
+-- sessions that are there then.
+abbrev pub resumed : (start end : ℕ) → Bool → List Noted → List Noted
+resumed start end frozen es =
+    let left = since start es in
+    cond (they_join start end frozen left) (joins_at start (live_before start es []) ++ left) left
 
 -- the sessions after lists, one for each turn
 abbrev pub after_lists : List (List Entry) → Sessions → Sessions

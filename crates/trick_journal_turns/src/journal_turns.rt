@@ -18,8 +18,9 @@ use trick_turns::{Next, Turns};
 /// What a journal gives a run from a turn on: a list of entries for each turn, and the journal's end.
 ///
 /// Entries of earlier turns are skipped. The sessions that joined and did not leave in them join first
-/// at the first turn, in rising number. Making it goes through the entries once; each is then moved
-/// out at its turn.
+/// at the first turn, in rising number; but these joins are no entries of the journal, so that they do not
+/// keep a run that starts in Freeze from its end. Making it goes through the entries once; each is then
+/// moved out at its turn.
 #[derive(Drop)]
 pub struct JournalTurns {
     // What is left, and what was left at first: only proofs read that.
@@ -57,20 +58,21 @@ fn owes_after(frozen: bool, said: bool, owed: bool) -> bool
 impl JournalTurns {
     ghost use Rattle.std.specs.Prelude.{IfOk, OnErr, OnOk};
     ghost use Rattle.trick_journal_turns.specs.Replay.{sessions_of, told_of};
-    ghost use Rattle.trick_model.specs.Journal.{is_of_session, lists_of};
-    ghost use Rattle.trick_model.specs.Run.{next_of};
+    ghost use Rattle.trick_model.specs.Journal.{is_of_session};
+    ghost use Rattle.trick_model.specs.Run.{lists_of, next_of};
     ghost use Rattle.trick_turns.specs.Joins.{joins_of};
     ghost use Rattle.trick_turns.specs.Turns.{after_entries, behind, in_next, may_all_come, no_sessions};
 
-    /// What a journal gives a run that starts at this turn.
-    pub fn new(alloc: Global, journal: Journal, start: u64) -> Result<Self, AllocError>
+    /// What a journal gives a run that starts at this turn, in this mode.
+    pub fn new(alloc: Global, journal: Journal, start: u64, mode: Mode) -> Result<Self, AllocError>
         ensures told { IfOk result (λ turns. told_of turns
-            ≡ record { lists = lists_of journal.entries journal.end start; end = journal.end }) }
+            ≡ record { lists = lists_of journal.entries journal.end start mode; end = journal.end }) }
         ensures owes { IfOk result (λ turns. turns.owes ≡ false) }
         ensures sessions { IfOk result (λ turns. sessions_of turns ≡ no_sessions) }
     {
         let Journal { entries, end, .. } = journal;
-        let due = resume(alloc, entries.into_vec(), start, end)?;
+        let frozen = is_frozen(mode);
+        let due = resume(alloc, entries.into_vec(), start, end, frozen)?;
         let whole = Snapshot::of(&due);
         Ok(JournalTurns {
             due,

@@ -51,20 +51,22 @@ fn join_all(due: &mut Due, turn: u64, live: BTreeSet<u32>) -> Result<(), AllocEr
     Ok(())
 }
 
-/// What is left for a run that starts at a turn.
+/// What is left for a run that starts at a turn, in Freeze or not. The sessions that are there then join first,
+/// but where the journal itself has no turn left, or in Freeze no line: there the run is over at once.
 pub(crate) fn resume(
     alloc: Global,
     entries: Vec<(u64, Entry)>,
     start: u64,
     end: u64,
+    frozen: bool,
 ) -> Result<Due, AllocError>
     requires rising { IsTrue (are_rising entries.items) }
     requires joined { IsTrue (are_joined 0 [] entries.items) }
-    ensures { IfOk result (λ due. due ≡ resumed start end entries.items) }
+    ensures { IfOk result (λ due. due ≡ resumed start end frozen entries.items) }
 {
     let mut due = Due::new(entries);
     let live = skip(alloc, &mut due, start)?;
-    if end <= start {
+    if end <= start || frozen && !due.has_line() {
         return Ok(due);
     }
     join_all(&mut due, start, live)?;

@@ -14,8 +14,8 @@ use trick_turns::{Next, Turns};
 /// Calls of a source of entries.
 #[derive(Clone, Copy)]
 pub(crate) enum SourceCall {
-    /// Reads a journal, and makes it the source of a run that starts at this turn.
-    Begin { start: u64 },
+    /// Reads a journal, and makes it the source of a run that starts at this turn, in this mode.
+    Begin { start: u64, mode: Mode },
     /// How many sessions have still to join.
     Joins,
     /// The entries of a turn, in a mode.
@@ -42,6 +42,11 @@ pub(crate) fn source_call(words: &[&str]) -> Option<SourceCall> {
     match words {
         ["source", start] => Some(SourceCall::Begin {
             start: start.parse().ok()?,
+            mode: Mode::Run,
+        }),
+        ["source", start, mode] => Some(SourceCall::Begin {
+            start: start.parse().ok()?,
+            mode: mode_of(mode)?,
         }),
         ["joins"] => Some(SourceCall::Joins),
         ["entries", turn, mode] => Some(SourceCall::Entries {
@@ -63,10 +68,10 @@ pub(crate) fn source_call(words: &[&str]) -> Option<SourceCall> {
 fn begin_with(
     alloc: Global,
     source: &mut Option<JournalTurns>,
-    start: u64,
+    at: (u64, Mode),
     journal: Journal,
 ) -> Result<String, AllocError> {
-    *source = Some(JournalTurns::new(alloc, journal, start)?);
+    *source = Some(JournalTurns::new(alloc, journal, at.0, at.1)?);
     Ok(String::new(alloc))
 }
 
@@ -75,11 +80,11 @@ fn begin(
     alloc: Global,
     plan: &Plan,
     source: &mut Option<JournalTurns>,
-    start: u64,
+    at: (u64, Mode),
     text: &[u8],
 ) -> Result<String, AllocError> {
-    match read(alloc, plan, start, text) {
-        Ok(journal) => begin_with(alloc, source, start, journal),
+    match read(alloc, plan, at.0, text) {
+        Ok(journal) => begin_with(alloc, source, at, journal),
         Err(fault) => refusal(alloc, fault),
     }
 }
@@ -176,8 +181,8 @@ pub(crate) fn answer(
     call: SourceCall,
     bytes: &[u8],
 ) -> Result<String, AllocError> {
-    if let SourceCall::Begin { start } = call {
-        return begin(alloc, plan, source, start, bytes);
+    if let SourceCall::Begin { start, mode } = call {
+        return begin(alloc, plan, source, (start, mode), bytes);
     }
     match source {
         Some(source) => answer_of(alloc, texts, plan, source, call, bytes),

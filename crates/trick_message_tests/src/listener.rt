@@ -17,7 +17,7 @@ use trick_journal::read;
 use trick_journal_turns::JournalTurns;
 use trick_lang::Cells;
 use trick_memory::Memory;
-use trick_model::{Accepted, Journal, State, laws};
+use trick_model::{Accepted, Journal, Mode, State, laws};
 use trick_outside::MemoryShelf;
 use trick_phase::Phases;
 use trick_post::Posts;
@@ -80,7 +80,7 @@ fn listen(alloc: Global, journal: Journal) -> Result<Listener, AllocError>
     ensures unknown { IfOk result (λ listener. sessions_of listener.journal ≡ no_sessions) }
     ensures paid { IfOk result (λ listener. listener.journal.owes ≡ false) }
 {
-    let journal = JournalTurns::new(alloc, journal, 0)?;
+    let journal = JournalTurns::new(alloc, journal, 0, Mode::Run)?;
     let heard = Vec::new(alloc);
     Ok(Listener {
         alloc,

@@ -1,10 +1,14 @@
 -- Journals that differ in publications alone give lists that do.
-use Rattle.std.proofs.Common.{◌≡◌, ◌∙◌, ℕ, zero, suc, ◌+◌, ◌-◌, ◌==◌, nat_lt, List, [], ◌∷◌, ◌++◌, length, map, Bool, true, false, not, cond, ap, refl, subst, sym}
+use Rattle.std.proofs.Common.{◌≡◌, ◌∙◌, ℕ, zero, suc, ◌+◌, ◌-◌, ◌==◌, nat_lt, List, [], ◌∷◌, ◌++◌, length, map, Bool, true, false, not, ◌&&◌, cond, ap, refl, subst, sym}
 use Rattle.std.proofs.lemmas.List.Elements.{filter-append}
 use Rattle.std.specs.Prelude.{filter}
-use Rattle.trick_model.specs.Journal.{Noted, entries_at, is_of_session, lists_from, lists_of, live_after, live_before, with_joins}
+use Rattle.trick_model.specs.Journal.{Noted, entries_at, is_of_session, lists_from, live_after, live_before, with_joins}
+use Rattle.trick_model.specs.Run.{has_session_entry, lists_of}
+use Rattle.trick_model.specs.Turn.{is_frozen}
 use Rattle.trick_model.specs.declared.entry.Entry.{Entry}
 use Rattle.trick_model.specs.declared.entry.Entry.TheVariants.{Join, Said, Leave, Publish}
+use Rattle.trick_model.specs.declared.mode.Mode.{Mode}
+use Rattle.trick_publications.proofs.Runs.{left_same}
 use Rattle.trick_publications.specs.Publications.{DifferInPublications, JournalsDifferInPublications, lines_of}
 
 -- the joins, lines and leaves of a journal
@@ -82,20 +86,54 @@ joined_same turn (suc count) live one other differ zero =
     ∙ sym (filter-append is_of_session joins (entries_at turn other))
 joined_same turn (suc count) live one other differ (suc k) = from_same (turn + 1) count one other differ k
 
-pub lists_same : (one other : List Noted) (end start : ℕ) → JournalsDifferInPublications one other
-    → DifferInPublications (lists_of one end start) (lists_of other end start)
-lists_same one other end start differ =
-    subst (λ (live : List ℕ). DifferInPublications (lists_of one end start) (with_joins live (lists_from start (end - start) other)))
+all_joined : (one other : List Noted) (end start : ℕ) → JournalsDifferInPublications one other
+    → DifferInPublications (with_joins (live_before start one []) (lists_from start (end - start) one))
+    (with_joins (live_before start other []) (lists_from start (end - start) other))
+all_joined one other end start differ =
+    subst (λ (live : List ℕ). DifferInPublications (with_joins (live_before start one []) (lists_from start (end - start) one))
+    (with_joins live (lists_from start (end - start) other)))
     (live_same start one other differ) (joined_same start (end - start) (live_before start one []) one other differ)
+
+-- with the joins in front, or without
+some_joined : (b : Bool) (one other : List Noted) (end start : ℕ) → JournalsDifferInPublications one other
+    → DifferInPublications
+    (elim b [ true ↦ lists_from start (end - start) one | false ↦ with_joins (live_before start one []) (lists_from start (end - start) one) ])
+    (elim b [ true ↦ lists_from start (end - start) other | false ↦ with_joins (live_before start other []) (lists_from start (end - start) other) ])
+some_joined true one other end start differ = from_same start (end - start) one other differ
+some_joined false one other end start differ = all_joined one other end start differ
+
+-- in Freeze a line is left in both or in neither
+none_left : (one other : List Noted) (end start : ℕ) (begun : Mode) → JournalsDifferInPublications one other
+    → (is_frozen begun && not (has_session_entry (lists_from start (end - start) one)))
+    ≡ (is_frozen begun && not (has_session_entry (lists_from start (end - start) other)))
+none_left one other end start begun differ =
+    ap (λ (b : Bool). is_frozen begun && not b)
+    (left_same (lists_from start (end - start) one) (lists_from start (end - start) other) (from_same start (end - start) one other differ))
+
+pub lists_same : (one other : List Noted) (end start : ℕ) (begun : Mode) → JournalsDifferInPublications one other
+    → DifferInPublications (lists_of one end start begun) (lists_of other end start begun)
+lists_same one other end start begun differ =
+    subst (λ (b : Bool). DifferInPublications (lists_of one end start begun)
+    (elim b [ true ↦ lists_from start (end - start) other | false ↦ with_joins (live_before start other []) (lists_from start (end - start) other) ]))
+    (none_left one other end start begun differ)
+    (some_joined (is_frozen begun && not (has_session_entry (lists_from start (end - start) one))) one other end start differ)
 
 from_many : (turn count : ℕ) (one other : List Noted) → length (lists_from turn count one) ≡ length (lists_from turn count other)
 from_many turn zero one other = refl
 from_many turn (suc count) one other = ap suc (from_many (turn + 1) count one other)
 
-joined_many : (turn count : ℕ) (live also : List ℕ) (one other : List Noted)
-    → length (with_joins live (lists_from turn count one)) ≡ length (with_joins also (lists_from turn count other))
-joined_many turn zero live also one other = refl
-joined_many turn (suc count) live also one other = ap suc (from_many (turn + 1) count one other)
+-- joins make no list more
+joins_many : (b : Bool) (live : List ℕ) (lists : List (List Entry))
+    → length {A = List Entry} (elim b [ true ↦ lists | false ↦ with_joins live lists ]) ≡ length lists
+joins_many true live lists = refl
+joins_many false live [] = refl
+joins_many false live (entries ∷ lists) = refl
 
-pub lists_many : (one other : List Noted) (end start : ℕ) → length (lists_of one end start) ≡ length (lists_of other end start)
-lists_many one other end start = joined_many start (end - start) (live_before start one []) (live_before start other []) one other
+pub lists_many : (one other : List Noted) (end start : ℕ) (begun : Mode)
+    → length (lists_of one end start begun) ≡ length (lists_of other end start begun)
+lists_many one other end start begun =
+    let left = lists_from start (end - start) one in
+    let also = lists_from start (end - start) other in
+    joins_many (is_frozen begun && not (has_session_entry left)) (live_before start one []) left
+    ∙ from_many start (end - start) one other
+    ∙ sym (joins_many (is_frozen begun && not (has_session_entry also)) (live_before start other []) also)

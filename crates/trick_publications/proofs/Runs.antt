@@ -35,7 +35,7 @@ any_line (Publish thread ∷ entries) = any_line entries
 lines_same : (one other : List Entry) → lines_of one ≡ lines_of other → list_any is_of_session one ≡ list_any is_of_session other
 lines_same one other e = any_line one ∙ ap (λ (lines : List Entry). list_any is_of_session lines) e ∙ sym (any_line other)
 
-left_same : (one other : List (List Entry)) → DifferInPublications one other → has_session_entry one ≡ has_session_entry other
+pub left_same : (one other : List (List Entry)) → DifferInPublications one other → has_session_entry one ≡ has_session_entry other
 left_same [] [] differ = refl
 left_same [] (entries ∷ other) differ =
     let first = lines_same [] entries (differ 0) in

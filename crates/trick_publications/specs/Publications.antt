@@ -4,11 +4,11 @@ use Rattle.std.specs.Prelude.{◌≡◌, ℕ, ℤ, All, List, [], filter, length
 use Rattle.trick_model.specs.Access.{IsReached}
 use Rattle.trick_model.specs.Acceptance.{IsAccepted}
 use Rattle.trick_model.specs.Files.{file}
-use Rattle.trick_model.specs.Journal.{Noted, is_of_session, lists_of}
+use Rattle.trick_model.specs.Journal.{Noted, is_of_session}
 use Rattle.trick_model.specs.Plan.{Plan}
 use Rattle.trick_model.specs.PlanOf.{plan_of}
 use Rattle.trick_model.specs.Records.{log_name}
-use Rattle.trick_model.specs.Run.{Fits, JournalFits, final}
+use Rattle.trick_model.specs.Run.{Fits, JournalFits, final, lists_of}
 use Rattle.trick_model.specs.State.{State, number_at}
 use Rattle.trick_model.specs.declared.entry.Entry.{Entry}
 use Rattle.trick_model.specs.declared.group.Group.{Group}
@@ -79,4 +79,4 @@ JournalsEndAlike =
     (plan : PlanValue) (s : State) (one other : List Noted) (end : ℕ) → ∥ IsAccepted (plan_of plan) ∥₁
     → JournalsDifferInPublications one other → JournalFits (plan_of plan) s one end
     → JournalFits (plan_of plan) s other end
-    × EndAlike (plan_of plan) s (lists_of one end s.turn) (lists_of other end s.turn)
+    × EndAlike (plan_of plan) s (lists_of one end s.turn s.mode) (lists_of other end s.turn s.mode)

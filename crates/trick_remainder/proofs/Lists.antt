@@ -1,6 +1,12 @@
 -- The lists of a journal, cut in two at a turn.
-use Rattle.std.proofs.Common.{◌≡◌, ◌∙◌, ℕ, zero, suc, ◌+◌, ◌-◌, ◌<◌, ◌≤◌, List, [], ◌∷◌, ◌++◌, ap, arith, refl, subst, sym}
-use Rattle.trick_model.specs.Journal.{Noted, entries_at, lists_from, lists_of, live_before, with_joins}
+use Rattle.std.proofs.Common.{◌≡◌, ◌∙◌, ℕ, zero, suc, ◌+◌, ◌-◌, ◌<◌, ◌≤◌, List, [], ◌∷◌, ◌++◌, Bool, true, false, not, ap, arith, refl, subst, sym}
+use Rattle.std.specs.Prelude.{◌&&◌, ◌||◌, nat_le, IsTrue}
+use Rattle.trick_model.proofs.Runs.{and_left}
+use Rattle.trick_model.specs.Journal.{Noted, entries_at, lists_from, live_before, with_joins}
+use Rattle.trick_model.specs.Plan.{Plan}
+use Rattle.trick_model.specs.Run.{goes_on, has_session_entry, is_over, is_shut}
+use Rattle.trick_model.specs.State.{World}
+use Rattle.trick_model.specs.Turn.{is_frozen}
 use Rattle.trick_model.specs.declared.entry.Entry.{Entry}
 use Rattle.trick_remainder.specs.Remainder.{early_lists, late_lists}
 
@@ -43,11 +49,48 @@ there start turn one = omega arith
 some_turns : (start turn : ℕ) → start < turn → 0 < turn - start
 some_turns start turn one = omega arith
 
+-- where a run goes on, those that are there join
 pub cut : (entries : List Noted) (start turn end : ℕ) → start < turn → turn ≤ end
-    → lists_of entries end start ≡ early_lists entries start turn ++ late_lists entries end turn
+    → with_joins (live_before start entries []) (lists_from start (end - start) entries)
+    ≡ early_lists entries start turn ++ late_lists entries end turn
 cut entries start turn end one other =
     let live = live_before start entries [] in
     ap (λ count. with_joins live (lists_from start count entries)) (parts start turn end one other)
     ∙ ap (with_joins live) (lists_join start (turn - start) (end - turn) entries)
     ∙ ap (λ t. with_joins live (lists_from start (turn - start) entries ++ lists_from t (end - turn) entries)) (there start turn one)
     ∙ joins_append live (turn - start) start entries (lists_from turn (end - turn) entries) (some_turns start turn one)
+
+-- ---- the joins, where a run goes on
+
+-- A run that is not over at once is given the joins in front, and one with no turn left has no lists.
+pub joins_come : (p : Plan) (w : World) (live : List ℕ) (lists : List (List Entry)) → IsTrue (goes_on p w lists)
+    → (elim (is_frozen w.state.mode && not (has_session_entry lists)) [ true ↦ lists | false ↦ with_joins live lists ]) ≡ with_joins live lists
+joins_come p w live [] goes = none (is_frozen w.state.mode && true) []
+  where
+    none : (b : Bool) (lists : List (List Entry)) → (elim b [ true ↦ lists | false ↦ lists ]) ≡ lists
+    none true lists = refl
+    none false lists = refl
+joins_come p w live (entries ∷ lists) goes =
+    not_over (is_shut w.state.mode) (nat_le w.state.limit w.state.tic) (is_frozen w.state.mode && not (has_session_entry (entries ∷ lists)))
+    (and_left (not (is_over w.state (entries ∷ lists))) _ goes)
+  where
+    not_over : (a b c : Bool) → not (a || (b || c)) ≡ true
+        → (elim c [ true ↦ entries ∷ lists | false ↦ with_joins live (entries ∷ lists) ]) ≡ with_joins live (entries ∷ lists)
+    not_over a b false h = refl
+    not_over true b true h = cc h
+    not_over false true true h = cc h
+    not_over false false true h = cc h
+
+-- the same where it goes on under the lists that it is given
+pub joins_came : (p : Plan) (w : World) (live : List ℕ) (lists : List (List Entry))
+    → IsTrue (goes_on p w (elim (is_frozen w.state.mode && not (has_session_entry lists)) [ true ↦ lists | false ↦ with_joins live lists ]))
+    → (elim (is_frozen w.state.mode && not (has_session_entry lists)) [ true ↦ lists | false ↦ with_joins live lists ]) ≡ with_joins live lists
+joins_came p w live lists = go (is_frozen w.state.mode && not (has_session_entry lists)) refl
+  where
+    go : (c : Bool) → (is_frozen w.state.mode && not (has_session_entry lists)) ≡ c
+        → IsTrue (goes_on p w (elim c [ true ↦ lists | false ↦ with_joins live lists ]))
+        → (elim c [ true ↦ lists | false ↦ with_joins live lists ]) ≡ with_joins live lists
+    go true is goes =
+        sym (ap (λ (c : Bool). let given : List (List Entry) = elim c [ true ↦ lists | false ↦ with_joins live lists ] in given) is)
+        ∙ joins_come p w live lists goes
+    go false is goes = refl

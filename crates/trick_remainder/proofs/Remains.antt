@@ -5,12 +5,12 @@ use Rattle.trick_base.proofs.ContentLemmas.{content-append}
 use Rattle.trick_base.specs.Content.{content, same_name, IsKept}
 use Rattle.trick_base.specs.Files.{Write}
 use Rattle.trick_model.specs.Files.{end_writes, file, journal_name, run_writes, start_writes, turns_writes}
-use Rattle.trick_model.specs.Journal.{Noted, first_lines, last_line, lists_of, live_before, with_joins}
+use Rattle.trick_model.specs.Journal.{Noted, first_lines, last_line, lists_from, live_before, with_joins}
 use Rattle.trick_model.specs.Laws.{Continues, JoinsAreNoted, RunsContinue, SessionsDoNotMatter}
 use Rattle.trick_model.specs.Plan.{Plan}
 use Rattle.trick_model.specs.PlanOf.{plan_of}
 use Rattle.trick_model.specs.Records.{header, log_name}
-use Rattle.trick_model.specs.Run.{Fits, after_turns, final, goes_on, is_over, opened, shut}
+use Rattle.trick_model.specs.Run.{Fits, after_turns, final, goes_on, is_over, lists_of, opened, shut}
 use Rattle.trick_model.specs.State.{State, World}
 use Rattle.trick_model.specs.declared.entry.Entry.{Entry}
 use Rattle.trick_model.specs.declared.group.Group.{Group}
@@ -18,9 +18,9 @@ use Rattle.trick_model.specs.declared.plan.Plan.{Plan as PlanValue}
 use Rattle.trick_remainder.proofs.Contents.{kept_adds, made_forgets}
 use Rattle.trick_remainder.proofs.Ends.{IsBegun, end_faults, end_final, end_journal, end_log, journal_is_no_checkpoint, log_is_no_checkpoint, log_is_no_journal, starts_journal, starts_logs}
 use Rattle.trick_remainder.proofs.Joins.{are_joined, joins_are_lines, joins_leave, lines_for}
-use Rattle.trick_remainder.proofs.Lists.{cut}
+use Rattle.trick_remainder.proofs.Lists.{cut, joins_came, joins_come}
 use Rattle.trick_remainder.proofs.Turns.{turns_kept}
-use Rattle.trick_remainder.specs.Remainder.{IsJournalRest, IsLogRest, IsRemainder, RemaindersAreWritten, added, early_lists, early_writes, is_made, late_lists, late_writes, resumed_file, state_at, whole_file}
+use Rattle.trick_remainder.specs.Remainder.{IsJournalRest, IsLogRest, IsRemainder, RemaindersAreWritten, added, early_lists, early_writes, is_made, late_lists, late_writes, lists_after, resumed_file, state_at, whole_file}
 
 -- A file after writes in four parts, one after another.
 four : (name : List ℕ) (one two three last : List Write) (before : Option (List ℕ))
@@ -37,29 +37,33 @@ three name one two last before =
 
 -- What is known of the two runs: the whole one, in four parts, and the one that goes on, in three.
 record AreRuns (p : Plan) (s : State) (entries : List Noted) (end turn : ℕ) : Type 0 where
-  fits : Fits p (state_at p s entries turn) (lists_of entries end turn)
-  ends : final p (state_at p s entries turn) (lists_of entries end turn) ≡ final p s (lists_of entries end s.turn)
-  whole : run_writes p s (lists_of entries end s.turn)
+  joined : lists_after p s entries end turn ≡ with_joins (live_before turn entries []) (late_lists entries end turn)
+  fits : Fits p (state_at p s entries turn) (lists_after p s entries end turn)
+  ends : final p (state_at p s entries turn) (lists_after p s entries end turn) ≡ final p s (lists_of entries end s.turn s.mode)
+  whole : run_writes p s (lists_of entries end s.turn s.mode)
       ≡ start_writes p s.turn ++ early_writes p s entries turn ++ late_writes p s entries end turn
-      ++ end_writes p (final p s (lists_of entries end s.turn))
+      ++ end_writes p (final p s (lists_of entries end s.turn s.mode))
 
 are_runs : RunsContinue → SessionsDoNotMatter → JoinsAreNoted → (p : Plan) (s : State) (entries : List Noted) (end turn : ℕ) → s.turn < turn → turn ≤ end
-    → Fits p s (lists_of entries end s.turn) → AreRuns p s entries end turn
+    → Fits p s (lists_of entries end s.turn s.mode) → AreRuns p s entries end turn
 are_runs runs law joins p s entries end turn one other fits =
     let early = early_lists entries s.turn turn in
     let late = late_lists entries end turn in
     let live = live_before turn entries [] in
-    let cuts = cut entries s.turn turn end one other in
+    let cuts =
+    joins_came p (opened s) (live_before s.turn entries []) (lists_from s.turn (end - s.turn) entries) fits.goes ∙ cut entries s.turn turn end one other in
     let goes = runs p s early late (subst (λ (lists : List (List Entry)). Fits p s lists) cuts fits) in
     let after = state_at p s entries turn in
     let joined = are_joined law joins p after live late in
-    let same : final p s (early ++ late) ≡ final p s (lists_of entries end s.turn) = ap (λ (lists : List (List Entry)). final p s lists) (sym cuts) in
+    let given : lists_after p s entries end turn ≡ with_joins live late = joins_come p (opened after) live late goes.fits.goes in
+    let same : final p s (early ++ late) ≡ final p s (lists_of entries end s.turn s.mode) = ap (λ (lists : List (List Entry)). final p s lists) (sym cuts) in
     record {
-      fits = record {
-        goes = joined.goes goes.fits.goes;
-        over = ap (λ (t : State). is_over t []) joined.state ∙ goes.fits.over;
-      };
-      ends = ap (λ (t : State). shut p t) joined.state ∙ sym goes.ends ∙ same;
+      joined = given;
+      fits = subst (Fits p after) (sym given)
+          (record { goes = joined.goes goes.fits.goes; over = ap (λ (t : State). is_over t []) joined.state ∙ goes.fits.over });
+      ends =
+          ap (λ (lists : List (List Entry)). final p after lists) given ∙ ap (λ (t : State). shut p t) joined.state
+          ∙ sym goes.ends ∙ same;
       whole =
           ap (λ (lists : List (List Entry)). run_writes p s lists) cuts ∙ goes.writes
           ∙ ap (λ (t : State). start_writes p s.turn ++ early_writes p s entries turn ++ late_writes p s entries end turn ++ end_writes p t)
@@ -68,7 +72,7 @@ are_runs runs law joins p s entries end turn one other fits =
 
 -- the last state of the whole run
 abbrev last_of : Plan → State → List Noted → ℕ → State
-last_of p s entries end = final p s (lists_of entries end s.turn)
+last_of p s entries end = final p s (lists_of entries end s.turn s.mode)
 
 -- what a file is before the last files are written, in either run
 abbrev before_end : Plan → State → List Noted → (end turn : ℕ) → List ℕ → Option (List ℕ) → Option (List ℕ)
@@ -78,7 +82,7 @@ before_end p s entries end turn name before =
 abbrev before_resumed_end : Plan → State → List Noted → (end turn : ℕ) → List ℕ → Option (List ℕ) → Option (List ℕ)
 before_resumed_end p s entries end turn name before =
     let after = state_at p s entries turn in
-    content name (turns_writes p (opened after) (lists_of entries end turn)) (content name (start_writes p after.turn) before)
+    content name (turns_writes p (opened after) (lists_after p s entries end turn)) (content name (start_writes p after.turn) before)
 
 -- a file of the whole run
 whole_is : (p : Plan) (s : State) (entries : List Noted) (end turn : ℕ) → AreRuns p s entries end turn → (name : List ℕ) (before : Option (List ℕ))
@@ -93,11 +97,11 @@ whole_is p s entries end turn are name before =
 resumed_is : (p : Plan) (s : State) (entries : List Noted) (end turn : ℕ) → AreRuns p s entries end turn → (name : List ℕ) (before : Option (List ℕ))
     → resumed_file p s entries end turn name before
     ≡ content name (end_writes p (last_of p s entries end))
-    (content name (turns_writes p (opened (state_at p s entries turn)) (lists_of entries end turn))
+    (content name (turns_writes p (opened (state_at p s entries turn)) (lists_after p s entries end turn))
     (content name (start_writes p (state_at p s entries turn).turn) before))
 resumed_is p s entries end turn are name before =
     let after = state_at p s entries turn in
-    let lists = lists_of entries end turn in
+    let lists = lists_after p s entries end turn in
     three name (start_writes p after.turn) (turns_writes p (opened after) lists) (end_writes p (final p after lists)) before
     ∙ ap (λ (t : State). content name (end_writes p t) (content name (turns_writes p (opened after) lists) (content name (start_writes p after.turn) before)))
     are.ends
@@ -110,6 +114,10 @@ resumed_other : SessionsDoNotMatter → JoinsAreNoted → (p : Plan) (s : State)
     (content name (start_writes p (state_at p s entries turn).turn) before))
 resumed_other law joins p s entries end turn are name before other =
     resumed_is p s entries end turn are name before
+    ∙ ap (λ (lists : List (List Entry)). content name (end_writes p (last_of p s entries end))
+    (content name (turns_writes p (opened (state_at p s entries turn)) lists)
+    (content name (start_writes p (state_at p s entries turn).turn) before)))
+    are.joined
     ∙ ap (content name (end_writes p (last_of p s entries end)))
     (joins_leave law joins p (state_at p s entries turn) (live_before turn entries []) (late_lists entries end turn) name _ other)
 
@@ -149,7 +157,7 @@ journal_rest : SessionsDoNotMatter → JoinsAreNoted → (p : Plan) (s : State) 
 journal_rest law joins p s entries end turn are =
     let after = state_at p s entries turn in
     let live = live_before turn entries [] in
-    let lists = lists_of entries end turn in
+    let lists = with_joins live (late_lists entries end turn) in
     let early = early_writes p s entries turn in
     let late = late_writes p s entries end turn in
     let last = last_of p s entries end in
@@ -171,6 +179,8 @@ journal_rest law joins p s entries end turn are =
           ∙ append_assoc first (added journal_name early) (added journal_name late ++ last_line last.turn));
       resumed = λ before.
           resumed_is p s entries end turn are journal_name before
+          ∙ ap (λ (ls : List (List Entry)). content journal_name ends
+          (content journal_name (turns_writes p (opened after) ls) (content journal_name (start_writes p after.turn) before))) are.joined
           ∙ ap (λ (held : Option (List ℕ)). content journal_name ends (content journal_name more held)) (starts_journal p after.turn before)
           ∙ ap (content journal_name ends) (kept_adds journal_name more again (turns_kept journal_name p (opened after) lists journal_is_no_checkpoint))
           ∙ end_journal p last (again ++ added journal_name more)

@@ -4,11 +4,11 @@ use Rattle.std.specs.Prelude.{◌≡◌, ℕ, ◌-◌, ◌<◌, ◌≤◌, Bool,
 use Rattle.trick_base.specs.Content.{same_name}
 use Rattle.trick_base.specs.Files.{Write, Create, Append}
 use Rattle.trick_model.specs.Files.{file, journal_name, turns_writes}
-use Rattle.trick_model.specs.Journal.{Noted, entry_lines, first_lines, last_line, lists_from, lists_of, live_before, with_joins}
+use Rattle.trick_model.specs.Journal.{Noted, entry_lines, first_lines, last_line, lists_from, live_before, with_joins}
 use Rattle.trick_model.specs.Plan.{Plan}
 use Rattle.trick_model.specs.PlanOf.{plan_of}
 use Rattle.trick_model.specs.Records.{header, log_name}
-use Rattle.trick_model.specs.Run.{Fits, after_turns, final, opened}
+use Rattle.trick_model.specs.Run.{Fits, after_turns, final, lists_of, opened}
 use Rattle.trick_model.specs.State.{State, World}
 use Rattle.trick_model.specs.declared.entry.Entry.{Entry}
 use Rattle.trick_model.specs.declared.entry.Entry.TheVariants.{Join}
@@ -28,6 +28,11 @@ late_lists entries end turn = lists_from turn (end - turn) entries
 -- the state before a turn
 abbrev pub state_at : Plan → State → List Noted → ℕ → State
 state_at p s entries turn = (after_turns p (opened s) (early_lists entries s.turn turn)).state
+
+-- the lists that a run which goes on from that state is given: in front of these the sessions that are there join,
+-- but where the run is over
+abbrev pub lists_after : Plan → State → List Noted → (end turn : ℕ) → List (List Entry)
+lists_after p s entries end turn = lists_of entries end turn (state_at p s entries turn).mode
 
 -- ---- bytes that are added
 
@@ -61,11 +66,11 @@ join_lines entries end turn number = elim (late_lists entries end turn) [
 
 -- The file of a name after the whole run, and after the run that goes on from the turn.
 abbrev pub whole_file : Plan → State → List Noted → (end : ℕ) → List ℕ → Option (List ℕ) → Option (List ℕ)
-whole_file p s entries end name before = file name p s (lists_of entries end s.turn) before
+whole_file p s entries end name before = file name p s (lists_of entries end s.turn s.mode) before
 
 abbrev pub resumed_file : Plan → State → List Noted → (end turn : ℕ) → List ℕ → Option (List ℕ) → Option (List ℕ)
 resumed_file p s entries end turn name before =
-    file name p (state_at p s entries turn) (lists_of entries end turn) before
+    file name p (state_at p s entries turn) (lists_after p s entries end turn) before
 
 -- A log of the whole run has its header, the rows of the early turns and those of the late ones; after
 -- the run that goes on it has its header and the rows of the late turns.
@@ -83,18 +88,18 @@ pub record IsJournalRest (p : Plan) (s : State) (entries : List Noted) (end turn
   pub whole : (before : Option (List ℕ)) → whole_file p s entries end journal_name before
       ≡ Some (first_lines s.turn ++ (added journal_name (early_writes p s entries turn)
       ++ (added journal_name (late_writes p s entries end turn)
-      ++ last_line (final p s (lists_of entries end s.turn)).turn)))
+      ++ last_line (final p s (lists_of entries end s.turn s.mode)).turn)))
   pub resumed : (before : Option (List ℕ)) → resumed_file p s entries end turn journal_name before
       ≡ Some (first_lines (state_at p s entries turn).turn
       ++ (join_lines entries end turn (state_at p s entries turn).turn
       ++ (added journal_name (late_writes p s entries end turn)
-      ++ last_line (final p s (lists_of entries end s.turn)).turn)))
+      ++ last_line (final p s (lists_of entries end s.turn s.mode)).turn)))
 
 -- The run that goes on from the state before a turn is a whole run, which ends in the same state and
 -- writes the remainder of the files.
 pub record IsRemainder (p : Plan) (s : State) (entries : List Noted) (end turn : ℕ) : Type 0 where
-  pub fits : Fits p (state_at p s entries turn) (lists_of entries end turn)
-  pub ends : final p (state_at p s entries turn) (lists_of entries end turn) ≡ final p s (lists_of entries end s.turn)
+  pub fits : Fits p (state_at p s entries turn) (lists_after p s entries end turn)
+  pub ends : final p (state_at p s entries turn) (lists_after p s entries end turn) ≡ final p s (lists_of entries end s.turn s.mode)
   pub logs : All (IsLogRest p s entries end turn) p.groups
   pub journal : IsJournalRest p s entries end turn
   -- the last two files are the same, and so is each checkpoint that a late turn writes
@@ -110,4 +115,4 @@ pub record IsRemainder (p : Plan) (s : State) (entries : List Noted) (end turn :
 abbrev pub RemaindersAreWritten : Type 0
 RemaindersAreWritten =
     (plan : PlanValue) (s : State) (entries : List Noted) (end turn : ℕ) → s.turn < turn → turn ≤ end
-    → Fits (plan_of plan) s (lists_of entries end s.turn) → IsRemainder (plan_of plan) s entries end turn
+    → Fits (plan_of plan) s (lists_of entries end s.turn s.mode) → IsRemainder (plan_of plan) s entries end turn

@@ -4,9 +4,8 @@ use Rattle.std.specs.Prelude.{◌≡◌, ℕ, ◌-◌, List, take, Result, Ok, E
 use Rattle.trick_base.specs.Content.{content}
 use Rattle.trick_base.specs.Files.{Files}
 use Rattle.trick_model.specs.Files.{file, run_writes}
-use Rattle.trick_model.specs.Journal.{lists_of}
 use Rattle.trick_model.specs.Plan.{Plan}
-use Rattle.trick_model.specs.Run.{JournalFits, final, given as given_of, opened}
+use Rattle.trick_model.specs.Run.{JournalFits, final, given as given_of, lists_of, opened}
 use Rattle.trick_model.specs.State.{State}
 use Rattle.trick_model.specs.declared.entry.Entry.{Entry}
 use Rattle.trick_model.specs.declared.journal.Journal.{Journal}
@@ -25,7 +24,7 @@ use Rattle.trick_turns.specs.Joins.{joins_of}
 
 -- the lists that a journal gives a run from a state, one for each turn
 abbrev pub lists_for : Journal → State → List (List Entry)
-lists_for journal s = lists_of journal.entries journal.end s.turn
+lists_for journal s = lists_of journal.entries journal.end s.turn s.mode
 
 -- of these the lists of turns below one
 abbrev pub lists_below : ℕ → Journal → State → List (List Entry)

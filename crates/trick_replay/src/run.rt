@@ -42,7 +42,7 @@ fn replay_by<M: Cells + Drop, F: Shelf, H: Phases<M> + Drop, P: Posts + Drop>(
 {
     journals_show();
     let mut workers = workers;
-    let Ok(mut turns) = JournalTurns::new(alloc, journal, state.turn) else {
+    let Ok(mut turns) = JournalTurns::new(alloc, journal, state.turn, state.mode) else {
         return Err(Stop::Memory);
     };
     let joins = turns.joins();
@@ -57,7 +57,8 @@ fn replay_by<M: Cells + Drop, F: Shelf, H: Phases<M> + Drop, P: Posts + Drop>(
 
 /// Runs an accepted plan, which it shares with its workers, from a state under a journal, on the caller's
 /// thread, until the run is over: so a replay goes on from a checkpoint. Entries of turns before the state's
-/// are skipped, and the sessions that are there then join first at its turn. It writes the files of the run,
+/// are skipped, and the sessions that are there then join first at its turn, if the run is not over there by
+/// the journal alone. It writes the files of the run,
 /// and where it stops a part of them: at `Stop::Shelf` the shelf failed, and at `Stop::Memory` there was no
 /// memory. Where the run is over at another turn than the journal's end, or would go on there, the journal
 /// does not fit: what was written so far stays, and nothing is written after it.

@@ -2,15 +2,16 @@
 use Rattle.std.proofs.Common.{◌≡◌, ◌∙◌, ℕ, zero, suc, ◌<◌, ◌≤◌, List, [], ◌∷◌, Bool, true, false, not, ap, arith, inl, inr, length, refl, subst, sym, take}
 use Rattle.std.proofs.lemmas.List.{take_all}
 use Rattle.std.proofs.lemmas.Bool.Decides.{nat_tests}
-use Rattle.std.specs.Prelude.{◌≢◌, ◌⊎◌, ◌+◌, ◌-◌, max, min, IsTrue, nat_lt}
+use Rattle.std.specs.Prelude.{◌≢◌, ◌⊎◌, ◌&&◌, ◌+◌, ◌-◌, max, min, IsTrue, nat_lt}
 use Rattle.trick_model.proofs.Runs.{and_left, and_right}
-use Rattle.trick_model.specs.Journal.{Noted, lists_from, lists_of, live_before, with_joins}
+use Rattle.trick_model.specs.Journal.{Noted, lists_from, live_before, with_joins}
 use Rattle.trick_model.specs.Plan.{Plan}
-use Rattle.trick_model.specs.Run.{Fits, JournalFits, after_turns, ended_at, goes_on, is_over, opened}
+use Rattle.trick_model.specs.Run.{Fits, JournalFits, after_turns, ended_at, goes_on, has_session_entry, is_over, lists_of, opened}
 use Rattle.trick_model.specs.State.{State, World}
 use Rattle.trick_model.specs.Time.{last_turn}
-use Rattle.trick_model.specs.Turn.{counted, turn}
+use Rattle.trick_model.specs.Turn.{counted, is_frozen, turn}
 use Rattle.trick_model.specs.declared.entry.Entry.{Entry}
+use Rattle.trick_model.specs.declared.mode.Mode.{Mode}
 use Rattle.trick_runs.proofs.Counts.{turn_counts}
 use Rattle.trick_runs.specs.Follows.{EndsElsewhere, Follows}
 use Rattle.trick_runs.specs.Goes.{left_of}
@@ -28,8 +29,16 @@ from_length turn zero es = refl
 from_length turn (suc count) es = ap suc (from_length (turn + 1) count es)
 
 -- a journal has a list for each turn from a start up to its end
-pub lists_length : (es : List Noted) (end start : ℕ) → length (lists_of es end start) ≡ end - start
-lists_length es end start = joins_length (live_before start es []) (lists_from start (end - start) es) ∙ from_length start (end - start) es
+pub lists_length : (es : List Noted) (end start : ℕ) (begun : Mode) → length (lists_of es end start begun) ≡ end - start
+lists_length es end start begun =
+    go (is_frozen begun && not (has_session_entry (lists_from start (end - start) es))) ∙ from_length start (end - start) es
+  where
+    go : (b : Bool) → length {A = List Entry} (elim b [
+      | true ↦ lists_from start (end - start) es
+      | false ↦ with_joins (live_before start es []) (lists_from start (end - start) es)
+    ]) ≡ length (lists_from start (end - start) es)
+    go true = refl
+    go false = joins_length (live_before start es []) (lists_from start (end - start) es)
 
 -- ---- turns that follow it
 
@@ -136,37 +145,37 @@ module _ (p : Plan) (s : State) (es : List Noted) (end : ℕ) (lists : List (Lis
   counts = follows_counts p (opened s) (told_by es end s) lists right follows
 
   -- a journal has no less lists than were given
-  enough : length lists ≤ length (lists_of es end s.turn)
-  enough = by counts.counted counts.within (lists_length es end s.turn)
+  enough : length lists ≤ length (lists_of es end s.turn s.mode)
+  enough = by counts.counted counts.within (lists_length es end s.turn s.mode)
     where
       by : {now all : ℕ} → now ≡ s.turn + length lists → (length lists ≡ 0) ⊎ (now ≤ end) → all ≡ end - s.turn → length lists ≤ all
       by counted (inl none) is = omega (arith, none)
       by counted (inr less) is = omega (arith, counted, less, is)
 
   -- all lists were given, where the turns came to the end
-  all_given : (after_turns p (opened s) lists).state.turn ≡ end → lists ≡ lists_of es end s.turn
+  all_given : (after_turns p (opened s) lists).state.turn ≡ end → lists ≡ lists_of es end s.turn s.mode
   all_given at_end =
-      let some : length (lists_of es end s.turn) ≤ length lists = omega (arith, counts.counted, at_end, lists_length es end s.turn) in
-      follows_first p (opened s) (told_by es end s) lists follows enough ∙ take_all (length lists) (lists_of es end s.turn) some
+      let some : length (lists_of es end s.turn s.mode) ≤ length lists = omega (arith, counts.counted, at_end, lists_length es end s.turn s.mode) in
+      follows_first p (opened s) (told_by es end s) lists follows enough ∙ take_all (length lists) (lists_of es end s.turn s.mode) some
 
   pub journal_fits : Fits p s lists → (after_turns p (opened s) lists).state.turn ≡ end
-      → JournalFits p s es end × (lists ≡ lists_of es end s.turn)
+      → JournalFits p s es end × (lists ≡ lists_of es end s.turn s.mode)
   journal_fits fits at_end =
       let all = all_given at_end in (
         record { not_below = omega (arith, counts.counted, at_end); fits = subst (Fits p s) all fits },
         all,
       )
 
-  pub journal_misfits : (number : ℕ) → EndsElsewhere (told_by es end s) (after_turns p (opened s) lists).state (left_of lists (lists_of es end s.turn)) number
+  pub journal_misfits : (number : ℕ) → EndsElsewhere (told_by es end s) (after_turns p (opened s) lists).state (left_of lists (lists_of es end s.turn s.mode)) number
       → Misfit p s es end lists number
   journal_misfits number (inl (done, other, is)) =
       let w = opened s in
       let v = after_turns p w lists in
-      let all = lists_of es end s.turn in
+      let all = lists_of es end s.turn s.mode in
       let left = left_of lists all in
       record {
         misfit = λ fit.
-            let short : length lists < length all = by_other counts.counted counts.within other fit.not_below (lists_length es end s.turn) in
+            let short : length lists < length all = by_other counts.counted counts.within other fit.not_below (lists_length es end s.turn s.mode) in
             goes_there p w all end lists fit.fits.goes follows short done;
         number = is ∙ by_start (nat_lt end s.turn) refl;
         first = follows_first p w (told_by es end s) lists follows enough ∙ ap (λ n. take n all) (sym (by_number is counts.counted));
@@ -180,15 +189,15 @@ module _ (p : Plan) (s : State) (es : List Noted) (end : ℕ) (lists : List (Lis
       by_number one two = omega (arith, one, two)
 
       by_start : (b : Bool) → nat_lt end s.turn ≡ b
-          → (let n : ℕ = elim b [ true ↦ s.turn | false ↦ ended_at p (opened s) (lists_of es end s.turn) ] in (after_turns p (opened s) lists).state.turn ≡ n)
-      by_start true e = let low : end < s.turn = grind (arith, nat_tests) in omega (arith, low, enough, lists_length es end s.turn, counts.counted)
+          → (let n : ℕ = elim b [ true ↦ s.turn | false ↦ ended_at p (opened s) (lists_of es end s.turn s.mode) ] in (after_turns p (opened s) lists).state.turn ≡ n)
+      by_start true e = let low : end < s.turn = grind (arith, nat_tests) in omega (arith, low, enough, lists_length es end s.turn s.mode, counts.counted)
       by_start false e =
-          sym (ends_later p (opened s) (lists_of es end s.turn) end lists follows enough
-          ∙ over_ends p (after_turns p (opened s) lists) (left_of lists (lists_of es end s.turn)) done)
+          sym (ends_later p (opened s) (lists_of es end s.turn s.mode) end lists follows enough
+          ∙ over_ends p (after_turns p (opened s) lists) (left_of lists (lists_of es end s.turn s.mode)) done)
   journal_misfits number (inr (yet, up, is)) =
       let w = opened s in
       let v = after_turns p w lists in
-      let all = lists_of es end s.turn in
+      let all = lists_of es end s.turn s.mode in
       record {
         misfit = λ fit.
             let at_end = came_to counts.counted counts.within up fit.not_below in
@@ -206,34 +215,34 @@ module _ (p : Plan) (s : State) (es : List Noted) (end : ℕ) (lists : List (Lis
       over_yet true e d = cc e
       over_yet false e d = cc d
 
-      none_left : (after_turns p (opened s) lists).state.turn ≡ end → left_of lists (lists_of es end s.turn) ≡ []
+      none_left : (after_turns p (opened s) lists).state.turn ≡ end → left_of lists (lists_of es end s.turn s.mode) ≡ []
       none_left at_end =
-          let some : length (lists_of es end s.turn) ≤ length lists = omega (arith, counts.counted, at_end, lists_length es end s.turn) in
-          left_nothing lists (lists_of es end s.turn) some
+          let some : length (lists_of es end s.turn s.mode) ≤ length lists = omega (arith, counts.counted, at_end, lists_length es end s.turn s.mode) in
+          left_nothing lists (lists_of es end s.turn s.mode) some
 
       behind_end : nat_lt end s.turn ≡ true → (after_turns p (opened s) lists).state.turn ≡ s.turn
-      behind_end e = let low : end < s.turn = grind (arith, nat_tests) in omega (arith, low, enough, lists_length es end s.turn, counts.counted)
+      behind_end e = let low : end < s.turn = grind (arith, nat_tests) in omega (arith, low, enough, lists_length es end s.turn s.mode, counts.counted)
 
       up_to_end : nat_lt end s.turn ≡ false → (after_turns p (opened s) lists).state.turn ≡ end
       up_to_end e = let low : s.turn ≤ end = grind (arith, nat_tests) in came_to counts.counted counts.within up low
 
       by_start : (b : Bool) → nat_lt end s.turn ≡ b
-          → (let n : ℕ = elim b [ true ↦ s.turn | false ↦ ended_at p (opened s) (lists_of es end s.turn) ] in
+          → (let n : ℕ = elim b [ true ↦ s.turn | false ↦ ended_at p (opened s) (lists_of es end s.turn s.mode) ] in
           max (end + 1) (after_turns p (opened s) lists).state.turn ≡ n)
       by_start true e = let low : end < s.turn = grind (arith, nat_tests) in omega (arith, low, behind_end e)
       by_start false e =
           let at_end = up_to_end e in
           let one : max (end + 1) (after_turns p (opened s) lists).state.turn ≡ (after_turns p (opened s) lists).state.turn + 1 = omega (arith, at_end) in
           one
-          ∙ sym (ends_later p (opened s) (lists_of es end s.turn) end lists follows enough
-          ∙ yet_ends p (after_turns p (opened s) lists) (left_of lists (lists_of es end s.turn)) (none_left at_end) yet)
+          ∙ sym (ends_later p (opened s) (lists_of es end s.turn s.mode) end lists follows enough
+          ∙ yet_ends p (after_turns p (opened s) lists) (left_of lists (lists_of es end s.turn s.mode)) (none_left at_end) yet)
 
-      by_first : (b : Bool) → nat_lt end s.turn ≡ b → lists ≡ take (number - s.turn) (lists_of es end s.turn)
+      by_first : (b : Bool) → nat_lt end s.turn ≡ b → lists ≡ take (number - s.turn) (lists_of es end s.turn s.mode)
       by_first true e =
           let low : end < s.turn = grind (arith, nat_tests) in
           let count : number - s.turn ≡ length lists = omega (arith, is, behind_end e, low, counts.counted) in
-          follows_first p (opened s) (told_by es end s) lists follows enough ∙ ap (λ n. take n (lists_of es end s.turn)) (sym count)
+          follows_first p (opened s) (told_by es end s) lists follows enough ∙ ap (λ n. take n (lists_of es end s.turn s.mode)) (sym count)
       by_first false e =
           let at_end = up_to_end e in
-          let some : length (lists_of es end s.turn) ≤ number - s.turn = omega (arith, is, at_end, lists_length es end s.turn) in
-          all_given at_end ∙ sym (take_all (number - s.turn) (lists_of es end s.turn) some)
+          let some : length (lists_of es end s.turn s.mode) ≤ number - s.turn = omega (arith, is, at_end, lists_length es end s.turn s.mode) in
+          all_given at_end ∙ sym (take_all (number - s.turn) (lists_of es end s.turn s.mode) some)

@@ -1,5 +1,5 @@
 use Rattle.trick_model.specs.PlanOf.{plan_of}
-use Rattle.trick_model.specs.Journal.{lists_of}
+use Rattle.trick_model.specs.Run.{lists_of}
 use Rattle.trick_publications.proofs.Journals.{lists_many, lists_same}
 use Rattle.trick_publications.proofs.Runs.{fit_kept, whole_runs}
 use Rattle.trick_publications.proofs.Steady.{steady}
@@ -17,6 +17,6 @@ pub returns-clause-journals : goal.returns-clause-journals
 returns-clause-journals c plan s one other end accepted differ fits =
     let p = plan_of plan in
     let right = steady c.frame_law.ensures c.write_law.ensures plan accepted in
-    let same = lists_same one other end s.turn differ in
-    let also = fit_kept p right s (lists_of one end s.turn) (lists_of other end s.turn) same (lists_many one other end s.turn) fits.fits in
-    (record { not_below = fits.not_below; fits = also }, whole_runs p right s (lists_of one end s.turn) (lists_of other end s.turn) same fits.fits also)
+    let same = lists_same one other end s.turn s.mode differ in
+    let also = fit_kept p right s (lists_of one end s.turn s.mode) (lists_of other end s.turn s.mode) same (lists_many one other end s.turn s.mode) fits.fits in
+    (record { not_below = fits.not_below; fits = also }, whole_runs p right s (lists_of one end s.turn s.mode) (lists_of other end s.turn s.mode) same fits.fits also)
