@@ -1,6 +1,6 @@
 -- A group of a plan, and the calls that add its row to its log.
 use Rattle.std.specs.List.{slice_index_or}
-use Rattle.std.specs.Prelude.{ℕ, false, List, [], ◌∷◌, Option, Some, None}
+use Rattle.std.specs.Prelude.{ℕ, Bool, true, false, List, [], ◌∷◌}
 use Rattle.trick_base.specs.Files.{Write, Append}
 use Rattle.trick_model.specs.declared.group.Group.{Group}
 
@@ -12,7 +12,7 @@ no_group = record { name = []; cycle = 1; changes = false; cells = [] }
 abbrev pub group_at : List Group → ℕ → Group
 group_at groups k = slice_index_or groups k no_group
 
--- the call that adds a row to a log, where there is a row
-abbrev pub added : List ℕ → Option (List ℕ) → List Write
-added log None = []
-added log (Some text) = Append log text ∷ []
+-- the call that adds a text to a log, where it is to be added
+abbrev pub added : List ℕ → Bool → List ℕ → List Write
+added log true text = Append log text ∷ []
+added log false text = []

@@ -5,16 +5,17 @@ ghost use Rattle.std.specs.Prelude.{◌≡◌, ◌≢◌, ◌++◌, [], IfOk, On
 ghost use Rattle.trick_record.specs.Held.{Holds};
 
 use csv::{QuoteStyle, Writer, WriterBuilder};
-use std::alloc::{AllocError, Global};
+use std::alloc::AllocError;
 
-/// Begins a line by its first field, which is not empty.
-pub(crate) fn first(alloc: Global, field: &[u8]) -> Result<Writer<Vec<u8>>, AllocError>
-    requires { field.now ≢ [] }
+/// Begins a line by its first field, which is not empty, in a buffer that is.
+pub(crate) fn first(line: Vec<u8>, field: &[u8]) -> Result<Writer<Vec<u8>>, AllocError>
+    requires empty { line.items ≡ [] }
+    requires field { field.now ≢ [] }
     ensures { IfOk result (λ writer. Holds (λ v. Some v.items) writer field.now) }
 {
     let mut writer = WriterBuilder::new()
         .quote_style(QuoteStyle::Never)
-        .from_writer(Vec::new(alloc));
+        .from_writer(line);
     match writer.write_field(field) {
         Ok(()) => Ok(writer),
         Err(_) => Err(AllocError),
@@ -32,7 +33,7 @@ pub(crate) fn put(writer: &mut Writer<Vec<u8>>, field: &[u8]) -> Result<(), Allo
     }
 }
 
-/// Ends the line and gives its text.
+/// Ends the line and gives its text, in the buffer in which it was begun.
 pub(crate) fn last(writer: Writer<Vec<u8>>) -> Result<Vec<u8>, AllocError>
     ensures { IfOk result (λ text. (bytes : _) → Holds (λ v. Some v.items) writer bytes
         → text.items ≡ bytes ++ codes "\n") }

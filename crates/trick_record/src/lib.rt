@@ -4,9 +4,10 @@
 
 mod fields;
 mod group_of;
+mod last_rows;
 mod log_header;
-mod log_row;
+mod recorder;
 mod values;
 
 pub use log_header::header;
-pub use log_row::row;
+pub use recorder::Recorder;

@@ -33,7 +33,7 @@ pub(crate) fn header_of(
     ensures { IfOk result (λ text. text.items ≡ codes "tic" ++
         fields (map (λ (cell : Cell). slice_index_or (cell_names variables.now) cell.0 []) cells.now)) }
 {
-    let mut writer = first(alloc, b"tic")?;
+    let mut writer = first(Vec::new(alloc), b"tic")?;
     for cell in cells {
         put(&mut writer, name_of(variables, *cell))?;
     }

@@ -1,6 +1,6 @@
 //! The numbers of a row, and its text.
 
-ghost use Rattle.std.specs.Prelude.{◌≡◌, IfOk, map};
+ghost use Rattle.std.specs.Prelude.{◌≡◌, [], IfOk, length, map};
 ghost use Rattle.trick_lang.specs.declared.cells.Cell.{Cell};
 ghost use Rattle.trick_model.specs.Records.{row as row_text, same_row};
 ghost use Rattle.trick_model.specs.State.{number_at};
@@ -8,6 +8,7 @@ ghost use Rattle.trick_model.specs.State.{number_at};
 use crate::fields::{first, last, put};
 use itoa::Buffer;
 use std::alloc::{AllocError, Global};
+use trick_base::Items;
 use trick_lang::{Cell, Cells};
 
 // The number of a cell; past the last cell it is 0.
@@ -52,14 +53,31 @@ pub(crate) fn is_same<M: Cells>(memory: &M, cells: &[Cell], row: &[i64]) -> bool
     true
 }
 
-/// The text of a row: the tic and the numbers.
-pub(crate) fn text_of(alloc: Global, tic: u64, numbers: &[i64]) -> Result<Vec<u8>, AllocError>
-    ensures { IfOk result (λ text. text.items ≡ row_text tic numbers.now) }
+/// Makes these numbers those that these cells have now, where there are as many.
+pub(crate) fn renew<M: Cells>(memory: &M, cells: &[Cell], row: &mut Items<i64>)
+    requires { length cells.now ≡ length row.old }
+    ensures { row.new ≡ map (λ (cell : Cell). number_at (M.numbers memory.now) cell.0) cells.now }
+{
+    for i in 0..cells.len() {
+        row.set(i, number(memory, cells[i]));
+    }
+}
+
+/// The text of a row in an empty buffer: the tic and the numbers of these cells.
+pub(crate) fn text_of<M: Cells>(
+    line: Vec<u8>,
+    tic: u64,
+    memory: &M,
+    cells: &[Cell],
+) -> Result<Vec<u8>, AllocError>
+    requires { line.items ≡ [] }
+    ensures { IfOk result (λ text. text.items
+        ≡ row_text tic (map (λ (cell : Cell). number_at (M.numbers memory.now) cell.0) cells.now)) }
 {
     let mut buffer = Buffer::new();
-    let mut writer = first(alloc, buffer.format(tic).as_bytes())?;
-    for number in numbers {
-        put(&mut writer, buffer.format(*number).as_bytes())?;
+    let mut writer = first(line, buffer.format(tic).as_bytes())?;
+    for cell in cells {
+        put(&mut writer, buffer.format(number(memory, *cell)).as_bytes())?;
     }
     last(writer)
 }

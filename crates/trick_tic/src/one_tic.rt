@@ -43,33 +43,16 @@ fn run_due<M: Cells, H: Phases<M>>(
     if queues.due().is_empty() {
         return state;
     }
-    let State {
-        turn,
-        tic: now,
-        limit,
-        mode,
-        memory,
-        jobs,
-        events,
-        groups,
-        last,
-        taken,
-        mut faults,
-    } = state;
-    let memory = phases.tic(accepted, memory, &jobs, queues.due(), tic, &mut faults);
-    State {
-        turn,
-        tic: now,
-        limit,
-        mode,
-        memory,
-        jobs,
-        events,
-        groups,
-        last,
-        taken,
-        faults,
-    }
+    let mut state = state;
+    state.memory = phases.tic(
+        accepted,
+        state.memory,
+        &state.jobs,
+        queues.due(),
+        tic,
+        &mut state.faults,
+    );
+    state
 }
 
 /// The next tic of a state: its reads, its events, the must-finish work of the threads whose cycle ends
@@ -118,9 +101,7 @@ pub fn tic<M: Cells + Drop, F: Shelf, H: Phases<M>, P: Posts>(
         &mut course.queues,
         &mut workers.phases,
     );
-    course
-        .rows
-        .write(alloc, accepted.plan(), tic, &mut state, shelf)?;
+    course.rows.write(accepted.plan(), tic, &mut state, shelf)?;
     state.tic = tic + 1;
     Ok(Current { state, asked })
 }

@@ -1,9 +1,13 @@
 use Rattle.std.proofs.Common.{◌≡◌, ◌++◌, ℕ, List, Some, drop, map}
 use Rattle.std.specs.Fmt.{signed_decimal}
+use Rattle.trick_lang.specs.declared.cells.Cell.{Cell}
 use Rattle.trick_model.specs.Records.{fields, row}
+use Rattle.trick_model.specs.State.{number_at}
 use Rattle.trick_record.specs.Held.{Holds}
 use Rattle.trick_record.proofs.values.text_of.Given as goal
 
-abbrev pub invariant-loop-number : goal.invariant-loop-number
-invariant-loop-number l = (bytes : List ℕ) × Holds (λ v. Some v.items) l.writer bytes
-    × (bytes ++ fields (map signed_decimal (drop l.number-index l.numbers)) ≡ row l.tic l.numbers)
+abbrev pub invariant-loop-cell : goal.invariant-loop-cell
+invariant-loop-cell g l =
+    let now = λ (cell : Cell). number_at (g.M.Cells.numbers l.memory) cell.0 in
+    (bytes : List ℕ) × Holds (λ v. Some v.items) l.writer bytes
+    × (bytes ++ fields (map signed_decimal (map now (drop l.cell-index l.cells))) ≡ row l.tic (map now l.cells))
