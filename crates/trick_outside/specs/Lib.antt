@@ -22,5 +22,5 @@ pub mod VisitLaws
 pub mod FaultPlan
 -- What the forms in memory stand for.
 pub mod Kept
--- What the forms in memory of links answer.
+-- What the forms in memory of links and doors answer and keep.
 pub mod Scripts

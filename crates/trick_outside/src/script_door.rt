@@ -20,6 +20,7 @@ pub struct Returned<I, O> {
 pub struct ScriptDoor<I, O> {
     waiting: VecDeque<(I, O)>,
     returned: Vec<Returned<I, O>>,
+    // How many clients were given and not given back yet. There is room for them.
     given: usize,
     over: bool,
     plan: FaultPlan,
@@ -81,7 +82,7 @@ impl<I, O> ScriptDoor<I, O> {
         door
     }
 
-    /// The links that were given back, in order.
+    /// The links that were given back, in order: at most as many as were given.
     pub fn returned(&self) -> &[Returned<I, O>]
         ensures { result.now ≡ self.now.returned.items }
     {
@@ -96,6 +97,7 @@ where
 {
     ghost use Rattle.std.proofs.Common.{refl};
     ghost use Rattle.trick_outside.specs.FaultPlan.{FailsNext};
+    ghost use Rattle.trick_outside.specs.Scripts.{returned_as};
     ghost use Rattle.trick_outside.specs.VisitLaws.{waiting_join};
     ghost use Rattle.trick_outside.specs.Visits.{Back, GivesClient, asked, clients};
 
@@ -141,7 +143,16 @@ where
         }
     }
 
-    fn back(&mut self, number: u32, input: I, output: O) {
+    fn back(&mut self, number: u32, input: I, output: O)
+        ensures visited { self.old.waiting.items ≡ clients (Back number input output ∷ []) ++ self.new.waiting.items }
+        ensures failures { self.new.plan.faults ≡ self.old.plan.faults }
+        ensures idle { self.new.idle.faults ≡ self.old.idle.faults }
+        ensures ended { self.old.over ≡ true → self.new.over ≡ true }
+
+        // What this form promises beyond the trait.
+        ensures kept { 0 < self.old.given
+            → self.new.returned.items ≡ self.old.returned.items ++ returned_as number input output ∷ [] }
+    {
         if 0 < self.given {
             self.given -= 1;
             self.returned.push_reserved(Returned {

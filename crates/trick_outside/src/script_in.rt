@@ -81,8 +81,8 @@ impl LinkIn for ScriptIn {
 
     fn read(&mut self, buffer: &mut [u8]) -> Read1
         ensures length { length buffer.new ≡ length buffer.old }
-        ensures given { Gave (Some (drop self.old.at self.old.bytes.items)) (Some (drop self.new.at self.new.bytes.items))
-            (bytes_given result buffer.new) }
+        ensures given { Gave (Some (drop self.old.at self.old.bytes.items))
+            (Some (drop self.new.at self.new.bytes.items)) (bytes_given result buffer.new) }
         ensures over { result ≡ Read1.End
             → (bytes : List ℕ) → Some (drop self.old.at self.old.bytes.items) ≡ Some bytes → bytes ≡ [] }
         ensures progress { ReadProgress result (length buffer.new) }
@@ -91,7 +91,8 @@ impl LinkIn for ScriptIn {
         // What this form promises beyond the trait.
         ensures fails { (result ≡ Read1.Failed) ↔ FailsNext self.old.plan }
         ensures counted { CountsOne self.old.plan self.new.plan }
-        ensures most { GivesMost result (length (drop self.old.at self.old.bytes.items)) self.old.most (length buffer.old) }
+        ensures most { GivesMost result (length (drop self.old.at self.old.bytes.items)) self.old.most
+            (length buffer.old) }
         ensures most_stays { self.new.most ≡ self.old.most }
     {
         if self.plan.fails() {
