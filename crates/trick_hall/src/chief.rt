@@ -187,7 +187,7 @@ impl<M: Cells + Drop, P: Planned> Chief<M, P> {
     /// Takes a hand in whose work is done: what both have seen is of one history, and the chief has now seen the longer
     /// part.
     pub fn take_in(&mut self, hand: Hand<M, P>)
-        requires { arc_value hand.lock ≡ arc_value self.old.lock }
+        requires { IsPassOf (arc_value self.old.lock) hand.pass }
         ensures lock { self.new.lock ≡ self.old.lock }
         ensures own { own self.new.pass ≡ own self.old.pass }
         ensures chief { IsPrefix (seen self.old.pass) (seen self.new.pass) }
