@@ -1,0 +1,2 @@
+-- The worked bodies do so.
+mod Worked
