@@ -10,5 +10,5 @@ mod workers;
 
 pub use ended::{Ended, ended_by};
 pub use first::first_state;
-pub use run::{serial, serial_from};
+pub use run::{serial, serial_by, serial_from};
 pub use workers::one_thread;

@@ -23,8 +23,10 @@ use trick_phase::Phases;
 use trick_post::Posts;
 use trick_tic::Workers;
 
-// Runs a plan from a state by these workers, and tells of its last state.
-fn serial_by<M: Cells + Drop, F: Shelf, H: Phases<M>, P: Posts>(
+/// Runs an accepted plan from a state by these workers, who have nothing in flight, without clients, until the run
+/// is over; whoever they are, it comes to what one thread makes of it. It writes the files of the run, and where it
+/// stops a part of them: at `Stop::Shelf` the shelf failed, and at `Stop::Memory` there was no memory.
+pub fn serial_by<M: Cells + Drop, F: Shelf, H: Phases<M>, P: Posts>(
     alloc: Global,
     accepted: &Accepted,
     state: State<M>,
