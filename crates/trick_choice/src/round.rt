@@ -6,42 +6,26 @@ ghost use Rattle.trick_beside.specs.Stations.{AreStations};
 ghost use Rattle.trick_beside.specs.declared.station.Station.{Station as StationValue};
 ghost use Rattle.trick_model.specs.Beside.{has_round as has_round_of, is_in_flight as is_in_flight_of};
 ghost use Rattle.trick_model.specs.PlanOf.{plan_of};
-ghost use Rattle.trick_model.specs.State.{seen, taken_at};
+ghost use Rattle.trick_model.specs.State.{seen};
 ghost use Rattle.trick_model.specs.Turn.{runs as runs_of};
 ghost use Rattle.trick_model.specs.declared.plan.Plan.{Plan as PlanValue};
 
 use trick_beside::Station;
 use trick_lang::Cells;
-use trick_model::{Mode, Process, State, Thread};
+use trick_model::{State, Thread};
 
 /// Whether a turn is a run frame: the mode is not Freeze, and the next tic is below the limit.
 pub fn runs<M: Cells>(state: &State<M>) -> bool
     ensures { result ≡ runs_of (seen M.numbers state.now) }
 {
-    match state.mode {
-        Mode::Freeze => false,
-        Mode::Run | Mode::Shutdown => state.tic < state.limit,
-    }
-}
-
-/// Whether the record of a place is held.
-fn is_held<M: Cells>(state: &State<M>, place: usize) -> bool
-    ensures { result ≡ (taken_at (seen M.numbers state.now) place).held }
-{
-    match state.taken.as_slice().get(place) {
-        Some(taken) => taken.held,
-        None => false,
-    }
+    state.runs()
 }
 
 /// Whether the thread of a place has a round in flight.
 pub(crate) fn has_round<M: Cells>(state: &State<M>, place: usize, thread: Thread) -> bool
     ensures { result ≡ has_round_of (seen M.numbers state.now) place thread }
 {
-    match thread.process {
-        Process::Async => is_held(state, place),
-        Process::Scheduled | Process::MustFinish => false,
-    }
+    thread.process.is_async() && state.is_held(place)
 }
 
 // The place of the thread of a number.

@@ -22,10 +22,7 @@ ghost use Rattle.trick_journal.specs.Told.{entry_in, entry_seen, noted_seen, row
 use std::alloc::{AllocError, Global};
 use trick_base::Items;
 use trick_codes::{Miss, free, literal, number, one_of};
-use trick_model::{Cause, Entry};
-
-// The last turn.
-const LAST_TURN: u64 = 9_223_372_036_854_775_807;
+use trick_model::{Cause, Entry, LAST_TURN};
 
 /// An entry as a line says it.
 #[derive(Clone, Copy, Debug)]

@@ -16,7 +16,7 @@ use crate::row::ToldEntry;
 use std::alloc::{AllocError, AllocFailed, Global};
 use std::collections::BTreeSet;
 use trick_base::Items;
-use trick_model::{Entry, Plan, Process, Thread};
+use trick_model::{Entry, Plan, Thread, process_of};
 
 /// The last entry: there is none, it is no publication, or it is one of this thread.
 #[derive(Clone, Copy, Debug)]
@@ -201,10 +201,5 @@ fn publishes(plan: &Plan, entry: ToldEntry) -> bool
 fn is_async(threads: &[Thread], number: u8) -> bool
     ensures { result ≡ is_async_of (process_in threads.now number) }
 {
-    for thread in threads {
-        if thread.number == number {
-            return matches!(thread.process, Process::Async);
-        }
-    }
-    false
+    process_of(threads, number).is_async()
 }

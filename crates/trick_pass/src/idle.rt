@@ -7,7 +7,7 @@ ghost use Rattle.trick_model.specs.State.{seen};
 ghost use Rattle.trick_pass.specs.Pass.{IsEquipped, passed, unasked};
 
 use crate::Equipment;
-use crate::rest::{count, runs};
+use crate::rest::count;
 use trick_lang::{Cells, Class};
 use trick_model::{Accepted, State, laws};
 use trick_moments::{has_jobs, run_class};
@@ -39,7 +39,7 @@ pub fn pass_idle<M: Cells, P: Posts>(
     if !equipment.course.stations().is_empty() || has_jobs(plan, Class::TopOfFrame) {
         return false;
     }
-    if !runs(state) || !skip(plan, &equipment.course, state) {
+    if !state.runs() || !skip(plan, &equipment.course, state) {
         return false;
     }
     run_class(plan, Class::EndOfFrame, state, &mut equipment.bench);

@@ -16,15 +16,12 @@ use std::alloc::{AllocError, Global};
 use trick_beside::{Station, publish_all, start_rounds};
 use trick_files::write_checkpoint;
 use trick_lang::{Cells, Class};
-use trick_model::{Accepted, Entry, Mode, State, laws};
+use trick_model::{Accepted, Entry, LAST_TURN, State, laws};
 use trick_moments::{checkpoint_jobs, freeze_if_asked, run_class};
 use trick_outside::{Shelf, Stop};
 use trick_phase::Phases;
 use trick_post::Posts;
 use trick_tic::{Current, Workers, frame};
-
-// The turns stand still at 2^63 - 1.
-const LAST_TURN: u64 = 9_223_372_036_854_775_807;
 
 // A run frame: the publications, the top_of_frame jobs, the tics, the end_of_frame jobs, and Freeze
 // where it was asked for.
@@ -89,16 +86,6 @@ fn run_frame<M: Cells + Drop, F: Shelf, H: Phases<M>, P: Posts>(
     Ok(current)
 }
 
-/// Whether a turn is a run frame: the mode is not Freeze, and the next tic is below the limit.
-pub(crate) fn runs<M: Cells>(state: &State<M>) -> bool
-    ensures { result ≡ runs_of (seen M.numbers state.now) }
-{
-    match state.mode {
-        Mode::Freeze => false,
-        Mode::Run | Mode::Shutdown => state.tic < state.limit,
-    }
-}
-
 // The frame of a turn: a run frame, or in a freeze frame nothing.
 fn framed<M: Cells + Drop, F: Shelf, H: Phases<M>, P: Posts>(
     alloc: Global,
@@ -124,7 +111,7 @@ fn framed<M: Cells + Drop, F: Shelf, H: Phases<M>, P: Posts>(
     ensures own { H.is_for workers.new.phases accepted.now.plan }
     ensures asks { AsksNothing P.Posts workers.old.posts workers.new.posts }
 {
-    if !runs(&current.state) {
+    if !current.state.runs() {
         return Ok(current);
     }
     let current = run_frame(alloc, accepted, entries, current, equipment, shelf, workers)?;
@@ -194,7 +181,7 @@ pub fn pass<M: Cells + Drop, F: Shelf, H: Phases<M>, P: Posts>(
 {
     laws::plans_are_sound();
     let plan = accepted.plan();
-    let ran = runs(&current.state);
+    let ran = current.state.runs();
     let current = framed(alloc, accepted, entries, current, equipment, shelf, workers)?;
     let Current { mut state, asked } = current;
     checkpoint_jobs(plan, asked.checkpoint, &mut state, &mut equipment.bench);

@@ -2,7 +2,6 @@
 
 ghost use Rattle.std.specs.Prelude.{◌≡◌, ◌<◌, [], IfOk, OnErr, OnOk, length, map};
 ghost use Rattle.trick_lang.specs.declared.cells.Cell.{Cell};
-ghost use Rattle.trick_model.specs.Plan.{is_on as is_on_of};
 ghost use Rattle.trick_model.specs.Records.{log_name, row as row_text, row_kept, row_writes, writes_row};
 ghost use Rattle.trick_model.specs.State.{number_at, seen};
 ghost use Rattle.trick_record.specs.Added.{added, group_at};
@@ -14,7 +13,7 @@ use std::alloc::{AllocError, Global};
 use std::marker::Model;
 use std::mem::replace;
 use trick_lang::{Cell, Cells};
-use trick_model::{Flags, Group, Plan, State};
+use trick_model::{Group, Plan, State};
 
 /// Makes the rows of a run's groups in one buffer, which is made once and kept. Contracts see the text of
 /// the last row that it made.
@@ -44,21 +43,12 @@ fn room(group: &Group) -> usize {
         .saturating_mul(NUMBER_ROOM)
 }
 
-fn is_on(flags: &Flags, k: usize) -> bool
-    ensures { result ≡ is_on_of flags.now k }
-{
-    match flags.on.as_slice().get(k) {
-        Some(on) => *on,
-        None => false,
-    }
-}
-
 // Whether a group writes a row.
 fn writes<M: Cells>(tic: u64, k: usize, group: &Group, state: &State<M>) -> bool
     requires { 0 < group.now.cycle }
     ensures { result ≡ writes_row tic k group.now (seen M.numbers state.now) }
 {
-    is_on(&state.groups, k) && tic % group.cycle == 0 && (!group.changes || is_new(group, k, state))
+    state.groups.is_on(k) && tic % group.cycle == 0 && (!group.changes || is_new(group, k, state))
 }
 
 impl Recorder {
