@@ -2,17 +2,3 @@
 pub mod Marks
 -- the parts in which a checkpoint is printed
 pub mod Parts
--- the ranges of cells
-pub mod Ranges
--- the type of a cell, where it is there
-pub mod Scalars
--- the lines of faults
-pub mod Faults
--- the fields of a fault, as they are read in code
-pub mod Fields
--- the checkpoints of a plan as a file of lines
-pub mod CheckpointLines
--- plain names
-pub mod Plain
--- laws of checkpoints
-pub mod Laws

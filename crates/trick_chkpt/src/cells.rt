@@ -34,7 +34,7 @@ pub(crate) fn push_memory<M: Cells>(
 }
 
 /// The full name of a cell.
-pub(crate) fn name_of(variables: &[Variable], cell: Cell) -> &[u8]
+pub fn name_of(variables: &[Variable], cell: Cell) -> &[u8]
     ensures { result.now ≡ slice_index_or (cell_names variables.now) cell.0 [] }
 {
     match variables.get(cell.0 as usize) {

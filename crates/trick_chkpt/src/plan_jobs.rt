@@ -2,12 +2,12 @@
 
 ghost use Rattle.std.specs.Prelude.{◌≡◌, ◌<◌, IfOk, All, length, map};
 ghost use Rattle.trick_lang.specs.declared.job.JobId.{JobId};
-ghost use Rattle.trick_model.specs.Plan.{is_beside as is_beside_of, jobs_of as jobs_of_thread, threads_beside as threads_beside_of};
+ghost use Rattle.trick_model.specs.Plan.{jobs_of as jobs_of_thread, threads_beside as threads_beside_of};
 ghost use Rattle.trick_model.specs.PlanOf.{plan_of};
 
 use std::alloc::{AllocError, Global};
 use trick_lang::{JobId, Program};
-use trick_model::{Plan, Process, Thread};
+use trick_model::{Plan, Thread};
 
 /// The jobs of a thread, in program order.
 pub fn jobs_of(alloc: Global, program: &Program, thread: Thread) -> Result<Vec<JobId>, AllocError>
@@ -24,22 +24,13 @@ pub fn jobs_of(alloc: Global, program: &Program, thread: Thread) -> Result<Vec<J
     Ok(found)
 }
 
-fn is_beside(process: Process) -> bool
-    ensures { result ≡ is_beside_of process }
-{
-    match process {
-        Process::Scheduled => false,
-        Process::Async | Process::MustFinish => true,
-    }
-}
-
 /// The must-finish and asynchronous threads of a plan, by rising number.
 pub fn threads_beside(alloc: Global, plan: &Plan) -> Result<Vec<Thread>, AllocError>
     ensures { IfOk result (λ found. found.items ≡ threads_beside_of (plan_of plan.now)) }
 {
     let mut found = Vec::new(alloc);
     for thread in plan.threads.as_slice() {
-        if is_beside(thread.process) {
+        if thread.process.is_beside() {
             found.push(*thread)?;
         }
     }

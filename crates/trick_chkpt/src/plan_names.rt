@@ -27,11 +27,7 @@ fn method_name_at(methods: &[Method], k: u32) -> &[u8]
 }
 
 /// Appends the name of a job: its object's, a dot, and its method's.
-pub(crate) fn push_name_of(
-    text: &mut Vec<u8>,
-    program: &Program,
-    job: &Job,
-) -> Result<(), AllocError>
+pub fn push_name_of(text: &mut Vec<u8>, program: &Program, job: &Job) -> Result<(), AllocError>
     ensures { OnOk result (text.new.items ≡ text.old.items ++
         job_name program.now.objects program.now.methods job.now) }
 {

@@ -2,7 +2,7 @@
 
 ghost use Rattle.std.specs.List.{list_all, list_any};
 ghost use Rattle.std.specs.Prelude.{◌≡◌, nat_eq, nat_le, true};
-ghost use Rattle.trick_chkpt.specs.Plain.{HasInstances, HasPlainNames, is_plain as is_plain_name};
+ghost use Rattle.trick_load.specs.Plain.{HasInstances, HasPlainNames, is_plain as is_plain_name};
 ghost use Rattle.trick_codes.specs.Code.{is_free};
 ghost use Rattle.trick_codes.specs.Lines.{is_one_line as is_one_line_of};
 ghost use Rattle.trick_lang.specs.declared.job.Job.{Job as JobValue};

@@ -1,5 +1,5 @@
 use Rattle.std.proofs.Common.{◌∙◌, List, ℕ, refl, subst, sym}
-use Rattle.trick_chkpt.specs.CheckpointLines.{checkpoint}
+use Rattle.trick_load.specs.CheckpointLines.{checkpoint}
 use Rattle.trick_codes.specs.Loads.{Loads}
 use Rattle.trick_model.specs.State.{seen}
 use Rattle.trick_resume.proofs.Again.{checkpoint_if, loaded_as, memory_if}

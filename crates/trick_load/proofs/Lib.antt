@@ -1,0 +1,12 @@
+-- a fault names one job
+pub mod JobTexts
+-- the lines of the checkpoints of a plan are sound
+pub mod IsSound
+-- the lines of a checkpoint spell its text
+pub mod Text
+-- reading the parts one after the other
+pub mod Reading
+-- numbers that are read are in the ranges of their cells
+pub mod Within
+-- faults that are counted
+pub mod Counting

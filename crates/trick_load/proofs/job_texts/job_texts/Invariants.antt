@@ -1,0 +1,11 @@
+use Rattle.std.proofs.Common.{◌≡◌, map, take}
+use Rattle.trick_load.proofs.job_texts.job_texts.Given as goal
+use Rattle.trick_load.specs.Faults.{job_text}
+use Rattle.trick_lang.specs.Names.{job_name}
+use Rattle.trick_lang.specs.declared.job.Job.{Job}
+
+abbrev pub invariant-loop-job : goal.invariant-loop-job
+invariant-loop-job l =
+    let p = l.plan.program in
+    l.texts.items
+    ≡ map (λ (job : Job). job_text (job_name p.objects p.methods job) job.instance) (take l.job-index l.job-items)

@@ -1,0 +1,10 @@
+use Rattle.trick_load.proofs.IsSound.{checkpoint_sound}
+use Rattle.trick_load.proofs.loader.load.Goals as goal
+use Rattle.trick_load.specs.CheckpointLines.{checkpoint}
+use Rattle.trick_codes.proofs.Loading.{loads}
+use Rattle.trick_model.specs.State.{seen}
+
+pub returns-clause-loaded : goal.returns-clause-loaded
+returns-clause-loaded g c = λ plain small.
+    loads (checkpoint c.args.plan.now) (checkpoint_sound c.args.plan.now plain small) c.args.text.now (seen g.M.Cells.numbers)
+    c.read_state.result c.whole.result c.read_state.ensures.told c.whole.ensures

@@ -1,0 +1,15 @@
+//! Checkpoints as they are loaded: the state of a text, or why it is the checkpoint of none, with the laws
+//! of these texts.
+#![tactic(auto)]
+
+mod fault_kind;
+mod job_texts;
+pub mod laws;
+mod loader;
+mod ranges;
+mod read_cells;
+mod read_faults;
+mod read_groups;
+mod read_records;
+
+pub use loader::load;

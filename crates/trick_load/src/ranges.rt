@@ -1,0 +1,59 @@
+//! The ranges of cells.
+
+ghost use Rattle.std.specs.Prelude.{◌≡◌, IfOk, slice_get};
+ghost use Rattle.trick_load.specs.Ranges.{range_at as range_at_of, range_of as range_of_type, ranges_at as ranges_at_of};
+ghost use Rattle.trick_load.specs.Scalars.{scalar_where};
+
+use std::alloc::{AllocError, Global};
+use trick_codes::Range;
+use trick_lang::{Cell, Scalar, Variable};
+use trick_model::Plan;
+
+/// The numbers of a type.
+pub(crate) fn range_of(scalar: Scalar) -> Range
+    ensures { result ≡ range_of_type scalar }
+{
+    let (below, above) = match scalar {
+        Scalar::Bool => (0, 1),
+        Scalar::Char => (128, 127),
+        Scalar::UChar => (0, 255),
+        Scalar::Short => (32_768, 32_767),
+        Scalar::UShort => (0, 65_535),
+        Scalar::Int => (2_147_483_648, 2_147_483_647),
+        Scalar::UInt => (0, 4_294_967_295),
+        Scalar::Long => (9_223_372_036_854_775_808, 9_223_372_036_854_775_807),
+    };
+    Range { below, above }
+}
+
+// The type of a cell.
+fn scalar_of(variables: &[Variable], cell: Cell) -> Scalar
+    ensures { result ≡ scalar_where (slice_get variables.now cell.0) }
+{
+    match variables.get(cell.0 as usize) {
+        Some(variable) => variable.scalar,
+        None => Scalar::Long,
+    }
+}
+
+/// The numbers of a cell.
+pub(crate) fn range_at(plan: &Plan, cell: Cell) -> Range
+    ensures { result ≡ range_at_of plan.now cell }
+{
+    range_of(scalar_of(plan.program.cells.as_slice(), cell))
+}
+
+/// The numbers of each of these cells.
+pub(crate) fn ranges_at(
+    alloc: Global,
+    plan: &Plan,
+    cells: &[Cell],
+) -> Result<Vec<Range>, AllocError>
+    ensures { IfOk result (λ found. found.items ≡ ranges_at_of plan.now cells.now) }
+{
+    let mut found = Vec::new(alloc);
+    for cell in cells {
+        found.push(range_at(plan, *cell))?;
+    }
+    Ok(found)
+}
