@@ -8,3 +8,5 @@ pub mod Stepping
 pub mod Members
 -- What a worker leaves.
 pub mod Working
+-- All hands of a crew are of one hall, and in the end the chief takes them in.
+pub mod Hands

@@ -31,11 +31,6 @@ module _ {W O : Type 0} where
   refused thread_of (Started running ∷ members) = refused thread_of members
   refused thread_of (Refused work ∷ members) = thread_of work ∷ refused thread_of members
 
-  -- this holds of the work, whichever it is
-  abbrev pub ForWork : (W → O → Type 0) → (W → Type 0) → Begun W O → Type 0
-  ForWork promises Holds member =
-      MatchBegun member (λ running. (work : W) → Runs promises work running → Holds work) Holds
-
   -- some work was refused
   abbrev pub IsRefusedAny : List (Begun W O) → Type 0
   IsRefusedAny [] = ⊥

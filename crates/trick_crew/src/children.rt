@@ -2,36 +2,13 @@
 ghost use Rattle.std.specs.Prelude.{◌≡◌, ◌==◌, ◌≤◌, IfOk, filter, length};
 ghost use Rattle.std.specs.List.{list_any};
 ghost use Rattle.trick_crew.specs.Children.{children, is_child};
-ghost use Rattle.trick_model.specs.Plan.{is_in_tics, process_in};
 
 use std::alloc::{AllocError, Global};
 use trick_lang::Job;
-use trick_model::{Plan, Process, Thread};
+use trick_model::{Plan, process_of};
 
 // The numbers that child threads may have.
 const NUMBERS: [u8; 15] = [1, 2, 3, 4, 5, 6, 7, 8, 9, 10, 11, 12, 13, 14, 15];
-
-// The process type of a thread; scheduled, where there is none of this number.
-fn process_of(threads: &[Thread], number: u8) -> Process
-    ensures { result ≡ process_in threads.now number }
-{
-    for thread in threads {
-        if thread.number == number {
-            return thread.process;
-        }
-    }
-    Process::Scheduled
-}
-
-// Whether jobs of such a thread run in the tics.
-fn is_in_tics(process: Process) -> bool
-    ensures { result ≡ is_in_tics process }
-{
-    match process {
-        Process::Scheduled => true,
-        Process::Async | Process::MustFinish => false,
-    }
-}
 
 // Whether some job is on the thread.
 fn has_job(jobs: &[Job], number: u8) -> bool
@@ -44,7 +21,7 @@ fn has_job(jobs: &[Job], number: u8) -> bool
 fn is_child(plan: &Plan, number: u8) -> bool
     ensures { result ≡ is_child plan.now number }
 {
-    is_in_tics(process_of(plan.threads.as_slice(), number))
+    process_of(plan.threads.as_slice(), number).is_in_tics()
         && has_job(plan.program.jobs.as_slice(), number)
 }
 

@@ -1,16 +1,18 @@
 //! How a crew is made, and how it ends.
 ghost use Rattle.std.specs.Arc.{arc_value};
-ghost use Rattle.std.specs.Prelude.{◌≡◌, ◌+◌, ◌∷◌, ◌≤◌, IfErr, IfOk, OnOk, length, map, reverse, true, vec_len};
+ghost use Rattle.std.specs.Prelude.{◌≡◌, ◌+◌, ◌++◌, ◌∷◌, ◌≤◌, All, IfErr, IfOk, OnOk, length, map, reverse, true, vec_len};
 ghost use Rattle.trick_crew.specs.Children.{children};
+ghost use Rattle.trick_crew.specs.Hands.{IsTakenIn};
 ghost use Rattle.trick_crew.specs.Members.{AreFor, IsRefusedAny, refused};
 ghost use Rattle.trick_crew.specs.Working.{HasWorked};
 ghost use Rattle.trick_hall.specs.Histories.{has_shut};
 ghost use Rattle.trick_outside.specs.Causes.{HasCause};
-ghost use Rattle.trick_turn.specs.Passes.{own};
+ghost use Rattle.trick_turn.specs.Passes.{own, seen};
+ghost use mathlib.Core.List.{IsPrefix};
 
 use crate::children::children;
 use crate::held::Held;
-use crate::members::{add_refused, start_each, wait_for_each};
+use crate::members::{add_refused, start_each, take_each_in};
 use crate::share::Share;
 use crate::team::Team;
 use crate::worker::{Means, Worker};
@@ -44,6 +46,8 @@ fn workers_for<M: Cells + Drop, P: Planned, G: Gate + Drop, R: Wait + Copy + Dro
     ensures threads { IfOk result (λ workers. map (λ w. w.thread) workers.items ≡ threads.now) }
     ensures many { IfOk result (λ workers. vec_len workers ≡ length threads.now) }
     ensures left { OnOk result (vec_len hands.new + length threads.now ≡ vec_len hands.old) }
+    ensures hands { IfOk result (λ workers. hands.new.items ++ reverse (map (λ w. w.hand) workers.items)
+        ≡ hands.old.items) }
 {
     let mut workers = Vec::with_capacity(means.alloc, threads.len())?;
     for thread in threads {
@@ -105,19 +109,24 @@ impl<
         Ok(Crew { phases })
     }
 
-    /// Ends the crew, also after an error of a run: the hall is shut, and then each thread is waited for.
+    /// Ends the crew, also after an error of a run: the hall is shut, each thread is waited for, and the chief takes
+    /// all hands in.
     pub fn finish(self) -> Chief<M, P>
         ensures shut { has_shut (own result.pass) ≡ true }
+        ensures share { IsPrefix (seen self.phases.share.hand.pass) (seen result.pass) }
+        ensures members { All (IsTakenIn result.pass) self.phases.members.items }
     {
         let Crew { phases } = self;
         let Team {
             rt,
             mut chief,
+            share,
             members,
             ..
         } = phases;
         chief.shut(&rt);
-        wait_for_each(&rt, members);
+        chief.take_in(share.into_hand());
+        take_each_in(&rt, &mut chief, members);
         chief
     }
 }

@@ -6,6 +6,7 @@
 mod children;
 mod crew;
 mod held;
+pub mod laws;
 mod members;
 mod share;
 mod step;

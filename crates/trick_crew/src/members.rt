@@ -1,14 +1,17 @@
 //! The workers of a crew, each started in a thread of its own or refused.
-ghost use Rattle.std.specs.Prelude.{◌≡◌, ◌+◌, ◌++◌, ◌<◌, ◌≤◌, [], length, reverse, vec_capacity, vec_len};
-ghost use Rattle.trick_crew.specs.Members.{AddsRefused, AreMembers, ForWork, IsRefusedAny, refused};
+ghost use Rattle.std.specs.Prelude.{◌≡◌, ◌+◌, ◌++◌, ◌<◌, ◌≤◌, [], All, length, reverse, vec_capacity, vec_len};
+ghost use Rattle.trick_crew.specs.Hands.{AreOfHall, IsLeftBy, IsTakenIn};
+ghost use Rattle.trick_crew.specs.Members.{AddsRefused, AreMembers, IsRefusedAny, refused};
 ghost use Rattle.trick_crew.specs.Working.{HasWorked};
 ghost use Rattle.trick_outside.specs.Causes.{HasCause};
+ghost use Rattle.trick_turn.specs.Passes.{own, seen};
+ghost use mathlib.Core.List.{IsPrefix};
 
 use crate::worker::Worker;
 use std::alloc::Global;
 use std::sync::Wait;
 use std::thread::Threads;
-use trick_hall::Hand;
+use trick_hall::{Chief, Hand};
 use trick_lang::Cells;
 use trick_model::Planned;
 use trick_outside::{Begun, Gate, Spawner, start};
@@ -81,7 +84,7 @@ fn hand_of<
     G: Gate + Send + Sync + Drop + 'static,
     R: Threads + Wait + Copy + Send + Drop + 'static,
 >(rt: &R, member: Begun<Worker<M, P, G, R>>) -> Hand<M, P>
-    ensures lock { ForWork HasWorked (λ w. result.lock ≡ w.hand.lock) member }
+    ensures { IsLeftBy member result }
 {
     match member {
         Begun::Started(running) => running.finish(rt),
@@ -92,14 +95,21 @@ fn hand_of<
     }
 }
 
-/// Waits for all workers. The hall has to be shut.
-pub(crate) fn wait_for_each<
+/// Waits for each worker, and takes its hand in. The hall has to be shut.
+pub(crate) fn take_each_in<
     M: Cells + Drop + Send + 'static,
     P: Planned + Send + 'static,
     G: Gate + Send + Sync + Drop + 'static,
     R: Threads + Wait + Copy + Send + Drop + 'static,
->(rt: &R, members: Vec<Begun<Worker<M, P, G, R>>>) {
-    for member in members {
-        hand_of(rt, member);
+>(rt: &R, chief: &mut Chief<M, P>, members: Vec<Begun<Worker<M, P, G, R>>>)
+    requires hall { ∥ AreOfHall chief.old.pass members.items ∥₁ }
+    ensures own { own chief.new.pass ≡ own chief.old.pass }
+    ensures chief { IsPrefix (seen chief.old.pass) (seen chief.new.pass) }
+    ensures members { All (IsTakenIn chief.new.pass) members.items }
+{
+    let mut members = members;
+    while let Some(member) = members.pop() {
+        let hand = hand_of(rt, member);
+        chief.take_in(hand);
     }
 }

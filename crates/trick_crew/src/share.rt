@@ -67,6 +67,14 @@ impl<M: Cells + Drop, P: Planned> Share<M, P> {
         })
     }
 
+    /// The hand, once the work is done.
+    pub(crate) fn into_hand(self) -> Hand<M, P>
+        ensures { result ≡ self.hand }
+    {
+        let Share { hand, .. } = self;
+        hand
+    }
+
     /// Takes one step for each thread of the share. Whether a job was done.
     pub(crate) fn work<R: Wait>(&mut self, rt: &R, accepted: &Accepted) -> bool
         requires plan { P.plan ≡ Some accepted.now.plan }

@@ -1,12 +1,13 @@
 //! Who runs the due jobs of a tic: the caller, and whatever workers there are.
 ghost use Rattle.std.specs.Arc.{arc_value};
 ghost use Rattle.std.specs.Prelude.{◌≡◌, IsSome, None, Some, false, is_some};
+ghost use Rattle.trick_crew.specs.Hands.{AreOfHall};
 ghost use Rattle.trick_eval.specs.Bench.{IsFor};
 ghost use Rattle.trick_hall.specs.Answers.{IsSerial};
 ghost use Rattle.trick_hall.specs.Histories.{Opening, has_shut};
 ghost use Rattle.trick_hall.specs.Openings.{opened_at};
 ghost use Rattle.trick_lang.specs.Effect.{scalars_of};
-ghost use Rattle.trick_turn.specs.Passes.{own};
+ghost use Rattle.trick_turn.specs.Passes.{IsPassOf, own};
 
 use crate::held::Held;
 use crate::share::Share;
@@ -21,7 +22,7 @@ use trick_outside::{Begun, Gate};
 use trick_phase::Phases;
 
 /// The scheduled threads of a crew: the chief of their hall, the caller's share, and the workers. Between two tics no
-/// tic is open, and the hall is not shut.
+/// tic is open, and the hall is not shut. All hands are of that hall.
 #[derive(Drop)]
 pub struct Team<
     M: Cells + Drop + Send + 'static,
@@ -38,6 +39,8 @@ pub struct Team<
     pub ghost closed: { is_some (opened_at (own chief.pass)) ≡ false },
     pub ghost not_shut: { has_shut (own chief.pass) ≡ false },
     pub ghost fits: { IsFor (arc_value held.accepted).plan.program share.bench.parts },
+    pub ghost share_of_hall: { IsPassOf (arc_value share.hand.lock) chief.pass },
+    pub ghost members_of_hall: { ∥ AreOfHall chief.pass members.items ∥₁ },
 }
 
 // Works until all due jobs of the tic are committed, and closes it. It sleeps where there is nothing to do.

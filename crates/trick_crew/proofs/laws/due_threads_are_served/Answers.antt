@@ -1,0 +1,5 @@
+use Rattle.trick_crew.proofs.Served.{due_threads_are_served}
+use Rattle.trick_crew.proofs.laws.due_threads_are_served.Goals as goal
+
+pub returns : goal.returns
+returns c = due_threads_are_served

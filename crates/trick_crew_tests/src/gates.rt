@@ -1,0 +1,87 @@
+//! Gates that show and disturb what workers do.
+
+use std::rt::Clock;
+use std::sync::atomic::Ordering::SeqCst;
+use std::sync::atomic::{AtomicBool, AtomicU64};
+use std::thread;
+use std::thread::yield_now;
+use std::time::Duration;
+use trick_outside::Gate;
+
+/// How often a worker looks for another one. It takes a second or two.
+const LOOKS: u32 = 5_000_000;
+
+/// A gate at which each worker waits until two were there at one moment.
+#[derive(Drop)]
+pub(crate) struct Meeting {
+    inside: AtomicU64,
+    have_met: AtomicBool,
+}
+
+impl Meeting {
+    /// A gate at which nobody was yet.
+    pub(crate) fn new() -> Meeting {
+        Meeting {
+            inside: AtomicU64::new(0),
+            have_met: AtomicBool::new(false),
+        }
+    }
+
+    /// Whether two workers were there at one moment.
+    pub(crate) fn have_met(&self) -> bool {
+        self.have_met.load(SeqCst)
+    }
+
+    // Looks until two workers have met.
+    fn wait(&self) {
+        for _ in 0..LOOKS {
+            if self.have_met() {
+                return;
+            }
+            yield_now();
+        }
+    }
+}
+
+impl Gate for Meeting {
+    fn between(&self, _thread: u8, _tic: u64, _job: u32) {
+        if self.inside.fetch_add(1, SeqCst) > 0 {
+            self.have_met.store(true, SeqCst);
+        }
+        self.wait();
+        self.inside.fetch_sub(1, SeqCst);
+    }
+}
+
+/// A gate at which workers are held up by chance: not at all, by a yield, or by a sleep of some microseconds.
+#[derive(Drop)]
+pub(crate) struct Shaking<C: Clock> {
+    clock: C,
+    passes: AtomicU64,
+}
+
+impl<C: Clock> Shaking<C> {
+    /// A gate whose chances begin with this number.
+    pub(crate) fn new(clock: C, first: u64) -> Shaking<C> {
+        Shaking {
+            clock,
+            passes: AtomicU64::new(first),
+        }
+    }
+}
+
+// A number that looks like chance.
+fn chance(number: u64) -> u64 {
+    number.wrapping_mul(0x9E37_79B9_7F4A_7C15) >> 40
+}
+
+impl<C: Clock> Gate for Shaking<C> {
+    fn between(&self, _thread: u8, _tic: u64, _job: u32) {
+        let chance = chance(self.passes.fetch_add(1, SeqCst));
+        match chance % 4 {
+            0 => thread::sleep(&self.clock, Duration::from_micros(chance % 17)),
+            1 => yield_now(),
+            _ => {}
+        }
+    }
+}

@@ -1,0 +1,167 @@
+//! The plan of the tests: eight threads of five jobs each, which are due at every tic.
+
+use std::alloc::Global;
+use std::sync::Arc;
+use std::test::Fail;
+use trick_model::Accepted;
+use trick_ready::ready;
+
+/// An object on each of eight threads, thread 0 first. Job `three` of each but the first reads what that of the one
+/// before it writes, and job `five` of the first reads what `three` of the last one writes. Where `y` is even, `four`
+/// of all but the first divides by zero.
+const S_DEFINE: &str = "class A : public Trick::SimObject {
+  public:
+    long x, y;
+    void one() { x = x * 3 + 1; }
+    void two() { x = x % 1009; }
+    void three() { y = x; }
+    void four() { x = x + y; }
+    void five() { x = x + h.y; }
+    A() {
+      P1 (0.000001, \"scheduled\") one();
+      P2 (0.000001, \"scheduled\") two();
+      P3 (0.000001, \"scheduled\") three();
+      P4 (0.000001, \"scheduled\") four();
+      P5 (0.000001, \"scheduled\") five();
+    }
+};
+class B : public Trick::SimObject {
+  public:
+    long x, y;
+    void one() { x = x * 3 + 2; }
+    void two() { x = x % 1009; }
+    void three() { y = a.y * 7 + x; }
+    void four() { x = x / (y % 2); }
+    void five() { x = x + y % 13; }
+    B() {
+      C1 P1 (0.000001, \"scheduled\") one();
+      C1 P2 (0.000001, \"scheduled\") two();
+      C1 P3 (0.000001, \"scheduled\") three();
+      C1 P4 (0.000001, \"scheduled\") four();
+      C1 P5 (0.000001, \"scheduled\") five();
+    }
+};
+class C : public Trick::SimObject {
+  public:
+    long x, y;
+    void one() { x = x * 3 + 3; }
+    void two() { x = x % 1009; }
+    void three() { y = b.y * 7 + x; }
+    void four() { x = x / (y % 2); }
+    void five() { x = x + y % 13; }
+    C() {
+      C2 P1 (0.000001, \"scheduled\") one();
+      C2 P2 (0.000001, \"scheduled\") two();
+      C2 P3 (0.000001, \"scheduled\") three();
+      C2 P4 (0.000001, \"scheduled\") four();
+      C2 P5 (0.000001, \"scheduled\") five();
+    }
+};
+class D : public Trick::SimObject {
+  public:
+    long x, y;
+    void one() { x = x * 3 + 4; }
+    void two() { x = x % 1009; }
+    void three() { y = c.y * 7 + x; }
+    void four() { x = x / (y % 2); }
+    void five() { x = x + y % 13; }
+    D() {
+      C3 P1 (0.000001, \"scheduled\") one();
+      C3 P2 (0.000001, \"scheduled\") two();
+      C3 P3 (0.000001, \"scheduled\") three();
+      C3 P4 (0.000001, \"scheduled\") four();
+      C3 P5 (0.000001, \"scheduled\") five();
+    }
+};
+class E : public Trick::SimObject {
+  public:
+    long x, y;
+    void one() { x = x * 3 + 5; }
+    void two() { x = x % 1009; }
+    void three() { y = d.y * 7 + x; }
+    void four() { x = x / (y % 2); }
+    void five() { x = x + y % 13; }
+    E() {
+      C4 P1 (0.000001, \"scheduled\") one();
+      C4 P2 (0.000001, \"scheduled\") two();
+      C4 P3 (0.000001, \"scheduled\") three();
+      C4 P4 (0.000001, \"scheduled\") four();
+      C4 P5 (0.000001, \"scheduled\") five();
+    }
+};
+class F : public Trick::SimObject {
+  public:
+    long x, y;
+    void one() { x = x * 3 + 6; }
+    void two() { x = x % 1009; }
+    void three() { y = e.y * 7 + x; }
+    void four() { x = x / (y % 2); }
+    void five() { x = x + y % 13; }
+    F() {
+      C5 P1 (0.000001, \"scheduled\") one();
+      C5 P2 (0.000001, \"scheduled\") two();
+      C5 P3 (0.000001, \"scheduled\") three();
+      C5 P4 (0.000001, \"scheduled\") four();
+      C5 P5 (0.000001, \"scheduled\") five();
+    }
+};
+class G : public Trick::SimObject {
+  public:
+    long x, y;
+    void one() { x = x * 3 + 7; }
+    void two() { x = x % 1009; }
+    void three() { y = f.y * 7 + x; }
+    void four() { x = x / (y % 2); }
+    void five() { x = x + y % 13; }
+    G() {
+      C6 P1 (0.000001, \"scheduled\") one();
+      C6 P2 (0.000001, \"scheduled\") two();
+      C6 P3 (0.000001, \"scheduled\") three();
+      C6 P4 (0.000001, \"scheduled\") four();
+      C6 P5 (0.000001, \"scheduled\") five();
+    }
+};
+class H : public Trick::SimObject {
+  public:
+    long x, y;
+    void one() { x = x * 3 + 8; }
+    void two() { x = x % 1009; }
+    void three() { y = g.y * 7 + x; }
+    void four() { x = x / (y % 2); }
+    void five() { x = x + y % 13; }
+    H() {
+      C7 P1 (0.000001, \"scheduled\") one();
+      C7 P2 (0.000001, \"scheduled\") two();
+      C7 P3 (0.000001, \"scheduled\") three();
+      C7 P4 (0.000001, \"scheduled\") four();
+      C7 P5 (0.000001, \"scheduled\") five();
+    }
+};
+A a;
+B b;
+C c;
+D d;
+E e;
+F f;
+G g;
+H h;
+";
+
+/// Who reads runs after who writes.
+const INPUT: &str = "trick.exec_add_depends_on_job('b.three', 1, 'a.three', 1)
+trick.exec_add_depends_on_job('c.three', 1, 'b.three', 1)
+trick.exec_add_depends_on_job('d.three', 1, 'c.three', 1)
+trick.exec_add_depends_on_job('e.three', 1, 'd.three', 1)
+trick.exec_add_depends_on_job('f.three', 1, 'e.three', 1)
+trick.exec_add_depends_on_job('g.three', 1, 'f.three', 1)
+trick.exec_add_depends_on_job('h.three', 1, 'g.three', 1)
+trick.exec_add_depends_on_job('a.five', 1, 'h.three', 1)
+";
+
+/// The plan.
+pub(crate) fn plan(alloc: Global) -> Result<Arc<Accepted, Global>, Fail> {
+    let accepted = ready(alloc, S_DEFINE.as_bytes(), INPUT.as_bytes())
+        .ok()
+        .ok_or("an accepted plan")?;
+    Ok(Arc::new(alloc, accepted)?)
+}
