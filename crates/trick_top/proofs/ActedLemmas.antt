@@ -1,7 +1,7 @@
 -- How a command goes with an accepted plan.
 use Rattle.std.proofs.Common.{◌≡◌, ◌≢◌, ◌∙◌, ℕ, List, [], Ok, Err, None, Option, Some, refl, sym, subst, ap, inl, inr}
 use Rattle.std.specs.Prelude.{◌⊎◌, Result}
-use Rattle.trick_chkpt.specs.CheckpointLines.{checkpoint}
+use Rattle.trick_load.specs.CheckpointLines.{checkpoint}
 use Rattle.trick_codes.specs.Loads.{Refuses}
 use Rattle.trick_codes.specs.declared.load_fault.LoadFault.TheVariants as load_fault
 use Rattle.trick_codes.specs.declared.load_fault.LoadFault.{LoadFault}

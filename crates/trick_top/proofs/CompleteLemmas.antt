@@ -24,7 +24,7 @@ use Rattle.trick_top.specs.Sources.{Sources, generated_sources}
 use Rattle.trick_top.specs.Status.{AreAccepted, AreRefusedTexts, IsFittingIn, IsMisfitIn, for_checkpoint, for_journal, for_text}
 use Rattle.trick_top.specs.Verdict.{Accepted, Ended, Generated as GeneratedBy, JournalLength, Listed, NoFile, OutOfMemory, PlanRefused, ShelfFault, TextRefused}
 use Rattle.trick_top.specs.Verdict.{Usage, Verdict, ended_status, status_of, with_objects}
-use Rattle.trick_top.specs.Words.{AreRefused, Asked, Asks, IsWanted, Nothing, Unknown, Wanted, names_of, request_of}
+use Rattle.trick_top.specs.Words.{AreRefused, Asked, Asks, IsWanted, Nothing, Unknown, Wanted, Words, names_of, request_of}
 use Rattle.trick_top.specs.declared.words.Command.{Command}
 use Rattle.trick_top.specs.declared.words.Request.TheVariants.{Texts}
 use Rattle.trick_top.specs.declared.words.Request.{Request}
@@ -38,12 +38,12 @@ abbrev pub AreOneLine : Type 0
 AreOneLine = (words : List (List ℕ)) (first second : declared.Command)
     → lines.Asks words first → lines.Asks words second → first ≡ second
 
-module _ (once : AreOneLine) (words : List (List ℕ)) where
+module _ (once : AreOneLine) (words : Words) where
   -- words that ask for something ask for nothing else
   pub same_asked : (request other : Request) → Asks words request → Asks words other → request ≡ other
   same_asked request other asks is =
-      let same : asks.line ≡ is.line = once words asks.line is.line asks.asked is.asked in
-      let both : Some request ≡ Some other = sym asks.known ∙ ap request_of same ∙ is.known in
+      let same : asks.line ≡ is.line = once words.said asks.line is.line asks.asked is.asked in
+      let both : Some request ≡ Some other = sym asks.known ∙ ap (request_of words.has_run) same ∙ is.known in
       cc
 
   -- words that ask for something go as this, where there was memory to read them
@@ -56,7 +56,7 @@ module _ (once : AreOneLine) (words : List (List ℕ)) where
       inl (subst (λ r. Outcome (Asked r) calls verdict) (same_asked other request is asks) outcome)
 
 -- words that ask for nothing are refused, where there was memory to read them
-pub refused_usage : (words : List (List ℕ)) (wanted : Wanted) (calls : List Call) (verdict : Verdict)
+pub refused_usage : (words : Words) (wanted : Wanted) (calls : List Call) (verdict : Verdict)
     → IsWanted words wanted → AreRefused words → Outcome wanted calls verdict
     → (status_of verdict ≡ 1) ⊎ (status_of verdict ≡ 6)
 refused_usage words Unknown calls verdict is refused (none, same) = inr (ap status_of same)

@@ -11,4 +11,6 @@ pub mod GoneLemmas
 pub mod GeneratedLemmas
 pub mod TopLemmas
 pub mod WordLemmas
+-- What a row says where the call has the command `run`.
+pub mod TellsLemmas
 mod Examples

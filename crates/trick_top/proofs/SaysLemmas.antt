@@ -27,7 +27,7 @@ use Rattle.trick_top.specs.Runs.{IsMisfit, IsWholeRun, short_steps, short_writes
 use Rattle.trick_top.specs.Sources.{Sources}
 use Rattle.trick_top.specs.Status.{Come, Misfits, Reads, RunsToEnd, Says, earlier_writes, files_found, of_checkpoint, of_journal, of_text, texts_made}
 use Rattle.trick_top.specs.Verdict.{ShelfFault, Verdict, with_objects}
-use Rattle.trick_top.specs.Words.{Asked, Asks, IsWanted, Nothing, Unknown, Wanted, names_of, task_of}
+use Rattle.trick_top.specs.Words.{Asked, Asks, IsWanted, Nothing, Unknown, Wanted, Words, names_of, task_of}
 use Rattle.trick_top.specs.declared.words.Command.{Command}
 use Rattle.trick_top.specs.declared.words.Request.TheVariants.{Generated, Texts}
 use Rattle.trick_top.specs.declared.words.Request.{Request}
@@ -55,7 +55,7 @@ no_journal_made objects texts_made = refl
 no_text : {journal : Option (List ℕ)} {text : List ℕ} → journal ≡ None → journal ≡ Some text → ⊥
 no_text none some = let clash = sym none ∙ some in cc
 
-module _ {S : Type 0} (shelf : Ghosts S) (old new : S) (words : List (List ℕ)) where
+module _ {S : Type 0} (shelf : Ghosts S) (old new : S) (words : Words) where
   -- a run that is done
   ran_says : (request : Request) {given : Sources} {plan : Plan} (first : State) (lists : List (List Entry)) → task_of request ≡ task.Run → IsFirst plan given.from first → IsWholeRun plan given.journal first lists
       → IsReady given.s_define given.input plan → Reads shelf old new words request given (run_steps plan first lists) → RunsToEnd shelf old new words request plan first lists

@@ -25,7 +25,7 @@ use Rattle.trick_top.specs.Runs.{IsUnderWay, short_writes}
 use Rattle.trick_top.specs.Sources.{Sources, texts_of}
 use Rattle.trick_top.specs.Status.{AskForFiles, Finds, Gives, HoldsSame, HoldsTexts, MayWrite, Reads, Says, Stands, a_front, earlier_writes, files_held, nothing, of_misfit, of_texts, of_whole, texts_generated}
 use Rattle.trick_top.specs.Verdict.{NoFile, PlanRefused, TextRefused, Usage, Verdict}
-use Rattle.trick_top.specs.Words.{Asked, Asks, IsWanted, Nothing, Unknown, Wanted, names_of, task_of}
+use Rattle.trick_top.specs.Words.{Asked, Asks, IsWanted, Nothing, Unknown, Wanted, Words, names_of, task_of}
 use Rattle.trick_top.specs.declared.words.Request.TheVariants.{Generated, Texts}
 use Rattle.trick_top.specs.declared.words.Request.{Request}
 use Rattle.trick_top.specs.declared.words.Task.TheVariants.{Run}
@@ -38,7 +38,7 @@ unread_same held now (not_read files name others named) left = let after = (leav
 unread_same held now (no_memory_to_read files name others named) left = let after = (leave_reads files _ held now left).1 in after.2 ∙ after.1
 unread_same held now (no_memory_to_keep files others named) left = (leave_reads files [] held now (subst (λ c. AllLeave c held now) (sym (append-nil (reads files))) left)).1
 
-module _ {S : Type 0} (shelf : Ghosts S) (old new : S) (words : List (List ℕ)) where
+module _ {S : Type 0} (shelf : Ghosts S) (old new : S) (words : Words) where
   -- such writes make what is held of what was held
   record HasWritten (held now : Files) : Type 0 where
     pub writes : List Write

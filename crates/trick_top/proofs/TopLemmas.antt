@@ -26,7 +26,7 @@ use Rattle.trick_top.specs.Sources.{AreNamed, Sources, texts_of}
 use Rattle.trick_top.specs.Status.{AreAccepted, AreRefusedTexts, EndsWith, Finds, Gives, HoldsSame, HoldsTexts, IsDone, IsFittingIn, IsMisfitIn, IsRefusal, Misfits, MissesFile, RefusesPlan}
 use Rattle.trick_top.specs.Status.{RefusesText, RunsToEnd, Says, Stands, TellsEnd, TookLine, accepted, end_verdict, files_held, listed, ran, texts_generated}
 use Rattle.trick_top.specs.Verdict.{Accepted, Ended, Generated, JournalLength, Listed, NoFile, OutOfMemory, PlanRefused, ShelfFault, TextRefused, Usage, Verdict, ended_status, line_of, status_of}
-use Rattle.trick_top.specs.Words.{AreRefused, Asked, Asks, task_of}
+use Rattle.trick_top.specs.Words.{AreRefused, Asked, Asks, Words, task_of}
 use Rattle.trick_top.specs.declared.words.Command.{Command}
 use Rattle.trick_top.specs.declared.words.Request.TheVariants.{Generated as Generating, Texts}
 use Rattle.trick_top.specs.declared.words.Request.{Request}
@@ -161,7 +161,7 @@ faults_of ShelfFault = 0
 faults_of OutOfMemory = 0
 
 -- what a verdict tells of the faults of a run
-abbrev Tells : {S : Type 0} (shelf : Ghosts S) (old new : S) (words : List (List ℕ)) → Verdict → (ℕ → Type 0) → Type 0
+abbrev Tells : {S : Type 0} (shelf : Ghosts S) (old new : S) (words : Words) → Verdict → (ℕ → Type 0) → Type 0
 Tells shelf old new words verdict Count =
     (request : Request) × (plan : Plan) × (first : State) × (lists : List (List Entry)) × RunsToEnd shelf old new words request plan first lists × Count ((last_state plan first lists).faults).count × (verdict ≡ end_verdict request plan first lists)
 
@@ -170,7 +170,7 @@ end_faults : (request : Request) (plan : Plan) (first : State) (lists : List (Li
 end_faults (Texts command) plan first lists = refl
 end_faults (Generating objects) plan first lists = refl
 
-tells : {S : Type 0} {shelf : Ghosts S} {old new : S} {words : List (List ℕ)} (verdict : Verdict) (Count : ℕ → Type 0) → TellsEnd shelf old new words verdict → Count (faults_of verdict) → Tells shelf old new words verdict Count
+tells : {S : Type 0} {shelf : Ghosts S} {old new : S} {words : Words} (verdict : Verdict) (Count : ℕ → Type 0) → TellsEnd shelf old new words verdict → Count (faults_of verdict) → Tells shelf old new words verdict Count
 tells verdict Count (request, plan, first, lists, runs, is) holds =
     (request, plan, first, lists, runs, subst Count (ap faults_of is ∙ end_faults request plan first lists) holds, is)
 
@@ -183,11 +183,11 @@ some_faults zero e = absurd (omega (arith, e))
 some_faults (suc count) e = λ none. omega (arith, none)
 
 -- a verdict of status 0 says that it is done
-ran_done : {S : Type 0} {shelf : Ghosts S} {old new : S} {words : List (List ℕ)} (verdict : Verdict) → Tells shelf old new words verdict (λ count. count ≡ 0) → IsDone shelf old new words verdict
+ran_done : {S : Type 0} {shelf : Ghosts S} {old new : S} {words : Words} (verdict : Verdict) → Tells shelf old new words verdict (λ count. count ≡ 0) → IsDone shelf old new words verdict
 ran_done {shelf = shelf} {old = old} {new = new} {words = words} verdict (request, plan, first, lists, runs, none, is) =
     subst (IsDone shelf old new words) (sym is) (ran request plan first lists runs none)
 
-done_says : {S : Type 0} {shelf : Ghosts S} {old new : S} {words : List (List ℕ)} (verdict : Verdict) → status_of verdict ≡ 0 → Says shelf old new words verdict → IsDone shelf old new words verdict
+done_says : {S : Type 0} {shelf : Ghosts S} {old new : S} {words : Words} (verdict : Verdict) → status_of verdict ≡ 0 → Says shelf old new words verdict → IsDone shelf old new words verdict
 done_says Usage e says = absurd (omega (arith, e))
 done_says (NoFile name) e says = absurd (omega (arith, e))
 done_says (TextRefused line) e says = absurd (omega (arith, e))
@@ -202,7 +202,7 @@ done_says ShelfFault e says = absurd (omega (arith, e))
 done_says OutOfMemory e says = absurd (omega (arith, e))
 
 -- a verdict of status 4 says that a run had faults
-faults_say : {S : Type 0} {shelf : Ghosts S} {old new : S} {words : List (List ℕ)} (verdict : Verdict) → status_of verdict ≡ 4 → Says shelf old new words verdict → Tells shelf old new words verdict (λ count. count ≢ 0)
+faults_say : {S : Type 0} {shelf : Ghosts S} {old new : S} {words : Words} (verdict : Verdict) → status_of verdict ≡ 4 → Says shelf old new words verdict → Tells shelf old new words verdict (λ count. count ≢ 0)
 faults_say Usage e says = absurd (omega (arith, e))
 faults_say (NoFile name) e says = absurd (omega (arith, e))
 faults_say (TextRefused line) e says = absurd (omega (arith, e))
@@ -225,7 +225,7 @@ ends {t = t} so is never = elim so.result [
 ]
 
 module _ {S O : Type 0} {shelf : Ghosts S} {sink : sink.Ghosts O} {old new : S} {before now : O}
-    {words : List (List ℕ)} {status : ℕ} (once : AreOneLine) (one : (s_define input : List ℕ) → HaveOneMeaning s_define input)
+    {words : Words} {status : ℕ} (once : AreOneLine) (one : (s_define input : List ℕ) → HaveOneMeaning s_define input)
     (row : HasAnswered shelf sink old new before now words status) where
   abbrev verdict : Verdict
   verdict = row.verdict

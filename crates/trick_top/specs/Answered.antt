@@ -1,15 +1,15 @@
 -- One row of the table of statuses: what the words ask for, how it went on the shelf with each call
 -- and its answer, and what was printed, in all pieces that the sink was given.
-use Rattle.std.specs.Prelude.{ℕ, List}
+use Rattle.std.specs.Prelude.{ℕ}
 use Rattle.trick_outside.specs.declared.shelf.Shelf as shelf
 use Rattle.trick_outside.specs.declared.sink.Sink as sink
 use Rattle.trick_top.specs.Outcome.{HasGone}
 use Rattle.trick_top.specs.Printed.{Prints}
 use Rattle.trick_top.specs.Verdict.{Verdict}
-use Rattle.trick_top.specs.Words.{IsWanted, Wanted}
+use Rattle.trick_top.specs.Words.{IsWanted, Wanted, Words}
 
 pub record HasAnswered {S O : Type 0} (shelf : shelf.Ghosts S) (sink : sink.Ghosts O) (old new : S) (before now : O)
-    (words : List (List ℕ)) (status : ℕ) : Type 0 where
+    (words : Words) (status : ℕ) : Type 0 where
   pub wanted : Wanted
   pub asked : IsWanted words wanted
   pub verdict : Verdict

@@ -30,7 +30,7 @@ use Rattle.trick_top.specs.Runs.{short_writes}
 use Rattle.trick_top.specs.Sources.{AreNamed, Sources, generated_sources, texts_of}
 use Rattle.trick_top.specs.Verdict.{Verdict, Accepted, Ended, Generated as GeneratedBy, JournalLength, Listed, NoFile}
 use Rattle.trick_top.specs.Verdict.{OutOfMemory, PlanRefused, ShelfFault, TextRefused, Usage, with_objects}
-use Rattle.trick_top.specs.Words.{AreRefused, Asks, names_of, task_of}
+use Rattle.trick_top.specs.Words.{AreRefused, Asks, Words, names_of, task_of}
 use Rattle.trick_top.specs.declared.words.Command.{Command}
 use Rattle.trick_top.specs.declared.words.Request.TheVariants.{Generated, Texts}
 use Rattle.trick_top.specs.declared.words.Request.{Request}
@@ -42,12 +42,12 @@ abbrev pub EndsWith : ℕ → ℕ → Type 0
 EndsWith status due = (status ≡ due) ⊎ ((status ≡ 6) ⊎ (status ≡ 8))
 
 -- The words ask for no generated simulation.
-abbrev pub AskForFiles : List (List ℕ) → Type 0
+abbrev pub AskForFiles : Words → Type 0
 AskForFiles words = (objects : ℕ) → Asks words (Generated objects) → ⊥
 
 -- The words, a missing file, a refused text and a refused plan refuse what is asked for before anything
 -- is written. A generated simulation has written its texts before they could be refused.
-abbrev pub IsRefusal : List (List ℕ) → ℕ → Type 0
+abbrev pub IsRefusal : Words → ℕ → Type 0
 IsRefusal words status =
     ((status ≡ 1) ⊎ (status ≡ 9)) ⊎ (((status ≡ 2) ⊎ (status ≡ 3)) × AskForFiles words)
 
@@ -65,7 +65,7 @@ HoldsTexts objects old new = (files : Files) → old ≡ Some files → new ≡ 
 
 -- Status 9: of the files that the words name this one is missing, by the shelf's own answer, and the
 -- ones before it were found. No other call was made.
-pub record MissesFile {S : Type 0} (shelf : Ghosts S) (old new : S) (words : List (List ℕ))
+pub record MissesFile {S : Type 0} (shelf : Ghosts S) (old new : S) (words : Words)
     (missing : List ℕ) : Type 0 where
   pub command : Command
   pub asks : Asks words (Texts command)
@@ -87,7 +87,7 @@ earlier_writes (Texts command) = []
 earlier_writes (Generated objects) = text_writes objects
 
 -- The words ask for this; its texts came, which are these; and then these calls were made, and no others.
-pub record Reads {S : Type 0} (shelf : Ghosts S) (old new : S) (words : List (List ℕ)) (request : Request)
+pub record Reads {S : Type 0} (shelf : Ghosts S) (old new : S) (words : Words) (request : Request)
     (given : Sources) (calls : List Call) : Type 0 where
   pub asks : Asks words request
   pub earlier : List Call
@@ -106,7 +106,7 @@ pub data HasRefusal (t : Task) (given : Sources) : List ℕ → Type 0 where
       → IsUnread plan first text why → HasRefusal t given (journal_line why)
 
 -- Status 2: a text is refused with this line. After the texts were there no call was made.
-pub record RefusesText {S : Type 0} (shelf : Ghosts S) (old new : S) (words : List (List ℕ))
+pub record RefusesText {S : Type 0} (shelf : Ghosts S) (old new : S) (words : Words)
     (line : List ℕ) : Type 0 where
   pub request : Request
   pub given : Sources
@@ -114,7 +114,7 @@ pub record RefusesText {S : Type 0} (shelf : Ghosts S) (old new : S) (words : Li
   pub refuses : HasRefusal (task_of request) given line
 
 -- Status 3: the plan is refused with this line. After the texts were there no call was made.
-pub record RefusesPlan {S : Type 0} (shelf : Ghosts S) (old new : S) (words : List (List ℕ))
+pub record RefusesPlan {S : Type 0} (shelf : Ghosts S) (old new : S) (words : Words)
     (line : List ℕ) : Type 0 where
   pub request : Request
   pub given : Sources
@@ -123,7 +123,7 @@ pub record RefusesPlan {S : Type 0} (shelf : Ghosts S) (old new : S) (words : Li
 
 -- Status 0 of `check` and `list`: the texts are ready by this plan. After the two files were read no
 -- call was made.
-pub record Looks {S : Type 0} (shelf : Ghosts S) (old new : S) (words : List (List ℕ)) (t : Task)
+pub record Looks {S : Type 0} (shelf : Ghosts S) (old new : S) (words : Words) (t : Task)
     (plan : Plan) : Type 0 where
   pub command : Command
   pub is_look : command.task ≡ t
@@ -135,7 +135,7 @@ pub record Looks {S : Type 0} (shelf : Ghosts S) (old new : S) (words : List (Li
 -- journal, which fits, from the plan's start or from the state of the checkpoint, is done, and had these turns.
 -- Each file is the one that the run gives, every other file as it was when the run began: as before, but that `gen`
 -- has written its texts.
-pub record RunsToEnd {S : Type 0} (shelf : Ghosts S) (old new : S) (words : List (List ℕ)) (request : Request)
+pub record RunsToEnd {S : Type 0} (shelf : Ghosts S) (old new : S) (words : Words) (request : Request)
     (plan : Plan) (first : State) (lists : List (List Entry)) : Type 0 where
   pub is_run : task_of request ≡ task.Run
   pub given : Sources
@@ -150,7 +150,7 @@ pub record RunsToEnd {S : Type 0} (shelf : Ghosts S) (old new : S) (words : List
 
 -- Status 7: the texts have an accepted plan, and the journal does not fit. Its turns were done up to the one at
 -- which its run is over, or up to its end. Each file is what was written by then, every other file as before.
-pub record Misfits {S : Type 0} (shelf : Ghosts S) (old new : S) (words : List (List ℕ)) (plan : Plan)
+pub record Misfits {S : Type 0} (shelf : Ghosts S) (old new : S) (words : Words) (plan : Plan)
     (first : State) (journal : Journal) : Type 0 where
   pub command : Command
   pub is_run : command.task ≡ task.Run
@@ -172,14 +172,14 @@ end_verdict (Texts command) plan first lists = ended_verdict plan first lists
 end_verdict (Generated objects) plan first lists = with_objects objects (ended_verdict plan first lists)
 
 -- A verdict tells the end of a run that is done.
-abbrev pub TellsEnd : {S : Type 0} (shelf : Ghosts S) (old new : S) (words : List (List ℕ)) → Verdict → Type 0
+abbrev pub TellsEnd : {S : Type 0} (shelf : Ghosts S) (old new : S) (words : Words) → Verdict → Type 0
 TellsEnd shelf old new words verdict =
     (request : Request) × (plan : Plan) × (first : State) × (lists : List (List Entry))
     × RunsToEnd shelf old new words request plan first lists
     × (verdict ≡ end_verdict request plan first lists)
 
 -- What a verdict says of the words and of the shelf.
-abbrev pub Says : {S : Type 0} (shelf : Ghosts S) (old new : S) (words : List (List ℕ)) → Verdict → Type 0
+abbrev pub Says : {S : Type 0} (shelf : Ghosts S) (old new : S) (words : Words) → Verdict → Type 0
 Says shelf old new words Usage = AreRefused words × Went shelf old new []
 Says shelf old new words (NoFile name) = MissesFile shelf old new words name
 Says shelf old new words (TextRefused line) = RefusesText shelf old new words line
@@ -199,7 +199,7 @@ Says shelf old new words OutOfMemory = Unit {0}
 
 -- Status 0: the plan is accepted, the cells are listed, or the run came to its end without faults. The
 -- last argument is the verdict whose line is printed.
-pub data IsDone {S : Type 0} (shelf : Ghosts S) (old new : S) (words : List (List ℕ)) : Verdict → Type 0 where
+pub data IsDone {S : Type 0} (shelf : Ghosts S) (old new : S) (words : Words) : Verdict → Type 0 where
   accepted : (plan : Plan) → Looks shelf old new words task.Check plan
       → IsDone shelf old new words (accepted_verdict plan)
   listed : (plan : Plan) → Looks shelf old new words task.List plan
@@ -209,7 +209,7 @@ pub data IsDone {S : Type 0} (shelf : Ghosts S) (old new : S) (words : List (Lis
       → IsDone shelf old new words (end_verdict request plan first lists)
 
 -- What the shelf holds, where it tells, under the names that the words name.
-pub record Finds {S : Type 0} (shelf : Ghosts S) (old : S) (words : List (List ℕ)) (command : Command)
+pub record Finds {S : Type 0} (shelf : Ghosts S) (old : S) (words : Words) (command : Command)
     (given : List (Option (List ℕ))) : Type 0 where
   pub asks : Asks words (Texts command)
   pub files : Files
@@ -218,7 +218,7 @@ pub record Finds {S : Type 0} (shelf : Ghosts S) (old : S) (words : List (List �
 
 -- The words ask for this with these texts: the shelf holds all files that they name, where it tells what it
 -- holds, or the texts are those of a generated simulation.
-pub data Gives {S : Type 0} (shelf : Ghosts S) (old : S) (words : List (List ℕ)) : Request → Sources → Type 0 where
+pub data Gives {S : Type 0} (shelf : Ghosts S) (old : S) (words : Words) : Request → Sources → Type 0 where
   files_held : {command : Command} {given : Sources} → AreNamed command given
       → Finds shelf old words command (map Some (texts_of given)) → Gives shelf old words (Texts command) given
   texts_generated : {objects : ℕ} → Asks words (Generated objects)
@@ -269,7 +269,7 @@ pub record IsMisfitIn (given : Sources) : Type 0 where
 -- What may have been written: nothing, or a front of the texts of a generated simulation; or a front of what the
 -- run writes that the texts describe, or all of it, after what was written before it; or what a run writes whose
 -- journal does not fit.
-pub data MayWrite {S : Type 0} (shelf : Ghosts S) (old : S) (words : List (List ℕ)) : List Write → Type 0 where
+pub data MayWrite {S : Type 0} (shelf : Ghosts S) (old : S) (words : Words) : List Write → Type 0 where
   nothing : MayWrite shelf old words []
   of_texts : {objects : ℕ} {writes : List Write} → Asks words (Generated objects)
       → IsFrontOf writes (text_writes objects) → MayWrite shelf old words writes
@@ -288,7 +288,7 @@ pub data MayWrite {S : Type 0} (shelf : Ghosts S) (old : S) (words : List (List 
       → MayWrite shelf old words (earlier_writes request ++ short_writes plan first journal)
 
 -- Whatever the status is: what the shelf holds is what was held, and what such writes make of it.
-abbrev pub Stands : {S : Type 0} (shelf : Ghosts S) (old new : S) (words : List (List ℕ)) → Type 0
+abbrev pub Stands : {S : Type 0} (shelf : Ghosts S) (old new : S) (words : Words) → Type 0
 Stands shelf old new words =
     (files : Files) → shelf.holds old ≡ Some files
     → (writes : List Write) × MayWrite shelf old words writes × (shelf.holds new ≡ Some (all_written writes files))

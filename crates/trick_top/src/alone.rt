@@ -17,7 +17,7 @@ ghost use Rattle.trick_top.specs.Status.{IsDone, IsFittingIn, IsMisfitIn, IsRefu
 ghost use Rattle.trick_top.specs.Status.{RefusesPlan, RefusesText, RunsToEnd, Stands, TookLine, end_verdict};
 ghost use Rattle.trick_top.specs.Verdict.{NoFile, OutOfMemory, Usage, line_of, verdict_of};
 ghost use Rattle.trick_top.specs.Verdict.{Verdict as VerdictOf};
-ghost use Rattle.trick_top.specs.Words.{AreRefused, Asked, Asks, names_of, task_of};
+ghost use Rattle.trick_top.specs.Words.{AreRefused, Asked, Asks, names_of, task_of, without_run};
 ghost use Rattle.trick_top.specs.declared.words.Command.{Command as CommandOf};
 ghost use Rattle.trick_top.specs.declared.words.Request.TheVariants as requests;
 ghost use Rattle.trick_top.specs.declared.words.Request.{Request as RequestOf};
@@ -81,7 +81,7 @@ fn print_line<O: Sink>(verdict: &Verdict, line: &[u8], out: &mut O) -> u8
 }
 
 /// Prints a verdict, or want of memory where there is none for its line. The status of the program.
-fn print<O: Sink>(alloc: Global, verdict: &Verdict, out: &mut O) -> u8
+pub(crate) fn print<O: Sink>(alloc: Global, verdict: &Verdict, out: &mut O) -> u8
     ensures { Prints O.Sink out.old out.new (verdict_of verdict.now) result }
 {
     if let Some(line) = verdict.held_line() {
@@ -103,7 +103,7 @@ pub fn print_out_of_memory<O: Sink>(out: &mut O) -> u8
 
 /// Does what the words ask for, and prints its verdict's line. The status of the program.
 fn answer<F: Shelf, O: Sink>(alloc: Global, words: &[Word], shelf: &mut F, out: &mut O) -> u8
-    ensures { HasAnswered F.Shelf O.Sink shelf.old shelf.new out.old out.new words.now result }
+    ensures { HasAnswered F.Shelf O.Sink shelf.old shelf.new out.old out.new (without_run words.now) result }
 {
     match read_words(alloc, words) {
         Ok(Some(request)) => {
@@ -132,50 +132,58 @@ pub fn tricks_alone<F: Shelf, O: Sink>(
 ) -> u8
     // One row of the table of statuses, with all calls of the shelf and all pieces that the sink was
     // given.
-    ensures row { HasAnswered F.Shelf O.Sink shelf.old shelf.new out.old out.new words.now result }
+    ensures row { HasAnswered F.Shelf O.Sink shelf.old shelf.new out.old out.new (without_run words.now) result }
     ensures called { HasCalled F.Shelf O.Sink shelf.old shelf.new out.old out.new result }
 
     // What each status says.
-    ensures done { result ≡ 0 → (verdict : VerdictOf) × IsDone F.Shelf shelf.old shelf.new words.now verdict
+    ensures done { result ≡ 0 → (verdict : VerdictOf)
+        × IsDone F.Shelf shelf.old shelf.new (without_run words.now) verdict
         × TookLine (O.holds out.old) (O.holds out.new) (line_of verdict) }
-    ensures usage { result ≡ 1 → AreRefused words.now × Went F.Shelf shelf.old shelf.new []
+    ensures usage { result ≡ 1 → AreRefused (without_run words.now) × Went F.Shelf shelf.old shelf.new []
         × TookLine (O.holds out.old) (O.holds out.new) (line_of Usage) }
-    ensures text_refused { result ≡ 2 → (line : List ℕ) × RefusesText F.Shelf shelf.old shelf.new words.now line
+    ensures text_refused { result ≡ 2 → (line : List ℕ)
+        × RefusesText F.Shelf shelf.old shelf.new (without_run words.now) line
         × TookLine (O.holds out.old) (O.holds out.new) line }
-    ensures plan_refused { result ≡ 3 → (line : List ℕ) × RefusesPlan F.Shelf shelf.old shelf.new words.now line
+    ensures plan_refused { result ≡ 3 → (line : List ℕ)
+        × RefusesPlan F.Shelf shelf.old shelf.new (without_run words.now) line
         × TookLine (O.holds out.old) (O.holds out.new) line }
     ensures faults { result ≡ 4 → (asked : RequestOf) × (plan : Plan) × (first : State) × (lists : List (List Entry))
-        × RunsToEnd F.Shelf shelf.old shelf.new words.now asked plan first lists
+        × RunsToEnd F.Shelf shelf.old shelf.new (without_run words.now) asked plan first lists
         × (((last_state plan first lists).faults).count ≢ 0)
         × TookLine (O.holds out.old) (O.holds out.new) (line_of (end_verdict asked plan first lists)) }
     ensures shelf_fault { result ≡ 5 → Rose (F.failures shelf.old) (F.failures shelf.new) }
     ensures journal_length { result ≡ 7 → (plan : Plan) × (first : State) × (journal : Journal)
-        × Misfits F.Shelf shelf.old shelf.new words.now plan first journal
+        × Misfits F.Shelf shelf.old shelf.new (without_run words.now) plan first journal
         × TookLine (O.holds out.old) (O.holds out.new) (line_of (length_verdict plan first journal)) }
     ensures sink_fault { result ≡ 8 → Rose (O.failures out.old) (O.failures out.new) }
-    ensures no_file { result ≡ 9 → (name : List ℕ) × MissesFile F.Shelf shelf.old shelf.new words.now name
+    ensures no_file { result ≡ 9 → (name : List ℕ) × MissesFile F.Shelf shelf.old shelf.new (without_run words.now) name
         × TookLine (O.holds out.old) (O.holds out.new) (line_of (NoFile name)) }
-    ensures refused_same { IsRefusal words.now result → HoldsSame (F.holds shelf.old) (F.holds shelf.new) }
-    ensures refused_generated { (objects : ℕ) → Asks words.now (requests.Generated objects)
+    ensures refused_same { IsRefusal (without_run words.now) result
+        → HoldsSame (F.holds shelf.old) (F.holds shelf.new) }
+    ensures refused_generated { (objects : ℕ) → Asks (without_run words.now) (requests.Generated objects)
         → (result ≡ 2) ⊎ (result ≡ 3) → HoldsTexts objects (F.holds shelf.old) (F.holds shelf.new) }
 
     // Whatever the status is, and so at 5, 6 and 8 too: what stands of the writes.
-    ensures stopped { Stands F.Shelf shelf.old shelf.new words.now }
+    ensures stopped { Stands F.Shelf shelf.old shelf.new (without_run words.now) }
 
     // When each comes. Want of memory is free, and a failed sink decides over all else.
-    ensures usage_all { AreRefused words.now → EndsWith result 1 }
-    ensures no_file_all { (command : CommandOf) (given : _) → Finds F.Shelf shelf.old words.now command given
+    ensures usage_all { AreRefused (without_run words.now) → EndsWith result 1 }
+    ensures no_file_all { (command : CommandOf) (given : _)
+        → Finds F.Shelf shelf.old (without_run words.now) command given
         → Contains given None → ¬ Rose (F.failures shelf.old) (F.failures shelf.new) → EndsWith result 9 }
-    ensures text_refused_all { (asked : RequestOf) (given : Sources) → Gives F.Shelf shelf.old words.now asked given
+    ensures text_refused_all { (asked : RequestOf) (given : Sources)
+        → Gives F.Shelf shelf.old (without_run words.now) asked given
         → AreRefusedTexts (task_of asked) given
         → ¬ Rose (F.failures shelf.old) (F.failures shelf.new) → EndsWith result 2 }
     ensures plan_refused_all { (asked : RequestOf) (given : Sources) (line : List ℕ)
-        → Gives F.Shelf shelf.old words.now asked given → IsPlanRefused given.s_define given.input line
+        → Gives F.Shelf shelf.old (without_run words.now) asked given → IsPlanRefused given.s_define given.input line
         → ¬ Rose (F.failures shelf.old) (F.failures shelf.new) → EndsWith result 3 }
-    ensures journal_length_all { (asked : RequestOf) (given : Sources) → Gives F.Shelf shelf.old words.now asked given
+    ensures journal_length_all { (asked : RequestOf) (given : Sources)
+        → Gives F.Shelf shelf.old (without_run words.now) asked given
         → task_of asked ≡ tasks.Run → AreAccepted given → IsMisfitIn given
         → ¬ Rose (F.failures shelf.old) (F.failures shelf.new) → EndsWith result 7 }
-    ensures complete { (asked : RequestOf) (given : Sources) → Gives F.Shelf shelf.old words.now asked given
+    ensures complete { (asked : RequestOf) (given : Sources)
+        → Gives F.Shelf shelf.old (without_run words.now) asked given
         → AreAccepted given → IsFittingIn given
         → ¬ Rose (F.failures shelf.old) (F.failures shelf.new) → ¬ Rose (O.failures out.old) (O.failures out.new)
         → (result ≡ 0) ⊎ (((result ≡ 4) × (task_of asked ≡ tasks.Run)) ⊎ (result ≡ 6)) }

@@ -2,6 +2,7 @@
 #![tactic(auto)]
 
 mod alone;
+mod crews;
 mod files;
 mod generated;
 mod plans;
@@ -9,7 +10,9 @@ mod replays;
 mod runs;
 mod sources;
 mod texts;
+mod threads;
 mod verdict;
 mod words;
 
 pub use alone::{print_out_of_memory, tricks_alone};
+pub use threads::{Finished, tricks};

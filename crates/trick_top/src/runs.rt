@@ -17,7 +17,7 @@ use trick_resume::resume;
 use trick_serial::{Ended, serial, serial_from};
 
 /// The verdict on a run that ended so.
-fn ended(run: Result<Ended, Stop>) -> Verdict<'static>
+pub(crate) fn ended(run: Result<Ended, Stop>) -> Verdict<'static>
     ensures { verdict_of result ≡ run_verdict run }
 {
     match run {

@@ -1,5 +1,5 @@
-ghost use Rattle.std.specs.Prelude.{◌≡◌, IfOk, MatchOption};
-ghost use Rattle.trick_top.specs.Words.{AreRefused, Asks, request_of};
+ghost use Rattle.std.specs.Prelude.{◌≡◌, IfOk, MatchOption, false};
+ghost use Rattle.trick_top.specs.Words.{AreRefused, Asks, AsksNoRun, AsksToRun, request_of, run_of, without_run};
 
 use std::alloc::{AllocError, Global};
 use trick_base::Word;
@@ -39,7 +39,7 @@ pub(crate) enum Request {
 
 /// What a line of words asks for, where the program has it.
 fn request_of(line: trick_words::Command) -> Option<Request>
-    ensures { result ≡ request_of line }
+    ensures { result ≡ request_of false line }
 {
     match line {
         trick_words::Command::Serial {
@@ -84,9 +84,42 @@ fn request_of(line: trick_words::Command) -> Option<Request>
     }
 }
 
+/// The command that a line of words asks to run by threads.
+fn run_of(line: trick_words::Command) -> Option<Command>
+    ensures { result ≡ run_of line }
+{
+    match line {
+        trick_words::Command::Run {
+            s_define,
+            input,
+            from,
+            port: None,
+        } => Some(Command {
+            task: Task::Run,
+            s_define,
+            input,
+            from,
+            journal: None,
+        }),
+        _other => None,
+    }
+}
+
+/// The command that the words ask to run by threads, the program's name left out.
+pub(crate) fn read_run(alloc: Global, words: &[Word]) -> Result<Option<Command>, AllocError>
+    ensures { IfOk result (λ asked. MatchOption asked (AsksNoRun words.now) (AsksToRun words.now)) }
+{
+    laws::one_command();
+    match read_command(alloc, words)? {
+        Some(line) => Ok(run_of(line)),
+        None => Ok(None),
+    }
+}
+
 /// What the words ask for, the program's name left out.
 pub(crate) fn read_words(alloc: Global, words: &[Word]) -> Result<Option<Request>, AllocError>
-    ensures { IfOk result (λ asked. MatchOption asked (AreRefused words.now) (Asks words.now)) }
+    ensures { IfOk result (λ asked. MatchOption asked (AreRefused (without_run words.now))
+        (Asks (without_run words.now))) }
 {
     laws::one_command();
     match read_command(alloc, words)? {

@@ -16,11 +16,21 @@ use std::sync::{Arc, Wait};
 use std::thread::Threads;
 use trick_crew::{Crew, Held, Team};
 use trick_memory::Memory;
-use trick_model::{Accepted, Planned, State, laws};
+use trick_model::{Accepted, Plan, Planned, State, laws, process_of};
 use trick_one_post::OnePost;
 use trick_outside::{Gate, Shelf, Spawner, Stop};
-use trick_serial::{Ended, first_state, serial_by};
+use trick_serial::{Ended, first_state, serial_by, serial_from};
 use trick_tic::Workers;
+
+// Whether some thread gets a worker: a scheduled child thread that has a job.
+fn has_children(plan: &Plan) -> bool {
+    for job in plan.program.jobs.as_slice() {
+        if job.thread != 0 && process_of(plan.threads.as_slice(), job.thread).is_in_tics() {
+            return true;
+        }
+    }
+    false
+}
 
 // A crew of a plan, and the caller's work for threads beside the tics. No thread is left where there was no memory.
 fn workers_in<P: Planned + Send + 'static, S: Spawner, G, R>(
@@ -72,7 +82,7 @@ where
 /// Runs an accepted plan, which it shares with its workers, from a state by threads, without clients, until the run is
 /// over: so a run goes on from a checkpoint. Each scheduled child thread that has a job is started in a thread of its
 /// own, as far as the spawner admits it, and the caller does the jobs of all others, and those of must-finish and
-/// asynchronous threads. It writes the files of the run, and where it stops a part of them: at `Stop::Shelf` the shelf
+/// asynchronous threads; where there is no such child, the caller runs it all, as fast as on one thread. It writes the files of the run, and where it stops a part of them: at `Stop::Shelf` the shelf
 /// failed, and at `Stop::Memory` there was no memory.
 pub fn run_from<F: Shelf, S: Spawner, G, R>(
     threads: &mut InThreads<'_, S, G, R>,
@@ -89,6 +99,9 @@ where
     ensures run { RunsSerially F.Shelf (plan_of (arc_value accepted.now).plan) (seen (λ memory. memory.numbers) state)
         shelf.old shelf.new result }
 {
+    if !has_children(accepted.plan()) {
+        return serial_from(alloc, accepted, state, shelf);
+    }
     run_by_crew::<Brand, F, S, G, R>(threads, alloc, accepted, state, shelf)
 }
 

@@ -15,7 +15,8 @@ use std::process::ExitCode;
 use std::rt::{Env, Files};
 use std::{env, fs, io};
 use trick_base::Word;
-use trick_top::{print_out_of_memory, tricks_alone};
+use trick_outside::{EndedDoor, MemoryOut, NoGate, ScriptIn, ThreadSpawner};
+use trick_top::{print_out_of_memory, tricks};
 
 /// The status where standard output cannot be written.
 const NO_OUTPUT: u8 = 8;
@@ -50,5 +51,18 @@ fn main(rt: HostRuntime) -> ExitCode {
         Err(_) => Vec::new(alloc),
     };
     let mut shelf = Folder::new(&rt, alloc);
-    ExitCode::from(tricks_alone(alloc, &words, &mut shelf, &mut out))
+    // No client is taken yet.
+    let door: EndedDoor<ScriptIn, MemoryOut> = EndedDoor::new();
+    let mut spawner = ThreadSpawner::new();
+    let finished = tricks(
+        rt,
+        alloc,
+        &words,
+        &mut shelf,
+        &mut out,
+        door,
+        &mut spawner,
+        NoGate,
+    );
+    ExitCode::from(finished.status)
 }
