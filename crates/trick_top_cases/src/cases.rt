@@ -1,5 +1,6 @@
 //! The case that is read, and what each line does to it.
 
+use crate::by_threads::is_same_by_threads;
 use crate::escapes::{bytes_of, is_numbered, numbers_of, pieces_of, text_of, words_of};
 use crate::line::{Line, Piece, number};
 use crate::mistake::Mistake;
@@ -9,6 +10,8 @@ use crate::text::{Text, all_filled, find, put};
 use std::alloc::{AllocError, Global};
 use std::mem;
 use std::ops::Range;
+use std::sync::Wait;
+use std::thread::Threads;
 use trick_base::Word;
 
 /// What was begun, to which pieces are added: the last of its list.
@@ -21,7 +24,9 @@ enum Begun {
 
 /// The texts with names, the case with its files, and how its next command is done.
 #[derive(Drop)]
-pub(crate) struct Cases {
+pub(crate) struct Cases<R> {
+    // By which threads are started.
+    rt: R,
     texts: Vec<Text>,
     files: Vec<Text>,
     begun: Begun,
@@ -30,10 +35,11 @@ pub(crate) struct Cases {
     shown: Option<Vec<Word>>,
 }
 
-impl Cases {
+impl<R: Threads + Wait + Copy + Send + Drop + 'static> Cases<R> {
     /// No text and no case.
-    pub(crate) fn new(alloc: Global) -> Cases {
+    pub(crate) fn new(rt: R, alloc: Global) -> Cases<R> {
         Cases {
+            rt,
             texts: Vec::new(alloc),
             files: Vec::new(alloc),
             begun: Begun::Nothing,
@@ -189,16 +195,18 @@ impl Cases {
         Ok(())
     }
 
-    /// What a command comes to, with these pieces in the holes.
+    /// What a command comes to, with these pieces in the holes; and whether a run by threads comes to the same.
     fn outcome(
         &mut self,
         alloc: Global,
         words: &[Word],
         pieces: &[Vec<u8>],
-    ) -> Result<Outcome, AllocError> {
+    ) -> Result<(Outcome, bool), AllocError> {
         let setting = mem::replace(&mut self.setting, Setting::new(alloc));
         let before = all_filled(alloc, &self.files, pieces)?;
-        outcome_of(alloc, words, &setting, &before)
+        let outcome = outcome_of(alloc, words, &setting, &before)?;
+        let is_same = is_same_by_threads(self.rt, alloc, words, (&setting, &before, &outcome))?;
+        Ok((outcome, is_same))
     }
 
     /// Does a command with these pieces in the holes, and reports what it comes to.
@@ -209,8 +217,11 @@ impl Cases {
         pieces: &[Vec<u8>],
         report: &mut Report,
     ) -> Result<Outcome, AllocError> {
-        let outcome = self.outcome(alloc, words, pieces)?;
+        let (outcome, is_same) = self.outcome(alloc, words, pieces)?;
         report.outcome(&outcome, self.shown.as_ref())?;
+        if !is_same {
+            report.line("by threads it comes to something else")?;
+        }
         Ok(outcome)
     }
 
@@ -283,7 +294,7 @@ impl Cases {
         report: &mut Report,
     ) -> Result<(), AllocError> {
         let words = self.each.clone()?;
-        let outcome = self.outcome(alloc, &words, &[])?;
+        let (outcome, _is_same) = self.outcome(alloc, &words, &[])?;
         report.front(count, &outcome)
     }
 }

@@ -2,9 +2,13 @@
 
 use crate::text::{Text, find};
 use std::alloc::{AllocError, Global};
+use std::sync::Wait;
+use std::thread::Threads;
 use trick_base::Word;
-use trick_outside::{MemoryShelf, MemorySink, Shelf, Sink};
-use trick_top::tricks_alone;
+use trick_outside::{
+    EndedDoor, MemoryOut, MemoryShelf, MemorySink, NoGate, ScriptIn, Shelf, Sink, Spawner,
+};
+use trick_top::{tricks, tricks_alone};
 
 /// What the next command is done with.
 #[derive(Drop)]
@@ -58,6 +62,31 @@ pub(crate) struct Outcome {
     pub(crate) written: Vec<Text>,
     /// The names of the files that it was not given and wrote as they are.
     pub(crate) same: Vec<Vec<u8>>,
+}
+
+/// Whether two lists of files have the same names and bytes.
+fn are_same(one: &[Text], other: &[Text]) -> bool {
+    if one.len() != other.len() {
+        return false;
+    }
+    for (file, twin) in one.iter().zip(other) {
+        if file.name != twin.name || file.bytes != twin.bytes {
+            return false;
+        }
+    }
+    true
+}
+
+impl Outcome {
+    /// Whether another command came to the same.
+    pub(crate) fn is_same(&self, other: &Outcome) -> bool {
+        self.status == other.status
+            && self.shelf_faults == other.shelf_faults
+            && self.sink_faults == other.sink_faults
+            && self.printed == other.printed
+            && are_same(&self.written, &other.written)
+            && self.same == other.same
+    }
 }
 
 /// A shelf with those of the files that a command begins with.
@@ -128,6 +157,25 @@ fn same(
     Ok(same)
 }
 
+/// What a command with this status did to its shelf and its sink.
+fn told(
+    alloc: Global,
+    given: (&Setting, &[Text]),
+    shelf: &MemoryShelf,
+    sink: &MemorySink,
+    status: u8,
+) -> Result<Outcome, AllocError> {
+    let (setting, before) = given;
+    Ok(Outcome {
+        status,
+        shelf_faults: shelf.faults(),
+        sink_faults: sink.faults(),
+        printed: Vec::from_slice(alloc, sink.bytes())?,
+        written: written(alloc, shelf, before)?,
+        same: same(alloc, shelf, setting, before)?,
+    })
+}
+
 /// What a command comes to where there are these files.
 pub(crate) fn outcome_of(
     alloc: Global,
@@ -138,12 +186,23 @@ pub(crate) fn outcome_of(
     let mut shelf = shelf_of(alloc, setting, before)?;
     let mut sink = sink_of(alloc, setting)?;
     let status = tricks_alone(alloc, words, &mut shelf, &mut sink);
-    Ok(Outcome {
-        status,
-        shelf_faults: shelf.faults(),
-        sink_faults: sink.faults(),
-        printed: Vec::from_slice(alloc, sink.bytes())?,
-        written: written(alloc, &shelf, before)?,
-        same: same(alloc, &shelf, setting, before)?,
-    })
+    told(alloc, (setting, before), &shelf, &sink, status)
+}
+
+/// What a command comes to where there are these files and what it runs is run by threads.
+pub(crate) fn in_threads_of<S: Spawner, R: Threads + Wait + Copy + Send + Drop + 'static>(
+    rt: R,
+    alloc: Global,
+    words: &[Word],
+    given: (&Setting, &[Text]),
+    spawner: &mut S,
+) -> Result<Outcome, AllocError> {
+    let (setting, before) = given;
+    let mut shelf = shelf_of(alloc, setting, before)?;
+    let mut sink = sink_of(alloc, setting)?;
+    let door: EndedDoor<ScriptIn, MemoryOut> = EndedDoor::new();
+    let finished = tricks(
+        rt, alloc, words, &mut shelf, &mut sink, door, spawner, NoGate,
+    );
+    told(alloc, given, &shelf, &sink, finished.status)
 }
