@@ -12,7 +12,5 @@ mod source;
 mod statements;
 mod sums;
 mod telling;
-#[cfg(test)]
-mod tests;
 pub mod tree;
 pub mod word;

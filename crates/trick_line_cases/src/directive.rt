@@ -1,6 +1,8 @@
 //! What a line of `stdin` says.
 
 use crate::clients::{ClientCall, client_call};
+use crate::deeds::{DeedCall, deed_call};
+use crate::faults::{FaultsCall, faults_call};
 use crate::feeds::{FeedCall, feed_call};
 use crate::plans::{PlanCall, plan_call};
 use crate::sources::{SourceCall, source_call};
@@ -23,6 +25,7 @@ pub(crate) enum Given<'a> {
 pub(crate) enum Call<'a> {
     Client(ClientCall),
     Feed(FeedCall),
+    Faults(FaultsCall),
     Planned(PlannedCall<'a>),
 }
 
@@ -31,6 +34,7 @@ pub(crate) enum Call<'a> {
 pub(crate) enum PlannedCall<'a> {
     Plan(PlanCall<'a>),
     Source(SourceCall),
+    Deed(DeedCall),
 }
 
 /// What a line says.
@@ -91,6 +95,9 @@ fn planned_call<'a>(words: &[&'a str]) -> Option<PlannedCall<'a>> {
     if let Some(call) = source_call(words) {
         return Some(PlannedCall::Source(call));
     }
+    if let Some(call) = deed_call(words) {
+        return Some(PlannedCall::Deed(call));
+    }
     plan_call(words).map(|call| PlannedCall::Plan(call))
 }
 
@@ -101,6 +108,9 @@ fn call_of<'a>(words: &[&'a str]) -> Option<Call<'a>> {
     }
     if let Some(call) = feed_call(words) {
         return Some(Call::Feed(call));
+    }
+    if let Some(call) = faults_call(words) {
+        return Some(Call::Faults(call));
     }
     planned_call(words).map(|call| Call::Planned(call))
 }

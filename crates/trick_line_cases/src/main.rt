@@ -5,7 +5,9 @@
 mod bytes;
 mod checkpoints;
 mod clients;
+mod deeds;
 mod directive;
+mod faults;
 mod feeds;
 mod journals;
 mod plans;

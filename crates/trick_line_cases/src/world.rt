@@ -2,7 +2,7 @@
 
 use crate::directive::{Call, Directive, PlannedCall, directive_of};
 use crate::texts::Texts;
-use crate::{clients, feeds, plans, sources};
+use crate::{clients, deeds, faults, feeds, plans, sources};
 use std::alloc::{AllocError, Global};
 use trick_feed::Feed;
 use trick_journal_turns::JournalTurns;
@@ -41,6 +41,7 @@ impl World {
             PlannedCall::Source(call) => {
                 sources::answer(alloc, texts, plan, &mut self.source, call, bytes)
             }
+            PlannedCall::Deed(call) => deeds::answer(alloc, plan, call, bytes),
         }
     }
 
@@ -66,6 +67,7 @@ impl World {
         match call {
             Call::Client(call) => clients::answer(alloc, call, bytes),
             Call::Feed(call) => feeds::answer(alloc, &mut self.feed, call, bytes),
+            Call::Faults(call) => faults::answer(alloc, call),
             Call::Planned(call) => self.answer_with_plan(alloc, call, bytes),
         }
     }

@@ -2,7 +2,7 @@
 
 use crate::line::{Line, read, unescaped};
 use crate::outside::Held;
-use crate::{bodies, commands, dues, inputs, lists, texts};
+use crate::{bodies, commands, declarations, dues, inputs, lists, names, orders, settings, texts};
 use std::alloc::{AllocError, Global};
 
 /// A call of the cases.
@@ -126,6 +126,23 @@ fn other_answer(alloc: Global, call: &Call<'_>) -> Result<String, AllocError> {
         "gen" => commands::gen_of(alloc, call),
         "items" => lists::items_of(alloc, call),
         "word" => lists::word_of(alloc, call),
+        _ => part_answer(alloc, call),
+    }
+}
+
+// What a call answers of what programs and plans are made by.
+fn part_answer(alloc: Global, call: &Call<'_>) -> Result<String, AllocError> {
+    match call.name {
+        "resolved" => bodies::resolved_of(alloc, call),
+        "declared" => declarations::declared_in_plan(alloc, call),
+        "declaration" => declarations::declaration_of(alloc, call),
+        "first_name" => declarations::first_name_of(alloc, call),
+        "order" => orders::order_of(alloc, call),
+        "chain_order" => orders::chain_order(alloc, call),
+        "names" => names::names_of(alloc, call),
+        "calls" => names::calls_of(alloc, call),
+        "settings" => settings::settings_of(alloc, call),
+        "threads" => settings::threads_of(alloc, call),
         _ => format!(in alloc; "no such call"),
     }
 }

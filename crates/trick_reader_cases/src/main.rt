@@ -7,12 +7,16 @@
 mod bodies;
 mod cases;
 mod commands;
+mod declarations;
 mod dues;
 mod inputs;
 mod line;
 mod lists;
+mod names;
+mod orders;
 mod outside;
 mod scans;
+mod settings;
 mod texts;
 
 use cases::Cases;

@@ -30,6 +30,11 @@ pub(crate) enum Call<'a> {
     OneBench {
         tic: u64,
     },
+    /// Carries the job of a letter by a bench, with this phase.
+    Bench {
+        phase: u64,
+        letter: u8,
+    },
     /// Does the acts of the text of this name on a new board.
     Acts {
         name: &'a str,
@@ -96,6 +101,10 @@ fn call_of<'a>(name: &str, words: &'a str) -> Option<Call<'a>> {
         "play_wrong" => Some(wrong_call(tic, behind)),
         "one_phase" => Some(Call::OnePhase { tic }),
         "one_bench" => Some(Call::OneBench { tic }),
+        "bench" => Some(Call::Bench {
+            phase: tic,
+            letter: behind.bytes().next().unwrap_or(b'A'),
+        }),
         "acts" => Some(Call::Acts { name: words }),
         _ => None,
     }

@@ -3,6 +3,7 @@
 //! file `stdout`. The page RULES of the documents has the rules.
 #![tactic(auto)]
 
+mod benches;
 mod directive;
 mod forms;
 mod schedules;

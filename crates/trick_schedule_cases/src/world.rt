@@ -1,5 +1,6 @@
 //! What goes on from line to line: the texts.
 
+use crate::benches::benched;
 use crate::directive::{Call, Directive, directive_of, due_jobs};
 use crate::forms::{by_one_bench, by_one_phase};
 use crate::schedules::{Wrong, played, played_all};
@@ -55,6 +56,7 @@ fn answer_under(
         Call::PlayWrong { tic, letters, due } => wrong_of(alloc, accepted, tic, letters, due),
         Call::OnePhase { tic } => by_one_phase(alloc, accepted, tic),
         Call::OneBench { tic } => by_one_bench(alloc, accepted, tic),
+        Call::Bench { phase, letter } => benched(alloc, accepted.plan(), phase, letter),
         Call::Acts { name } => answers(alloc, accepted, texts.named(name)),
     }
 }

@@ -1,10 +1,10 @@
 //! Texts, and what is read of them: lists of at most 4,096 items, and the rest 64 deep.
 
-use crate::program::{Cut, Fault, read_program};
-use crate::tree::{Expr, Stmt};
-use crate::word::{Token, Word};
 use std::alloc::{AllocError, Global};
 use trick_grammar::{Lexeme, Refusal};
+use trick_grammar_example::program::{Cut, Fault, read_program};
+use trick_grammar_example::tree::{Expr, Stmt};
+use trick_grammar_example::word::{Token, Word};
 
 // A text is pieces with blanks or line ends between their tokens, each so many times.
 type Pieces = &'static [(&'static [u8], usize)];
