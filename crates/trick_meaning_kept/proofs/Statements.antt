@@ -97,7 +97,7 @@ declared_all_more NoStatement declared = none_more declared
 declared_all_more (Then b rest) declared = more_again declared (names.after b declared) (names.after_all rest (names.after b declared)) (declared_more b declared) (declared_all_more rest (names.after b declared))
 
 -- a name that is not given twice was not known
-not_known : {T : Type 0} (name : Name) (known : Names T) → twice name known ≡ [] → meaning_of name known ≡ None
+pub not_known : {T : Type 0} (name : Name) (known : Names T) → twice name known ≡ [] → meaning_of name known ≡ None
 not_known {T} name known none = by (meaning_of name known) none where
   by : (o : Option T) → (if is_some o then Rattle.trick_names.specs.Mistakes.Twice name ∷ [] else []) ≡ [] → o ≡ None
   by None h = refl
@@ -133,7 +133,7 @@ mutual
       let total = length-append first (branch_inner rest w slots (n + (count body + 1))) in
       omega (arith, here, behind, total)
 
-  all_inner_count : (all : Statements) (w : World) (slots : Names InSlot) (n : ℕ) → length (all_inner all w slots n) ≡ all_count all
+  pub all_inner_count : (all : Statements) (w : World) (slots : Names InSlot) (n : ℕ) → length (all_inner all w slots n) ≡ all_count all
   all_inner_count NoStatement w slots n = refl
   all_inner_count (Then b rest) w slots n =
       let here = inner_count b w slots n in
@@ -142,21 +142,21 @@ mutual
       omega (arith, here, behind, total)
 
 module _ (all : List (List Code)) where
-  has_front : (xs ys : List (List Code)) (n : ℕ) → HasBlocks all n (xs ++ ys) → HasBlocks all n xs
+  pub has_front : (xs ys : List (List Code)) (n : ℕ) → HasBlocks all n (xs ++ ys) → HasBlocks all n xs
   has_front [] ys n h = tt
   has_front (z ∷ xs) ys n h = (h.0, has_front xs ys (suc n) h.1)
 
-  has_behind : (xs ys : List (List Code)) (n : ℕ) → HasBlocks all n (xs ++ ys) → HasBlocks all (n + length xs) ys
+  pub has_behind : (xs ys : List (List Code)) (n : ℕ) → HasBlocks all n (xs ++ ys) → HasBlocks all (n + length xs) ys
   has_behind [] ys n h = let same : n ≡ n + 0 = omega arith in subst (λ k. HasBlocks all k ys) same h
   has_behind (z ∷ xs) ys n h =
       let same : suc n + length xs ≡ n + suc (length xs) = omega arith in
       subst (λ k. HasBlocks all k ys) same (has_behind xs ys (suc n) h.1)
 
-below_front : (top : ℕ) (xs ys : List (List Code)) → BlocksAreBelow top (xs ++ ys) → BlocksAreBelow top xs
+pub below_front : (top : ℕ) (xs ys : List (List Code)) → BlocksAreBelow top (xs ++ ys) → BlocksAreBelow top xs
 below_front top [] ys h = tt
 below_front top (z ∷ xs) ys h = (h.0, below_front top xs ys h.1)
 
-below_behind : (top : ℕ) (xs ys : List (List Code)) → BlocksAreBelow top (xs ++ ys) → BlocksAreBelow top ys
+pub below_behind : (top : ℕ) (xs ys : List (List Code)) → BlocksAreBelow top (xs ++ ys) → BlocksAreBelow top ys
 below_behind top [] ys h = h
 below_behind top (z ∷ xs) ys h = below_behind top xs ys h.1
 

@@ -46,14 +46,14 @@ use Rattle.trick_names.specs.declared.world.World.{World}
 
 -- ---- names that stand once
 
-abbrev Once : {T : Type 0} → Names T → Type 0
+abbrev pub Once : {T : Type 0} → Names T → Type 0
 Once {T} [] = Unit {0}
 Once {T} (e ∷ es) = (meaning_of e.0 es ≡ None) × Once es
 
-one_name : (p q : Name) → bytes_eq p q ≡ true → p ≡ q
+pub one_name : (p q : Name) → bytes_eq p q ≡ true → p ≡ q
 one_name p q h = search (rules, bytes_eq-Decides)
 
-same_bytes : (p : Name) → bytes_eq p p ≡ true
+pub same_bytes : (p : Name) → bytes_eq p p ≡ true
 same_bytes p = search (rules, bytes_eq-Decides)
 
 -- two names that differ, the other way round
@@ -64,7 +64,7 @@ turned p q h = by (bytes_eq q p) refl where
   by true is = let same : q ≡ p = one_name q p is in absurd (cc (sym h ∙ subst (λ r. bytes_eq p r ≡ true) (sym same) (same_bytes p)))
 
 -- a name of none in front
-other_head : {T : Type 0} (q : Name) (e : Name × T) (es : Names T) → meaning_of q (e ∷ es) ≡ None → (bytes_eq q e.0 ≡ false) × (meaning_of q es ≡ None)
+pub other_head : {T : Type 0} (q : Name) (e : Name × T) (es : Names T) → meaning_of q (e ∷ es) ≡ None → (bytes_eq q e.0 ≡ false) × (meaning_of q es ≡ None)
 other_head {T} q e es none = by (bytes_eq q e.0) refl none where
   by : (b : Bool) → bytes_eq q e.0 ≡ b → (if b then Some e.1 else meaning_of q es) ≡ None → (bytes_eq q e.0 ≡ false) × (meaning_of q es ≡ None)
   by true is h = absurd (cc h)
@@ -132,7 +132,7 @@ names_once (text.ClassOf name parts) number names once = once_with name (the.Cla
 names_once (text.Object line class name) number names once = once_with name (the.Object (object_base (meaning_of class names))) names once
 
 -- each struct and class has its names once
-abbrev AllOnce : List (Names Member) → Type 0
+abbrev pub AllOnce : List (Names Member) → Type 0
 AllOnce [] = Unit {0}
 AllOnce (g ∷ gs) = Once g × AllOnce gs
 
@@ -145,7 +145,7 @@ group_once [] k all = tt
 group_once (g ∷ gs) zero all = all.0
 group_once (g ∷ gs) (suc k) all = group_once gs k all.1
 
-file_once : (ds : SDefine) (t : Tables) → Once t.names → AllOnce t.groups → Once (behind_definitions ds t).names × AllOnce (behind_definitions ds t).groups
+pub file_once : (ds : SDefine) (t : Tables) → Once t.names → AllOnce t.groups → Once (behind_definitions ds t).names × AllOnce (behind_definitions ds t).groups
 file_once [] t once all = (once, all)
 file_once (d ∷ ds) t once all =
     file_once ds (behind_definition d t) (names_once d (length t.groups) t.names once) (all_once_added t.groups (members_in d t.names) all (definition_once d t.names))
@@ -169,7 +169,7 @@ fields_none sizes offset q (m ∷ ms) fields none =
     fields_none sizes (narrow (offset + member_count sizes m.1)) q ms (with_field sizes offset m.0 m.1 fields) head.1 ∙ field_other sizes offset q m.0 m.1 fields head.0
 
 -- what a name means at the head of a list, or behind it
-head_case : {T : Type 0} (q : Name) (e : Name × T) (es : Names T) (l : T) (P : Type 0) → meaning_of q (e ∷ es) ≡ Some l → (q ≡ e.0 → e.1 ≡ l → P) → (bytes_eq q e.0 ≡ false → meaning_of q es ≡ Some l → P) → P
+pub head_case : {T : Type 0} (q : Name) (e : Name × T) (es : Names T) (l : T) (P : Type 0) → meaning_of q (e ∷ es) ≡ Some l → (q ≡ e.0 → e.1 ≡ l → P) → (bytes_eq q e.0 ≡ false → meaning_of q es ≡ Some l → P) → P
 head_case {T} q e es l P known here behind = by (bytes_eq q e.0) refl known where
   by : (b : Bool) → bytes_eq q e.0 ≡ b → (if b then Some e.1 else meaning_of q es) ≡ Some l → P
   by true is h = here (one_name q e.0 is) (cc h)
@@ -242,7 +242,7 @@ extent_same done sizes (Two m n) base some small =
 
 -- ---- objects and items
 
-site_other : (first : ℕ) (q name : Name) (g : Global) (sites : Names Site) → bytes_eq q name ≡ false → meaning_of q (with_site first name g sites) ≡ meaning_of q sites
+pub site_other : (first : ℕ) (q name : Name) (g : Global) (sites : Names Site) → bytes_eq q name ≡ false → meaning_of q (with_site first name g sites) ≡ meaning_of q sites
 site_other first q name the.Enum sites other = refl
 site_other first q name (the.Struct k) sites other = refl
 site_other first q name (the.Class k) sites other = refl
@@ -250,7 +250,7 @@ site_other first q name (the.Item value) sites other = other_with q name (site.I
 site_other first q name (the.Object (Single scalar)) sites other = refl
 site_other first q name (the.Object (Group k)) sites other = other_with q name (site.Object first k) sites other
 
-sites_none : (sizes : List ℕ) (first : ℕ) (q : Name) (gs : Names Global) (sites : Names Site) → meaning_of q gs ≡ None → meaning_of q (with_sites sizes first gs sites) ≡ meaning_of q sites
+pub sites_none : (sizes : List ℕ) (first : ℕ) (q : Name) (gs : Names Global) (sites : Names Site) → meaning_of q gs ≡ None → meaning_of q (with_sites sizes first gs sites) ≡ meaning_of q sites
 sites_none sizes first q [] sites none = refl
 sites_none sizes first q (g ∷ gs) sites none =
     let head = other_head q g gs none in
@@ -259,7 +259,7 @@ sites_none sizes first q (g ∷ gs) sites none =
 abbrev NotSingle : Global → Type 0
 NotSingle g = (scalar : Scalar) → g ≡ the.Object (Single scalar) → ⊥
 
-new_site : (q : Name) (l : Site) (sites : Names Site) → meaning_of q sites ≡ None → meaning_of q (with_name q l sites) ≡ Some l
+pub new_site : (q : Name) (l : Site) (sites : Names Site) → meaning_of q sites ≡ None → meaning_of q (with_name q l sites) ≡ Some l
 new_site q l sites none = ap (meaning_of q) (name_added q l sites none) ∙ added_means q l sites none
 
 -- the site of a name that is new

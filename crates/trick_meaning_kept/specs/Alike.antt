@@ -95,8 +95,8 @@ IsSameGlobal None (Some s) = ⊥
 
 -- no array is without elements
 abbrev pub HaveElements : Tables → Type 0
-HaveElements tables = (k : ℕ) (name : Name) (shape : Shape) → meaning_of name (members_at tables.groups k) ≡ Some (Holds shape)
-    → has_elements shape.lengths ≡ true
+HaveElements tables = (k : ℕ) (name : Name) (shape : Shape)
+    → meaning_of name (members_at tables.groups k) ≡ Some (Holds shape) → has_elements shape.lengths ≡ true
 
 -- what a file declares, by names and by cells; a struct or class of more than 65,536 cells is in no object
 pub record AreSameTables (tables : Tables) (layout : Layout) (done : List (List Variable)) : Type 0 where
@@ -132,7 +132,8 @@ pub record SeeTheSame (w : World) (slots : Names InSlot) (declared : Names Decla
       → IsSameLocal sight.local (meaning_of name slots) (meaning_of name declared) (meaning_of name s.locals)
 
 -- a local variable that is known, in its slot
-pub record IsRow (slot : ℕ) (number : ℕ → ℤ) (a : Name × InSlot) (b : Name × Declared) (c : Name × ByName) : Type 0 where
+pub record IsRow (slot : ℕ) (number : ℕ → ℤ) (a : Name × InSlot) (b : Name × Declared)
+    (c : Name × ByName) : Type 0 where
   pub declared_as : b.0 ≡ a.0
   pub named_as : c.0 ≡ a.0
   pub slot_is : a.1.slot ≡ slot
@@ -151,8 +152,8 @@ AreRows slot number (a ∷ rest) (b ∷ bs) (c ∷ cs) = IsRow slot number a b c
 
 -- two states say the same: each cell has what was stored under its full name, and each local variable has its
 -- number in its slot; there are so many slots, and the method has those below `top`
-pub record AreAlike (w : World) (size top : ℕ) (slots : Names InSlot) (declared : Names Declared) (memory : List Variable)
-    (by_number : Resolved) (by_name : State) : Type 0 where
+pub record AreAlike (w : World) (size top : ℕ) (slots : Names InSlot) (declared : Names Declared)
+    (memory : List Variable) (by_number : Resolved) (by_name : State) : Type 0 where
   pub cells : length by_number.stored ≡ length memory
   pub stored : (cell : ℕ) (full : Name) → IsNamed memory cell full
       → slice_index_or by_number.stored cell None ≡ meaning_of full by_name.stored

@@ -36,9 +36,9 @@ TablesKeep =
 -- the tables tell where the cells are, and the cells and slots have the numbers of their names.
 abbrev pub ExpressionsKeep : Type 0
 ExpressionsKeep =
-    (w : World) (done : List (List Variable)) (memory : List Variable) (slots : Names InSlot) (declared : Names Declared)
-    (sight : Sight) (x : Setting) (s : State) → AreNamed w.layout done memory → AreSameTables x.world.tables w.layout done →
-    SeeTheSame w slots declared memory sight x s →
+    (w : World) (done : List (List Variable)) (memory : List Variable) (slots : Names InSlot)
+    (declared : Names Declared) (sight : Sight) (x : Setting) (s : State) → AreNamed w.layout done memory →
+    AreSameTables x.world.tables w.layout done → SeeTheSame w slots declared memory sight x s →
     (e : Expression) → expression_mistakes e x.world declared ≡ [] → resolved.value (term e w slots) sight ≡ value e x s
 
 -- Statements without a mistake in their names that are resolved end in the state that they mean, or at the same

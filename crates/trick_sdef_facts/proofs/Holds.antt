@@ -14,20 +14,22 @@ use Rattle.trick_grammar.specs.Classes.{is_one_of}
 use Rattle.trick_grammar.specs.Gives.{class_of}
 use Rattle.trick_lang.specs.Names.{is_short}
 use Rattle.trick_lang.specs.Syntax.{sdefine_of}
-use Rattle.trick_lang.specs.SyntaxTree.{EnumItem, JobLine, Members, Name}
+use Rattle.trick_lang.specs.SyntaxTree.{EnumItem, JobLine, Members, Name, Statements}
 use Rattle.trick_base.specs.Time.{tic_limit}
 use Rattle.trick_sdef.specs.Answers.{file}
 use Rattle.trick_sdef.specs.Jobs.{Times, cycle_body, every, every_body, job, job_body, job_of, job_class_of, other_class_body, other_classes, phase, phase_body, phase_of, positive_times, span, span_of, thread_of, time_body, timed, timed_body, times_body, unscheduled}
 use Rattle.trick_sdef.specs.Members as members
 use Rattle.trick_sdef.specs.Members.{free_names, item_value, item_value_body, length_body, lengths_body, lengths_of}
+use Rattle.trick_sdef_facts.proofs.Loops.{body_short}
 use Rattle.trick_sdef_facts.proofs.Numbers as numbers
 use Rattle.trick_sdef_facts.proofs.Numbers.{few_of_whole, length_is, phase_is, time_is, whole_is}
-use Rattle.trick_sdef_facts.proofs.Parts.{AreRight, Gives, file_right, some_of}
+use Rattle.trick_sdef_facts.proofs.Parts.{AreRight, Gives, IsBody, file_right, some_of}
 use Rattle.trick_sdef_facts.proofs.Tokens.{IsSeen, each_is_seen, name_is, no_word}
 use Rattle.trick_sdef_facts.proofs.Words.{IsWord}
 use Rattle.trick_sdef_facts.proofs.Yields.{OnSome, Yields, yields}
-use Rattle.trick_sdef_facts.specs.Facts.{EachPasses, are_right_lengths, has_no_times, has_right_times, have_declarators, have_items, have_no_keyword, have_right_lengths, have_right_phases, have_right_threads, have_right_times, have_right_values, have_short_lists, have_short_names, have_spelled_names, give_no_trick, is_keyword, is_right_value, is_spelled, keywords}
+use Rattle.trick_sdef_facts.specs.Facts.{EachPasses, are_right_lengths, has_no_times, has_right_times, have_declarators, have_items, have_no_keyword, have_right_lengths, have_right_phases, have_right_threads, have_right_times, have_right_values, have_short_lists, have_short_loops, have_short_names, have_spelled_names, give_no_trick, is_keyword, is_right_value, is_spelled, keywords}
 use Rattle.trick_sdef_facts.specs.Leaves.{Leaves, anything, file_passes}
+use Rattle.trick_sdef_facts.specs.Loops.{are_short_loops}
 use Rattle.trick_text.specs.Numbers.{whole_limit}
 use Rattle.trick_text.specs.Pieces.{is_in_name}
 use Rattle.trick_base.specs.Time.{tic_limit}
@@ -161,6 +163,20 @@ module _ (text : List ℕ) where
     lengths = λ ls is. refl;
     job = holds;
     body = λ b is. refl;
+  }
+
+  by_body : (p : Statements → Bool) → ((b : Statements) → IsBody text list_limit method_levels b → p b ≡ true)
+      → Right (record anything { body = p })
+  by_body p holds = record {
+    name = λ t one seen. refl;
+    given = λ t one seen. refl;
+    list = λ n few. refl;
+    items = λ items some. refl;
+    item = λ i is. refl;
+    members = λ m some. refl;
+    lengths = λ ls is. refl;
+    job = λ j is. refl;
+    body = holds;
   }
 
   -- ---- names
@@ -380,3 +396,7 @@ right_threads = each_passes (record anything { job = λ j. nat_le j.thread 15 })
 pub right_phases : EachPasses have_right_phases
 right_phases = each_passes (record anything { job = λ j. nat_le 1 j.phase && nat_le j.phase 65534 })
     (λ text. by_job text (λ j. nat_le 1 j.phase && nat_le j.phase 65534) (job_phase_right text))
+
+pub short_loops : EachPasses have_short_loops
+short_loops = each_passes (record anything { body = are_short_loops })
+    (λ text. by_body text are_short_loops (body_short text list_limit method_levels))

@@ -8,5 +8,7 @@ pub mod Tokens
 pub mod Numbers
 -- each part of a tree passes the tests that hold of the text
 pub mod Parts
+-- loops in bodies are short
+pub mod Loops
 -- each tree of a text passes the tests
 pub mod Holds

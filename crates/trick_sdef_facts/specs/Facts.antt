@@ -12,6 +12,7 @@ use Rattle.trick_lang.specs.declared.class.Class.TheVariants.{DefaultData, Initi
 use Rattle.trick_lang.specs.declared.syntax.definition.SDefine.{SDefine}
 use Rattle.trick_sdef.specs.Answers.{IsSDefine}
 use Rattle.trick_sdef_facts.specs.Leaves.{anything, file_passes}
+use Rattle.trick_sdef_facts.specs.Loops.{are_short_loops}
 use Rattle.trick_text.specs.Numbers.{whole_limit}
 use Rattle.trick_text.specs.Pieces.{begins_name, is_in_name}
 
@@ -120,6 +121,12 @@ have_right_threads = file_passes (record anything { job = λ j. nat_le j.thread 
 -- phases go from 1 to 65534
 abbrev pub have_right_phases : tree.SDefine → Bool
 have_right_phases = file_passes (record anything { job = λ j. nat_le 1 j.phase && nat_le j.phase 65534 })
+
+-- ---- bodies
+
+-- each loop ends at 1,000,000 at most
+abbrev pub have_short_loops : tree.SDefine → Bool
+have_short_loops = file_passes (record anything { body = are_short_loops })
 
 -- ---- the law
 

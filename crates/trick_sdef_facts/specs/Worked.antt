@@ -5,12 +5,13 @@ use Rattle.trick_body.specs.Expressions.{names}
 use Rattle.trick_body.specs.Symbols.{named_symbols, number_of}
 use Rattle.trick_grammar.specs.Classes.{is_one_of}
 use Rattle.trick_lang.specs.SyntaxTree as tree
-use Rattle.trick_lang.specs.SyntaxTree.{Declarator, EnumItem, JobLine, Members, Name, Part, SDefine}
+use Rattle.trick_lang.specs.SyntaxTree.{Declarator, EnumItem, JobLine, Members, Name, Part, SDefine, Statement}
+use Rattle.trick_lang.specs.declared.bound.Bound.{Bound}
+use Rattle.trick_lang.specs.declared.bound.Bound.TheVariants.{Below, UpTo}
 use Rattle.trick_lang.specs.declared.class.Class.{Class}
 use Rattle.trick_lang.specs.declared.class.Class.TheVariants as class
 use Rattle.trick_lang.specs.declared.scalar.Scalar.TheVariants as scalar
-use Rattle.trick_sdef_facts.specs.Facts.{give_no_trick, have_declarators, have_items, have_lists_within, have_no_keyword, have_right_lengths, have_right_phases, have_right_threads, have_right_times, have_right_values, have_short_lists, have_short_names, have_spelled_names, is_keyword}
-use Rattle.trick_sdef_facts.specs.Leaves.{anything, file_passes}
+use Rattle.trick_sdef_facts.specs.Facts.{give_no_trick, have_declarators, have_items, have_lists_within, have_no_keyword, have_right_lengths, have_right_phases, have_right_threads, have_right_times, have_right_values, have_short_lists, have_short_loops, have_short_names, have_spelled_names, is_keyword}
 
 -- ---- small trees
 
@@ -68,6 +69,29 @@ other_classes =
 
 abbrev pub method : Name → Part
 method name = tree.HasMethod (record { name = name; body = tree.NoStatement })
+
+-- ---- loops
+
+abbrev pub body_of : Statement → SDefine
+body_of s = class_of (tree.HasMethod (record { name = codes "f"; body = tree.Then s tree.NoStatement }) ∷ [])
+
+-- `for (long k = 0; k < N; k++) ;`
+abbrev pub loop : Bound → Statement
+loop bound = tree.For (codes "k") 0 bound tree.Empty
+
+abbrev pub loop_to : Bound → SDefine
+loop_to bound = body_of (loop bound)
+
+-- each place in which a statement may stand in another one
+abbrev pub nests : Statement → List Statement
+nests s =
+    tree.Block (tree.Then s tree.NoStatement)
+    ∷ tree.Block (tree.Then tree.Empty (tree.Then s tree.NoStatement))
+    ∷ tree.If (tree.Test 1 (tree.Whole 1 1) s tree.NoElse)
+    ∷ tree.If (tree.Test 1 (tree.Whole 1 1) tree.Empty (tree.Test 1 (tree.Whole 1 1) s tree.NoElse))
+    ∷ tree.If (tree.Test 1 (tree.Whole 1 1) tree.Empty (tree.Else s))
+    ∷ tree.For (codes "i") 0 (Below 2) s
+    ∷ []
 
 -- ---- each place where a name may stand, and each list
 
@@ -175,5 +199,10 @@ pub record AreTold : Type 0 where
   pub last_phase : have_right_phases (constructor (job class.Freeze 0 65534 0 0 0 ∷ [])) ≡ true
   pub phase_0 : have_right_phases (constructor (job class.Freeze 0 0 0 0 0 ∷ [])) ≡ false
   pub other_phase : have_right_phases (constructor (job class.Freeze 0 65535 0 0 0 ∷ [])) ≡ false
-  -- the test of bodies, which no fact has yet
-  pub body : file_passes (record anything { body = λ b. false }) (class_of (method (codes "f") ∷ [])) ≡ false
+  pub no_loop : have_short_loops (class_of (method (codes "f") ∷ [])) ≡ true
+  pub last_below : have_short_loops (loop_to (Below 1000000)) ≡ true
+  pub too_far_below : have_short_loops (loop_to (Below 1000001)) ≡ false
+  pub last_up_to : have_short_loops (loop_to (UpTo 1000000)) ≡ true
+  pub too_far_up_to : have_short_loops (loop_to (UpTo 1000001)) ≡ false
+  pub nested_last : list_all (λ s. have_short_loops (body_of s)) (nests (loop (Below 1000000))) ≡ true
+  pub nested_too_far : list_any (λ s. have_short_loops (body_of s)) (nests (loop (Below 1000001))) ≡ false

@@ -1,6 +1,6 @@
 //! The facts. A function that calls one of these may rest on what it says; the call itself does nothing.
 
-ghost use Rattle.trick_sdef_facts.specs.Facts.{EachPasses, give_no_trick, have_declarators, have_items, have_no_keyword, have_right_lengths, have_right_phases, have_right_threads, have_right_times, have_right_values, have_short_lists, have_short_names, have_spelled_names};
+ghost use Rattle.trick_sdef_facts.specs.Facts.{EachPasses, give_no_trick, have_declarators, have_items, have_no_keyword, have_right_lengths, have_right_phases, have_right_threads, have_right_times, have_right_values, have_short_lists, have_short_loops, have_short_names, have_spelled_names};
 ghost use Rattle.trick_sdef_facts.specs.Worked.{AreTold};
 
 /// The names of each simulation definition that is read from a text, but for those in the braces of its methods:
@@ -34,6 +34,11 @@ pub fn jobs_are_right()
     ensures times { EachPasses have_right_times }
     ensures threads { EachPasses have_right_threads }
     ensures phases { EachPasses have_right_phases }
+{}
+
+/// The statements in the braces of its methods: each loop ends at 1,000,000 at most.
+pub fn bodies_are_right()
+    ensures { EachPasses have_short_loops }
 {}
 
 /// Worked trees pass the tests and fail them.

@@ -54,5 +54,11 @@ returns c = record {
   last_phase = refl;
   phase_0 = refl;
   other_phase = refl;
-  body = refl;
+  no_loop = refl;
+  last_below = refl;
+  too_far_below = refl;
+  last_up_to = refl;
+  too_far_up_to = refl;
+  nested_last = refl;
+  nested_too_far = refl;
 }
