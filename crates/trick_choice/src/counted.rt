@@ -8,7 +8,7 @@ ghost use Rattle.trick_model.specs.State.{seen};
 ghost use Rattle.trick_model.specs.declared.plan.Plan.{Plan as PlanValue};
 ghost use Rattle.trick_runs.specs.Parts.{counting};
 
-use crate::round::{is_in_flight, runs};
+use crate::round::is_in_flight;
 use std::alloc::{AllocError, Global};
 use trick_beside::Station;
 use trick_lang::Cells;
@@ -27,7 +27,7 @@ fn add_counting<M: Cells>(
     let Entry::Publish { thread } = entry else {
         return Ok(());
     };
-    if !runs(state) {
+    if !state.runs() {
         return Ok(());
     }
     if !is_in_flight(stations, state, *thread) {

@@ -9,5 +9,4 @@ mod waiting;
 
 pub use choice::choose;
 pub use counted::counting;
-pub use round::runs;
 pub use waiting::wait;

@@ -1,4 +1,4 @@
-//! What a state tells of a turn: whether it is a run frame, and which rounds are in flight.
+//! What a state tells of a turn: which rounds are in flight.
 
 ghost use Rattle.std.specs.List.{position};
 ghost use Rattle.std.specs.Prelude.{◌≡◌, ◌==◌};
@@ -7,19 +7,11 @@ ghost use Rattle.trick_beside.specs.declared.station.Station.{Station as Station
 ghost use Rattle.trick_model.specs.Beside.{has_round as has_round_of, is_in_flight as is_in_flight_of};
 ghost use Rattle.trick_model.specs.PlanOf.{plan_of};
 ghost use Rattle.trick_model.specs.State.{seen};
-ghost use Rattle.trick_model.specs.Turn.{runs as runs_of};
 ghost use Rattle.trick_model.specs.declared.plan.Plan.{Plan as PlanValue};
 
 use trick_beside::Station;
 use trick_lang::Cells;
 use trick_model::{State, Thread};
-
-/// Whether a turn is a run frame: the mode is not Freeze, and the next tic is below the limit.
-pub fn runs<M: Cells>(state: &State<M>) -> bool
-    ensures { result ≡ runs_of (seen M.numbers state.now) }
-{
-    state.runs()
-}
 
 /// Whether the thread of a place has a round in flight.
 pub(crate) fn has_round<M: Cells>(state: &State<M>, place: usize, thread: Thread) -> bool

@@ -1,9 +1,3 @@
--- A turn without clients: its entries, and what it comes to.
-pub mod EntryLemmas
--- Turns without clients, one after the other.
-pub mod AloneLemmas
--- A turn of a run that is not over passes a tic at least.
-pub mod LaterLemmas
 -- Numbers that rise.
 pub mod Numbers
 -- The sessions of a world stay those that its source knows.
@@ -24,3 +18,9 @@ pub mod TurnLemmas
 pub mod GoLemmas
 -- A run, as the code does it.
 pub mod WholeLemmas
+-- A turn without entries in which nothing is done but that time passes.
+pub mod IdleTurns
+-- A run without entries publishes every round in flight, where its posts are always ready.
+pub mod Own
+-- What a run did whose source gave nothing and whose posts were always ready.
+pub mod OwnRuns

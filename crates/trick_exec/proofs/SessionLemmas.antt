@@ -1,20 +1,20 @@
 -- The sessions of a world stay those that its source knows, as a turn's entries are heard.
-use Rattle.std.proofs.Common.{◌≡◌, ◌∙◌, ℕ, ◌<◌, ◌≤◌, List, [], ◌∷◌, ◌++◌, length, Bool, true, false, not, ◌&&◌, nat_lt, Option, Some, None, ap, append_assoc, append-nil, arith, refl, subst, sym}
+use Rattle.std.proofs.Common.{◌≡◌, ◌∙◌, ℕ, ◌<◌, List, [], ◌∷◌, ◌++◌, length, Bool, true, false, not, nat_lt, Option, Some, None, ap, append_assoc, append-nil, arith, refl, subst, sym}
 use Rattle.std.proofs.lemmas.Bool.Decides.{nat_tests}
-use Rattle.std.proofs.lemmas.List.Elements.{All-append, All-cons, All-head, All-map, All-nil, All-tail}
+use Rattle.std.proofs.lemmas.List.Elements.{All-append, All-cons, All-head, All-nil, All-tail}
 use Rattle.std.specs.List.{list_any}
 use Rattle.std.specs.Prelude.{◌==◌, ◌||◌, All, IsTrue, cond, filter, map}
 use Rattle.trick_exec.proofs.Numbers.{Above, any_first, any_later, any_more, below_push, filter_above, rises_above, rises_cons, rises_push}
 use Rattle.trick_exec.specs.Known.{AreKnown, Below}
 use Rattle.trick_hear.proofs.Kept.{answered_number, changed_numbers, session_number}
 use Rattle.trick_hear.proofs.PlaceLemmas.{rises_tail}
-use Rattle.trick_hear.specs.Sessions.{AreHeard, joining, numbers_of}
+use Rattle.trick_hear.specs.Sessions.{joining, numbers_of}
 use Rattle.trick_model.proofs.Runs.{and_left, and_right}
 use Rattle.trick_model.specs.Events.{names_of}
 use Rattle.trick_model.specs.Journal.{is_entry}
 use Rattle.trick_model.specs.Names.{Deed, deed_of}
 use Rattle.trick_model.specs.Plan.{Plan}
-use Rattle.trick_model.specs.Session.{Answer, Message, acted, added, answered, bad, is_sampled, joined, quiet, sample, samples, staying}
+use Rattle.trick_model.specs.Session.{Answer, Message, acted, answered, bad, is_sampled, joined, quiet, sample, samples, staying}
 use Rattle.trick_model.specs.State.{State}
 use Rattle.trick_model.specs.Turn.{Hearing, changed, hear, heard, replies, reply, session_of}
 use Rattle.trick_model.specs.Valid.{rises}

@@ -1,7 +1,7 @@
 -- A turn of the code comes to what it is to come to.
-use Rattle.std.proofs.Common.{◌≡◌, ◌∙◌, ℕ, ℤ, ◌≤◌, List, [], ◌∷◌, ◌++◌, length, Bool, true, false, Err, Ok, IsOk, ap, append-nil, arith, drop, refl, subst, sym, take}
+use Rattle.std.proofs.Common.{◌≡◌, ◌∙◌, ℕ, ℤ, List, [], ◌++◌, length, Bool, true, false, Err, Ok, IsOk, ap, append-nil, arith, drop, inl, inr, refl, subst, sym, take}
 use Rattle.std.proofs.lemmas.List.{drop_all, take_all}
-use Rattle.std.specs.Prelude.{All, IfOk, IsTrue, Option, Result, cond}
+use Rattle.std.specs.Prelude.{◌⊎◌, All, IfOk, IsTrue, Option, Result, cond}
 use Rattle.trick_beside.specs.Flight.{GoesWith, IsInFlight}
 use Rattle.trick_exec.proofs.LineLemmas.{after_lines, entries_given, lines_come, publications_are}
 use Rattle.trick_exec.proofs.SessionLemmas.{AreAlong, all_entries, along_all, along_starts, joins_rise, known_after, replies_reach}
@@ -13,6 +13,7 @@ use Rattle.trick_hear.specs.Sessions.{AreHeard, numbers_of}
 use Rattle.trick_job.specs.Belongs.{IsMemoryOf}
 use Rattle.trick_lang.specs.declared.scalar.Scalar.{Scalar}
 use Rattle.trick_model.proofs.Turns.{heard_right}
+use Rattle.trick_model.specs.Files.{note}
 use Rattle.trick_model.specs.Journal.{is_entry}
 use Rattle.trick_model.specs.Plan.{Plan}
 use Rattle.trick_model.specs.PlanOf.{plan_of}
@@ -24,18 +25,21 @@ use Rattle.trick_model.specs.declared.entry.Entry.{Entry}
 use Rattle.trick_model.specs.declared.plan.Plan.{Plan as PlanValue}
 use Rattle.trick_model.specs.declared.session.Session.{Session}
 use Rattle.trick_model.specs.declared.taken.Taken.{Taken}
+use Rattle.trick_outside.specs.Does.{Does, IsPartOf}
 use Rattle.trick_outside.specs.declared.stop.Stop.{Stop}
 use Rattle.trick_post.specs.Polls.{Poll}
 use Rattle.trick_post.specs.Work.{Started}
 use Rattle.trick_post.specs.declared.posts.Posts.{Ghosts as PostsGhosts}
-use Rattle.trick_runs.proofs.Going.{PollsJoin}
+use Rattle.trick_runs.proofs.Going.{Laws, PollsJoin}
 use Rattle.trick_runs.proofs.PartLemmas.{IsMade, heard_apart, turn_made}
 use Rattle.trick_runs.proofs.Times.{heard_time}
+use Rattle.trick_runs.proofs.TurnedLemmas.{turned_lines}
 use Rattle.trick_runs.specs.Answers.{given}
-use Rattle.trick_runs.specs.Hosts.{Hosts, Place}
+use Rattle.trick_runs.specs.Hosts.{Hosts, Place, at}
 use Rattle.trick_runs.specs.Parts.{AreApart}
 use Rattle.trick_runs.specs.Rounds.{IsChosen, heard_state, publications, waited}
-use Rattle.trick_runs.specs.Turned.{Asks, Turned}
+use Rattle.trick_runs.specs.Turned.{Asks, Turned, line_notes}
+use Rattle.trick_tic.specs.Steps.{steps_of}
 use Rattle.trick_turns.specs.Turns.{Sessions, after_entries, has_line, in_next, is_among, may_all_come}
 
 -- ---- small facts
@@ -88,6 +92,14 @@ asks_as posts true old new p s t waits published chosen tail same is asks = asks
 asks_as posts false old new p s t waits published chosen tail same is (polls, asked, so) =
     (polls, asked, subst (λ (es : List Entry). IsChosen p s waits es polls) (sym is) (subst (λ (x : State). IsChosen p x waits chosen polls) same so))
 
+-- posts were asked for the rounds of their plan
+pub asks_of : {Q : Type 0} (posts : PostsGhosts Q) (decides : Bool) (plan : PlanValue) (s : State) (kept waits : List ℕ) (chosen : List Entry) (old new : Q)
+    → posts.plan old ≡ plan → kept ≡ waits → Asks decides posts.asked (IsChosen (plan_of (posts.plan old)) s kept chosen) old new
+    → Asks decides posts.asked (IsChosen (plan_of plan) s waits chosen) old new
+asks_of posts decides plan s kept waits chosen old new is same asks =
+    subst (λ (x : PlanValue). Asks decides posts.asked (IsChosen (plan_of x) s waits chosen) old new) is
+    (subst (λ (l : List ℕ). Asks decides posts.asked (IsChosen (plan_of (posts.plan old)) s l chosen) old new) same asks)
+
 -- ---- a turn with its list
 
 module _ (p : Plan) (decides : Bool) (w : World) (list lines tail : List Entry) (now : Sessions) (has : HasGiven p decides w list now)
@@ -139,25 +151,57 @@ module _ (p : Plan) (decides : Bool) (w : World) (list lines tail : List Entry) 
       → IsMade p w (lines ++ cond decides tail chosen) lines (cond decides tail chosen) h
   made chosen h silent is = turn_made p w (lines ++ cond decides tail chosen) lines (cond decides tail chosen) h (parts chosen silent).0 is
 
-  -- it stopped
-  pub came_not : {S U M Q D : Type 0} {h : Hosts S U M Q} {numbers : D → List ℤ} {waits after : List ℕ} {old new : Place S U Q} (chosen : List Entry)
-      (result : Result (WorldValue D) Stop) (e : Stop) → has_line chosen ≡ false → Turned h p w (lines ++ cond decides tail chosen) old new result → result ≡ Err e
-      → CameTo h numbers p decides w list waits after old new result
-  came_not {numbers = numbers} chosen result e silent turned is = record {
-    entries = lines ++ cond decides tail chosen;
-    gave = (parts chosen silent).1;
-    turned = turned;
-    world = if_not (λ after. world_of numbers after ≡ (turn p w (lines ++ cond decides tail chosen)).world) result e is;
-    asks = λ ok. absurd (not_ok result e is ok);
-    waited_so = λ ok. absurd (not_ok result e is ok);
-  }
-
   -- the state after the entries were heard is that after the lines were
   same_heard : (chosen : List Entry) → has_line chosen ≡ false → heard_state p w (lines ++ cond decides tail chosen) ≡ heard_state p w lines
   same_heard chosen silent = ap (λ (h : Hearing). h.asking.state) (heard_apart p (lines ++ cond decides tail chosen) lines (cond decides tail chosen) (begun w) (parts chosen silent).0)
 
   same_published : (chosen : List Entry) → has_line chosen ≡ false → publications (lines ++ cond decides tail chosen) ≡ cond decides tail chosen
   same_published chosen silent = publications_are (lines ++ cond decides tail chosen) lines (cond decides tail chosen) (parts chosen silent).0
+
+  -- it stopped
+  came_not : {S U M Q D : Type 0} {h : Hosts S U M Q} {numbers : D → List ℤ} {waits after : List ℕ} {old new : Place S U Q} (chosen : List Entry)
+      (result : Result (WorldValue D) Stop) (e : Stop) → has_line chosen ≡ false → (turned : Turned h p w (lines ++ cond decides tail chosen) old new result) → result ≡ Err e
+      → (Asks decides h.posts.asked (IsChosen p (heard_state p w (lines ++ cond decides tail chosen)) waits (publications (lines ++ cond decides tail chosen))) old.posts new.posts
+      ⊎ IsPartOf turned.does.calls (steps_of (line_notes w.state.turn (turn p w (lines ++ cond decides tail chosen)))))
+      → CameTo h numbers p decides w list waits after old new result
+  came_not {numbers = numbers} chosen result e silent turned is chose = record {
+    entries = lines ++ cond decides tail chosen;
+    gave = (parts chosen silent).1;
+    turned = turned;
+    world = if_not (λ after. world_of numbers after ≡ (turn p w (lines ++ cond decides tail chosen)).world) result e is;
+    asks = λ ok. absurd (not_ok result e is ok);
+    chose = chose;
+    waited_so = λ ok. absurd (not_ok result e is ok);
+  }
+
+  -- it stopped before its publications were chosen
+  pub came_short : {S U M Q D : Type 0} (h : Hosts S U M Q) (laws : Laws h) {numbers : D → List ℤ} {waits after : List ℕ} {old : Place S U Q} {new : S} {posts : Q} (hearing : Hearing)
+      (result : Result (WorldValue D) Stop) (e : Stop) → hearing ≡ heard p lines (begun w) → h.turns.went old.turns [] [] old.turns → result ≡ Err e
+      → Does h.shelf old.shelf new result (steps_of (note w.state.turn lines))
+      → CameTo h numbers p decides w list waits after old (at new old.turns posts) result
+  came_short h laws hearing result e heard_is none is did =
+      let short = turned_lines h laws p w (lines ++ cond decides tail []) lines (cond decides tail []) hearing (made [] hearing refl heard_is) result e none is did in
+      came_not [] result e refl short.0 is (inr short.1)
+
+  -- its publications were chosen
+  chosen_so : {Q : Type 0} (posts : PostsGhosts Q) (join : PollsJoin posts) (waits : List ℕ) (chosen : List Entry) (hearing : Hearing) (old mid new : Q)
+      → has_line chosen ≡ false → hearing ≡ heard p lines (begun w)
+      → Asks decides posts.asked (IsChosen p hearing.asking.state waits chosen) old mid → posts.asked mid [] new
+      → Asks decides posts.asked (IsChosen p (heard_state p w (lines ++ cond decides tail chosen)) waits (publications (lines ++ cond decides tail chosen))) old new
+  chosen_so posts join waits chosen hearing old mid new silent is asks quiet =
+      let entries = lines ++ cond decides tail chosen in
+      asks_as posts decides old new p (heard_state p w entries) hearing.asking.state waits (publications entries) chosen tail
+      (ap (λ (g : Hearing). g.asking.state) is ∙ sym (same_heard chosen silent))
+      (same_published chosen silent) (asks_quiet posts join decides (IsChosen p hearing.asking.state waits chosen) old mid new asks quiet)
+
+  -- it stopped when they were
+  pub came_late : {S U M Q D : Type 0} (h : Hosts S U M Q) {numbers : D → List ℤ} {waits after : List ℕ} {old new : Place S U Q} {mid : Q} (chosen : List Entry)
+      (result : Result (WorldValue D) Stop) (e : Stop) (hearing : Hearing) → PollsJoin h.posts → has_line chosen ≡ false → hearing ≡ heard p lines (begun w)
+      → Turned h p w (lines ++ cond decides tail chosen) old new result → result ≡ Err e
+      → Asks decides h.posts.asked (IsChosen p hearing.asking.state waits chosen) old.posts mid → h.posts.asked mid [] new.posts
+      → CameTo h numbers p decides w list waits after old new result
+  came_late h {waits = waits} {old = old} {new = new} {mid = mid} chosen result e hearing join silent is turned at asks quiet =
+      came_not chosen result e silent turned at (inl (chosen_so h.posts join waits chosen hearing old.posts mid new.posts silent is asks quiet))
 
   -- it took its course
   pub came : {S U M Q D : Type 0} (h : Hosts S U M Q) (numbers : D → List ℤ) {waits after : List ℕ} {old new : Place S U Q} {mid : Q} (chosen : List Entry)
@@ -170,13 +214,14 @@ module _ (p : Plan) (decides : Bool) (w : World) (list lines tail : List Entry) 
   came h numbers {waits = waits} {after = after} {old = old} {new = new} {mid = mid} chosen last hearing join silent is turned world asks quiet counts =
       let entries = lines ++ cond decides tail chosen in
       let state : hearing.asking.state ≡ heard_state p w entries = ap (λ (g : Hearing). g.asking.state) is ∙ sym (same_heard chosen silent) in
+      let all = chosen_so h.posts join waits chosen hearing old.posts mid new.posts silent is asks quiet in
       record {
         entries = entries;
         gave = (parts chosen silent).1;
         turned = turned;
         world = world;
-        asks = λ ok. (asks_as h.posts decides old.posts new.posts p (heard_state p w entries) hearing.asking.state waits (publications entries) chosen tail state
-            (same_published chosen silent) (asks_quiet h.posts join decides (IsChosen p hearing.asking.state waits chosen) old.posts mid new.posts asks quiet));
+        asks = λ ok. all;
+        chose = inl all;
         waited_so = λ ok none. (counts none ∙ ap (λ (s : State). waited p s waits chosen) state
             ∙ ap (waited p (heard_state p w entries) waits) (sym (same_published chosen silent ∙ ap (λ (b : Bool). cond b tail chosen) none)));
       }

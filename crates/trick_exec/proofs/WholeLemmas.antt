@@ -15,10 +15,10 @@ use Rattle.trick_model.specs.declared.thread.Thread.{Thread}
 use Rattle.trick_outside.specs.Does.{Does}
 use Rattle.trick_outside.specs.declared.stop.Stop.{Stop}
 use Rattle.trick_runs.proofs.Going.{Laws}
-use Rattle.trick_runs.proofs.Whole.{missed_over, missed_short, missed_started, ran, started, stopped_at_end, stopped_in_turns}
+use Rattle.trick_runs.proofs.Whole.{missed_over, missed_short, missed_started, ran, started, stopped_at_end, stopped_in_turns, stopped_started}
 use Rattle.trick_runs.specs.Hosts.{Hosts, Place, at}
 use Rattle.trick_runs.specs.Over.{AreOver, AreShort}
-use Rattle.trick_runs.specs.Ran.{Missed, Stopped}
+use Rattle.trick_runs.specs.Ran.{Missed}
 use Rattle.trick_runs.specs.Rounds.{no_waits}
 use Rattle.trick_tic.specs.Steps.{steps_of}
 
@@ -29,11 +29,6 @@ zeros (station ∷ stations) = ap (λ (l : List ℕ). 0 ∷ l) (zeros stations)
 -- no round has waited
 pub waits_of : (p : Plan) (one other : List Station) → one ≡ other → AreStations p other → map {B = ℕ} (λ (station : Station). 0) one ≡ no_waits p
 waits_of p one other same are = ap (map {B = ℕ} (λ (station : Station). 0)) same ∙ zeros other ∙ ap (map {B = ℕ} (λ (thread : Thread). 0)) are.threads
-
--- where it stopped no posts count
-pub moved : {S U M Q T : Type 0} {h : Hosts S U M Q} {p : Plan} {s : State} {lists : List (List Entry)} {old new : Place S U Q} {result : Result T Stop} (first last : Q)
-    → Stopped h p s lists old new result → Stopped h p s lists (at old.shelf old.turns first) (at new.shelf new.turns last) result
-moved first last so = record { owed = so.owed; goes = so.goes; follows = so.follows; does = so.does; last = so.last; sent = so.sent; unsent = so.unsent; handed = so.handed; step = so.step; stops = so.stops }
 
 module _ {S U M Q D : Type 0} (h : Hosts S U M Q) (laws : Laws h) (numbers : D → List ℤ) (p : Plan) (start : State) where
   -- a run whose turns are over comes to what its end comes to
@@ -55,21 +50,21 @@ module _ {S U M Q D : Type 0} (h : Hosts S U M Q) (laws : Laws h) (numbers : D �
         missed_started shelf turns first held laws.posts quiet
             (subst (λ (s : S). Missed h p start lists (at shelf turns held) (at s now at_end.posts) kept given) (sym closes.0) missed),
       )
-  closed {shelf = shelf} {turns = turns} {first = first} {held = held} {over = at_end} {lists = lists} new now w (Err e) quiet begins ok over closes =
+  closed {shelf = shelf} {turns = turns} {first = first} {held = held} {lists = lists} new now w (Err e) quiet begins ok over closes =
       let result : Result (EndedValue D) Stop = Err e in
-      (lists, moved first at_end.posts (stopped_at_end h laws p start {old = at shelf turns held} result e e (shut p w.state) begins ok over closes.1 refl closes.0 refl refl refl))
+      (lists, stopped_started shelf turns first held laws.posts quiet (stopped_at_end h laws p start {old = at shelf turns held} result e e (shut p w.state) begins ok over closes.1 refl closes.0 refl refl refl))
 
   -- its turns stopped
   pub stopped : {A : Type 0} {shelf mid : S} {begun : Result A Stop} (u : U) (first held : Q) (now : Place S U Q) (result other : Result (EndedValue D) Stop) (e f : Stop)
-      → Does h.shelf shelf mid begun (steps_of (start_writes p start.turn)) → IsOk begun
+      → h.posts.asked first [] held → Does h.shelf shelf mid begun (steps_of (start_writes p start.turn)) → IsOk begun
       → AreTurns h numbers p start (at mid u held) now result → result ≡ Err e → other ≡ Err f → f ≡ e
       → IsRun h numbers p start (at shelf u first) now other
-  stopped u first held now (Ok value) other e f begins ok turns is at_other same = cc is
-  stopped {shelf = shelf} u first held now (Err g) other e f begins ok turns is at_other same =
+  stopped u first held now (Ok value) other e f quiet begins ok turns is at_other same = cc is
+  stopped {shelf = shelf} u first held now (Err g) other e f quiet begins ok turns is at_other same =
       let result : Result (EndedValue D) Stop = Err g in
       let last : Result (EndedValue D) Stop = Err f in
       subst (λ (r : Result (EndedValue D) Stop). IsRun h numbers p start (at shelf u first) now r) (sym at_other)
-      (turns.0, moved first now.posts (stopped_in_turns h laws p start {old = at shelf u held} last e f begins ok turns.1 is refl same))
+      (turns.0, stopped_started shelf u first held laws.posts quiet (stopped_in_turns h laws p start {old = at shelf u held} last e f begins ok turns.1 is refl same))
 
   -- the journal ended before the run
   pub short : {A : Type 0} {shelf mid : S} {turns : U} {first held : Q} {now : Place S U Q} {begun : Result A Stop} {lists : List (List Entry)} {w : World} (kept given : ℕ)

@@ -1,5 +1,5 @@
 -- How the turns of a run, and a run, end.
-use Rattle.std.specs.Prelude.{◌≡◌, ℕ, ℤ, List, [], None, Some, Ok, Err, Result}
+use Rattle.std.specs.Prelude.{◌≡◌, ℤ, List, [], None, Some, Ok, Err, Result}
 use Rattle.trick_exec.specs.Worlds.{world_of}
 use Rattle.trick_exec.specs.declared.ended.Ended.{Ended as EndedValue}
 use Rattle.trick_exec.specs.declared.ended.Ended.TheVariants as ended

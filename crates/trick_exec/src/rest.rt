@@ -2,13 +2,13 @@
 
 ghost use Rattle.std.specs.Prelude.{◌≡◌, ◌++◌, [], All, IfOk, IsTrue, length};
 ghost use Rattle.trick_beside.specs.Flight.{AsksNothing};
+ghost use Rattle.trick_exec.specs.Lent.{IsReady, IsSame};
 ghost use Rattle.trick_hear.specs.Hearing.{said_of};
 ghost use Rattle.trick_hear.specs.Sessions.{AreHeard, numbers_of};
 ghost use Rattle.trick_model.specs.PlanOf.{plan_of};
 ghost use Rattle.trick_model.specs.Session.{Message as MessageOf, samples as samples_of, staying};
 ghost use Rattle.trick_model.specs.State.{seen};
 ghost use Rattle.trick_outside.specs.Does.{Does};
-ghost use Rattle.trick_pass.specs.Pass.{IsEquipped};
 ghost use Rattle.trick_runs.specs.Answers.{Says};
 ghost use Rattle.trick_runs.specs.Parts.{state_after, writes_after};
 ghost use Rattle.trick_session.specs.Kept.{IsSession};
@@ -17,6 +17,7 @@ ghost use Rattle.trick_tic.specs.Steps.{steps_of};
 ghost use Rattle.trick_turns.specs.Turns.{is_among};
 
 use crate::World;
+use crate::lent::Run;
 use crate::lines::Heard;
 use crate::sending::send_all;
 use std::alloc::{AllocError, Global};
@@ -24,10 +25,9 @@ use trick_hear::{Hearing, samples, stay};
 use trick_lang::Cells;
 use trick_model::{Accepted, Entry, Session, State};
 use trick_outside::{Shelf, Stop};
-use trick_pass::{Equipment, pass};
+use trick_pass::pass;
 use trick_phase::Phases;
 use trick_post::Posts;
-use trick_tic::Workers;
 use trick_turns::Turns;
 
 // Hands over the samples of a turn, at whose start the tic was `from`.
@@ -47,75 +47,64 @@ fn send_samples<M: Cells, T: Turns<M>>(
     Ok(())
 }
 
-/// A turn whose entries are noted: what was heard, and the publications that it was given or that were
-/// chosen.
-#[derive(Drop)]
-pub(crate) struct Noted<'a, M> {
-    pub(crate) heard: Heard<M>,
-    pub(crate) publications: &'a [Entry],
-}
-
-/// The rest of a turn after its notes: its replies are handed over, its frame passes with its publications,
-/// and its samples are handed over. It stops where the shelf failed, or where there was no memory; the world
-/// is gone then.
-pub(crate) fn finish_turn<M: Cells + Drop, F: Shelf, H: Phases<M>, P: Posts, T: Turns<M>>(
-    alloc: Global,
-    accepted: &Accepted,
-    noted: Noted<M>,
-    equipment: &mut Equipment,
-    shelf: &mut F,
-    workers: &mut Workers<H, P>,
-    turns: &mut T,
-) -> Result<World<M>, Stop>
-    requires own { H.is_for workers.old.phases accepted.now.plan }
-    requires posts { P.plan workers.old.posts ≡ accepted.now.plan }
-    requires equipped { IsEquipped accepted.now.plan equipment.old (P.in_flight workers.old.posts)
-        (seen M.numbers noted.heard.hearing.current.state) (M.scalars noted.heard.hearing.current.state.memory) }
-    requires sessions { AreHeard (plan_of accepted.now.plan) noted.heard.hearing.sessions.items [] }
-    requires replies { All (λ (message : MessageOf). IsTrue (is_among message.0 (T.sessions turns.old).reached))
-        (said_of noted.heard.replies.items) }
-    requires reached { numbers_of noted.heard.hearing.sessions.items ≡ (T.sessions turns.old).reached }
-    ensures state { IfOk result (λ after. seen M.numbers after.state
-        ≡ state_after (plan_of accepted.now.plan) noted.entry.publications.now
-        (asking_of M.numbers noted.entry.heard.hearing.current)) }
-    ensures sessions { IfOk result (λ after. after.sessions.items
-        ≡ staying noted.entry.heard.hearing.sessions.items) }
-    ensures does { Does F.Shelf shelf.old shelf.new result (steps_of
-        (writes_after (plan_of accepted.now.plan) noted.entry.publications.now
-        (asking_of M.numbers noted.entry.heard.hearing.current))) }
-    ensures says { Says T.Turns turns.old turns.new result (said_of noted.entry.heard.replies.items
-        ++ samples_of noted.entry.heard.hearing.current.state.tic
-        (state_after (plan_of accepted.now.plan) noted.entry.publications.now
-        (asking_of M.numbers noted.entry.heard.hearing.current))
-        noted.entry.heard.hearing.sessions.items) }
-    ensures equipped { IfOk result (λ after. IsEquipped accepted.now.plan equipment.new (P.in_flight workers.new.posts)
-        (seen M.numbers after.state) (M.scalars after.state.memory)) }
-    ensures own { H.is_for workers.new.phases accepted.now.plan }
-    ensures asks { AsksNothing P.Posts workers.old.posts workers.new.posts }
-{
-    let Noted {
-        heard,
-        publications,
-    } = noted;
-    let Heard { hearing, replies } = heard;
-    let Hearing { current, sessions } = hearing;
-    let from = current.state.tic;
-    let Ok(()) = send_all(&replies, turns) else {
-        return Err(Stop::Memory);
-    };
-    let state = pass(
-        alloc,
-        accepted,
-        publications,
-        current,
-        equipment,
-        shelf,
-        workers,
-    )?;
-    let mut sessions = sessions;
-    let Ok(()) = send_samples(alloc, &sessions, &state, from, turns) else {
-        return Err(Stop::Memory);
-    };
-    stay(&mut sessions);
-    Ok(World { state, sessions })
+impl<'a, F: Shelf, H, P: Posts, T> Run<'a, F, H, P, T> {
+    /// The rest of a turn after its notes: its replies are handed over, its frame passes with its publications,
+    /// and its samples are handed over. It stops where the shelf failed, or where there was no memory; the
+    /// world is gone then.
+    pub(crate) fn finish<M: Cells + Drop>(
+        &mut self,
+        accepted: &Accepted,
+        heard: Heard<M>,
+        publications: &[Entry],
+    ) -> Result<World<M>, Stop>
+    where
+        H: Phases<M>,
+        T: Turns<M>,
+        requires ready { IsReady H.Phases P.Posts accepted.now.plan self.old
+            (seen M.numbers heard.hearing.current.state) (M.scalars heard.hearing.current.state.memory) }
+        requires sessions { AreHeard (plan_of accepted.now.plan) heard.hearing.sessions.items [] }
+        requires replies { All (λ (message : MessageOf). IsTrue (is_among message.0
+            (T.sessions self.old.turns.now).reached)) (said_of heard.replies.items) }
+        requires reached { numbers_of heard.hearing.sessions.items ≡ (T.sessions self.old.turns.now).reached }
+        ensures same { IsSame self.old self.new }
+        ensures waits { self.new.waits.now ≡ self.old.waits.now }
+        ensures state { IfOk result (λ after. seen M.numbers after.state
+            ≡ state_after (plan_of accepted.now.plan) publications.now
+            (asking_of M.numbers heard.hearing.current)) }
+        ensures sessions { IfOk result (λ after. after.sessions.items
+            ≡ staying heard.hearing.sessions.items) }
+        ensures does { Does F.Shelf self.old.shelf.now self.new.shelf.now result (steps_of
+            (writes_after (plan_of accepted.now.plan) publications.now
+            (asking_of M.numbers heard.hearing.current))) }
+        ensures says { Says T.Turns self.old.turns.now self.new.turns.now result (said_of heard.replies.items
+            ++ samples_of heard.hearing.current.state.tic
+            (state_after (plan_of accepted.now.plan) publications.now
+            (asking_of M.numbers heard.hearing.current))
+            heard.hearing.sessions.items) }
+        ensures ready { IfOk result (λ after. IsReady H.Phases P.Posts accepted.now.plan self.new
+            (seen M.numbers after.state) (M.scalars after.state.memory)) }
+        ensures asks { AsksNothing P.Posts self.old.workers.now.posts self.new.workers.now.posts }
+    {
+        let Heard { hearing, replies } = heard;
+        let Hearing { current, sessions } = hearing;
+        let from = current.state.tic;
+        let Ok(()) = send_all(&replies, self.turns) else {
+            return Err(Stop::Memory);
+        };
+        let state = pass(
+            self.alloc,
+            accepted,
+            publications,
+            current,
+            self.equipment,
+            self.shelf,
+            self.workers,
+        )?;
+        let mut sessions = sessions;
+        let Ok(()) = send_samples(self.alloc, &sessions, &state, from, self.turns) else {
+            return Err(Stop::Memory);
+        };
+        stay(&mut sessions);
+        Ok(World { state, sessions })
+    }
 }

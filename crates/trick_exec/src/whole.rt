@@ -1,10 +1,12 @@
 //! A whole run.
 
 ghost use Rattle.std.specs.Prelude.{◌≡◌, ◌+◌, ◌≤◌, IfOk, false, map};
-ghost use Rattle.trick_beside.specs.Flight.{IsFree};
+ghost use Rattle.trick_beside.specs.Flight.{AsksNothing, GoesWith, IsFree};
+ghost use Rattle.trick_beside.specs.Stations.{AreStations};
 ghost use Rattle.trick_beside.specs.declared.station.Station.{Station as StationValue};
 ghost use Rattle.trick_eval.specs.Bench.{IsFor};
 ghost use Rattle.trick_exec.specs.Ended.{Closes, IsRun};
+ghost use Rattle.trick_exec.specs.Lent.{IsSame, MayStart, place};
 ghost use Rattle.trick_exec.specs.Worlds.{world_of};
 ghost use Rattle.trick_job.specs.Belongs.{IsMemoryOf};
 ghost use Rattle.trick_model.specs.Files.{end_writes};
@@ -20,8 +22,7 @@ ghost use Rattle.trick_tic.specs.Course.{IsCourseOf};
 ghost use Rattle.trick_tic.specs.Steps.{steps_of};
 ghost use Rattle.trick_turns.specs.Turns.{no_sessions};
 
-use crate::going::go;
-use crate::turn::Keeping;
+use crate::lent::{Keeping, Run};
 use crate::{Ended, World};
 use std::alloc::{AllocError, Global};
 use trick_beside::{Station, start_held};
@@ -64,6 +65,21 @@ fn keep<M: Cells>(alloc: Global, plan: &Plan, state: &State<M>) -> Result<Keepin
     })
 }
 
+// Starts again what a state holds of threads beside the tics.
+fn hold<M: Cells, H, P: Posts>(equipment: &Equipment, state: &State<M>, workers: &mut Workers<H, P>)
+    requires stations { AreStations (plan_of (P.plan workers.old.posts)) equipment.now.course.ends.stations }
+    requires valid { IsStateOf (plan_of (P.plan workers.old.posts)) (seen M.numbers state.now) }
+    requires memory { IsMemoryOf (P.plan workers.old.posts).program (M.numbers state.now.memory)
+        (M.scalars state.now.memory) }
+    requires free { IsFree (plan_of (P.plan workers.old.posts)) (P.in_flight workers.old.posts) }
+    ensures goes { GoesWith (P.plan workers.new.posts) (P.in_flight workers.new.posts) state.now.tic
+        (seen M.numbers state.now) (M.scalars state.now.memory) }
+    ensures asks { AsksNothing P.Posts workers.old.posts workers.new.posts }
+    ensures phases { workers.new.phases ≡ workers.old.phases }
+{
+    start_held(equipment.course.stations(), state, &mut workers.posts);
+}
+
 // Ends a run that is over in this world: the shutdown jobs run, and the last files are written.
 fn close<M: Cells + Drop, F: Shelf>(
     alloc: Global,
@@ -86,79 +102,68 @@ fn close<M: Cells + Drop, F: Shelf>(
     Ok(world)
 }
 
-// Ends a run whose turns came to this. Where its source tells a journal that has another end, the run ends
-// as one that does not fit, and nothing more is written.
-fn end_run<M: Cells + Drop, F: Shelf, T: Turns<M>>(
-    alloc: Global,
-    plan: &Plan,
-    world: World<M>,
-    bench: &mut Bench,
-    shelf: &mut F,
-    turns: &mut T,
-) -> Result<Ended<M>, Stop>
-    requires bench { IsFor plan.now.program bench.old.parts }
-    requires memory { IsMemoryOf plan.now.program (M.numbers world.state.memory) (M.scalars world.state.memory) }
-    ensures { Closes F.Shelf T.Turns M.numbers (plan_of plan.now)
-        (world_of M.numbers world) shelf.old shelf.new turns.old turns.new result }
-{
-    if let Some((kept, given)) = turns.ends(world.state.turn) {
-        return Ok(Ended::Length { kept, given });
-    }
-    let world = close(alloc, plan, world, bench, shelf)?;
-    Ok(Ended::Done(world))
-}
-
-// Runs a plan from a state with what it keeps beside its world, which the caller owns.
-fn run_with<M: Cells + Drop, F: Shelf, H: Phases<M>, P: Posts, T: Turns<M>>(
-    alloc: Global,
-    accepted: &Accepted,
-    state: State<M>,
-    keeping: &mut Keeping,
-    shelf: &mut F,
-    workers: &mut Workers<H, P>,
-    turns: &mut T,
-) -> Result<Ended<M>, Stop>
-    requires own { H.is_for workers.old.phases accepted.now.plan }
-    requires posts { P.plan workers.old.posts ≡ accepted.now.plan }
-    requires free { IsFree (plan_of accepted.now.plan) (P.in_flight workers.old.posts) }
-    requires valid { IsStateOf (plan_of accepted.now.plan) (seen M.numbers state) }
-    requires memory { IsMemoryOf accepted.now.plan.program (M.numbers state.memory) (M.scalars state.memory) }
-    requires unknown { T.sessions turns.old ≡ no_sessions }
-    requires paid { T.owes turns.old ≡ false }
-    requires course { IsCourseOf accepted.now.plan keeping.old.equipment.course (seen M.numbers state) }
-    requires bench { IsFor accepted.now.plan.program keeping.old.equipment.bench.parts }
-    requires waits { keeping.old.waits.items ≡ no_waits (plan_of accepted.now.plan) }
-    ensures run { IsRun (hosts F.Shelf T.Turns P.Posts) M.numbers (plan_of accepted.now.plan) (seen M.numbers state)
-        (at shelf.old turns.old workers.old.posts) (at shelf.new turns.new workers.new.posts) result }
-{
-    laws::runs_join();
-    let plan = accepted.plan();
-    start_held(
-        keeping.equipment.course.stations(),
-        &state,
-        &mut workers.posts,
-    );
-    begin_files(
-        alloc,
-        plan,
-        state.turn,
-        keeping.equipment.course.logs(),
-        shelf,
-    )?;
-    let world = World {
-        state,
-        sessions: Vec::new(alloc),
-    };
-    match go(alloc, accepted, world, keeping, shelf, workers, turns)? {
-        Ended::Done(world) => end_run(
-            alloc,
+impl<'a, F: Shelf, H, P, T> Run<'a, F, H, P, T> {
+    // Ends a run whose turns came to this. Where its source tells a journal that has another end, the run ends
+    // as one that does not fit, and nothing more is written.
+    fn end<M: Cells + Drop>(&mut self, plan: &Plan, world: World<M>) -> Result<Ended<M>, Stop>
+    where
+        T: Turns<M>,
+        requires bench { IsFor plan.now.program self.old.equipment.now.bench.parts }
+        requires memory { IsMemoryOf plan.now.program (M.numbers world.state.memory) (M.scalars world.state.memory) }
+        ensures same { IsSame self.old self.new }
+        ensures workers { self.new.workers.now ≡ self.old.workers.now }
+        ensures closes { Closes F.Shelf T.Turns M.numbers (plan_of plan.now) (world_of M.numbers world)
+            self.old.shelf.now self.new.shelf.now self.old.turns.now self.new.turns.now result }
+    {
+        if let Some((kept, given)) = self.turns.ends(world.state.turn) {
+            return Ok(Ended::Length { kept, given });
+        }
+        let world = close(
+            self.alloc,
             plan,
             world,
-            &mut keeping.equipment.bench,
-            shelf,
-            turns,
-        ),
-        Ended::Length { kept, given } => Ok(Ended::Length { kept, given }),
+            &mut self.equipment.bench,
+            self.shelf,
+        )?;
+        Ok(Ended::Done(world))
+    }
+}
+
+impl<'a, F: Shelf, H, P: Posts, T> Run<'a, F, H, P, T> {
+    // The whole run from a state: its first files, its turns and its end.
+    fn whole<M: Cells + Drop>(
+        &mut self,
+        accepted: &Accepted,
+        state: State<M>,
+    ) -> Result<Ended<M>, Stop>
+    where
+        H: Phases<M>,
+        T: Turns<M>,
+        requires starts { MayStart H.Phases P.Posts T.Turns accepted.now.plan self.old (seen M.numbers state)
+            (M.scalars state.memory) }
+        ensures same { IsSame self.old self.new }
+        ensures run { IsRun (hosts F.Shelf T.Turns P.Posts) M.numbers (plan_of accepted.now.plan)
+            (seen M.numbers state) (place self.old) (place self.new) result }
+    {
+        laws::runs_join();
+        let alloc = self.alloc;
+        let plan = accepted.plan();
+        hold(self.equipment, &state, self.workers);
+        begin_files(
+            alloc,
+            plan,
+            state.turn,
+            self.equipment.course.logs(),
+            self.shelf,
+        )?;
+        let world = World {
+            state,
+            sessions: Vec::new(alloc),
+        };
+        match self.go(accepted, world)? {
+            Ended::Done(world) => self.end(plan, world),
+            Ended::Length { kept, given } => Ok(Ended::Length { kept, given }),
+        }
     }
 }
 
@@ -190,5 +195,6 @@ pub fn run<M: Cells + Drop, F: Shelf, H: Phases<M>, P: Posts, T: Turns<M>>(
     let Ok(mut keeping) = keep(alloc, accepted.plan(), &state) else {
         return Err(Stop::Memory);
     };
-    run_with(alloc, accepted, state, &mut keeping, shelf, workers, turns)
+    let mut run = Run::new(&mut keeping, shelf, workers, turns);
+    run.whole(accepted, state)
 }

@@ -6,7 +6,7 @@ use Rattle.trick_model.specs.Time.{last_turn}
 use Rattle.trick_model.specs.declared.entry.Entry.{Entry}
 use Rattle.trick_model.specs.declared.entry.Entry.TheVariants.{Join, Said, Leave, Publish}
 use Rattle.trick_turns.specs.Joins.{is_join}
-use Rattle.trick_turns.specs.Turns.{Sessions, after_entries, in_next, may_come, no_sessions}
+use Rattle.trick_turns.specs.Turns.{Sessions, after_lists, in_next, may_come, no_sessions}
 
 -- ---- entries by their turns
 
@@ -67,11 +67,6 @@ abbrev pub resumed : (start end : ℕ) → Bool → List Noted → List Noted
 resumed start end frozen es =
     let left = since start es in
     cond (they_join start end frozen left) (joins_at start (live_before start es []) ++ left) left
-
--- the sessions after lists, one for each turn
-abbrev pub after_lists : List (List Entry) → Sessions → Sessions
-after_lists [] s = s
-after_lists (list ∷ lists) s = after_lists lists (after_entries list (in_next s))
 
 -- the sessions by the lists of the turns from the first on and below another one
 abbrev pub sessions_at : (start at : ℕ) → List Noted → Sessions

@@ -12,7 +12,7 @@ use crate::sessions::resume;
 use std::alloc::{AllocError, Global};
 use std::snapshot::Snapshot;
 use trick_lang::Cells;
-use trick_model::{Entry, Journal, Mode, State};
+use trick_model::{Entry, Journal, Mode, Session, State};
 use trick_turns::{Next, Turns};
 
 /// What a journal gives a run from a turn on: a list of entries for each turn, and the journal's end.
@@ -139,7 +139,7 @@ impl<M: Cells> Turns<M> for JournalTurns {
 
     ghost takes = { λ turns session. Unit {0} };
 
-    fn entries(&mut self, alloc: Global, state: &State<M>) -> Next {
+    fn entries(&mut self, alloc: Global, state: &State<M>, _live: &[Session]) -> Next {
         let frozen = is_frozen(state.mode);
         if self.is_done(frozen) {
             return Next::NoMore;

@@ -106,7 +106,7 @@ fn entries_in(
     source: &mut JournalTurns,
     state: &State<Memory>,
 ) -> Result<String, AllocError> {
-    match source.entries(alloc, state) {
+    match source.entries(alloc, state, &[]) {
         Next::Entries(entries) => list(alloc, state.turn, &entries),
         Next::NoMore => String::from_str(alloc, "> no more\n"),
         Next::Length { kept, given } => format!(in alloc; "> length {kept} {given}\n"),

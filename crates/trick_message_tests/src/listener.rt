@@ -17,7 +17,7 @@ use trick_journal::read;
 use trick_journal_turns::JournalTurns;
 use trick_lang::Cells;
 use trick_memory::Memory;
-use trick_model::{Accepted, Journal, Mode, State, laws};
+use trick_model::{Accepted, Journal, Mode, Session, State, laws};
 use trick_outside::MemoryShelf;
 use trick_phase::Phases;
 use trick_post::Posts;
@@ -50,8 +50,8 @@ impl<M: Cells> Turns<M> for Listener {
 
     ghost takes = { λ turns session. Unit {0} };
 
-    fn entries(&mut self, alloc: Global, state: &State<M>) -> Next {
-        self.journal.entries(alloc, state)
+    fn entries(&mut self, alloc: Global, state: &State<M>, live: &[Session]) -> Next {
+        self.journal.entries(alloc, state, live)
     }
 
     fn ends(&mut self, turn: u64) -> Option<(u64, u64)> {

@@ -4,22 +4,24 @@ use Rattle.std.specs.FinMap.{get}
 use Rattle.std.specs.Prelude.{Result}
 use Rattle.trick_base.specs.Content.{content}
 use Rattle.trick_base.specs.Files.{Files}
-use Rattle.trick_model.specs.Files.{file, run_writes}
+use Rattle.trick_model.specs.Files.{file, run_writes, start_writes}
 use Rattle.trick_model.specs.Plan.{Plan}
 use Rattle.trick_model.specs.Run.{final}
 use Rattle.trick_model.specs.State.{State}
 use Rattle.trick_model.specs.declared.entry.Entry.{Entry}
 use Rattle.trick_model.specs.declared.journal.Journal.{Journal}
-use Rattle.trick_outside.proofs.DoesLemmas.{does_fail, does_none}
+use Rattle.trick_outside.specs.Calls.{Call}
 use Rattle.trick_outside.specs.Does.{Does}
 use Rattle.trick_outside.specs.declared.shelf.Shelf.{Ghosts}
 use Rattle.trick_outside.specs.declared.stop.Stop.TheVariants.{Memory}
 use Rattle.trick_outside.specs.declared.stop.Stop.{Stop}
 use Rattle.trick_replay.specs.Replay.{RunsReplay, RunsShort, RunsWhole, lists_below, lists_for}
 use Rattle.trick_replay.specs.declared.replayed.Replayed.{Replayed}
+use Rattle.trick_runs.proofs.DidLemmas.{did_fail, did_none}
 use Rattle.trick_runs.specs.Hosts.{Hosts, Place}
 use Rattle.trick_runs.specs.Laws.{JournalsShow, told_by}
 use Rattle.trick_runs.specs.Ran.{Missed, Ran, Stopped, writes_so_far}
+use Rattle.trick_runs.specs.Stops.{StopsAt, before as at_start}
 use Rattle.trick_serial.specs.Serial.{ended_by}
 use Rattle.trick_serial.specs.declared.ended.Ended.{Ended}
 use Rattle.trick_tic.specs.Steps.{steps_of}
@@ -31,17 +33,27 @@ pub none_kept : {S : Type 0} {shelf : Ghosts S} (old : S) (p : Plan) (s : State)
     → RunsReplay shelf p s journal old old (Err Memory)
 none_kept {shelf = shelf} old p s journal none =
     let result : Result (Unit {0}) Stop = Err Memory in
-    record { lists = []; follows = tt; does = does_none old result (steps_of (run_writes p s [])) none (λ ok. cc) (λ fault. cc) }
+    let did = did_none old result (steps_of (run_writes p s [])) none (λ ok. cc) (λ fault. cc) in
+    record {
+      lists = [];
+      follows = tt;
+      does = did.0;
+      stops = ([], subst (λ (calls : List Call). StopsAt p s (start_writes p s.turn) [] calls []) (sym did.1) (at_start [] tt));
+    }
 
 -- it stopped
 pub stopped : {S U M Q T : Type 0} {h : Hosts S U M Q} {old new : Place S U Q} {first : Result T Stop} (p : Plan) (s : State) (journal : Journal) (lists : List (List Entry)) (e f : Stop)
     → Stopped h p s lists old new first → h.turns.decided old.turns ≡ true → h.turns.journal old.turns ≡ Some (told_by journal.entries journal.end s)
     → first ≡ Err e → f ≡ e → RunsReplay h.shelf p s journal old.shelf new.shelf (Err f)
-stopped p s journal lists e f so decides tells at_first same = record {
-  lists = lists;
-  follows = so.follows decides (told_by journal.entries journal.end s) tells;
-  does = does_fail (Err f) e f so.does at_first refl same;
-}
+stopped p s journal lists e f so decides tells at_first same =
+    let result : Result (Unit {0}) Stop = Err f in
+    let did = did_fail result e f so.does at_first refl same in
+    record {
+      lists = lists;
+      follows = so.follows decides (told_by journal.entries journal.end s) tells;
+      does = did.0;
+      stops = (so.sent, subst (λ (calls : List Call). StopsAt p s (start_writes p s.turn) lists calls so.sent) (sym did.1) so.stops);
+    }
 
 -- the journal fits
 pub whole : {S U M Q : Type 0} {h : Hosts S U M Q} {old new : Place S U Q} (p : Plan) (s : State) (journal : Journal) (lists : List (List Entry)) (ended : Ended) (joins : ℕ)

@@ -3,9 +3,10 @@ use Rattle.std.specs.FinMap.{get}
 use Rattle.std.specs.Prelude.{◌≡◌, ℕ, ◌-◌, List, take, Result, Ok, Err, Some}
 use Rattle.trick_base.specs.Content.{content}
 use Rattle.trick_base.specs.Files.{Files}
-use Rattle.trick_model.specs.Files.{file, run_writes}
+use Rattle.trick_model.specs.Files.{file, run_writes, start_writes}
 use Rattle.trick_model.specs.Plan.{Plan}
 use Rattle.trick_model.specs.Run.{JournalFits, final, given as given_of, lists_of, opened}
+use Rattle.trick_model.specs.Session.{Message}
 use Rattle.trick_model.specs.State.{State}
 use Rattle.trick_model.specs.declared.entry.Entry.{Entry}
 use Rattle.trick_model.specs.declared.journal.Journal.{Journal}
@@ -17,6 +18,7 @@ use Rattle.trick_replay.specs.declared.replayed.Replayed.TheVariants as replayed
 use Rattle.trick_runs.specs.Follows.{Follows}
 use Rattle.trick_runs.specs.Laws.{told_by}
 use Rattle.trick_runs.specs.Ran.{writes_so_far}
+use Rattle.trick_runs.specs.Stops.{StopsAt}
 use Rattle.trick_serial.specs.Serial.{ended_by}
 use Rattle.trick_serial.specs.declared.ended.Ended.{Ended}
 use Rattle.trick_tic.specs.Steps.{steps_of}
@@ -66,6 +68,8 @@ pub record StopsReplay {S : Type 0} (shelf : Ghosts S) (p : Plan) (s : State) (j
   pub lists : List (List Entry)
   pub follows : Follows p (opened s) (told_by journal.entries journal.end s) lists
   pub does : Does {T = Unit {0}} shelf old new (Err e) (steps_of (run_writes p s lists))
+  -- its last files were begun only where the run is over
+  pub stops : (said : List Message) × StopsAt p s (start_writes p s.turn) lists does.calls said
 
 -- What a replay of a journal from a state did to the shelf, and what it says.
 abbrev pub RunsReplay : {S : Type 0} → Ghosts S → Plan → State → Journal → S → S → Result Replayed Stop → Type 0

@@ -1,7 +1,3 @@
--- A run without entries publishes every round in flight, where its posts are always ready.
-pub mod Own
--- What a run did whose source gave nothing and whose posts were always ready.
-pub mod OwnRuns
 -- A round that has waited long enough is published.
 pub mod Waits
 -- Fronts of writes, and writes of other names.

@@ -1,5 +1,3 @@
--- A run whose source gives nothing and whose posts are always ready.
-pub mod Own
 -- What a run that stopped leaves of its files.
 pub mod Left
 -- Turns do the same under what they note.

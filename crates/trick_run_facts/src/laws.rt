@@ -4,28 +4,14 @@
 ghost use Rattle.trick_run_facts.specs.Counted.{LeftAreLate, LeftAreNotReady};
 ghost use Rattle.trick_run_facts.specs.Noting.{NotedDoSame};
 ghost use Rattle.trick_run_facts.specs.Once.{FilesAreMadeOnce};
-ghost use Rattle.trick_run_facts.specs.Own.{IsAlone, RunsAreOwn};
 ghost use Rattle.trick_run_facts.specs.Stopping.{StopsLeave};
 ghost use Rattle.trick_run_facts.specs.Waiting.{RoundsAreBounded};
-ghost use Rattle.trick_runs.specs.Hosts.{hosts, Place};
+ghost use Rattle.trick_runs.specs.Hosts.{hosts};
 
 use trick_lang::Cells;
-use trick_one_post::OnePost;
 use trick_outside::Shelf;
 use trick_post::Posts;
-use trick_turns::{NoTurns, Turns};
-
-/// A run whose source gives no entry, and whose posts are ready whenever they are asked, is the one without
-/// clients: its journal is its own, and no other.
-pub fn runs_alone_are_own<M: Cells, F: Shelf, P: Posts, T: Turns<M>>()
-    ensures { RunsAreOwn (hosts F.Shelf T.Turns P.Posts) M.numbers }
-{}
-
-/// The forms of one thread are such: `NoTurns` gives no entry, and `OnePost` is always ready.
-pub fn serial_forms_are_alone<M: Cells, F: Shelf>()
-    ensures { (old new : Place F NoTurns OnePost)
-        → IsAlone (hosts F.Shelf ⟦<NoTurns as Turns<M>>⟧ ⟦<OnePost as Posts>⟧) old new }
-{}
+use trick_turns::Turns;
 
 /// A run that stopped leaves whole lines in its journal; these are what was noted of all lists that it was given, or of
 /// all but the last and a part of that. Of each other file it leaves a prefix of what the run under these lines makes

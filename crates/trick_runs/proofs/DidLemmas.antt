@@ -1,5 +1,5 @@
 -- Steps that were taken, with the calls that were made for them.
-use Rattle.std.proofs.Common.{◌≡◌, ◌∙◌, List, [], ◌++◌, false, Err, Ok, IsOk, ap, refl, subst, sym}
+use Rattle.std.proofs.Common.{◌≡◌, ◌∙◌, List, [], ◌++◌, false, Err, IsOk, ap, refl, subst, sym}
 use Rattle.std.specs.Prelude.{Result, IsErrOf}
 use Rattle.trick_outside.proofs.CallLemmas.{ends-append, fails-late, part_of_early, part_of_late, true_or_false}
 use Rattle.trick_outside.proofs.DoesLemmas.{Joins, handed_on, not_ok, ok_not_fault, went_none, went_then}

@@ -40,7 +40,7 @@ given_lines false entries = lines_given entries
 has_join : (early late : List (List Entry)) → has_session_entry (early ++ late) ≡ (has_session_entry early || has_session_entry late)
 has_join early late = list_any-append has_line early late
 
-has_one : (lists : List (List Entry)) (entries : List Entry) → has_session_entry (lists ++ entries ∷ []) ≡ (has_session_entry lists || (has_line entries || false))
+pub has_one : (lists : List (List Entry)) (entries : List Entry) → has_session_entry (lists ++ entries ∷ []) ≡ (has_session_entry lists || (has_line entries || false))
 has_one lists entries = has_join lists (entries ∷ [])
 
 -- ---- one turn more

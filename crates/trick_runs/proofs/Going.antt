@@ -1,6 +1,6 @@
 -- Turns, one after another.
 use Rattle.std.proofs.Common.{◌≡◌, ◌∙◌, ℕ, ◌<◌, List, [], ◌∷◌, ◌++◌, Bool, true, false, IsOk, None, Some, ap, append-nil, refl, subst, sym}
-use Rattle.std.specs.Prelude.{Result, IsErrOf, nat_le, not, IsTrue}
+use Rattle.std.specs.Prelude.{Result, IsErrOf, map, nat_le, not, IsTrue}
 use Rattle.trick_model.specs.Files.{turn_writes, turns_said, turns_writes}
 use Rattle.trick_model.specs.Laws.{RunsJoin}
 use Rattle.trick_model.specs.Plan.{Plan}
@@ -18,16 +18,19 @@ use Rattle.trick_post.specs.declared.posts.Posts.{Ghosts as PostsGhosts}
 use Rattle.trick_runs.proofs.DidLemmas.{did_of, did_then}
 use Rattle.trick_runs.proofs.Goes.{follows_more, given_lines, goes_given, goes_yet, left_more}
 use Rattle.trick_runs.proofs.Idle.{waits_more}
+use Rattle.trick_runs.proofs.Successions.{sessions_more, succession_more}
 use Rattle.trick_tic.proofs.Doing.{fine}
 use Rattle.trick_tic.proofs.StepLemmas.{steps_of-append}
-use Rattle.trick_runs.specs.Answers.{answers, given, list_answer}
+use Rattle.trick_runs.specs.Answers.{IsSuccession, answers, given, list_answer}
 use Rattle.trick_runs.specs.Follows.{Follows}
 use Rattle.trick_runs.specs.Goes.{Waits, goes_owing, left_of}
 use Rattle.trick_runs.specs.Hosts.{Hosts, Place, at}
+use Rattle.trick_runs.specs.Ran as ran
+use Rattle.trick_runs.specs.Ran.{Handed}
 use Rattle.trick_runs.specs.Rounds.{AreChosen, IsChosen, no_turn, one_more, heard_state, no_waits, publications, waited}
 use Rattle.trick_tic.specs.Steps.{steps_of}
 use Rattle.trick_runs.specs.Turned.{Asks, Turned}
-use Rattle.trick_turns.specs.Turns.{Answer, Told, behind, has_line, owes_after}
+use Rattle.trick_turns.specs.Turns.{Answer, Told, after_entries, after_lists, behind, has_line, in_next, may_all_come, no_sessions, owes_after}
 use Rattle.trick_turns.specs.declared.turns.Turns.{Ghosts as TurnsGhosts}
 
 never_err : IsErrOf fine Shelf → ⊥
@@ -54,7 +57,7 @@ pub record Laws {S U M Q : Type 0} (h : Hosts S U M Q) : Type 0 where
 
 -- ---- one turn more
 
-writes_one : RunsJoin → (p : Plan) (w : World) (lists : List (List Entry)) (entries : List Entry)
+pub writes_one : RunsJoin → (p : Plan) (w : World) (lists : List (List Entry)) (entries : List Entry)
     → (let now = after_turns p w lists in turns_writes p w (lists ++ entries ∷ []) ≡ turns_writes p w lists ++ turn_writes now.state.turn (turn p now entries))
 writes_one join p w lists entries =
     let now = after_turns p w lists in
@@ -72,7 +75,7 @@ answers_one decides p w (first ∷ lists) entries =
     ap (λ more. list_answer decides w first ++ more) (answers_one decides p (turn p w first).world lists entries)
 
 -- posts were asked for a turn more
-asks_more : {Q : Type 0} (posts : PostsGhosts Q) (join : PollsJoin posts) (decides : Bool) (old mid new : Q) (P R V : List Poll → Type 0)
+pub asks_more : {Q : Type 0} (posts : PostsGhosts Q) (join : PollsJoin posts) (decides : Bool) (old mid new : Q) (P R V : List Poll → Type 0)
     → ((early late : List Poll) → P early → R late → V (early ++ late))
     → Asks decides posts.asked P old mid → Asks decides posts.asked R mid new → Asks decides posts.asked V old new
 asks_more posts join true old mid new P R V both early late = join old mid new [] [] early late
@@ -81,13 +84,15 @@ asks_more posts join false old mid new P R V both (polls, early, one) (more, lat
 
 -- A source gave a list for a world's turn.
 pub record Gave {U M : Type 0} (turns : TurnsGhosts U M) (w : World) (list : List Entry) (old now : U) : Type 0 where
-  pub step : turns.went old (record { turn = w.state.turn; mode = w.state.mode; list = Some list } ∷ []) [] now
+  pub step : turns.went old (record { turn = w.state.turn; mode = w.state.mode; sessions = w.sessions; list = Some list } ∷ []) [] now
   pub owes : turns.owes now ≡ owes_after w.state.mode list (turns.owes old)
   pub told : (told : Told) → turns.journal old ≡ Some told
       → (list ≡ next_of told.lists) × (w.state.turn < told.end) × (is_frozen w.state.mode ≡ true → has_session_entry told.lists ≡ true)
       × (turns.journal now ≡ Some (behind told))
   pub untold : turns.journal old ≡ None → turns.journal now ≡ None
   pub decided : turns.decided now ≡ turns.decided old
+  pub may : IsTrue (may_all_come list (in_next (turns.sessions old)))
+  pub sessions : turns.sessions now ≡ after_entries list (in_next (turns.sessions old))
 
 -- What is left of a journal that is told, where turns were given these lists.
 abbrev pub TellsRest : {U M : Type 0} → TurnsGhosts U M → Plan → World → U → U → List (List Entry) → Type 0
@@ -105,19 +110,22 @@ pub record IsGoing {S U M Q : Type 0} (h : Hosts S U M Q) (p : Plan) (start : St
   pub does : Does h.shelf old.shelf now.shelf fine (steps_of (turns_writes p (opened start) lists))
   pub step : h.turns.went old.turns (answers (h.turns.decided old.turns) p (opened start) lists)
       (turns_said p (opened start) lists) now.turns
+  pub handed : Handed h.turns (h.turns.decided old.turns) p (opened start) lists old.turns now.turns
+  pub rules : IsSuccession (h.turns.decided old.turns) lists
+  pub sessions : h.turns.sessions now.turns ≡ after_lists (map (given (h.turns.decided old.turns)) lists) no_sessions
   pub asks : Asks (h.turns.decided old.turns) h.posts.asked (λ polls. AreChosen p (opened start) lists polls waits) old.posts now.posts
   pub decided : h.turns.decided now.turns ≡ h.turns.decided old.turns
 
 -- no turn was done
-asks_nothing : {Q : Type 0} (posts : PostsGhosts Q) (decides : Bool) (q : Q) (P : List Poll → Type 0) → posts.asked q [] q → P []
+pub asks_nothing : {Q : Type 0} (posts : PostsGhosts Q) (decides : Bool) (q : Q) (P : List Poll → Type 0) → posts.asked q [] q → P []
     → Asks decides posts.asked P q q
 asks_nothing posts true q P none start = none
 asks_nothing posts false q P none start = ([], none, start)
 
 pub going_starts : {S U M Q : Type 0} (h : Hosts S U M Q) (p : Plan) (start : State) (one : Place S U Q)
     → h.shelf.called one.shelf [] one.shelf → h.turns.went one.turns [] [] one.turns → h.posts.asked one.posts [] one.posts
-    → h.turns.owes one.turns ≡ false → IsGoing h p start one one (opened start) (no_waits p) []
-going_starts h p start one called went asked paid = record {
+    → h.turns.owes one.turns ≡ false → h.turns.sessions one.turns ≡ no_sessions → IsGoing h p start one one (opened start) (no_waits p) []
+going_starts h p start one called went asked paid unknown = record {
   goes = refl;
   owing = λ e. cc;
   rest = λ decides told is. (tt, is);
@@ -125,6 +133,9 @@ going_starts h p start one called went asked paid = record {
   is = refl;
   does = does_nothing one.shelf fine called never_err;
   step = went;
+  handed = ran.no_turn one.turns;
+  rules = refl;
+  sessions = unknown;
   asks = asks_nothing h.posts (h.turns.decided one.turns) one.posts (λ polls. AreChosen p (opened start) [] polls (no_waits p)) asked no_turn;
   decided = refl;
 }
@@ -143,6 +154,16 @@ module _ {S U M Q : Type 0} (h : Hosts S U M Q) (laws : Laws h) (p : Plan) (star
       (ap (λ (v : World). early ++ list_answer decides v entries) is ∙ sym (answers_one decides p (opened start) lists entries))
       (laws.turns before mid now early (list_answer decides w entries) all said step
       (laws.turns mid gave now (list_answer decides w entries) [] [] said answer talk))
+
+  -- a source that gave one list more, and was handed the messages of its turn
+  handed_more : (decides : Bool) (before mid gave now : U) (w : World) (lists : List (List Entry)) (entries : List Entry)
+      → w ≡ after_turns p (opened start) lists → Handed h.turns decides p (opened start) lists before mid
+      → h.turns.went mid (list_answer decides w entries) [] gave → h.turns.went gave [] (turn p w entries).said now
+      → Handed h.turns decides p (opened start) (lists ++ entries ∷ []) before now
+  handed_more decides before mid gave now w lists entries is handed answer talk =
+      ran.one_more lists entries before mid gave now handed
+      (subst (λ (v : World). h.turns.went mid (list_answer decides v entries) [] gave) is answer)
+      (subst (λ (v : World). h.turns.went gave [] (turn p v entries).said now) is talk)
 
   pub said_more : (w : World) (lists : List (List Entry)) (entries : List Entry) → w ≡ after_turns p (opened start) lists
       → turns_said p (opened start) (lists ++ entries ∷ []) ≡ turns_said p (opened start) lists ++ (turn p w entries).said
@@ -182,7 +203,7 @@ module _ {S U M Q : Type 0} (h : Hosts S U M Q) (laws : Laws h) (p : Plan) (star
         kept ∙ next.3 ∙ ap (λ (ls : List (List Entry)). Some (record told { lists = ls })) (sym (left_more lists told.lists entries)),
       )
 
-  chosen_more : (w : World) (waits : List ℕ) (lists : List (List Entry)) (entries : List Entry) → w ≡ after_turns p (opened start) lists
+  pub chosen_more : (w : World) (waits : List ℕ) (lists : List (List Entry)) (entries : List Entry) → w ≡ after_turns p (opened start) lists
       → (early late : List Poll) → AreChosen p (opened start) lists early waits → IsChosen p (heard_state p w entries) waits (publications entries) late
       → AreChosen p (opened start) (lists ++ entries ∷ []) (early ++ late) (waited p (heard_state p w entries) waits (publications entries))
   chosen_more w waits lists entries is early late chosen more =
@@ -216,6 +237,10 @@ module _ {S U M Q : Type 0} (h : Hosts S U M Q) (laws : Laws h) (p : Plan) (star
         step = subst (λ (said : List Message). h.turns.went old.turns (answers d p (opened start) (lists ++ entries ∷ [])) said new.turns)
             (ap (λ more. early ++ more) (sym all) ∙ sym (said_more w lists entries so.is))
             (step_more d old.turns mid.turns gave new.turns w lists entries did.says.sent so.is so.step gives.step did.says.step);
+        handed = handed_more d old.turns mid.turns gave new.turns w lists entries so.is so.handed gives.step
+            (subst (λ (said : List Message). h.turns.went gave [] said new.turns) (sym all) did.says.step);
+        rules = succession_more d lists entries no_sessions (h.turns.sessions mid.turns) so.rules so.sessions gives.may;
+        sessions = did.says.kept.sessions ∙ gives.sessions ∙ sessions_more d lists entries no_sessions (h.turns.sessions mid.turns) so.sessions;
         asks = asks_more h.posts laws.posts d old.posts mid.posts new.posts (λ polls. AreChosen p (opened start) lists polls waits)
             (IsChosen p (heard_state p w entries) waits (publications entries)) (λ polls. AreChosen p (opened start) (lists ++ entries ∷ []) polls now)
             (λ early late one two. subst (AreChosen p (opened start) (lists ++ entries ∷ []) (early ++ late)) (sym counts) (chosen_more w waits lists entries so.is early late one two))

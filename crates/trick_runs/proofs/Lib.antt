@@ -10,6 +10,8 @@ pub mod Goes
 pub mod DidLemmas
 -- Where a run stopped.
 pub mod StopLemmas
+-- Lists that may come one after another, and one more.
+pub mod Successions
 -- Turns, one after another.
 pub mod Going
 -- The turns of a run are over, or stop.

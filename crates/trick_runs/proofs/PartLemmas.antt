@@ -89,7 +89,7 @@ no_publication p s (Said number line ∷ lines) none = no_publication p s lines 
 no_publication p s (Leave number cause ∷ lines) none = no_publication p s lines none
 no_publication p s (Publish thread ∷ lines) none = cc
 
-no_line : (p : Plan) (s : State) (entries : List Entry) → has_line entries ≡ false → filter is_of_session (noted p s entries) ≡ []
+pub no_line : (p : Plan) (s : State) (entries : List Entry) → has_line entries ≡ false → filter is_of_session (noted p s entries) ≡ []
 no_line p s [] none = refl
 no_line p s (Join number ∷ entries) none = cc
 no_line p s (Said number line ∷ entries) none = cc

@@ -1,5 +1,5 @@
 -- What a turn did, by its parts.
-use Rattle.std.proofs.Common.{◌≡◌, ◌∙◌, List, [], ◌++◌, not, Err, IsOk, ap, append_assoc, inl, inr, subst, sym}
+use Rattle.std.proofs.Common.{◌≡◌, ◌∙◌, List, [], ◌++◌, not, Err, IsOk, ap, append_assoc, inl, inr, refl, subst, sym}
 use Rattle.std.specs.Prelude.{filter, Result}
 use Rattle.trick_base.specs.Files.{Write}
 use Rattle.trick_model.specs.Files.{note, turn_writes}
@@ -9,10 +9,10 @@ use Rattle.trick_model.specs.Session.{samples}
 use Rattle.trick_model.specs.State.{World}
 use Rattle.trick_model.specs.Turn.{Hearing, begun, replies, turn}
 use Rattle.trick_model.specs.declared.entry.Entry.{Entry}
-use Rattle.trick_outside.proofs.DoesLemmas.{does_err, does_then}
-use Rattle.trick_outside.specs.Does.{Does}
+use Rattle.trick_outside.proofs.DoesLemmas.{does_err, does_then, not_ok}
+use Rattle.trick_outside.specs.Does.{Does, IsPartOf}
 use Rattle.trick_outside.specs.declared.stop.Stop.{Stop}
-use Rattle.trick_runs.proofs.DidLemmas.{did_of, did_then}
+use Rattle.trick_runs.proofs.DidLemmas.{did_err, did_of, did_then}
 use Rattle.trick_runs.proofs.Going.{Laws}
 use Rattle.trick_runs.proofs.PartLemmas.{IsMade}
 use Rattle.trick_runs.proofs.SayLemmas.{says_as, says_none}
@@ -21,7 +21,7 @@ use Rattle.trick_runs.specs.Answers.{Says}
 use Rattle.trick_runs.specs.Hosts.{Hosts, Place, at}
 use Rattle.trick_runs.specs.Parts.{counting, state_after, writes_after}
 use Rattle.trick_tic.specs.Steps.{steps_of}
-use Rattle.trick_runs.specs.Turned.{Turned, notes}
+use Rattle.trick_runs.specs.Turned.{Turned, line_notes, notes}
 
 module _ {S U M Q : Type 0} (h : Hosts S U M Q) (laws : Laws h) (p : Plan) (w : World) (entries lines publications : List Entry) (heard : Hearing)
     (made : IsMade p w entries lines publications heard) where
@@ -62,23 +62,22 @@ module _ {S U M Q : Type 0} (h : Hosts S U M Q) (laws : Laws h) (p : Plan) (w : 
       let says = says_none h.turns old.turns result (turn p w entries).said none never in
       record { does = did; says = says.0; prompt = inl says.1 }
 
-  first_stops : {A T : Type 0} {old new : S} {first : Result A Stop} (result : Result T Stop) (e f : Stop)
-      → Does h.shelf old new first (steps_of (note w.state.turn lines)) → first ≡ Err e → result ≡ Err f → f ≡ e
-      → Does h.shelf old new result (steps_of (turn_writes w.state.turn (turn p w entries)))
-  first_stops {old = old} {new = new} result e f did at_first is same =
+  -- its lines were not all noted, or what was next was not done, for want of memory: no more was written than its lines
+  pub turned_lines : {T : Type 0} {old : Place S U Q} {new : S} {posts : Q} (result : Result T Stop) (e : Stop)
+      → h.turns.went old.turns [] [] old.turns → result ≡ Err e → Does h.shelf old.shelf new result (steps_of (note w.state.turn lines))
+      → (turned : Turned h p w entries old (at new old.turns posts) result)
+      × IsPartOf turned.does.calls (steps_of (line_notes w.state.turn (turn p w entries)))
+  turned_lines {old = old} {new = new} {posts = posts} result e none is did =
       let counts = steps_of (note w.state.turn (counting p heard.asking.state publications)) in
       let rest = steps_of (writes_after p publications heard.asking) in
-      subst (λ c. Does h.shelf old new result c)
-      (sym (steps_are ∙ ap (λ c. c ++ rest) notes_are ∙ append_assoc (steps_of (note w.state.turn lines)) counts rest))
-      (does_err result e f (counts ++ rest) did at_first is same)
-
-  -- its lines were not noted, or not heard
-  pub turned_first : {A T : Type 0} {old : Place S U Q} {new : S} {posts : Q} {first : Result A Stop} (result : Result T Stop) (e f : Stop)
-      → h.turns.went old.turns [] [] old.turns → (IsOk result → ⊥)
-      → Does h.shelf old.shelf new first (steps_of (note w.state.turn lines)) → first ≡ Err e → result ≡ Err f → f ≡ e
-      → Turned h p w entries old (at new old.turns posts) result
-  turned_first {old = old} {new = new} {posts = posts} result e f none never did at_first is same =
-      unsaid old (at new old.turns posts) result none never (first_stops result e f did at_first is same)
+      let never = not_ok result e is in
+      let all = did_of (sym (steps_are ∙ ap (λ c. c ++ rest) notes_are ∙ append_assoc (steps_of (note w.state.turn lines)) counts rest))
+      (did_err result e e (counts ++ rest) did is is refl) in
+      let says = says_none h.turns old.turns result (turn p w entries).said none never in (
+        record { does = all.0; says = says.0; prompt = inl says.1 },
+        subst (λ c. IsPartOf c (steps_of (line_notes w.state.turn (turn p w entries)))) (sym all.1)
+            (subst (λ (es : List Entry). IsPartOf did.calls (steps_of (note w.state.turn es))) (sym made.noted_lines) did.part),
+      )
 
   -- its publications were not noted
   pub turned_second : {A B T : Type 0} {old : Place S U Q} {mid new : S} {posts : Q} {first : Result A Stop} {second : Result B Stop} (result : Result T Stop) (e f : Stop)

@@ -22,8 +22,8 @@ use Rattle.trick_outside.specs.declared.stop.Stop.{Stop}
 use Rattle.trick_runs.proofs.DidLemmas.{did_err, did_none, did_of, did_then}
 use Rattle.trick_runs.proofs.Ending.{asks_behind}
 use Rattle.trick_runs.proofs.Goes.{follows_lasts, goes_paid}
-use Rattle.trick_runs.proofs.Going.{Laws, PollsJoin}
-use Rattle.trick_runs.proofs.StopLemmas.{parts_of, stops_behind}
+use Rattle.trick_runs.proofs.Going.{Laws, PollsJoin, asks_nothing}
+use Rattle.trick_runs.proofs.StopLemmas.{chose_behind, chose_from, parts_of, stops_behind}
 use Rattle.trick_tic.proofs.Doing.{fine}
 use Rattle.trick_tic.proofs.StepLemmas.{all_done, steps_of-append, writes_of-steps_of}
 use Rattle.trick_runs.specs.Answers.{answers}
@@ -31,7 +31,8 @@ use Rattle.trick_runs.specs.Follows.{EndsElsewhere}
 use Rattle.trick_runs.specs.Goes.{left_of}
 use Rattle.trick_runs.specs.Hosts.{Hosts, Place, at}
 use Rattle.trick_runs.specs.Over.{AreOver, AreShort, AreStopped}
-use Rattle.trick_runs.specs.Rounds.{AreChosen}
+use Rattle.trick_runs.specs.Chosen.{AreAsked, ChoseTo, of_all}
+use Rattle.trick_runs.specs.Rounds.{AreChosen, no_turn, no_waits}
 use Rattle.trick_runs.specs.Ran.{Missed, Ran, Stopped, last_answer, writes_so_far}
 use Rattle.trick_runs.specs.Stops as place
 use Rattle.trick_runs.specs.Stops.{StopsAt}
@@ -86,6 +87,12 @@ other_turn told turn kept given ends = by (turn == told.end) refl ends
     by false e same = (ap (λ o. (numbers o).0) same, differs e, ap (λ o. (numbers o).1) same)
 
 module _ {S U M Q : Type 0} (h : Hosts S U M Q) (laws : Laws h) (p : Plan) (start : State) where
+  -- the last answers, and then nothing more
+  last_given : (mid over end : U) (last : List Answer) → h.turns.went mid last [] over → h.turns.went over [] [] end
+      → h.turns.went mid last [] end
+  last_given mid over end last step went =
+      subst (λ (a : List Answer). h.turns.went mid a [] end) (append-nil last) (laws.turns mid over end last [] [] [] step went)
+
   -- all of a run
   pub ran : {A B : Type 0} {old : Place S U Q} {mid new : S} {end : U} {over : Place S U Q} {begun : Result A Stop} {ended : Result B Stop} {w : World} {lists : List (List Entry)}
       (last : State) → Does h.shelf old.shelf mid begun (steps_of (start_writes p start.turn)) → IsOk begun
@@ -101,15 +108,22 @@ module _ {S U M Q : Type 0} (h : Hosts S U M Q) (laws : Laws h) (p : Plan) (star
       let did : Does h.shelf old.shelf new fine (steps_of (run_writes p start lists)) =
       subst (λ calls. Does h.shelf old.shelf new fine calls) (sym (whole p start lists))
       (does_then laws.shelf begun ok (does_then laws.shelf turns.does refl wrote)) in
-      let given = answers d p (opened start) lists ++ last_answer w.state in
+      let given = answers d p (opened start) lists ++ last_answer w in
       let said = turns_said p (opened start) lists in
       record {
         fits = turns.fits;
         done = record {
-          step = subst (λ (v : World). h.turns.went old.turns (answers d p (opened start) lists ++ last_answer v.state) said end) turns.is
+          step = subst (λ (v : World). h.turns.went old.turns (answers d p (opened start) lists ++ last_answer v) said end) turns.is
               (subst (λ (a : List Answer). h.turns.went old.turns a said end) (append-nil given)
               (subst (λ (m : List Message). h.turns.went old.turns (given ++ []) m end) (append-nil said)
               (laws.turns old.turns over.turns end given [] said [] turns.done.step went)));
+          handed = (let so = turns.done.handed in (
+            so.0,
+            so.1,
+            subst (λ (v : World). h.turns.went so.0 (last_answer v) [] end) turns.is
+                (last_given so.0 over.turns end (last_answer w) so.2 went),
+          ));
+          rules = turns.done.rules;
           asks = turns.done.asks;
         };
         told = λ decides told tells. (let so = turns.told decides told tells in (
@@ -124,43 +138,56 @@ module _ {S U M Q : Type 0} (h : Hosts S U M Q) (laws : Laws h) (p : Plan) (star
 
   -- ---- a stop
 
+  -- before the first turn nothing is chosen
+  none_chosen : (d : Bool) (q : Q) → h.posts.asked q [] q → AreAsked h.posts d p start [] q q
+  none_chosen d q unasked =
+      asks_nothing h.posts d q (λ polls. (waits : List ℕ) × AreChosen p (opened start) [] polls waits) unasked (no_waits p, no_turn)
+
   -- it stopped before its first turn
   pub stopped_first : {A T : Type 0} {old : Place S U Q} {new : S} {begun : Result A Stop} (result : Result T Stop) (e f : Stop)
-      → h.turns.went old.turns [] [] old.turns
+      → h.turns.went old.turns [] [] old.turns → h.posts.asked old.posts [] old.posts
       → Does h.shelf old.shelf new begun (steps_of (start_writes p start.turn)) → begun ≡ Err e → result ≡ Err f → f ≡ e
       → Stopped h p start [] old (at new old.turns old.posts) result
-  stopped_first result e f nothing did at_first is same =
+  stopped_first {old = old} result e f nothing unasked did at_first is same =
       let rest = steps_of (turns_writes p (opened start) []) ++ steps_of (end_writes p (final p start [])) in
       let all = did_of (sym (whole p start [])) (did_err result e f rest did at_first is same) in
       record {
         owed = false;
         goes = refl;
         follows = λ decides told tells. tt;
+        rules = refl;
         does = all.0;
         last = [];
+        asked = inl refl;
         sent = [];
         unsent = [];
         handed = refl;
         step = nothing;
         stops = subst (λ (calls : List Call). StopsAt p start (start_writes p start.turn) [] calls []) (sym all.1) (place.before did.calls did.part);
+        owes = λ e. cc e;
+        chose = of_all [] all.0.calls (none_chosen (h.turns.decided old.turns) old.posts unasked);
       }
 
   -- there was no memory for what it keeps
   pub stopped_at_once : {T : Type 0} (old : Place S U Q) (result : Result T Stop) → h.shelf.called old.shelf [] old.shelf
-      → h.turns.went old.turns [] [] old.turns → (IsOk result → ⊥) → (IsErrOf result Shelf → ⊥) → Stopped h p start [] old old result
-  stopped_at_once old result called nothing not_done never =
+      → h.turns.went old.turns [] [] old.turns → h.posts.asked old.posts [] old.posts → (IsOk result → ⊥) → (IsErrOf result Shelf → ⊥) → Stopped h p start [] old old result
+  stopped_at_once old result called nothing unasked not_done never =
       let none = did_none old.shelf result (steps_of (run_writes p start [])) called not_done never in
       record {
         owed = false;
         goes = refl;
         follows = λ decides told tells. tt;
+        rules = refl;
         does = none.0;
         last = [];
+        asked = inl refl;
         sent = [];
         unsent = [];
         handed = refl;
         step = nothing;
         stops = subst (λ (calls : List Call). StopsAt p start (start_writes p start.turn) [] calls []) (sym none.1) (place.before [] tt);
+        owes = λ e. cc e;
+        chose = of_all [] none.0.calls (none_chosen (h.turns.decided old.turns) old.posts unasked);
       }
 
   -- it stopped in its turns
@@ -168,22 +195,28 @@ module _ {S U M Q : Type 0} (h : Hosts S U M Q) (laws : Laws h) (p : Plan) (star
       (result : Result V Stop) (e f : Stop) → Does h.shelf old.shelf mid begun (steps_of (start_writes p start.turn)) → IsOk begun
       → AreStopped h p start lists (at mid old.turns old.posts) now first → first ≡ Err e → result ≡ Err f → f ≡ e
       → Stopped h p start lists old now result
-  stopped_in_turns {lists = lists} result e f begun ok turns at_first is same =
+  stopped_in_turns {old = old} {now = now} {lists = lists} result e f begun ok turns at_first is same =
       let head = start_writes p start.turn in
       let failed = did_err result e f (steps_of (end_writes p (final p start lists))) turns.does at_first is same in
       let all = did_of (sym (whole p start lists)) (did_then laws.shelf begun ok failed.0) in
+      let calls_are = sym (all.1 ∙ ap (λ (calls : List Call). steps_of head ++ calls) failed.1) in
       record {
         owed = turns.owed;
         goes = turns.goes;
         follows = turns.follows;
+        rules = turns.rules;
         does = all.0;
-        last = turns.last;
+        last = [];
+        asked = inl refl;
         sent = turns.sent;
         unsent = turns.unsent;
         handed = turns.handed;
-        step = turns.step;
-        stops = subst (λ (calls : List Call). StopsAt p start head lists calls turns.sent)
-            (sym (all.1 ∙ ap (λ (calls : List Call). steps_of head ++ calls) failed.1)) (stops_behind head turns.stops);
+        step = subst (λ (a : List Answer). h.turns.went old.turns a turns.sent now.turns)
+            (sym (append-nil (answers (h.turns.decided old.turns) p (opened start) lists))) turns.step;
+        stops = subst (λ (calls : List Call). StopsAt p start head lists calls turns.sent) calls_are (stops_behind head turns.stops);
+        owes = turns.owes;
+        chose = subst (λ (calls : List Call). ChoseTo h.posts (h.turns.decided old.turns) p start head old.posts now.posts lists calls) calls_are
+            (chose_behind head turns.chose);
       }
 
   -- it was over, and stopped among its last files
@@ -207,17 +240,21 @@ module _ {S U M Q : Type 0} (h : Hosts S U M Q) (laws : Laws h) (p : Plan) (star
         owed = false;
         goes = goes_paid p (opened start) lists ∙ turns.fits.goes;
         follows = λ decides told tells. (turns.told decides told tells).0;
+        rules = turns.done.rules;
         does = all.0;
-        last = last_answer w.state;
+        last = last_answer w;
+        asked = inr (ap (λ (v : World). last_answer v) turns.is);
         sent = said;
         unsent = [];
         handed = sym (append-nil said);
-        step = subst (λ (a : List Answer). h.turns.went old.turns a said end) (append-nil (answers d p (opened start) lists ++ last_answer w.state))
-            (subst (λ (m : List Message). h.turns.went old.turns ((answers d p (opened start) lists ++ last_answer w.state) ++ []) m end) (append-nil said)
-            (laws.turns old.turns over.turns end (answers d p (opened start) lists ++ last_answer w.state) [] said [] turns.done.step went));
+        step = subst (λ (a : List Answer). h.turns.went old.turns a said end) (append-nil (answers d p (opened start) lists ++ last_answer w))
+            (subst (λ (m : List Message). h.turns.went old.turns ((answers d p (opened start) lists ++ last_answer w) ++ []) m end) (append-nil said)
+            (laws.turns old.turns over.turns end (answers d p (opened start) lists ++ last_answer w) [] said [] turns.done.step went));
         stops = subst (λ (calls : List Call). StopsAt p start head lists calls said)
             (parts_of head writes wrote.calls ∙ sym (all.1 ∙ ap (λ (calls : List Call). steps_of head ++ calls) late.1))
             (place.at_end lists wrote.calls turns.fits wrote.part);
+        owes = λ e. cc e;
+        chose = of_all lists all.0.calls turns.done.asks;
       }
 
   -- ---- a journal that has another end
@@ -241,7 +278,7 @@ module _ {S U M Q : Type 0} (h : Hosts S U M Q) (laws : Laws h) (p : Plan) (star
       → Missed h p start lists old (at over.shelf end over.posts) kept given
   missed_over {old = old} {mid = mid} {end = end} {over = over} {w = w} {lists = lists} kept given begun ok turns went ends =
       let d = h.turns.decided old.turns in
-      let last = last_answer w.state in
+      let last = last_answer w in
       let all = answers d p (opened start) lists ++ last in
       let said = turns_said p (opened start) lists in
       let did = so_far lists begun ok turns.does refl in
@@ -254,11 +291,13 @@ module _ {S U M Q : Type 0} (h : Hosts S U M Q) (laws : Laws h) (p : Plan) (star
             (so.0, numbers.0, subst (λ (v : World). EndsElsewhere told v.state left given) turns.is (inl (so.1, numbers.1, numbers.2)))
             );
         last = last;
-        asked = inr (ap (λ (v : World). last_answer v.state) turns.is);
+        asked = inr (ap (λ (v : World). last_answer v) turns.is);
         done = record {
           step = subst (λ (a : List Answer). h.turns.went old.turns a said end) (append-nil all)
               (subst (λ (m : List Message). h.turns.went old.turns (all ++ []) m end) (append-nil said)
               (laws.turns old.turns over.turns end all [] said [] turns.done.step went));
+          handed = (let so = turns.done.handed in (so.0, so.1, last_given so.0 over.turns end last so.2 went));
+          rules = turns.done.rules;
           asks = turns.done.asks;
         };
         does = did;
@@ -280,7 +319,7 @@ module _ {S U M Q : Type 0} (h : Hosts S U M Q) (laws : Laws h) (p : Plan) (star
             );
         last = [];
         asked = inl refl;
-        done = record { step = turns.done.step; asks = turns.done.asks };
+        done = record { step = turns.done.step; handed = turns.done.handed; rules = turns.done.rules; asks = turns.done.asks };
         does = did;
         files = λ before holds. files_made (writes_so_far p start lists) did refl before holds;
       }
@@ -293,6 +332,8 @@ started {h = h} {p = p} {s = s} {lists = lists} {new = new} shelf turns old mid 
   fits = so.fits;
   done = record {
     step = so.done.step;
+    handed = so.done.handed;
+    rules = so.done.rules;
     asks = asks_behind h.posts join (h.turns.decided turns) (λ polls. (waits : List ℕ) × AreChosen p (opened s) lists polls waits) old mid new.posts first so.done.asks;
   };
   told = so.told;
@@ -309,8 +350,30 @@ missed_started {h = h} {p = p} {s = s} {lists = lists} {new = new} shelf turns o
   asked = so.asked;
   done = record {
     step = so.done.step;
+    handed = so.done.handed;
+    rules = so.done.rules;
     asks = asks_behind h.posts join (h.turns.decided turns) (λ polls. (waits : List ℕ) × AreChosen p (opened s) lists polls waits) old mid new.posts first so.done.asks;
   };
   does = so.does;
   files = so.files;
+}
+
+pub stopped_started : {S U M Q T : Type 0} {h : Hosts S U M Q} {p : Plan} {s : State} {lists : List (List Entry)} {new : Place S U Q} {result : Result T Stop} (shelf : S) (turns : U) (old mid : Q)
+    → PollsJoin h.posts → h.posts.asked old [] mid → Stopped h p s lists (at shelf turns mid) new result → Stopped h p s lists (at shelf turns old) new result
+stopped_started {h = h} {p = p} {s = s} shelf turns old mid join first so = record {
+  owed = so.owed;
+  goes = so.goes;
+  follows = so.follows;
+  rules = so.rules;
+  does = so.does;
+  last = so.last;
+  asked = so.asked;
+  sent = so.sent;
+  unsent = so.unsent;
+  handed = so.handed;
+  step = so.step;
+  stops = so.stops;
+  owes = so.owes;
+  chose = chose_from old (λ now early. asks_behind h.posts join (h.turns.decided turns)
+      (λ polls. (waits : List ℕ) × AreChosen p (opened s) early polls waits) old mid now first) so.chose;
 }

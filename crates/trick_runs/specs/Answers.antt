@@ -1,12 +1,12 @@
 -- What the turns of a run were given and told.
-use Rattle.std.specs.Prelude.{◌≡◌, true, false, Bool, IsOk, List, [], ◌∷◌, ◌++◌, filter, None, Some, Result}
+use Rattle.std.specs.Prelude.{◌≡◌, true, false, Bool, IsOk, IsTrue, List, [], ◌∷◌, ◌++◌, filter, map, None, Some, Result}
 use Rattle.trick_model.specs.Journal.{is_of_session}
 use Rattle.trick_model.specs.Plan.{Plan}
 use Rattle.trick_model.specs.Session.{Message}
-use Rattle.trick_model.specs.State.{State, World}
+use Rattle.trick_model.specs.State.{World}
 use Rattle.trick_model.specs.Turn.{turn}
 use Rattle.trick_model.specs.declared.entry.Entry.{Entry}
-use Rattle.trick_turns.specs.Turns.{Answer}
+use Rattle.trick_turns.specs.Turns.{Answer, is_succession, no_sessions}
 use Rattle.trick_turns.specs.declared.turns.Turns.{Ghosts}
 
 -- ---- answers
@@ -17,10 +17,14 @@ abbrev pub given : Bool → List Entry → List Entry
 given true entries = entries
 given false entries = filter is_of_session entries
 
+-- The lists that a source gave turns with these entries are a succession.
+abbrev pub IsSuccession : Bool → List (List Entry) → Type 0
+IsSuccession decides lists = IsTrue (is_succession (map (given decides) lists) no_sessions)
+
 -- the answer that gave a turn its entries
 abbrev pub list_answer : Bool → World → List Entry → List Answer
 list_answer decides w entries =
-    record { turn = w.state.turn; mode = w.state.mode; list = Some (given decides entries) } ∷ []
+    record { turn = w.state.turn; mode = w.state.mode; sessions = w.sessions; list = Some (given decides entries) } ∷ []
 
 -- the answers that gave turns their entries, one after another
 abbrev pub answers : Bool → Plan → World → List (List Entry) → List Answer
@@ -29,8 +33,8 @@ answers decides p w (entries ∷ lists) =
     let next = (turn p w entries).world in list_answer decides w entries ++ answers decides p next lists
 
 -- that no line comes any more
-abbrev pub no_more : State → List Answer
-no_more s = record { turn = s.turn; mode = s.mode; list = None } ∷ []
+abbrev pub no_more : World → List Answer
+no_more w = record { turn = w.state.turn; mode = w.state.mode; sessions = w.sessions; list = None } ∷ []
 
 -- ---- messages
 

@@ -12,6 +12,8 @@ pub mod Follows
 pub mod Turned
 -- Where a run stopped.
 pub mod Stops
+-- Which publications were chosen in turns that stopped.
+pub mod Chosen
 -- What a run did.
 pub mod Ran
 -- What the turns of a run came to.

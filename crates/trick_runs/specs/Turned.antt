@@ -15,10 +15,13 @@ use Rattle.trick_runs.specs.Answers.{Says}
 use Rattle.trick_runs.specs.Hosts.{Hosts, Place}
 use Rattle.trick_tic.specs.Steps.{steps_of}
 
+-- the lines that a turn adds to the journal
+abbrev pub line_notes : ℕ → TurnedOf → List Write
+line_notes number t = note number (filter is_of_session t.noted)
+
 -- what a turn adds to the journal: its lines, and its publications that count
 abbrev pub notes : ℕ → TurnedOf → List Write
-notes number t =
-    note number (filter is_of_session t.noted) ++ note number (filter (λ entry. not (is_of_session entry)) t.noted)
+notes number t = line_notes number t ++ note number (filter (λ entry. not (is_of_session entry)) t.noted)
 
 -- Posts were asked for rounds by polls that are so, or not at all where another decides.
 abbrev pub Asks : {Q : Type 0} → Bool → (Q → List Poll → Q → Type 0) → (List Poll → Type 0) → Q → Q → Type 0

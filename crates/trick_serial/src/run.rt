@@ -7,6 +7,7 @@ ghost use Rattle.trick_model.specs.PlanOf.{plan_of};
 ghost use Rattle.trick_model.specs.Run.{start as start_of};
 ghost use Rattle.trick_model.specs.State.{seen};
 ghost use Rattle.trick_model.specs.ValidState.{IsStateOf};
+ghost use Rattle.trick_one_post.specs.Posting.{started_at};
 ghost use Rattle.trick_serial.specs.Serial.{RunsSerially};
 
 use crate::Ended;
@@ -15,33 +16,40 @@ use crate::first::first_state;
 use crate::workers::one_thread;
 use std::alloc::Global;
 use std::sync::Arc;
-use trick_exec::run_alone;
+use trick_exec::laws::{runs_are_alone, serial_forms_are_alone};
+use trick_exec::run;
 use trick_lang::Cells;
 use trick_model::{Accepted, State, laws};
+use trick_one_post::OnePost;
 use trick_outside::{Shelf, Stop};
 use trick_phase::Phases;
-use trick_post::Posts;
 use trick_tic::Workers;
+use trick_turns::NoTurns;
 
 /// Runs an accepted plan from a state by these workers, who have nothing in flight, without clients, until the run
-/// is over; whoever they are, it comes to what one thread makes of it. It writes the files of the run, and where it
-/// stops a part of them: at `Stop::Shelf` the shelf failed, and at `Stop::Memory` there was no memory.
-pub fn serial_by<M: Cells + Drop, F: Shelf, H: Phases<M>, P: Posts>(
+/// is over; whoever does the jobs, it comes to what one thread makes of it. It writes the files of the run, and where
+/// it stops a part of them: at `Stop::Shelf` the shelf failed, and at `Stop::Memory` there was no memory.
+pub fn serial_by<M: Cells + Drop, F: Shelf, H: Phases<M>>(
     alloc: Global,
     accepted: &Accepted,
     state: State<M>,
     shelf: &mut F,
-    workers: &mut Workers<H, P>,
+    workers: &mut Workers<H, OnePost>,
 ) -> Result<Ended, Stop>
     requires own { H.is_for workers.old.phases accepted.now.plan }
-    requires posts { P.plan workers.old.posts ≡ accepted.now.plan }
-    requires free { (n : ℕ) → P.in_flight workers.old.posts n ≡ None }
+    requires posts { (arc_value workers.old.posts.accepted).plan ≡ accepted.now.plan }
+    requires free { (n : ℕ) → started_at workers.old.posts.trays.items n ≡ None }
     requires valid { IsStateOf (plan_of accepted.now.plan) (seen M.numbers state) }
     requires memory { IsMemoryOf accepted.now.plan.program (M.numbers state.memory) (M.scalars state.memory) }
     ensures run { RunsSerially F.Shelf (plan_of accepted.now.plan) (seen M.numbers state) shelf.old shelf.new result }
 {
-    let last = run_alone(alloc, accepted, state, shelf, workers)?;
-    Ok(ended_by(&last))
+    runs_are_alone::<M, F, OnePost, NoTurns>();
+    serial_forms_are_alone::<M, F>();
+    let mut turns = NoTurns;
+    match run(alloc, accepted, state, shelf, workers, &mut turns)? {
+        trick_exec::Ended::Done(world) => Ok(ended_by(&world.state)),
+        trick_exec::Ended::Length { .. } => unreachable!(),
+    }
 }
 
 /// Runs an accepted plan, which it shares with its workers, from a state, on the caller's thread and without

@@ -12,22 +12,25 @@ use Rattle.trick_model.specs.Turn.{is_frozen}
 use Rattle.trick_model.specs.declared.entry.Entry.{Entry}
 use Rattle.trick_model.specs.declared.entry.Entry.TheVariants.{Join, Said, Leave, Publish}
 use Rattle.trick_model.specs.declared.mode.Mode.{Mode}
+use Rattle.trick_model.specs.declared.session.Session.{Session}
 
 -- ---- what was answered, and what was sent
 
--- An answer: the turn and the mode of the state that was shown, and the list that was given, or that
--- no line comes any more.
+-- An answer: the turn and the mode of the state that was shown, the sessions that were there, and the list
+-- that was given, or that no line comes any more.
 pub record Answer : Type 0 where
   pub turn : ℕ
   pub mode : Mode
+  pub sessions : List Session
   pub list : Option (List Entry)
 
 -- The answers that one call adds: only a list and `NoMore` count.
-abbrev pub answered : State → Next → List Answer
-answered s (next.Entries list) = record { turn = s.turn; mode = s.mode; list = Some list.items } ∷ []
-answered s next.NoMore = record { turn = s.turn; mode = s.mode; list = None } ∷ []
-answered s (next.Length kept given) = []
-answered s next.OutOfMemory = []
+abbrev pub answered : State → List Session → Next → List Answer
+answered s there (next.Entries list) =
+    record { turn = s.turn; mode = s.mode; sessions = there; list = Some list.items } ∷ []
+answered s there next.NoMore = record { turn = s.turn; mode = s.mode; sessions = there; list = None } ∷ []
+answered s there (next.Length kept given) = []
+answered s there next.OutOfMemory = []
 
 -- The messages that one call hands over.
 abbrev pub sent : Result (Unit {0}) AllocError → ℕ → List ℕ → List Message
@@ -136,6 +139,17 @@ after_entries (entry ∷ entries) s = after_entries entries (after_entry entry s
 -- a list begins: those that are there can be sent messages
 abbrev pub in_next : Sessions → Sessions
 in_next s = record s { reached = s.live }
+
+-- the sessions after lists, one for each turn
+abbrev pub after_lists : List (List Entry) → Sessions → Sessions
+after_lists [] s = s
+after_lists (list ∷ lists) s = after_lists lists (after_entries list (in_next s))
+
+-- Lists, one for each turn, are a succession from these sessions on: each may come after those before it.
+abbrev pub is_succession : List (List Entry) → Sessions → Bool
+is_succession [] s = true
+is_succession (list ∷ lists) s =
+    may_all_come list (in_next s) && is_succession lists (after_entries list (in_next s))
 
 -- A list goes on from those before it. Only who decides what is published gives publications.
 abbrev pub GoesOn : Bool → Sessions → Next → Sessions → Type 0

@@ -1,7 +1,7 @@
 use crate::{Next, Turns};
 use std::alloc::{AllocError, Global};
 use trick_lang::Cells;
-use trick_model::{Mode, State};
+use trick_model::{Mode, Session, State};
 
 /// No entry ever comes: a run without clients.
 #[derive(Debug, Drop)]
@@ -23,7 +23,7 @@ impl<M: Cells> Turns<M> for NoTurns {
 
     ghost takes = { λ turns session. Unit {0} };
 
-    fn entries(&mut self, alloc: Global, state: &State<M>) -> Next {
+    fn entries(&mut self, alloc: Global, state: &State<M>, _live: &[Session]) -> Next {
         match state.mode {
             Mode::Freeze => Next::NoMore,
             Mode::Run | Mode::Shutdown => Next::Entries(Vec::new(alloc)),

@@ -4,7 +4,7 @@ ghost use Rattle.trick_model.specs.State.{seen};
 
 use std::alloc::{AllocError, Global};
 use trick_lang::Cells;
-use trick_model::{Entry, State};
+use trick_model::{Entry, Session, State};
 
 /// What the next turn is given.
 #[derive(Drop)]
@@ -45,10 +45,10 @@ pub trait Turns<M: Cells> {
     /// It takes messages to the session of this number.
     ghost takes: { Self → ℕ → Type 0 };
 
-    /// The entries of the turn that comes next, in this state. Where it tells a journal, what it
-    /// answers is what the journal says.
-    fn entries(&mut self, alloc: Global, state: &State<M>) -> Next
-        ensures step { went self.old (answered (seen M.numbers state.now) result) [] self.new }
+    /// The entries of the turn that comes next, in this state, where these sessions are there. Where it
+    /// tells a journal, what it answers is what the journal says.
+    fn entries(&mut self, alloc: Global, state: &State<M>, live: &[Session]) -> Next
+        ensures step { went self.old (answered (seen M.numbers state.now) live.now result) [] self.new }
         ensures pays { Pays (seen M.numbers state.now) result (owes self.old) (owes self.new) }
         ensures gives { Gives (seen M.numbers state.now) (journal self.old) result (journal self.new) }
         ensures rules { GoesOn (decided self.old) (sessions self.old) result (sessions self.new) }

@@ -1,4 +1,4 @@
-use Rattle.std.proofs.Common.{◌≡◌, ℕ, ◌∙◌, drop, subst, sym, take}
+use Rattle.std.proofs.Common.{ℕ, ◌∙◌, drop, subst, sym, take}
 use Rattle.trick_exec.proofs.LineLemmas.{apart_all, apart_at}
 use Rattle.trick_exec.proofs.lines.count_lines.Goals as goal
 use Rattle.trick_runs.specs.Parts.{AreApart}

@@ -1,4 +1,4 @@
-use Rattle.std.proofs.Common.{◌≡◌, ◌∙◌, ℕ, List, true, ap, refl, subst, sym}
+use Rattle.std.proofs.Common.{◌≡◌, ◌∙◌, List, ap, refl, subst, sym}
 use Rattle.std.proofs.lemmas.Result.{err_from_is_err_and}
 use Rattle.std.specs.List.{list_any}
 use Rattle.std.specs.Prelude.{◌==◌, All, IsTrue}
@@ -6,7 +6,6 @@ use Rattle.trick_exec.proofs.SendLemmas.{not_ok}
 use Rattle.trick_exec.proofs.SessionLemmas.{samples_reach}
 use Rattle.trick_exec.proofs.rest.send_samples.Goals as goal
 use Rattle.trick_hear.specs.Hearing.{said_of}
-use Rattle.trick_hear.specs.declared.hearing.Message.{Message}
 use Rattle.trick_model.specs.Session.{Message as MessageOf, samples}
 use Rattle.trick_model.specs.State.{State, seen}
 use Rattle.trick_runs.proofs.SayLemmas.{says_as, says_none}

@@ -1,8 +1,6 @@
-use Rattle.std.proofs.Common.{Ok, refl, subst}
+use Rattle.std.proofs.Common.{refl, subst}
 use Rattle.std.proofs.lemmas.Result.{err_from_is_err_and}
-use Rattle.std.specs.Prelude.{Result}
 use Rattle.trick_exec.proofs.whole.close.Goals as goal
-use Rattle.trick_exec.specs.declared.world.World.{World}
 use Rattle.trick_model.specs.Files.{end_writes}
 use Rattle.trick_model.specs.PlanOf.{plan_of}
 use Rattle.trick_model.specs.State.{State}

@@ -1,0 +1,243 @@
+use Rattle.std.proofs.Common.{rules, ◌≡◌, ◌∙◌, List, [], Err, None, Some, ap, length, refl, subst, sym}
+use Rattle.std.proofs.lemmas.List.{length-map}
+use Rattle.std.proofs.lemmas.Result.{err_from_is_err_and}
+use Rattle.std.specs.Prelude.{Option, Result, nat_le}
+use Rattle.trick_exec.proofs.GoLemmas.{both_false, came_as, gave_as, none_known, step_as, under_more, under_stops}
+use Rattle.trick_exec.proofs.IdleTurns.{idle_known, idle_turn}
+use Rattle.trick_exec.proofs.lent.Run.go.Goals as goal
+use Rattle.trick_exec.specs.CameTo.{HasGiven}
+use Rattle.trick_exec.specs.Ended.{AreTurns}
+use Rattle.trick_exec.specs.Worlds.{world_of}
+use Rattle.trick_exec.specs.declared.ended.Ended.{Ended as EndedValue}
+use Rattle.trick_exec.specs.declared.world.World.{World as WorldValue}
+use Rattle.trick_model.specs.Plan.{threads_beside}
+use Rattle.trick_model.specs.PlanOf.{plan_of}
+use Rattle.trick_model.specs.Run.{is_shut, opened}
+use Rattle.trick_model.specs.State.{State, World, seen}
+use Rattle.trick_model.specs.declared.entry.Entry.{Entry}
+use Rattle.trick_model.specs.declared.thread.Thread.{Thread}
+use Rattle.trick_outside.specs.declared.stop.Stop.TheVariants.{Memory}
+use Rattle.trick_outside.specs.declared.stop.Stop.{Stop}
+use Rattle.trick_runs.proofs.Ending.{ends_short, over_asked, over_unasked, stops_between}
+use Rattle.trick_runs.proofs.Going.{Gave, IsGoing, Laws, going_starts}
+use Rattle.trick_runs.specs.Hosts.{Place, at, hosts}
+use Rattle.trick_runs.specs.Rounds.{no_waits}
+use Rattle.trick_turns.specs.Turns.{Gives, Sessions, Told, after_entries, in_next}
+use Rattle.trick_turns.specs.declared.turns.Next.TheVariants as next
+
+pub turns-init : goal.turns-init
+turns-init g c =
+    let p = plan_of c.args.accepted.now.plan in
+    let h = hosts g.F.Shelf g.T.Turns g.P.Posts in
+    let start : State = seen g.M.Cells.numbers c.args.world.state in
+    let one : Place g.row.F.Denot g.row.T.Denot g.row.P.Denot = at c.args.self.now.shelf.now c.args.self.now.turns.now c.args.self.now.workers.now.posts in
+    let same : opened start ≡ world_of g.M.Cells.numbers c.args.world = λ i. record { state = start; sessions = sym c.requires.sessions i } in
+    record {
+      under = record {
+        lists = [];
+        waits = no_waits p;
+        going = subst (λ (w : World). IsGoing h p start one one w (no_waits p) []) same
+            (going_starts h p start one (g.met.F.Shelf.called_none c.args.self.now.shelf.now) (g.met.T.Turns.went_none c.args.self.now.turns.now) (g.met.P.Posts.asked_none c.args.self.now.workers.now.posts) c.requires.paid c.requires.unknown);
+        same = λ none. c.requires.waits;
+      };
+      ready = c.requires.ready;
+      same = (refl, refl, refl);
+      waits = ap length c.requires.waits ∙ length-map (threads_beside p) (λ (thread : Thread). 0);
+      known = none_known p c.args.world.sessions.items (g.T.Turns.sessions c.args.self.now.turns.now) c.requires.sessions c.requires.unknown;
+    }
+
+pub returns-then-is_over-clause-turns : goal.returns-then-is_over-clause-turns
+returns-then-is_over-clause-turns g c =
+    let plan = c.args.accepted.now.plan in
+    let p = plan_of plan in
+    let h = hosts g.F.Shelf g.T.Turns g.P.Posts in
+    let laws : Laws h = record { shelf = g.met.F.Shelf.called_join; turns = g.met.T.Turns.went_join; posts = g.met.P.Posts.asked_join; runs = c.runs_join.ensures } in
+    let start : State = seen g.M.Cells.numbers c.args.world.state in
+    let under = c.turns.invariant.under in
+    (under.lists, over_unasked h laws p start (g.met.T.Turns.went_none c.turns.self.turns.now) under.going (sym c.is_over.ensures ∙ c.if-is_over.true))
+
+pub turn-requires-clause-ready : goal.turn-requires-clause-ready
+turn-requires-clause-ready g c =
+    record { own = c.turns.invariant.ready.own; posts = c.turns.invariant.ready.posts; equipped = c.idles.ensures.equipped }
+
+pub turn-requires-clause-given : goal.turn-requires-clause-given
+turn-requires-clause-given g c =
+    let plan = c.args.accepted.now.plan in
+    let p = plan_of plan in
+    let h = hosts g.F.Shelf g.T.Turns g.P.Posts in
+    let laws : Laws h = record { shelf = g.met.F.Shelf.called_join; turns = g.met.T.Turns.went_join; posts = g.met.P.Posts.asked_join; runs = c.runs_join.ensures } in
+    let start : State = seen g.M.Cells.numbers c.args.world.state in
+    let under = c.turns.invariant.under in
+    let w : World = world_of g.M.Cells.numbers c.turns.world in
+    let own : HasGiven p c.decides-decides.result w c.in-Entries.entries.items (g.T.Turns.sessions c.entries.new.self) = record {
+      known = g.T.Turns.sessions c.turns.self.turns.now;
+      are = c.turns.invariant.known;
+      may = c.in-Entries.ensures.rules.0;
+      after = c.in-Entries.ensures.rules.1;
+      silent = λ none. c.in-Entries.ensures.rules.2 (under.going.decided ∙ sym c.decides-decides.ensures ∙ none);
+    } in
+    subst (λ (v : WorldValue g.row.M.Denot). HasGiven p c.decides-decides.result (world_of g.M.Cells.numbers v) c.deref-in-Entries.result.now (g.T.Turns.sessions c.entries.new.self))
+    (sym (c.if-idles.ensures.unchanged refl))
+    (subst (λ (l : List Entry). HasGiven p c.decides-decides.result w l (g.T.Turns.sessions c.entries.new.self)) (sym c.deref-in-Entries.ensures.value) own)
+
+pub turns-preserved : goal.turns-preserved
+turns-preserved g c =
+    let plan = c.args.accepted.now.plan in
+    let p = plan_of plan in
+    let h = hosts g.F.Shelf g.T.Turns g.P.Posts in
+    let laws : Laws h = record { shelf = g.met.F.Shelf.called_join; turns = g.met.T.Turns.went_join; posts = g.met.P.Posts.asked_join; runs = c.runs_join.ensures } in
+    let start : State = seen g.M.Cells.numbers c.args.world.state in
+    let under = c.turns.invariant.under in
+    let w : World = world_of g.M.Cells.numbers c.turns.world in
+    let tests = both_false (is_shut w.state.mode) (nat_le w.state.limit w.state.tic) (sym c.is_over.ensures ∙ c.if-is_over.false) in
+    let items = c.in-Entries.entries.items in
+    let told_of = λ (o : Option Told) (is : g.T.Turns.journal c.turns.self.turns.now ≡ o).
+    subst (λ (x : Option Told). Gives w.state x (next.Entries c.in-Entries.entries) (g.T.Turns.journal c.entries.new.self)) is c.in-Entries.ensures.gives in
+    let given : Gave g.T.Turns w items c.turns.self.turns.now c.entries.new.self = record {
+      step = step_as g.T.Turns w c.deref.result.now (Some items) c.turns.self.turns.now c.entries.new.self c.deref.ensures.value
+          c.in-Entries.ensures.step;
+      owes = c.in-Entries.ensures.pays;
+      told = λ told is. told_of (Some told) is;
+      untold = λ none. told_of None none;
+      decided = c.in-Entries.ensures.decides;
+      may = c.in-Entries.ensures.rules.0;
+      sessions = c.in-Entries.ensures.rules.1;
+    } in
+    let gave : Gave g.T.Turns w c.deref-in-Entries.result.now c.turns.self.turns.now c.entries.new.self = gave_as (sym c.deref-in-Entries.ensures.value) given in
+    record {
+      under = under_more h laws g.M.Cells.numbers p start c.in_ok-world-in-Entries.world under c.decides-decides.ensures tests.0 tests.1 gave
+          (came_as c.idles.new.world c.turns.world (c.if-idles.ensures.unchanged refl) c.in_ok-world-in-Entries.ensures.came_to);
+      ready = c.in_ok-world-in-Entries.ensures.ready;
+      same = Prim.search rules;
+      waits = c.in_ok-world-in-Entries.ensures.waits;
+      known = c.in_ok-world-in-Entries.ensures.known;
+    }
+
+pub turns-preserved-then-idles : goal.turns-preserved-then-idles
+turns-preserved-then-idles g c =
+    let plan = c.args.accepted.now.plan in
+    let p = plan_of plan in
+    let h = hosts g.F.Shelf g.T.Turns g.P.Posts in
+    let laws : Laws h = record { shelf = g.met.F.Shelf.called_join; turns = g.met.T.Turns.went_join; posts = g.met.P.Posts.asked_join; runs = c.runs_join.ensures } in
+    let start : State = seen g.M.Cells.numbers c.args.world.state in
+    let under = c.turns.invariant.under in
+    let w : World = world_of g.M.Cells.numbers c.turns.world in
+    let tests = both_false (is_shut w.state.mode) (nat_le w.state.limit w.state.tic) (sym c.is_over.ensures ∙ c.if-is_over.false) in
+    let items = c.in-Entries.entries.items in
+    let told_of = λ (o : Option Told) (is : g.T.Turns.journal c.turns.self.turns.now ≡ o).
+    subst (λ (x : Option Told). Gives w.state x (next.Entries c.in-Entries.entries) (g.T.Turns.journal c.entries.new.self)) is c.in-Entries.ensures.gives in
+    let given : Gave g.T.Turns w items c.turns.self.turns.now c.entries.new.self = record {
+      step = step_as g.T.Turns w c.deref.result.now (Some items) c.turns.self.turns.now c.entries.new.self c.deref.ensures.value
+          c.in-Entries.ensures.step;
+      owes = c.in-Entries.ensures.pays;
+      told = λ told is. told_of (Some told) is;
+      untold = λ none. told_of None none;
+      decided = c.in-Entries.ensures.decides;
+      may = c.in-Entries.ensures.rules.0;
+      sessions = c.in-Entries.ensures.rules.1;
+    } in
+    let gave : Gave g.T.Turns w c.deref-in-Entries.result.now c.turns.self.turns.now c.entries.new.self = gave_as (sym c.deref-in-Entries.ensures.value) given in
+    let idle = c.if-idles.ensures in
+    let known : Sessions = g.T.Turns.sessions c.turns.self.turns.now in
+    let host : Place g.row.F.Denot g.row.T.Denot g.row.P.Denot = at c.turns.self.shelf.now c.entries.new.self c.turns.self.workers.now.posts in
+    record {
+      under = under_more h laws g.M.Cells.numbers p start c.idles.new.world under c.decides-decides.ensures tests.0 tests.1 gave
+          (idle_turn h g.M.Cells.numbers p c.decides-decides.result c.turns.world c.idles.new.world c.deref-in-Entries.result.now c.turns.self.waits.now.items host
+          (g.met.F.Shelf.called_none host.shelf) (g.met.T.Turns.went_none host.turns) (g.met.P.Posts.asked_none host.posts)
+          (idle.none refl) (idle.no_session refl) idle.sessions (idle.alone refl) c.turns.invariant.waits (idle.state refl) (idle.writes refl));
+      ready = record { own = c.turns.invariant.ready.own; posts = c.turns.invariant.ready.posts; equipped = c.idles.ensures.equipped };
+      same = c.turns.invariant.same;
+      waits = c.turns.invariant.waits;
+      known = idle_known p known (g.T.Turns.sessions c.entries.new.self) c.turns.world.sessions.items c.idles.new.world.sessions.items c.turns.invariant.known
+          (c.in-Entries.ensures.rules.1 ∙ ap (λ (l : List Entry). after_entries l (in_next known)) (sym c.deref-in-Entries.ensures.value ∙ idle.none refl))
+          (ap (λ v. v.items) c.idles.ensures.sessions);
+    }
+
+pub returns-in_err-world-in-Entries-clause-turns : goal.returns-in_err-world-in-Entries-clause-turns
+returns-in_err-world-in-Entries-clause-turns g c =
+    let plan = c.args.accepted.now.plan in
+    let p = plan_of plan in
+    let h = hosts g.F.Shelf g.T.Turns g.P.Posts in
+    let laws : Laws h = record { shelf = g.met.F.Shelf.called_join; turns = g.met.T.Turns.went_join; posts = g.met.P.Posts.asked_join; runs = c.runs_join.ensures } in
+    let start : State = seen g.M.Cells.numbers c.args.world.state in
+    let under = c.turns.invariant.under in
+    let w : World = world_of g.M.Cells.numbers c.turns.world in
+    let tests = both_false (is_shut w.state.mode) (nat_le w.state.limit w.state.tic) (sym c.is_over.ensures ∙ c.if-is_over.false) in
+    let items = c.in-Entries.entries.items in
+    let told_of = λ (o : Option Told) (is : g.T.Turns.journal c.turns.self.turns.now ≡ o).
+    subst (λ (x : Option Told). Gives w.state x (next.Entries c.in-Entries.entries) (g.T.Turns.journal c.entries.new.self)) is c.in-Entries.ensures.gives in
+    let given : Gave g.T.Turns w items c.turns.self.turns.now c.entries.new.self = record {
+      step = step_as g.T.Turns w c.deref.result.now (Some items) c.turns.self.turns.now c.entries.new.self c.deref.ensures.value
+          c.in-Entries.ensures.step;
+      owes = c.in-Entries.ensures.pays;
+      told = λ told is. told_of (Some told) is;
+      untold = λ none. told_of None none;
+      decided = c.in-Entries.ensures.decides;
+      may = c.in-Entries.ensures.rules.0;
+      sessions = c.in-Entries.ensures.rules.1;
+    } in
+    let gave : Gave g.T.Turns w c.deref-in-Entries.result.now c.turns.self.turns.now c.entries.new.self = gave_as (sym c.deref-in-Entries.ensures.value) given in
+    let error = err_from_is_err_and c.from_residual.result c.from_residual.ensures.1 in
+    let result : Result (EndedValue g.row.M.Denot) Stop = Err error.0 in
+    let old : Place g.row.F.Denot g.row.T.Denot g.row.P.Denot = at c.args.self.now.shelf.now c.args.self.now.turns.now c.args.self.now.workers.now.posts in
+    let new : Place g.row.F.Denot g.row.T.Denot g.row.P.Denot = at c.turn.new.self.shelf.now c.turn.new.self.turns.now c.turn.new.self.workers.now.posts in
+    subst (λ (r : Result (EndedValue g.row.M.Denot) Stop). AreTurns h g.M.Cells.numbers p start old new r) (sym error.1)
+    (under_stops h laws g.M.Cells.numbers p start result _ error.0 under c.decides-decides.ensures tests.0 tests.1 gave
+    (came_as c.idles.new.world c.turns.world (c.if-idles.ensures.unchanged refl) c.in_err-world-in-Entries.ensures.came_to) refl refl error.2)
+
+pub returns-in-NoMore-clause-turns : goal.returns-in-NoMore-clause-turns
+returns-in-NoMore-clause-turns g c =
+    let plan = c.args.accepted.now.plan in
+    let p = plan_of plan in
+    let h = hosts g.F.Shelf g.T.Turns g.P.Posts in
+    let laws : Laws h = record { shelf = g.met.F.Shelf.called_join; turns = g.met.T.Turns.went_join; posts = g.met.P.Posts.asked_join; runs = c.runs_join.ensures } in
+    let start : State = seen g.M.Cells.numbers c.args.world.state in
+    let under = c.turns.invariant.under in
+    let w : World = world_of g.M.Cells.numbers c.turns.world in
+    let tests = both_false (is_shut w.state.mode) (nat_le w.state.limit w.state.tic) (sym c.is_over.ensures ∙ c.if-is_over.false) in (
+      under.lists,
+      over_asked h laws p start c.entries.new.self under.going tests.1 c.in-NoMore.ensures.pays.0 c.in-NoMore.ensures.pays.1
+          (step_as g.T.Turns w c.deref.result.now None c.turns.self.turns.now c.entries.new.self c.deref.ensures.value c.in-NoMore.ensures.step)
+          (λ none. subst (λ (x : Option Told). Gives w.state x next.NoMore (g.T.Turns.journal c.entries.new.self)) none c.in-NoMore.ensures.gives)
+          (λ told is. subst (λ (x : Option Told). Gives w.state x next.NoMore (g.T.Turns.journal c.entries.new.self)) is c.in-NoMore.ensures.gives),
+    )
+
+pub returns-in-Length-clause-turns : goal.returns-in-Length-clause-turns
+returns-in-Length-clause-turns g c =
+    let plan = c.args.accepted.now.plan in
+    let p = plan_of plan in
+    let h = hosts g.F.Shelf g.T.Turns g.P.Posts in
+    let laws : Laws h = record { shelf = g.met.F.Shelf.called_join; turns = g.met.T.Turns.went_join; posts = g.met.P.Posts.asked_join; runs = c.runs_join.ensures } in
+    let start : State = seen g.M.Cells.numbers c.args.world.state in
+    let under = c.turns.invariant.under in
+    let w : World = world_of g.M.Cells.numbers c.turns.world in
+    let tests = both_false (is_shut w.state.mode) (nat_le w.state.limit w.state.tic) (sym c.is_over.ensures ∙ c.if-is_over.false) in
+    let told_of = λ (o : Option Told) (is : g.T.Turns.journal c.turns.self.turns.now ≡ o).
+    subst (λ (x : Option Told). Gives w.state x (next.Length c.in-Length.kept c.in-Length.given) (g.T.Turns.journal c.entries.new.self)) is c.in-Length.ensures.gives in (
+      under.lists,
+      w,
+      ends_short h laws p start c.entries.new.self c.in-Length.kept c.in-Length.given under.going tests.0 tests.1 c.in-Length.ensures.step
+          (λ none. told_of None none) (λ told is. told_of (Some told) is),
+    )
+
+pub returns-in-OutOfMemory-clause-turns : goal.returns-in-OutOfMemory-clause-turns
+returns-in-OutOfMemory-clause-turns g c =
+    let plan = c.args.accepted.now.plan in
+    let p = plan_of plan in
+    let h = hosts g.F.Shelf g.T.Turns g.P.Posts in
+    let laws : Laws h = record { shelf = g.met.F.Shelf.called_join; turns = g.met.T.Turns.went_join; posts = g.met.P.Posts.asked_join; runs = c.runs_join.ensures } in
+    let start : State = seen g.M.Cells.numbers c.args.world.state in
+    let under = c.turns.invariant.under in
+    let result : Result (EndedValue g.row.M.Denot) Stop = Err Memory in
+    (under.lists, stops_between h laws p start result c.entries.new.self under.going c.in-OutOfMemory.ensures.step (λ ok. cc) (λ fault. cc))
+
+pub returns-clause-turns : goal.returns-clause-turns
+returns-clause-turns g c =
+    let plan = c.args.accepted.now.plan in
+    let p = plan_of plan in
+    let h = hosts g.F.Shelf g.T.Turns g.P.Posts in
+    let laws : Laws h = record { shelf = g.met.F.Shelf.called_join; turns = g.met.T.Turns.went_join; posts = g.met.P.Posts.asked_join; runs = c.runs_join.ensures } in
+    let start : State = seen g.M.Cells.numbers c.args.world.state in
+    let under = c.turns.invariant.under in
+    let result : Result (EndedValue g.row.M.Denot) Stop = Err Memory in
+    (under.lists, stops_between h laws p start result c.turns.self.turns.now under.going (g.met.T.Turns.went_none c.turns.self.turns.now) (λ ok. cc) (λ fault. cc))

@@ -1,0 +1,24 @@
+use Rattle.std.proofs.Common.{◌≡◌, length}
+use Rattle.trick_exec.proofs.GoLemmas.{IsUnder}
+use Rattle.trick_exec.proofs.lent.Run.go.Given as goal
+use Rattle.trick_exec.specs.Known.{AreKnown}
+use Rattle.trick_exec.specs.Lent.{IsReady, IsSame, place}
+use Rattle.trick_exec.specs.Worlds.{world_of}
+use Rattle.trick_model.specs.Plan.{threads_beside}
+use Rattle.trick_model.specs.PlanOf.{plan_of}
+use Rattle.trick_model.specs.State.{seen}
+use Rattle.trick_runs.specs.Hosts.{hosts}
+
+-- so many turns are done
+abbrev pub invariant-turns : goal.invariant-turns
+invariant-turns g l =
+    let plan = l.accepted.plan in
+    let p = plan_of plan in
+    record {
+      same : IsSame l.initial.self l.self;
+      under : IsUnder (hosts g.F.Shelf g.T.Turns g.P.Posts) p (seen g.M.Cells.numbers l.fn.world.state) (place l.initial.self)
+          (place l.self) (world_of g.M.Cells.numbers l.world) l.self.waits.now.items;
+      ready : IsReady g.H.Phases g.P.Posts plan l.self (seen g.M.Cells.numbers l.world.state) (g.M.Cells.scalars l.world.state.memory);
+      waits : length l.self.waits.now.items ≡ length (threads_beside p);
+      known : AreKnown p (g.T.Turns.sessions l.self.turns.now) l.world.sessions.items;
+    }

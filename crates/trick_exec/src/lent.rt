@@ -1,0 +1,56 @@
+//! What a run is lent.
+
+ghost use Rattle.std.specs.Prelude.{◌≡◌};
+
+use std::alloc::Global;
+use trick_pass::Equipment;
+use trick_tic::Workers;
+
+/// What a run keeps beside its world: where its memory comes from, its equipment, and at how many run frames
+/// the round of each thread beside the tics has stayed unpublished.
+#[derive(Drop)]
+pub(crate) struct Keeping {
+    pub(crate) alloc: Global,
+    pub(crate) equipment: Equipment,
+    pub(crate) waits: Vec<u64>,
+}
+
+/// A run, as what it is lent: where its memory comes from, what it keeps beside its world, and the shelf, the
+/// workers and the source that it works with.
+#[derive(Drop)]
+pub(crate) struct Run<'a, F, H, P, T> {
+    pub(crate) alloc: Global,
+    pub(crate) equipment: &'a mut Equipment,
+    pub(crate) waits: &'a mut Vec<u64>,
+    pub(crate) shelf: &'a mut F,
+    pub(crate) workers: &'a mut Workers<H, P>,
+    pub(crate) turns: &'a mut T,
+}
+
+impl<'a, F, H, P, T> Run<'a, F, H, P, T> {
+    /// The run that is lent these.
+    pub(crate) fn new(
+        keeping: &'a mut Keeping,
+        shelf: &'a mut F,
+        workers: &'a mut Workers<H, P>,
+        turns: &'a mut T,
+    ) -> Self
+        ensures same_shelf { result.shelf.ghost_name ≡ shelf.entry.ghost_name }
+        ensures same_workers { result.workers.ghost_name ≡ workers.entry.ghost_name }
+        ensures same_turns { result.turns.ghost_name ≡ turns.entry.ghost_name }
+        ensures equipment { result.equipment.now ≡ keeping.old.equipment }
+        ensures waits { result.waits.now ≡ keeping.old.waits }
+        ensures shelf { result.shelf.now ≡ shelf.old }
+        ensures workers { result.workers.now ≡ workers.old }
+        ensures turns { result.turns.now ≡ turns.old }
+    {
+        Run {
+            alloc: keeping.alloc,
+            equipment: &mut keeping.equipment,
+            waits: &mut keeping.waits,
+            shelf,
+            workers,
+            turns,
+        }
+    }
+}

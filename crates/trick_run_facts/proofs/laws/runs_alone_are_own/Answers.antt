@@ -1,5 +1,0 @@
-use Rattle.trick_run_facts.proofs.OwnRuns.{own_run}
-use Rattle.trick_run_facts.proofs.laws.runs_alone_are_own.Goals as goal
-
-pub returns : goal.returns
-returns g c = λ plan s old new result alone run. own_run _ _ plan s old new result alone run
