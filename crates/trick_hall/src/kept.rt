@@ -33,9 +33,10 @@ use trick_race::laws::due_jobs_are_settled;
 use trick_turn::Keeps;
 
 /// A board of the plan of `P`, and whether the hall was shut. Its calls keep it in the state that the history leaves.
+/// The board is behind a pointer, since each turn moves this value in and out of the lock.
 #[derive(Drop)]
 pub struct Kept<M: Cells, P: Planned> {
-    board: Board<M>,
+    board: Box<Board<M>>,
     shut: bool,
     of: PhantomData<P>,
 }
@@ -45,7 +46,7 @@ impl<M: Cells, P: Planned> Model for Kept<M, P> {
 
     ghost Value = { HallView };
 
-    ghost view = { λ k. record { board = k.board; shut = k.shut } };
+    ghost view = { λ k. record { board = k.board.value; shut = k.shut } };
 }
 
 impl<M: Cells, P: Planned> Keeps for Kept<M, P> {
@@ -62,9 +63,11 @@ impl<M: Cells, P: Planned> Keeps for Kept<M, P> {
 impl<M: Cells, P: Planned> Kept<M, P> {
     /// A closed board, before the first entry. This call alone takes memory.
     pub(crate) fn new(alloc: Global, accepted: &Accepted) -> Result<Self, AllocError>
+    where
+        M: Drop,
         ensures { IfOk result (λ k. StandsAt accepted.now.plan k []) }
     {
-        let board = Board::new(alloc, accepted)?;
+        let board = Box::new(alloc, Board::new(alloc, accepted)?)?;
         Ok(Kept {
             board,
             shut: false,

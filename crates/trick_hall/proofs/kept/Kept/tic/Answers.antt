@@ -1,4 +1,5 @@
-use Rattle.std.proofs.Common.{subst, sym}
+use Rattle.std.proofs.Common.{◌∙◌, ap, subst, sym}
+use Rattle.trick_board.specs.Board.{BoardView}
 use Rattle.trick_hall.proofs.Boards.{tic_of_course}
 use Rattle.trick_hall.specs.HallView.{HallView}
 use Rattle.trick_hall.specs.Standing.{StandsAt}
@@ -6,5 +7,6 @@ use Rattle.trick_hall.proofs.kept.Kept.tic.Goals as goal
 
 pub returns : goal.returns
 returns g c = λ plan log stands.
-    tic_of_course plan log (record { board = c.self.inside.board; shut = c.self.inside.shut }) c.tic.result
-    (subst (λ (hall : HallView). StandsAt plan hall log) (sym c.self.view_is) stands) c.tic.ensures
+    let with_board : BoardView → HallView = λ b. record { board = b; shut = c.self.inside.shut } in
+    let is = sym c.self.view_is ∙ ap with_board (sym c.deref.ensures) in
+    tic_of_course plan log (with_board c.deref.result.now) c.tic.result (subst (λ (hall : HallView). StandsAt plan hall log) is stands) c.tic.ensures
