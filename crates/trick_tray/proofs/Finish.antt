@@ -6,12 +6,12 @@ use Rattle.std.proofs.Math.Nat.{ℕ_set}
 use Rattle.std.proofs.lemmas.List.{ext_get_or, length-map, length-replicate, length-set}
 use Rattle.std.specs.List.{list_any}
 use Rattle.std.specs.Option.{IfSome, option_map}
-use Rattle.std.specs.Prelude.{Option, cond, replicate, slice_set}
+use Rattle.std.specs.Prelude.{Option, cond, map, replicate, slice_set}
 use Rattle.trick_cycle.specs.Due.{is_due_at}
 use Rattle.trick_eval.specs.Bench.{BenchView, IsFor, Parts}
 use Rattle.trick_job.specs.Belongs.{IsMemoryOf}
 use Rattle.trick_lang.specs.Access.{is_in}
-use Rattle.trick_lang.specs.Effect.{writes}
+use Rattle.trick_lang.specs.Effect.{scalars_of, writes}
 use Rattle.trick_lang.specs.Laws.{WritesOnly}
 use Rattle.trick_lang.specs.declared.range.CellRange.{CellRange}
 use Rattle.trick_lang.specs.declared.scalar.Scalar.{Scalar}
@@ -26,6 +26,7 @@ use Rattle.trick_model.specs.PlanOf.{plan_of}
 use Rattle.trick_model.specs.Running.{After, after_jobs}
 use Rattle.trick_model.specs.State.{number_at}
 use Rattle.trick_model.specs.Valid.{ids}
+use Rattle.trick_model.specs.ValidState.{AreNumbersOf}
 use Rattle.trick_model.specs.declared.flags.Flags.{Flags}
 use Rattle.trick_model.specs.declared.plan.Plan.{Plan as PlanValue}
 use Rattle.trick_model.specs.declared.thread.Thread.{Thread}
@@ -33,8 +34,10 @@ use Rattle.trick_tray.proofs.Jobs.{IsScheduledOn, in_thread, jobs_by_number, sch
 use Rattle.trick_tray.proofs.Lists.{any_work, none_of_fewer}
 use Rattle.trick_tray.proofs.Memories.{fold_other, fold_same, not_in_scope, spread_other, written_is, zero_at}
 use Rattle.trick_tray.specs.Calendars.{has_work, line_work, scheduled_of}
+use Rattle.trick_tray.specs.Outputs.{IsOutcome, no_faults}
 use Rattle.trick_tray.specs.Scratch.{IsWritten, Numbers, cell_ids, cleared}
 use Rattle.trick_tray.specs.Trays.{AreSet, AreWrites, HasRun, IsLaidOut, IsTrayOf, IsWorkerOf, held_in, numbered}
+use Rattle.trick_tray.specs.declared.outputs.Outputs.{Outputs}
 use Rattle.trick_tray.specs.declared.tray.Tray.{Tray}
 use Rattle.trick_tray.specs.declared.worker.Worker.{Worker}
 use Rattle.trick_post.specs.Work.{CanStart, Started, finished, folded, jobs_at_work, publication, thread_at, tics_between}
@@ -68,7 +71,7 @@ folded_is plan number thread cells ons w tic on is scheduled set =
     (λ k h. sym (set k (in_thread plan number k (worker_in_line jobs (scheduled_of p number) w k h))))
 
 -- a cell that a job with something to do may write is one that a job at work may write
-line_writes : (plan : PlanValue) (line : List ℕ) (w : Job1) (c : ℕ)
+pub line_writes : (plan : PlanValue) (line : List ℕ) (w : Job1) (c : ℕ)
     → list_any (λ k. has_work plan.program.jobs w k && is_in (writes plan.program (record { 0 = k })) c) line
     ≡ may_write (plan_of plan) (line_work plan.program.jobs line w) c
 line_writes plan line (work.Frame first last) c =
@@ -125,7 +128,7 @@ cleared_is plan number cells w tic on done after only folds long written =
 
 -- ---- what a worker makes of a tray
 
-held_is : (tray : Tray) (w : Job1) → tray.work ≡ Some w → held_in tray ≡ Some (handed tray.cells.items tray.on.items w)
+pub held_is : (tray : Tray) (w : Job1) → tray.work ≡ Some w → held_in tray ≡ Some (handed tray.cells.items tray.on.items w)
 held_is tray w is = ap (option_map (handed tray.cells.items tray.on.items)) is
 
 -- what a tray holds could be started
@@ -135,14 +138,14 @@ can_start plan tray w own is =
     subst (λ (o : Option Started). ∥ IfSome o (λ s. CanStart (plan_of plan) tray.number s.taken s.work) ∥₁) (held_is tray w is) own.right
 
 -- the thread of a tray with work has its number
-thread_number : (plan : PlanValue) (tray : Tray) (w : Job1) → IsTrayOf plan tray → tray.work ≡ Some w → (thread_at (plan_of plan) tray.number).number ≡ tray.number
+pub thread_number : (plan : PlanValue) (tray : Tray) (w : Job1) → IsTrayOf plan tray → tray.work ≡ Some w → (thread_at (plan_of plan) tray.number).number ≡ tray.number
 thread_number plan tray w own is =
     ∥∥₁_elim (can_start plan tray w own is) (hlevel ℕ_set)
     (λ (can : CanStart (plan_of plan) tray.number (handed tray.cells.items tray.on.items w).taken w).
     (started_thread plan tray.number (handed tray.cells.items tray.on.items w).taken w can).numbered)
 
 -- and its jobs are of class scheduled
-all_scheduled : (plan : PlanValue) (tray : Tray) (w : Job1) → ∥ IsAccepted (plan_of plan) ∥₁ → IsTrayOf plan tray → tray.work ≡ Some w → IsScheduledOn plan tray.number
+pub all_scheduled : (plan : PlanValue) (tray : Tray) (w : Job1) → ∥ IsAccepted (plan_of plan) ∥₁ → IsTrayOf plan tray → tray.work ≡ Some w → IsScheduledOn plan tray.number
 all_scheduled plan tray w accepted own is k on =
     ∥∥₁_elim (can_start plan tray w own is) (hlevel Bool-set)
     (λ (can : CanStart (plan_of plan) tray.number (handed tray.cells.items tray.on.items w).taken w).
@@ -185,7 +188,7 @@ finishes plan tray w tic before laid done were are old new accepted own is out r
           ∙ sym (ap (λ (o : Option Started). with_faults (finished p n o tic old).faults were) held);
     }
 
-same_numbers : (a b : Numbers) → a.scalars ≡ b.scalars → a.numbers ≡ b.numbers → a ≡ b
+pub same_numbers : (a b : Numbers) → a.scalars ≡ b.scalars → a.numbers ≡ b.numbers → a ≡ b
 same_numbers a b types numbers =
     ap (λ (s : List Scalar). record { scalars = s; numbers = a.numbers }) types
     ∙ ap (λ (ns : List ℤ). record { scalars = b.scalars; numbers = ns }) numbers
@@ -214,7 +217,7 @@ begins_anew plan tray w tic before laid done after were are only own worker out 
       writes_are = subst (λ (all : List (List CellRange)). AreWrites plan all) (sym (writes_same ∙ run.writes_are ∙ out.writes_are)) worker.writes_are;
     }
 
-spread_length : (cells : List ℕ) (ns memory : List ℤ) → length (spread cells ns memory) ≡ length memory
+pub spread_length : (cells : List ℕ) (ns memory : List ℤ) → length (spread cells ns memory) ≡ length memory
 spread_length [] ns memory = refl
 spread_length (cell ∷ cells) [] memory = refl
 spread_length (cell ∷ cells) (n ∷ ns) memory = spread_length cells ns (slice_set memory cell n) ∙ length-set memory cell n
@@ -228,3 +231,33 @@ laid_memory plan tray before laid out = record {
       ∙ length-replicate (length (plan_of plan).names) (pos 0) ∙ length-map plan.program.cells (λ (v : Variable). v.name);
   of_types = out.scalars;
 }
+
+-- ---- what the work of a parcel comes to
+
+pub comes_to : (plan : PlanValue) (tray : Tray) (w : Job1) (before laid done : Worker) (were are : FaultList) (outputs : Outputs)
+    → ∥ IsAccepted (plan_of plan) ∥₁ → IsTrayOf plan tray → tray.work ≡ Some w → IsLaidOut plan tray before laid
+    → HasRun plan 0 (line_work plan.program.jobs (ids tray.calendar.jobs) w) laid done were are → were ≡ no_faults → outputs.faults ≡ are
+    → outputs.cells.items ≡ map (number_at done.scratch.numbers) (cell_ids tray.scope)
+    → AreNumbersOf done.scratch.scalars (cell_ids tray.scope) outputs.cells.items
+    → IfSome (held_in tray) (λ s. IsOutcome plan tray.number s outputs)
+comes_to plan tray w before laid done were are outputs accepted own is out run none faults cells right =
+    let p = plan_of plan in
+    let n = tray.number in
+    let ons = tray.on.items in
+    let thread = thread_at p n in
+    let started = handed tray.cells.items ons w in
+    let number = thread_number plan tray w own is in
+    let scheduled = all_scheduled plan tray w accepted own is in
+    let folds = folded_is plan n thread tray.cells.items ons w 0 laid.on number scheduled out.set in
+    let after_line = λ (line : List ℕ). after_jobs p (is_on laid.on) 0 (line_work plan.program.jobs line w) laid.scratch.numbers in
+    let after_first = λ (first : List ℤ). after_jobs p (is_on laid.on) 0 (line_work plan.program.jobs (scheduled_of p n) w) first in
+    let ran : after_line (ids tray.calendar.jobs) ≡ folded p thread started 0 = ap after_line own.jobs ∙ ap after_first out.numbers ∙ sym folds in
+    let memory = run.numbers ∙ ap (λ (after : After). after.memory) ran in
+    subst (λ (o : Option Started). IfSome o (λ s. IsOutcome plan n s outputs)) (sym (held_is tray w is)) (record {
+      cells = cells ∙ ap (λ (ns : List ℤ). map (number_at ns) (cell_ids tray.scope)) memory
+          ∙ ap (map (number_at (folded p thread started 0).memory)) own.scope_is;
+      right = subst (λ (cs : List ℕ). AreNumbersOf (scalars_of plan.program.cells) cs outputs.cells.items) own.scope_is
+          (subst (λ (ss : List Scalar). AreNumbersOf ss (cell_ids tray.scope) outputs.cells.items) run.memory.of_types right);
+      faults = faults ∙ run.faults ∙ ap (λ (after : After). with_faults after.faults were) ran
+          ∙ ap (with_faults (folded p thread started 0).faults) none;
+    })

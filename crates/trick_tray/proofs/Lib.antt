@@ -14,3 +14,7 @@ pub mod Writes
 pub mod Runs
 -- what a tray is handed and holds
 pub mod Trays
+-- faults that get another tic
+pub mod Dated
+-- what is published of a parcel
+pub mod Publishing

@@ -131,7 +131,7 @@ pub fold_memory : (p : Plan) (on : ℕ → Bool) (tic : ℕ) (ks js : List ℕ) 
 fold_memory p on tic [] js memory = refl
 fold_memory p on tic (k ∷ ks) js memory = fold_memory p on tic ks js (apply p (on k) tic k memory).memory
 
-with_more : (early late : List JobFault) (faults : FaultList) → with_faults (early ++ late) faults ≡ with_faults late (with_faults early faults)
+pub with_more : (early late : List JobFault) (faults : FaultList) → with_faults (early ++ late) faults ≡ with_faults late (with_faults early faults)
 with_more [] late faults = refl
 with_more (fault ∷ early) late faults = with_more early late (with_fault fault faults)
 

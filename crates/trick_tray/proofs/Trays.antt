@@ -136,8 +136,8 @@ empty_tray plan tray none calendar jobs members scope_is cells_room flags_room =
 -- ---- all trays
 
 -- what holds of the trays so far and of one more holds of all
-tray_more : (P : ℕ → Tray → Type 0) (trays : List Tray) (tray : Tray) → P (length trays) tray
-    → ((k : ℕ) (d : Tray) → k < length trays → P k (slice_index_or trays k d)) → (k : ℕ) (d : Tray) → k < length trays + 1 → P k (slice_index_or (trays ++ tray ∷ []) k d)
+pub tray_more : {A : Type 0} (P : ℕ → A → Type 0) (trays : List A) (tray : A) → P (length trays) tray
+    → ((k : ℕ) (d : A) → k < length trays → P k (slice_index_or trays k d)) → (k : ℕ) (d : A) → k < length trays + 1 → P k (slice_index_or (trays ++ tray ∷ []) k d)
 tray_more P [] tray here before zero d less = here
 tray_more P [] tray here before (suc k) d less = absurd (omega arith)
 tray_more P (x ∷ trays) tray here before zero d less = before zero d (omega arith)

@@ -4,11 +4,12 @@ use Rattle.std.proofs.lemmas.Bool.Decides.{nat_tests}
 use Rattle.std.proofs.lemmas.List.{get_or-set_other, get_or-set_same, length-replicate, length-set, take_more}
 use Rattle.std.proofs.lemmas.List.Folds.{list_any-append}
 use Rattle.std.specs.List.{list_any, slice_index_or}
-use Rattle.std.specs.Prelude.{cond, nat_le, nat_lt, replicate, slice_set}
+use Rattle.std.specs.Prelude.{cond, map, nat_le, nat_lt, replicate, slice_set}
 use Rattle.trick_eval.specs.Bench.{covers}
 use Rattle.trick_lang.specs.Access.{is_in}
 use Rattle.trick_lang.specs.Effect.{scalars_of, writes}
 use Rattle.trick_lang.specs.Wrap.{IsInRange}
+use Rattle.trick_lang.specs.declared.cells.Cell.{Cell}
 use Rattle.trick_lang.specs.declared.job.JobId.{JobId}
 use Rattle.trick_lang.specs.declared.range.CellRange.{CellRange}
 use Rattle.trick_lang.specs.declared.scalar.Scalar.{Scalar}
@@ -18,10 +19,11 @@ use Rattle.trick_model.specs.Beside.{flag_in}
 use Rattle.trick_model.specs.Laws.{is_among}
 use Rattle.trick_model.specs.State.{number_at}
 use Rattle.trick_model.specs.Valid.{ids}
+use Rattle.trick_model.specs.ValidState.{AreNumbersOf}
 use Rattle.trick_model.specs.declared.plan.Plan.{Plan as PlanValue}
 use Rattle.trick_tray.proofs.Finish.{wanted_of}
 use Rattle.trick_tray.specs.Calendars.{has_work}
-use Rattle.trick_tray.specs.Scratch.{AreStored, IsWritten}
+use Rattle.trick_tray.specs.Scratch.{AreStored, IsWritten, cell_ids}
 use Rattle.trick_tray.specs.Trays.{AreSet}
 use Rattle.trick_post.specs.declared.posts.Job1.{Job1}
 use Rattle.trick_queue.proofs.Trees.{same_or}
@@ -222,3 +224,28 @@ wanted_more plan all i w c less =
     ap (λ (b : Bool). list_any test (ids (take i all)) || b) (sym (or_none (test k)))
     ∙ sym (list_any-append test (ids (take i all)) (k ∷ []))
     ∙ ap (list_any test) (sym (ids_more all i less))
+
+-- ---- numbers that are read
+
+pub gathered : (scalars : List Scalar) (cells : List Cell) (i : ℕ) (d : Cell) (ns : List ℤ) (n : ℤ) → i < length cells
+    → AreNumbersOf scalars (cell_ids (take i cells)) ns → IsInRange scalars (slice_index_or cells i d).0 n
+    → AreNumbersOf scalars (cell_ids (take (i + 1) cells)) (ns ++ n ∷ [])
+gathered scalars [] i d ns n less are right = absurd (omega arith)
+gathered scalars (cell ∷ cells) zero d [] n less are right = (right, tt)
+gathered scalars (cell ∷ cells) zero d (m ∷ ns) n less are right = absurd are
+gathered scalars (cell ∷ cells) (suc i) d [] n less are right = absurd are
+gathered scalars (cell ∷ cells) (suc i) d (m ∷ ns) n less are right =
+    subst (λ (k : ℕ). AreNumbersOf scalars (cell_ids (take k (cell ∷ cells))) (m ∷ (ns ++ n ∷ []))) (more i)
+    (are.0, gathered scalars cells i d ns n (omega arith) are.1 right)
+
+pub gathered_numbers : (memory : List ℤ) (cells : List Cell) (i : ℕ) (d : Cell) (ns : List ℤ) → i < length cells
+    → ns ≡ map (number_at memory) (cell_ids (take i cells))
+    → ns ++ number_at memory (slice_index_or cells i d).0 ∷ [] ≡ map (number_at memory) (cell_ids (take (i + 1) cells))
+gathered_numbers memory cells i d ns less is =
+    ap (λ (l : List ℤ). l ++ number_at memory (slice_index_or cells i d).0 ∷ []) is
+    ∙ joined (take i cells) (slice_index_or cells i d) ∙ sym (ap (λ (cs : List Cell). map (number_at memory) (cell_ids cs)) (take_more cells i d less))
+  where
+    joined : (cs : List Cell) (c : Cell)
+        → map (number_at memory) (cell_ids cs) ++ number_at memory c.0 ∷ [] ≡ map (number_at memory) (cell_ids (cs ++ c ∷ []))
+    joined [] c = refl
+    joined (x ∷ cs) c = ap (λ (l : List ℤ). number_at memory x.0 ∷ l) (joined cs c)

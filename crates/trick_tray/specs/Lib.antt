@@ -4,3 +4,5 @@ pub mod Calendars
 pub mod Scratch
 -- What was handed to a thread, and what a worker has.
 pub mod Trays
+-- What the work of a thread comes to, and the parcel in which it travels.
+pub mod Outputs

@@ -4,12 +4,14 @@
 
 mod calendar;
 mod lines;
+mod outputs;
 mod scratch;
 mod tray;
 mod worker;
 mod write;
 
 pub use calendar::Calendar;
+pub use outputs::{Outputs, Parcel};
 pub use scratch::Scratch;
 pub use tray::Tray;
 pub use worker::Worker;

@@ -1,10 +1,11 @@
 //! A memory that nobody else sees.
 
-ghost use Rattle.std.specs.Prelude.{◌≡◌, ◌<◌, [], All, IfOk, length};
+ghost use Rattle.std.specs.Prelude.{◌≡◌, ◌<◌, ◌≤◌, [], All, IfOk, length, map, vec_capacity};
 ghost use Rattle.trick_lang.specs.declared.cells.Cell.{Cell};
 ghost use Rattle.trick_model.specs.Beside.{spread as spread_of};
 ghost use Rattle.trick_model.specs.ValidState.{AreNumbersOf};
 ghost use Rattle.trick_model.specs.Laws.{is_among};
+ghost use Rattle.trick_model.specs.State.{number_at};
 ghost use Rattle.trick_tray.specs.Scratch.{IsWritten, cell_ids, cleared};
 
 use std::alloc::{AllocError, Global};
@@ -81,5 +82,19 @@ pub fn clear(cells: &[Cell], scratch: &mut Scratch)
 {
     for cell in cells {
         scratch.set(*cell, 0);
+    }
+}
+
+/// Reads the number of each of these cells. Takes no memory.
+pub fn gather(cells: &[Cell], scratch: &Scratch, numbers: &mut Vec<i64>)
+    requires below { All (λ (cell : Cell). cell.0 < length scratch.now.numbers) cells.now }
+    requires room { length cells.now ≤ vec_capacity numbers.old }
+    ensures numbers { numbers.new.items ≡ map (number_at scratch.now.numbers) (cell_ids cells.now) }
+    ensures right { AreNumbersOf scratch.now.scalars (cell_ids cells.now) numbers.new.items }
+    ensures room { vec_capacity numbers.new ≡ vec_capacity numbers.old }
+{
+    numbers.clear();
+    for cell in cells {
+        numbers.push_reserved(scratch.get(*cell));
     }
 }

@@ -14,8 +14,8 @@ use trick_lang::{Cell, JobId};
 use trick_model::{Plan, Process, Taken, Thread};
 use trick_post::Job1;
 
-// Threads go from 0 to 15.
-const THREADS: u8 = 16;
+/// Threads go from 0 to 15.
+pub(crate) const THREADS: u8 = 16;
 
 /// A thread's jobs and cells, and what was handed to it and is not finished.
 #[derive(Drop)]

@@ -1,5 +1,6 @@
 //! Whoever does the work of a thread.
 
+ghost use Rattle.std.specs.Option.{IfSome};
 ghost use Rattle.std.specs.Prelude.{◌≡◌, ◌≤◌, IfOk, IsSome, None, length};
 ghost use Rattle.trick_eval.specs.Bench.{IsFor};
 ghost use Rattle.trick_job.specs.Belongs.{AreJobsOf, IsMemoryOf};
@@ -9,13 +10,15 @@ ghost use Rattle.trick_model.specs.PlanOf.{plan_of};
 ghost use Rattle.trick_base.specs.Time.{tic_limit};
 ghost use Rattle.trick_model.specs.Valid.{ids};
 ghost use Rattle.trick_tray.specs.Calendars.{EndsInTime, IsCalendar, IsSet, line_work};
+ghost use Rattle.trick_tray.specs.Outputs.{IsOutcome, IsParcelOf};
 ghost use Rattle.trick_tray.specs.Trays.{AreSet, AreThere, HasRun, IsLaidOut, IsTrayOf, IsWorkerOf, held_in};
 ghost use Rattle.trick_post.specs.Work.{finished};
 ghost use Rattle.trick_post.specs.declared.posts.Job1.TheVariants as work;
 
 use crate::calendar::Calendar;
 use crate::lines::all_writes;
-use crate::scratch::{Scratch, clear, spread};
+use crate::outputs::Parcel;
+use crate::scratch::{Scratch, clear, gather, spread};
 use crate::tray::Tray;
 use crate::write::{Duty, write_jobs};
 use std::alloc::{AllocError, Global};
@@ -196,5 +199,85 @@ impl Worker {
         write_jobs(duty, self.writes.as_slice(), &self.scratch, memory);
         clear(tray.scope.as_slice(), &mut self.scratch);
         tray.work = None;
+    }
+
+    /// Does the work of a parcel, which has some, and notes what it comes to. It costs what the thread's jobs read and
+    /// do. Takes no memory.
+    pub fn work(&mut self, plan: &Plan, parcel: &mut Parcel)
+        requires accepted { ∥ IsAccepted (plan_of plan.now) ∥₁ }
+        requires own { IsWorkerOf plan.now self.old }
+        requires fits { IsParcelOf plan.now parcel.old.tray.number parcel.old }
+        requires started { IsSome parcel.old.tray.work }
+        ensures outcome { IfSome (held_in parcel.old.tray)
+            (λ s. IsOutcome plan.now parcel.old.tray.number s parcel.new.outputs) }
+        ensures own { IsWorkerOf plan.now self.new }
+        ensures fits { IsParcelOf plan.now parcel.old.tray.number parcel.new }
+        ensures held { held_in parcel.new.tray ≡ held_in parcel.old.tray }
+    {
+        write_law();
+        let tray = &mut parcel.tray;
+        let Some(work) = tray.work else {
+            return;
+        };
+        parcel.outputs.faults.clear();
+        self.lay_out(plan, tray);
+        self.run(
+            plan,
+            &mut tray.calendar,
+            work,
+            &mut parcel.outputs.faults,
+            0,
+        );
+        gather(
+            tray.scope.as_slice(),
+            &self.scratch,
+            &mut parcel.outputs.cells,
+        );
+        clear(tray.scope.as_slice(), &mut self.scratch);
+    }
+
+    /// Publishes in a memory what the work of a parcel came to: the faults get this tic. It costs what the thread's
+    /// scope and faults are, and what its jobs may write. Takes no memory.
+    pub fn publish<M: Cells>(
+        &mut self,
+        plan: &Plan,
+        parcel: &Parcel,
+        memory: &mut M,
+        faults: &mut Faults,
+        tic: u64,
+    )
+        requires accepted { ∥ IsAccepted (plan_of plan.now) ∥₁ }
+        requires own { IsWorkerOf plan.now self.old }
+        requires fits { IsParcelOf plan.now parcel.now.tray.number parcel.now }
+        requires started { IsSome parcel.now.tray.work }
+        requires outcome { IfSome (held_in parcel.now.tray)
+            (λ s. IsOutcome plan.now parcel.now.tray.number s parcel.now.outputs) }
+        requires memory { IsMemoryOf plan.now.program (M.numbers memory.old) (M.scalars memory.old) }
+        ensures memory { M.numbers memory.new
+            ≡ (finished (plan_of plan.now) parcel.now.tray.number (held_in parcel.now.tray) tic
+            (M.numbers memory.old)).memory }
+        ensures scalars { M.scalars memory.new ≡ M.scalars memory.old }
+        ensures faults { faults.new
+            ≡ with_faults (finished (plan_of plan.now) parcel.now.tray.number (held_in parcel.now.tray) tic
+            (M.numbers memory.old)).faults faults.old }
+        ensures own { IsWorkerOf plan.now self.new }
+    {
+        let tray = &parcel.tray;
+        let Some(work) = tray.work else {
+            return;
+        };
+        spread(
+            tray.scope.as_slice(),
+            &parcel.outputs.cells,
+            &mut self.scratch,
+        );
+        let duty = Duty {
+            plan,
+            jobs: tray.calendar.jobs.as_slice(),
+            work,
+        };
+        write_jobs(duty, self.writes.as_slice(), &self.scratch, memory);
+        clear(tray.scope.as_slice(), &mut self.scratch);
+        parcel.outputs.add_faults(faults, tic);
     }
 }

@@ -1,0 +1,114 @@
+//! The desk, which hands work to clerks and publishes what comes of it.
+ghost use Rattle.std.specs.Arc.{arc_value};
+ghost use Rattle.std.specs.Prelude.{◌≡◌, ◌≤◌, IsSome};
+ghost use Rattle.trick_desk.specs.Answers.{AsksAt, HasAdded};
+ghost use Rattle.trick_desk.specs.Histories.{desk_seat, started_in};
+ghost use Rattle.trick_desk.specs.Lateness.{late_after};
+ghost use Rattle.trick_tray.specs.Trays.{IsWorkerOf};
+ghost use Rattle.trick_turn.specs.Passes.{own};
+
+use crate::event::Event;
+use crate::places::Places;
+use crate::rack::Rack;
+use std::sync::Wait;
+use trick_lang::Cells;
+use trick_model::{Faults, Planned, Taken};
+use trick_post::{Job1, Posted, Posts};
+use trick_tray::Worker;
+use trick_turn::Pass;
+
+/// The desk of a post: the work of must-finish and asynchronous threads is handed to clerks, and what comes of it is
+/// published here. Whatever the clerks do, that is what one thread makes of what was handed in.
+#[derive(Drop)]
+pub struct Desk<P: Planned, R: Wait + Drop> {
+    rt: R,
+    pub rack: Rack<P>,
+    worker: Worker,
+    /// How often a poll found nothing ready. It stands still at 2^64 - 1.
+    pub late: u64,
+    pub ghost worker_fits: { IsWorkerOf (arc_value rack.held.accepted).plan worker },
+}
+
+impl<P: Planned, R: Wait + Drop> Desk<P, R> {
+    pub(crate) fn new(rt: R, rack: Rack<P>, worker: Worker) -> Self
+        requires { IsWorkerOf (arc_value rack.held.accepted).plan worker }
+        ensures rack { result.rack ≡ rack }
+        ensures late { result.late ≡ 0 }
+    {
+        Desk {
+            rt,
+            rack,
+            worker,
+            late: 0,
+        }
+    }
+
+    /// Whether what was handed to a thread is ready: exactly where its clerk has put it back. Where it is not, `late`
+    /// rises. It waits for the turn alone, and adds nothing to the history.
+    pub fn ask(&mut self, thread: u8) -> Posted
+        requires started { IsSome (started_in (own self.old.rack.pass) thread) }
+        ensures answer { AsksAt thread self.old.rack.pass self.new.rack.pass result }
+        ensures held { self.new.rack.held ≡ self.old.rack.held }
+        ensures late { self.new.late ≡ late_after self.old.late result }
+        ensures rises { self.old.late ≤ self.new.late }
+    {
+        let posted = self.rack.ask(&self.rt, thread);
+        if let Posted::NotYet = posted {
+            self.late = self.late.saturating_add(1);
+        }
+        posted
+    }
+
+    /// Shuts the post, and gives the desk's pass, which has seen all that was done until then. The clerks find the post
+    /// shut from now on.
+    pub fn shut(self) -> Pass<Places<P>>
+        ensures { HasAdded self.rack.pass result (Event.Shut desk_seat) }
+    {
+        let Desk { rt, rack, .. } = self;
+        rack.shut(&rt)
+    }
+}
+
+impl<P: Planned, R: Wait + Drop> Posts for Desk<P, R> {
+    ghost use Rattle.std.proofs.Common.{refl};
+    ghost use Rattle.std.specs.Arc.{arc_value};
+    ghost use Rattle.std.specs.Prelude.{◌≡◌};
+    ghost use Rattle.trick_desk.specs.Histories.{started_in};
+    ghost use Rattle.trick_desk.specs.Lateness.{counts_join, late_through, rose_counted};
+    ghost use Rattle.trick_turn.specs.Passes.{own};
+
+    ghost plan = { λ desk. (arc_value desk.rack.held.accepted).plan };
+
+    ghost in_flight = { λ desk. started_in (own desk.rack.pass) };
+
+    ghost lateness = { λ desk. desk.late };
+
+    ghost asked = { λ old polls new. new.late ≡ late_through old.late polls };
+
+    fn start(&mut self, thread: u8, taken: &Taken, work: Job1) {
+        self.rack.start(&self.rt, thread, taken, work);
+    }
+
+    fn poll(&mut self, thread: u8, _turn: u64) -> Posted {
+        self.ask(thread)
+    }
+
+    fn late(&self) -> u64 {
+        self.late
+    }
+
+    fn finish<M: Cells>(&mut self, thread: u8, memory: &mut M, faults: &mut Faults, tic: u64) {
+        self.rack.fetch(&self.rt, thread);
+        let rack = &self.rack;
+        let held = &rack.held;
+        let plan = held.accepted.plan();
+        let parcel = &rack.parcels[thread as usize];
+        self.worker.publish(plan, parcel, memory, faults, tic);
+    }
+
+    ghost asked_none = { λ desk. refl };
+
+    ghost asked_join = { λ first second third early late. counts_join first.late second.late third.late early late };
+
+    ghost asked_late = { λ old new polls counted. rose_counted old.late new.late polls counted };
+}

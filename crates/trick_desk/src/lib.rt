@@ -1,0 +1,24 @@
+//! A desk hands the work of must-finish and asynchronous threads to clerks, one for each thread, which may work in
+//! threads of their own, and publishes what comes back. Whatever the clerks do, that is what one thread makes of it.
+#![tactic(auto)]
+
+mod clerk;
+mod desk;
+mod event;
+mod held;
+mod picked;
+mod places;
+mod post;
+mod rack;
+mod stage;
+mod turns;
+
+pub use clerk::Clerk;
+pub use desk::Desk;
+pub use event::Event;
+pub use held::Held;
+pub use picked::Picked;
+pub use places::{Place, Places};
+pub use post::Post;
+pub use rack::Rack;
+pub use stage::Stage;
