@@ -1,0 +1,10 @@
+-- What happens to a session, one thing after another.
+pub mod Living
+-- Places of sessions.
+pub mod Placing
+-- The rules of entries, as a list grows.
+pub mod Keeping
+-- A list that is gathered from many sessions.
+pub mod Gathering
+-- What a look at the clients came to.
+pub mod Looking

@@ -1,0 +1,234 @@
+-- What a look at the clients came to.
+use Rattle.std.proofs.Common.{◌≡◌, ◌≢◌, ◌∙◌, ⊎_elim, inl, inr, ℕ, ◌+◌, ◌-◌, ◌<◌, ◌≤◌, Bool, true, false, cond, eqb, List, [], ◌∷◌, Option, Some, None, Ok, Err, ap, arith, length, refl, subst, sym}
+use Rattle.std.proofs.lemmas.Bool.{false≢true}
+use Rattle.std.specs.List.{filter, list_any}
+use Rattle.std.specs.Prelude.{not, ◌||◌, Result, is_ok}
+use Rattle.std.specs.declared.alloc.AllocError.{AllocError}
+use Rattle.std.specs.declared.alloc.Global.{Global}
+use Rattle.std.specs.declared.vec.Vec.{Vec}
+use Rattle.trick_model.specs.Journal.{is_of_session}
+use Rattle.trick_model.specs.Turn.{is_frozen}
+use Rattle.trick_model.specs.declared.entry.Entry.{Entry}
+use Rattle.trick_model.specs.declared.mode.Mode.{Mode}
+use Rattle.trick_model.specs.declared.session.Session.{Session}
+use Rattle.trick_serve.proofs.Gathering.{begins}
+use Rattle.std.proofs.lemmas.Bool.Decides.{eqb_tells, nat_tests}
+use Rattle.std.proofs.lemmas.List.{nil_from_length}
+use Rattle.trick_serve.proofs.Placing.{filter_twice, live_same}
+use Rattle.trick_serve.specs.Messages.{IsHanded}
+use Rattle.trick_serve.specs.CallLaws.{went_join, went_none, went_one}
+use Rattle.trick_serve.specs.Calls.{Answers, Breaks, Hands, IsQuiet, Looks, View, Went}
+use Rattle.trick_serve.specs.Life.{Lives, own}
+use Rattle.trick_serve.specs.Looks.{Came, HasFound, HasGiven, HasLooked, HasLost, HasNoMore}
+use Rattle.trick_serve.specs.Rolls.{IsGathered, view}
+use Rattle.trick_serve.specs.Rules.{AreSeated, Keeps, is_live, sessions_by}
+use Rattle.trick_serve.specs.Sides.{Side, side}
+use Rattle.trick_serve.specs.declared.roll.Roll.{Roll}
+use Rattle.trick_serve.specs.declared.seat.Seat.{Seat}
+use Rattle.trick_turns.specs.Turns.{Sessions, has_line, in_next, owes_after}
+
+-- ---- looks
+
+pub looked_none : (v : View) → HasLooked v v
+looked_none v = record { looked = went_none v; same = refl; whole = refl }
+
+-- the same list, gathered from equal seats and sessions
+pub gathered_as : (there : List Session) (was was' : List Seat) (known known' : List ℕ) (roll : Roll) (done : Bool) → was ≡ was' → known ≡ known'
+    → IsGathered there was known roll done → IsGathered there was' known' roll done
+gathered_as there was was' known known' roll done seats numbers so =
+    subst (λ (k : List ℕ). IsGathered there was' k roll done) numbers (subst (λ (w : List Seat). IsGathered there w known roll done) seats so)
+
+-- a look at which nothing came
+looked_so : (there : List Session) (old : View) (mid new : Roll) (reached : List ℕ) (over over' broke : Bool)
+    → AreSeated mid.live.items mid.seats.items → HasLooked old (view mid reached over broke)
+    → IsGathered there mid.seats.items (filter (is_live mid.seats.items) mid.live.items) new true → new.list.items ≡ []
+    → HasLooked old (view new reached over' broke)
+looked_so there old mid new reached over over' broke seated before so empty = record {
+  looked = went_join old (view mid reached over broke) (view new reached over' broke) [] [] [] [] before.looked
+      (went_one (Looks there) (view mid reached over broke) (view new reached over' broke) quiet);
+  same = same ∙ before.same;
+  whole = before.whole;
+}
+  where
+    known : List ℕ
+    known = filter (is_live mid.seats.items) mid.live.items
+
+    keeps : Keeps (sessions_by mid.seats.items known known) [] (sessions_by new.seats.items new.live.items new.live.items)
+    keeps = subst (λ (l : List Entry). Keeps (sessions_by mid.seats.items known known) l (sessions_by new.seats.items new.live.items new.live.items)) empty (so.keeps refl)
+
+    same : sessions_by new.seats.items new.live.items reached ≡ sessions_by mid.seats.items mid.live.items reached
+    same = λ i. record {
+      highest = ap (λ (s : Sessions). s.highest) (keeps.now) i;
+      live = (ap (λ (s : Sessions). s.live) (keeps.now) ∙ filter_twice (λ m. (0 < m) × (m ≤ length mid.seats.items)) (is_live mid.seats.items) mid.live.items seated) i;
+      reached = reached;
+    }
+
+    quiet : IsQuiet there (view mid reached over broke) (view new reached over' broke)
+    quiet = record {
+      lives = record {
+        each = λ k. let one = so.lives k in
+            subst (λ (l : List Entry). Lives (k + 1) there (side mid.seats.items k) (side new.seats.items k) l) (one.2 refl ∙ ap (own (k + 1)) empty) one.1;
+      };
+      sessions = same;
+    }
+
+pub looked_more : (there : List Session) (old : View) (mid new : Roll) (reached reached' : List ℕ) (over over' broke broke' : Bool)
+    → reached' ≡ reached → broke' ≡ broke → AreSeated mid.live.items mid.seats.items → HasLooked old (view mid reached over broke)
+    → IsGathered there mid.seats.items (filter (is_live mid.seats.items) mid.live.items) new true → new.list.items ≡ []
+    → HasLooked old (view new reached' over' broke')
+looked_more there old mid new reached reached' over over' broke broke' same_reached same_broke seated before so empty =
+    subst (λ (r : List ℕ). HasLooked old (view new r over' broke')) (sym same_reached)
+    (subst (λ (b : Bool). HasLooked old (view new reached over' b)) (sym same_broke)
+    (looked_so there old mid new reached over over' broke seated before so empty))
+
+-- a list was gathered, or memory was wanting
+pub found_more : (there : List Session) (old : View) (mid new : Roll) (reached : List ℕ) (over broke done : Bool)
+    → AreSeated mid.live.items mid.seats.items → HasLooked old (view mid reached over broke)
+    → IsGathered there mid.seats.items (filter (is_live mid.seats.items) mid.live.items) new done
+    → HasFound there old new done
+found_more there old mid new reached over broke done seated before so = record {
+  mid = view mid reached over broke;
+  looks = before;
+  known = filter (is_live mid.seats.items) mid.live.items;
+  next = begins mid.seats.items mid.live.items reached seated ∙ ap in_next before.same;
+  gathered = so;
+}
+
+-- ---- what is given
+
+pub given : (there : List Session) (frozen : Bool) (old : View) (found now : Roll) (reached : List ℕ) (over broke : Bool) (list : List Entry)
+    → HasFound there old found true → list ≡ found.list.items → (frozen ≡ true → found.list.items ≢ [])
+    → now.seats ≡ found.seats → now.live ≡ found.live → reached ≡ found.live.items
+    → HasGiven there frozen old (view now reached over broke) list
+given there frozen old found now reached over broke list so is filled seats live reaches = record {
+  mid = so.mid;
+  looks = so.looks;
+  lives = record {
+    each = λ k. let one = so.gathered.lives k in
+        subst (λ (l : List Entry). Lives (k + 1) there (side so.mid.seats k) (side now.seats.items k) l) (one.2 refl ∙ ap (own (k + 1)) (sym is))
+        (subst (λ v. Lives (k + 1) there (side so.mid.seats k) (side v.items k) one.0) (sym seats) one.1);
+  };
+  rules = subst (λ (l : List Entry). Keeps (in_next old.sessions) l (view now reached over broke).sessions) (sym is)
+      (subst (λ (s : Sessions). Keeps (in_next old.sessions) found.list.items s) (λ i. sessions_by (sym seats i).items (sym live i).items (sym reaches i))
+      (subst (λ (s : Sessions). Keeps s found.list.items (sessions_by found.seats.items found.live.items found.live.items)) so.next (so.gathered.keeps refl)));
+  filled = λ f none. filled f (sym is ∙ none);
+}
+
+-- memory was wanting
+pub lost : (there : List Session) (old : View) (found now : Roll) (reached : List ℕ) (over broke done : Bool)
+    → HasFound there old found done → now.seats ≡ found.seats → HasLost there old (view now reached over broke)
+lost there old found now reached over broke done so seats = record {
+  mid = so.mid;
+  looks = so.looks;
+  lost = λ k. let one = so.gathered.lives k in
+      (one.0, subst (λ v. Lives (k + 1) there (side so.mid.seats k) (side v.items k) one.0) (sym seats) one.1);
+}
+
+-- ---- the answers
+
+pub went_given : (there : List Session) (turn : ℕ) (mode : Mode) (old new : View) (list : List Entry) → old.broke ≡ false
+    → HasGiven there (is_frozen mode) old new list
+    → Went old new (record { turn = turn; mode = mode; sessions = there; list = Some list } ∷ []) []
+went_given there turn mode old new list whole so =
+    went_join old so.mid new [] _ [] [] so.looks.looked
+    (went_one (Answers (record { turn = turn; mode = mode; sessions = there; list = Some list })) so.mid new (
+      record {
+        lives = so.lives;
+        rules = subst (λ (s : Sessions). Keeps (in_next s) list new.sessions) (sym so.looks.same) so.rules;
+        frozen = so.filled;
+      },
+      so.looks.whole ∙ whole,
+    ))
+
+pub went_over : (there : List Session) (turn : ℕ) (mode : Mode) (old new : View) → HasNoMore (is_frozen mode) old new
+    → Went old new (record { turn = turn; mode = mode; sessions = there; list = None } ∷ []) []
+went_over there turn mode old new so =
+    went_join old new new [] _ [] [] so.looks.looked
+    (went_one (Answers (record { turn = turn; mode = mode; sessions = there; list = None })) new new
+    (record {
+      frozen = so.frozen_is;
+      quiet = record { lives = record { each = λ k. inr (record { happened = []; happens = refl; entries = refl }) }; sessions = refl };
+      over = so.over;
+      ended = so.ended;
+    }))
+
+pub went_lost : (there : List Session) (old new broken : View) → HasLost there old new → broken.seats ≡ new.seats → broken.broke ≡ true
+    → Went old broken [] []
+went_lost there old new broken so seats broke =
+    went_join old so.mid broken [] [] [] [] so.looks.looked
+    (went_one (Breaks there) so.mid broken (record {
+      lost = λ k. let one = so.lost k in
+          (one.0, subst (λ (l : List Seat). Lives (k + 1) there (side so.mid.seats k) (side l k) one.0) (sym seats) one.1);
+      broke = broke;
+    }))
+
+-- nothing is owed after a list that is given
+pub nothing_owed : (mode : Mode) (list : List Entry) → list_any (λ entry. not (is_of_session entry)) list ≡ false
+    → (is_frozen mode ≡ true → list ≢ []) → false ≡ owes_after mode list false
+nothing_owed mode [] only filled = go (is_frozen mode) refl
+  where
+    go : (b : Bool) → is_frozen mode ≡ b → false ≡ cond b true false
+    go true is = absurd (filled is refl)
+    go false is = refl
+nothing_owed mode (entry ∷ list) only filled = sym (ap (λ (b : Bool). cond (b || has_line list) false (cond (is_frozen mode) true false)) (mine (is_of_session entry) (list_any (λ other. not (is_of_session other)) list) only))
+  where
+    mine : (b c : Bool) → (not b || c) ≡ false → b ≡ true
+    mine true c is = refl
+    mine false c is = absurd (false≢true (sym is))
+
+-- ---- messages
+
+handed_left : (bytes : List ℕ) (s t : Side) → IsHanded bytes s t → t.left ≡ s.left
+handed_left bytes s t (inl put) = ap (λ (x : Side). x.left) put.is
+handed_left bytes s t (inr (inl out)) = ap (λ (x : Side). x.left) out.is
+handed_left bytes s t (inr (inr over)) = ap (λ (x : Side). x.left) over.is
+
+-- a message was handed to a session
+pub went_handed : (session : ℕ) (bytes message : List ℕ) (old new : Roll) (reached : List ℕ) (over broke : Bool) → 0 < session → message ≡ bytes
+    → IsHanded message (side old.seats.items (session - 1)) (side new.seats.items (session - 1))
+    → ((k : ℕ) → session ≢ k + 1 → side new.seats.items k ≡ side old.seats.items k) → length new.seats.items ≡ length old.seats.items
+    → new.live ≡ old.live → Went (view old reached over broke) (view new reached over broke) [] ((session, bytes) ∷ [])
+went_handed session bytes message old new reached over broke low is handed others count live =
+    went_one (Hands (session, bytes)) (view old reached over broke) (view new reached over broke) (record {
+      own = λ k same. subst (λ (m : ℕ). IsHanded bytes (side old.seats.items m) (side new.seats.items m)) (place k same)
+          (subst (λ (b : List ℕ). IsHanded b (side old.seats.items (session - 1)) (side new.seats.items (session - 1))) is handed);
+      others = others;
+      sessions = λ i. record { highest = count i; live = (ap (λ v. filter (is_live new.seats.items) v.items) live ∙ live_same old.seats.items new.seats.items old.live.items lefts) i; reached = reached };
+      over = refl;
+      broke = refl;
+    })
+  where
+    place : (k : ℕ) → session ≡ k + 1 → session - 1 ≡ k
+    place k same = omega (arith, same)
+
+    lefts : (k : ℕ) → (side new.seats.items k).left ≡ (side old.seats.items k).left
+    lefts k = ⊎_elim
+        (λ same. subst (λ (m : ℕ). (side new.seats.items m).left ≡ (side old.seats.items m).left) (place k same.1)
+        (handed_left message (side old.seats.items (session - 1)) (side new.seats.items (session - 1)) handed))
+        (λ apart. ap (λ (s : Side). s.left) (others k apart.1))
+        (eqb_tells session (k + 1))
+
+-- ---- results
+
+pub came_lost : (there : List Session) (frozen : Bool) (old new : View) (r : Result (Option (Vec Entry Global)) AllocError) → is_ok r ≡ false
+    → HasLost there old new → Came there frozen old new r
+came_lost there frozen old new (Ok x) fails so = absurd (false≢true (sym fails))
+came_lost there frozen old new (Err e) fails so = so
+
+pub no_answer : (r : Result Bool AllocError) → is_ok r ≡ false → r ≢ Ok false
+no_answer (Ok b) fails = λ same. absurd (false≢true (sym fails))
+no_answer (Err e) fails = λ same. absurd (false≢true (ap is_ok same))
+
+abbrev is_yes : Result Bool AllocError → Bool
+is_yes (Ok b) = b
+is_yes (Err e) = false
+
+pub answer_yes : (r : Result Bool AllocError) → r ≡ Ok true → r ≢ Ok false
+answer_yes r is = λ same. absurd (false≢true (ap is_yes (sym same ∙ is)))
+
+-- a list that was found to have no item
+pub empty_from : (items : List Entry) (len : ℕ) (b : Bool) → len ≡ length items → b ≡ eqb len 0 → b ≡ true → items ≡ []
+empty_from items len b is test holds =
+    let tested : eqb len 0 ≡ true = sym test ∙ holds in
+    let zero : len ≡ 0 = grind (arith, nat_tests) in
+    nil_from_length items (sym is ∙ zero)

@@ -1,0 +1,56 @@
+use Rattle.std.proofs.Common.{rules, ◌≡◌, ◌∙◌, [], ℕ, true, false, Bool, ap, subst, sym, Vec, Global}
+use Rattle.std.specs.Prelude.{is_ok}
+use Rattle.trick_serve.proofs.Looking.{empty_from, found_more, looked_more}
+use Rattle.trick_serve.proofs.served.Served.find.Goals as goal
+use Rattle.trick_serve.specs.Rolls.{IsGathered, view}
+use Rattle.trick_serve.specs.Rules.{is_live}
+use Rattle.std.specs.List.{filter}
+
+pub returns-in_err-look-clause-found : goal.returns-in_err-look-clause-found
+returns-in_err-look-clause-found g c = λ no.
+    let one : is_ok c.look.result ≡ false = search rules in
+    let two : is_ok c.from_residual.result ≡ false = search rules in
+    let same : is_ok c.look.result ≡ is_ok c.from_residual.result = one ∙ sym two in
+    found_more c.args.there.now (view c.args.self.now.roll c.args.self.now.reached.items c.args.self.now.over c.args.self.now.broke)
+    c.loop.self.roll c.look.new.self.roll c.loop.self.reached.items c.loop.self.over c.loop.self.broke (is_ok c.from_residual.result) c.loop.self.roll.seated c.loop.invariant.looks
+    (subst (λ (b : Bool). IsGathered c.args.there.now c.loop.self.roll.seats.items (filter (is_live c.loop.self.roll.seats.items) c.loop.self.roll.live.items) c.look.new.self.roll b) same c.look.ensures.gathered)
+
+pub returns-then-not-is_empty-clause-found : goal.returns-then-not-is_empty-clause-found
+returns-then-not-is_empty-clause-found g c = λ no.
+    let same : is_ok c.look.result ≡ true = search rules in
+    found_more c.args.there.now (view c.args.self.now.roll c.args.self.now.reached.items c.args.self.now.over c.args.self.now.broke)
+    c.loop.self.roll c.look.new.self.roll c.loop.self.reached.items c.loop.self.over c.loop.self.broke true c.loop.self.roll.seated c.loop.invariant.looks
+    (subst (λ (b : Bool). IsGathered c.args.there.now c.loop.self.roll.seats.items (filter (is_live c.loop.self.roll.seats.items) c.loop.self.roll.live.items) c.look.new.self.roll b) same c.look.ensures.gathered)
+
+pub returns-then-are_over-clause-over : goal.returns-then-are_over-clause-over
+returns-then-are_over-clause-over g c = λ yes.
+    let same : is_ok c.look.result ≡ true = search rules in
+    let none : c.is_empty.result ≡ true = search rules in
+    let empty : c.look.new.self.roll.list.items ≡ [] =
+    empty_from c.look.new.self.roll.list.items c.look.new.self.roll.list.len c.is_empty.result c.look.new.self.roll.list.ok.0 c.is_empty.ensures none in
+    record {
+      looks = looked_more c.args.there.now (view c.args.self.now.roll c.args.self.now.reached.items c.args.self.now.over c.args.self.now.broke)
+          c.loop.self.roll c.look.new.self.roll c.loop.self.reached.items c.look.new.self.reached.items c.loop.self.over c.look.new.self.over c.loop.self.broke c.look.new.self.broke
+          (ap (λ (v : Vec ℕ Global). v.items) c.look.ensures.reached) c.look.ensures.broke c.loop.self.roll.seated c.loop.invariant.looks
+          (subst (λ (b : Bool). IsGathered c.args.there.now c.loop.self.roll.seats.items (filter (is_live c.loop.self.roll.seats.items) c.loop.self.roll.live.items) c.look.new.self.roll b) same c.look.ensures.gathered)
+          empty;
+      frozen_is = search rules;
+      over = search rules;
+      ended = search rules;
+    }
+
+pub loop-preserved : goal.loop-preserved
+loop-preserved g c =
+    let same : is_ok c.look.result ≡ true = search rules in
+    let none : c.is_empty.result ≡ true = search rules in
+    let empty : c.look.new.self.roll.list.items ≡ [] =
+    empty_from c.look.new.self.roll.list.items c.look.new.self.roll.list.len c.is_empty.result c.look.new.self.roll.list.ok.0 c.is_empty.ensures none in
+    record {
+      looks = looked_more c.args.there.now (view c.args.self.now.roll c.args.self.now.reached.items c.args.self.now.over c.args.self.now.broke)
+          c.loop.self.roll c.look.new.self.roll c.loop.self.reached.items c.look.new.self.reached.items c.loop.self.over c.look.new.self.over c.loop.self.broke c.look.new.self.broke
+          (ap (λ (v : Vec ℕ Global). v.items) c.look.ensures.reached) c.look.ensures.broke c.loop.self.roll.seated c.loop.invariant.looks
+          (subst (λ (b : Bool). IsGathered c.args.there.now c.loop.self.roll.seats.items (filter (is_live c.loop.self.roll.seats.items) c.loop.self.roll.live.items) c.look.new.self.roll b) same c.look.ensures.gathered)
+          empty;
+      reached = c.look.ensures.reached ∙ c.loop.invariant.reached;
+      broke = c.look.ensures.broke ∙ c.loop.invariant.broke;
+    }

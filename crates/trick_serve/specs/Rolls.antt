@@ -1,0 +1,48 @@
+-- The roll of sessions: its list as it is gathered, and room for one session more.
+use Rattle.std.specs.Prelude.{◌≡◌, ℕ, ◌+◌, ◌-◌, ◌<◌, ◌≤◌, Bool, cond, List, [], ◌∷◌, IsTrue}
+use Rattle.std.specs.List.{All}
+use Rattle.std.specs.Vec.{vec_capacity, vec_len}
+use Rattle.trick_model.specs.declared.entry.Cause.TheVariants as cause
+use Rattle.trick_model.specs.declared.entry.Entry.{Entry}
+use Rattle.trick_model.specs.declared.entry.Entry.TheVariants.{Join, Leave}
+use Rattle.trick_model.specs.declared.session.Session.{Session}
+use Rattle.trick_serve.specs.Calls.{View}
+use Rattle.trick_serve.specs.Gathering.{Gathers}
+use Rattle.trick_serve.specs.Rules.{sessions_by}
+use Rattle.trick_serve.specs.Ended.{has_end}
+use Rattle.trick_serve.specs.Sides.{side}
+use Rattle.trick_serve.specs.declared.roll.Roll.{Roll}
+use Rattle.trick_serve.specs.declared.seat.Seat.{Seat}
+
+-- its list was gathered from these seats and sessions
+abbrev pub IsGathered : List Session → List Seat → List ℕ → Roll → Bool → Type 0
+IsGathered there was known roll done = Gathers there was known roll.seats.items roll.live.items roll.list.items done
+
+-- it has the same seats, sessions and list
+pub record IsSameRoll (old new : Roll) : Type 0 where
+  pub seats : new.seats.items ≡ old.seats.items
+  pub live : new.live.items ≡ old.live.items
+  pub list : new.list.items ≡ old.list.items
+
+-- there is room for one session more, and for two entries
+pub record HasRoom (roll : Roll) : Type 0 where
+  pub seats : vec_len roll.seats < vec_capacity roll.seats
+  pub live : vec_len roll.live < vec_capacity roll.live
+  pub list : vec_len roll.list + 2 ≤ vec_capacity roll.list
+
+-- Of each of these sessions the end was heard.
+abbrev pub AreEnded : List Seat → List ℕ → Type 0
+AreEnded seats numbers = All (λ n. IsTrue (has_end (side seats (n - 1)).heard)) numbers
+
+-- the source of entries with this roll
+abbrev pub view : Roll → List ℕ → Bool → Bool → View
+view roll reached over broke = record {
+  seats = roll.seats.items;
+  sessions = sessions_by roll.seats.items roll.live.items reached;
+  over = over;
+  broke = broke;
+}
+
+-- the entries of a client that is seated, to which a thread was refused or not
+abbrev pub seated_entries : ℕ → Bool → List Entry
+seated_entries n refused = Join n ∷ cond refused (Leave n cause.NoThread ∷ []) []

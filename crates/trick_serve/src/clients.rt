@@ -1,0 +1,77 @@
+//! Clients that come.
+
+ghost use Rattle.std.specs.Prelude.{◌≡◌, List, ℕ, is_ok, true};
+ghost use Rattle.trick_model.specs.declared.session.Session.{Session};
+ghost use Rattle.trick_serve.specs.Rolls.{IsGathered};
+ghost use Rattle.trick_serve.specs.declared.seat.Seat.{Seat};
+ghost use Rattle.trick_wire.specs.Ends.{IsSameTaker};
+
+use crate::Roll;
+use std::alloc::AllocError;
+use std::sync::Wait;
+use trick_serve_door::Comes;
+use trick_wire::Taker;
+
+/// How many clients are seated for one turn at most.
+const MOST: usize = 64;
+
+/// The greatest number of a session.
+const LAST: usize = 4294967295;
+
+/// What was taken of the queue of clients.
+#[derive(Clone, Copy, Debug, PartialEq, Eq)]
+pub(crate) enum Took {
+    /// Nothing waited there.
+    Nothing,
+    /// A client, or that none has come yet.
+    Some,
+    /// No client comes any more.
+    Over,
+}
+
+// Takes one thing that came, and seats the client.
+fn take_client<I: Drop, O: Drop, R: Wait>(
+    rt: &R,
+    coming: &mut Taker<Comes<I, O>>,
+    roll: &mut Roll,
+) -> Result<Took, AllocError>
+    ensures queue { IsSameTaker coming.old coming.new }
+    ensures gathers { (there : List Session) (was : List Seat) (known : List ℕ)
+        → IsGathered there was known roll.old true → IsGathered there was known roll.new (is_ok result) }
+{
+    if roll.seats.len() >= LAST {
+        return Ok(Took::Over);
+    }
+    roll.make_room()?;
+    match coming.pop(rt) {
+        None => Ok(Took::Nothing),
+        Some(Comes::Client(arrival)) => {
+            roll.join(arrival);
+            Ok(Took::Some)
+        }
+        Some(Comes::Nobody) => Ok(Took::Some),
+        Some(Comes::Over) | Some(Comes::Closed) => Ok(Took::Over),
+        Some(Comes::OutOfMemory) => Err(AllocError),
+    }
+}
+
+/// Seats the clients that came, at most 64.
+pub(crate) fn take_clients<I: Drop, O: Drop, R: Wait>(
+    rt: &R,
+    coming: &mut Taker<Comes<I, O>>,
+    roll: &mut Roll,
+) -> Result<Took, AllocError>
+    ensures queue { IsSameTaker coming.old coming.new }
+    ensures gathers { (there : List Session) (was : List Seat) (known : List ℕ)
+        → IsGathered there was known roll.old true → IsGathered there was known roll.new (is_ok result) }
+{
+    let mut took = Took::Nothing;
+    for _ in 0..MOST {
+        match take_client(rt, coming, roll)? {
+            Took::Nothing => return Ok(took),
+            Took::Some => took = Took::Some,
+            Took::Over => return Ok(Took::Over),
+        }
+    }
+    Ok(took)
+}

@@ -1,0 +1,207 @@
+//! What the source of entries of a run with clients gives and takes.
+
+ghost use Rattle.std.specs.Prelude.{◌≡◌, ◌≢◌, [], IfOk, Ok, OnOk, false, filter, is_ok, true};
+ghost use Rattle.trick_serve.specs.Looks.{Came, HasFound, HasNoMore};
+ghost use Rattle.trick_serve.specs.Rolls.{IsGathered, view};
+ghost use Rattle.trick_serve.specs.Rules.{is_live, sessions_by};
+ghost use Rattle.trick_turns.specs.Turns.{no_sessions};
+ghost use Rattle.trick_model.specs.Turn.{is_frozen as is_frozen_of};
+
+use crate::clients::{Took, take_clients};
+use crate::{Roll, Served};
+use std::alloc::{AllocError, Global};
+use std::sync::{Arc, Wait};
+use trick_base::Items;
+use trick_lang::Cells;
+use trick_model::{Entry, Mode, Session, State};
+use trick_serve_door::Comes;
+use trick_turn::Bell;
+use trick_turns::{Next, Turns};
+use trick_wire::{Putter, Taker};
+
+// Whether no time passes in a mode.
+fn is_frozen(mode: Mode) -> bool
+    ensures { result ≡ is_frozen_of mode }
+{
+    matches!(mode, Mode::Freeze)
+}
+
+impl<I: Drop, O: Drop, R: Wait + Copy> Served<I, O, R> {
+    /// The source of entries of a run to which no client has come yet. Clients come by `coming`, and the numbers of
+    /// those that left go into `gone`. The bell is rung after each put into `coming`, into an inbox and into a queue
+    /// of causes. Takes no memory.
+    pub fn new(
+        rt: R,
+        alloc: Global,
+        bell: Arc<Bell>,
+        coming: Taker<Comes<I, O>>,
+        gone: Putter<u32>,
+    ) -> Self
+        ensures seats { result.roll.seats.items ≡ [] }
+        ensures sessions { sessions_by result.roll.seats.items result.roll.live.items result.reached.items
+            ≡ no_sessions }
+        ensures whole { result.broke ≡ false }
+        ensures coming { result.coming ≡ coming }
+        ensures gone { result.gone ≡ gone }
+    {
+        Served {
+            rt,
+            alloc,
+            bell,
+            roll: Roll::new(alloc),
+            reached: Vec::new(alloc),
+            coming,
+            gone,
+            asked: false,
+            over: false,
+            broke: false,
+        }
+    }
+
+    /// Closes the inbox and the outbox of each session, and the queue of those that left, at the end of a run. The
+    /// messages that wait can still be written.
+    pub fn close(&self) {
+        self.roll.close();
+        self.gone.close();
+    }
+
+    // Looks once at what came, and gathers a list of it.
+    fn look(&mut self, there: &[Session]) -> Result<(), AllocError>
+        ensures reached { self.new.reached ≡ self.old.reached }
+        ensures broke { self.new.broke ≡ self.old.broke }
+        ensures gathered { IsGathered there.now self.old.roll.seats.items
+            (filter (is_live self.old.roll.seats.items) self.old.roll.live.items) self.new.roll (is_ok result) }
+    {
+        let rt = self.rt;
+        self.roll.dismiss(&rt, &mut self.gone);
+        self.roll.begin();
+        self.roll.hang_up(there)?;
+        match take_clients(&rt, &mut self.coming, &mut self.roll)? {
+            Took::Nothing => {}
+            Took::Some => self.asked = true,
+            Took::Over => {
+                self.asked = true;
+                self.over = true;
+            }
+        }
+        self.roll.listen(&rt, self.alloc)
+    }
+
+    // Looks until a list was gathered, which in Freeze is not empty. False where no line comes any more.
+    fn find(&mut self, frozen: bool, there: &[Session]) -> Result<bool, AllocError>
+        ensures reached { self.new.reached ≡ self.old.reached }
+        ensures broke { self.new.broke ≡ self.old.broke }
+        ensures found { result ≢ Ok false → HasFound there.now
+            (view self.old.roll self.old.reached.items self.old.over self.old.broke) self.new.roll (is_ok result) }
+        ensures filled { result ≡ Ok true → frozen ≡ true → self.new.roll.list.items ≢ [] }
+        ensures over { result ≡ Ok false → HasNoMore frozen
+            (view self.old.roll self.old.reached.items self.old.over self.old.broke)
+            (view self.new.roll self.new.reached.items self.new.over self.new.broke) }
+    {
+        let rt = self.rt;
+        for _ in rt.forever() {
+            let mark = self.bell.mark();
+            self.look(there)?;
+            if !self.roll.list.is_empty() || self.asked && !frozen {
+                return Ok(true);
+            }
+            if self.over && frozen && self.roll.are_over() {
+                return Ok(false);
+            }
+            self.bell.rest(&rt, mark);
+        }
+        unreachable!()
+    }
+
+    // Moves the list out. Those that were live as it began, and those that joined in it, can be sent messages.
+    fn give(&mut self, alloc: Global) -> Result<Vec<Entry>, AllocError>
+        ensures seats { self.new.roll.seats ≡ self.old.roll.seats }
+        ensures live { self.new.roll.live ≡ self.old.roll.live }
+        ensures broke { self.new.broke ≡ self.old.broke }
+        ensures over { self.new.over ≡ self.old.over }
+        ensures list { IfOk result (λ list. list.items ≡ self.old.roll.list.items) }
+        ensures reached { OnOk result (self.new.reached.items ≡ self.old.roll.live.items) }
+    {
+        self.reached.clear();
+        self.reached.extend_from_slice(&self.roll.live)?;
+        Ok(self.roll.take_list(alloc))
+    }
+
+    // The list that is given next. None where no line comes any more.
+    fn list(
+        &mut self,
+        alloc: Global,
+        frozen: bool,
+        there: &[Session],
+    ) -> Result<Option<Vec<Entry>>, AllocError>
+        ensures came { Came there.now frozen
+            (view self.old.roll self.old.reached.items self.old.over self.old.broke)
+            (view self.new.roll self.new.reached.items self.new.over self.new.broke) result }
+        ensures broke { self.new.broke ≡ self.old.broke }
+    {
+        if self.find(frozen, there)? {
+            let list = self.give(alloc)?;
+            return Ok(Some(list));
+        }
+        Ok(None)
+    }
+}
+
+impl<M: Cells, I: Drop, O: Drop, R: Wait + Copy> Turns<M> for Served<I, O, R> {
+    ghost use Rattle.std.specs.Prelude.{◌≤◌, ◌<◌, None, false, length};
+    ghost use Rattle.trick_serve.specs.Calls.{Went};
+    ghost use Rattle.trick_serve.specs.Rolls.{view};
+    ghost use Rattle.trick_serve.specs.Rules.{sessions_by};
+    ghost use Rattle.trick_serve.specs.CallLaws.{seated_among, went_join, went_none};
+
+    ghost went = { λ old answers messages new. Went
+        (view old.roll old.reached.items old.over old.broke) (view new.roll new.reached.items new.over new.broke)
+        answers messages };
+
+    ghost owes = { λ turns. false };
+
+    ghost journal = { λ turns. None };
+
+    ghost decided = { λ turns. false };
+
+    ghost sessions = { λ turns. sessions_by turns.roll.seats.items turns.roll.live.items turns.reached.items };
+
+    ghost takes = { λ turns session. (0 < session) × (session ≤ length turns.roll.seats.items) };
+
+    fn entries(&mut self, alloc: Global, state: &State<M>, there: &[Session]) -> Next {
+        if self.broke {
+            return Next::OutOfMemory;
+        }
+        match self.list(alloc, is_frozen(state.mode), there) {
+            Ok(Some(list)) => Next::Entries(list),
+            Ok(None) => Next::NoMore,
+            Err(AllocError) => {
+                self.broke = true;
+                Next::OutOfMemory
+            }
+        }
+    }
+
+    fn ends(&mut self, _turn: u64) -> Option<(u64, u64)> {
+        None
+    }
+
+    fn decides(&self) -> bool {
+        false
+    }
+
+    fn send(&mut self, session: u32, bytes: &[u8]) -> Result<(), AllocError> {
+        let message = Items::from_bytes(self.alloc, bytes)?;
+        let rt = self.rt;
+        self.roll.hand(&rt, session, message);
+        Ok(())
+    }
+
+    ghost reaches = { λ turns session there.
+        seated_among session turns.reached.items turns.roll.seats.items turns.reach there };
+
+    ghost went_none = { λ turns. went_none _ };
+
+    ghost went_join = { λ first second third early late some more one two.
+        went_join _ _ _ early late some more one two };
+}

@@ -1,0 +1,67 @@
+//! Sessions that hang up.
+
+ghost use Rattle.std.specs.Prelude.{◌≡◌, ◌||◌, ◌++◌, ◌∷◌, ◌<◌, ◌≤◌, [], List, ℕ, OnErr, OnOk, is_ok, length, true};
+ghost use Rattle.trick_model.specs.Session.{is_empty};
+ghost use Rattle.trick_model.specs.declared.session.Session.{Session};
+ghost use Rattle.trick_serve.specs.Gathering.{Gathers, HasLooked};
+ghost use Rattle.trick_serve.specs.Rules.{AreSeated};
+ghost use Rattle.trick_serve.specs.Sides.{side_of};
+
+use crate::Seat;
+use crate::hear::leave;
+use std::alloc::AllocError;
+use trick_model::{Cause, Entry, Session};
+
+// Whether a session is paused or has no variables.
+fn is_idle(shown: &Session) -> bool
+    ensures { result ≡ (shown.now.paused || is_empty shown.now.variables) }
+{
+    if shown.paused {
+        return true;
+    }
+    matches!(shown.variables.as_slice(), [])
+}
+
+// Lists that a session hangs up, where it is shown to be idle and its client has no line left.
+fn look_at(
+    session: u32,
+    shown: &Session,
+    seat: &mut Seat,
+    list: &mut Vec<Entry>,
+) -> Result<(), AllocError>
+    ensures { HasLooked session (shown.now ∷ []) (side_of seat.old) (side_of seat.new) list.old.items list.new.items }
+{
+    if seat.left || !seat.ended || shown.number != session {
+        return Ok(());
+    }
+    if is_idle(shown) {
+        list.reserve(1)?;
+        leave(session, Cause::HungUp, seat, list);
+    }
+    Ok(())
+}
+
+/// Lists that each of these sessions hangs up whose client has no line left, and which is shown to be paused or to have
+/// no variables. The sessions that are shown stand in the same order, each at the place of its number here; one that
+/// is shown elsewhere does not hang up yet.
+pub(crate) fn hang_up_all(
+    there: &[Session],
+    live: &[u32],
+    seats: &mut Vec<Seat>,
+    list: &mut Vec<Entry>,
+) -> Result<(), AllocError>
+    requires seated { AreSeated live.now seats.old.items }
+    requires empty { list.old.items ≡ [] }
+    ensures count { length seats.new.items ≡ length seats.old.items }
+    ensures gathers { Gathers there.now seats.old.items live.now seats.new.items live.now list.new.items
+        (is_ok result) }
+{
+    for at in 0..live.len() {
+        if at >= there.len() {
+            break;
+        }
+        let session = live[at];
+        look_at(session, &there[at], &mut seats[session as usize - 1], list)?;
+    }
+    Ok(())
+}

@@ -1,0 +1,50 @@
+//! The place of one session.
+
+ghost use Rattle.std.specs.Prelude.{◌≡◌, false, true, IsTrue};
+ghost use Rattle.trick_serve.specs.Ended.{has_end};
+ghost use Rattle.trick_wire.specs.Ends.{taken_by};
+
+use trick_serve_door::Arrival;
+use trick_wire::{Heard, Message, Putter, Taker, WriteStop};
+
+/// One session's ends of its queues, and how far the session is.
+#[derive(Drop)]
+pub struct Seat {
+    pub(crate) inbox: Taker<Heard>,
+    pub(crate) outbox: Putter<Message>,
+    pub(crate) causes: Taker<WriteStop>,
+    // A message to it was left out.
+    pub(crate) slow: bool,
+    // Its link has no byte left, and all its lines were taken.
+    pub(crate) ended: bool,
+    // Its leave was listed.
+    pub(crate) left: bool,
+    ghost ends: { ended ≡ true → IsTrue (has_end (taken_by inbox)) },
+}
+
+impl Seat {
+    /// The seat of a client that came. It has left already where a thread was refused to it.
+    pub(crate) fn of<I: Drop, O: Drop>(arrival: Arrival<I, O>) -> Seat
+        ensures refused { result.left ≡ arrival.refused }
+        ensures slow { result.slow ≡ false }
+        ensures inbox { result.inbox ≡ arrival.inbox }
+        ensures outbox { result.outbox ≡ arrival.outbox }
+        ensures causes { result.causes ≡ arrival.causes }
+    {
+        let Arrival {
+            inbox,
+            outbox,
+            causes,
+            refused,
+            ..
+        } = arrival;
+        Seat {
+            inbox,
+            outbox,
+            causes,
+            slow: false,
+            ended: false,
+            left: refused,
+        }
+    }
+}

@@ -1,0 +1,29 @@
+use Rattle.std.proofs.Common.{[], ◌∷◌, ◌++◌, ap, arith, refl, ◌∙◌}
+use Rattle.trick_serve_door.proofs.Asking.{taking_begins}
+use Rattle.trick_serve_door.proofs.taking.accept.Goals as goal
+use Rattle.trick_serve_door.specs.Taking.{Hosts, Start, hosts, start_of}
+use Rattle.trick_serve_door.specs.Told.{told_end}
+use Rattle.trick_serve_door.specs.declared.arrival.Comes.TheVariants.{Closed}
+
+pub returns : goal.returns
+returns g c =
+    let h : Hosts g.row.D.Denot g.row.D-In.Denot g.row.D-Out.Denot g.row.S.Denot = hosts g.D.Door.visited g.D.In.LinkIn g.D.Out.LinkOut g.S.Spawner.failures in
+    let work = c.args.work in
+    let start : Start g.row.D.Denot g.row.D-In.Denot g.row.D-Out.Denot g.row.S.Denot = start_of work.door work.spawner work.coming work.gone in
+    let e = c.take_clients-end.ensures start (taking_begins h start _ (g.met.D.Door.visited_none work.door) refl c.new.ensures refl refl refl refl) in
+    record {
+      visits = e.taking.visits;
+      last = e.last;
+      arrivals = e.taking.arrivals;
+      why = c.take_clients-end.result;
+      visited = e.taking.visited;
+      asks = e.taking.asks;
+      ended = e.ended;
+      coming_is = c.tell.ensures.queue ∙ c.tell_end.ensures.queue ∙ e.taking.coming;
+      gone_is = e.taking.gone;
+      told = c.tell.ensures.put ∙ ap (λ told. told ++ Closed ∷ []) (c.tell_end.ensures.put ∙ ap (λ told. told ++ told_end c.take_clients-end.result) e.taking.told);
+      joins = e.taking.joins;
+      past = c.take_in-sessions.ensures e.taking.arrivals e.taking.seated;
+      no_thread = e.taking.refused;
+      room = (let room = e.taking.room in omega arith);
+    }

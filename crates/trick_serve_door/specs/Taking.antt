@@ -1,0 +1,126 @@
+-- How far an acceptor is: what it asked its door, whom it told its caller, and the threads that it has.
+use Rattle.std.specs.Prelude.{◌≡◌, ◌⊎◌, ℕ, ◌+◌, ◌≤◌, List, [], ◌∷◌, ◌++◌, All, Option, Some, None, length, true, false}
+use Rattle.trick_outside.specs.Causes.{HasCause, RoseBy}
+use Rattle.trick_outside.specs.Visits.{Ended, Failed, OutOfMemory, Visit, clients}
+use Rattle.trick_outside.specs.declared.link_in.LinkIn.{Ghosts as InGhosts}
+use Rattle.trick_outside.specs.declared.link_out.LinkOut.{Ghosts as OutGhosts}
+use Rattle.trick_serve_door.specs.Pairs.{AllFit}
+use Rattle.trick_serve_door.specs.Seats.{IsSeated}
+use Rattle.trick_serve_door.specs.Told.{IsOpen, links_of, refused_of, told_clients, told_first}
+use Rattle.trick_serve_door.specs.declared.arrival.Arrival.{Arrival}
+use Rattle.trick_serve_door.specs.declared.arrival.Comes.{Comes}
+use Rattle.trick_serve_door.specs.declared.arrival.Comes.TheVariants.{Client, Nobody}
+use Rattle.trick_serve_door.specs.declared.ask.Acceptor.{Acceptor}
+use Rattle.trick_serve_door.specs.declared.ask.End.{End}
+use Rattle.trick_serve_door.specs.declared.ask.End.TheVariants as end
+use Rattle.trick_serve_door.specs.declared.seat.Seated.{Seated}
+use Rattle.trick_wire.specs.Ends.{IsSamePutter, IsSameTaker, put_by, taken_by}
+use Rattle.trick_wire.specs.declared.queue.Putter.{Putter}
+use Rattle.trick_wire.specs.declared.queue.Taker.{Taker}
+
+-- What an acceptor has to do with: the calls of its door, the links of its clients, and the count of refused starts.
+pub record Hosts (D I O S : Type 0) : Type 1 where
+  pub visited : D → List (Visit I O) → D → Type 0
+  pub input : InGhosts I
+  pub output : OutGhosts O
+  pub refusals : S → ℕ
+
+-- the hosts of an acceptor, by the records of its bounds
+abbrev pub hosts : {D I O S : Type 0} → (D → List (Visit I O) → D → Type 0) → InGhosts I → OutGhosts O → (S → ℕ)
+    → Hosts D I O S
+hosts visited input output refusals =
+    record { visited = visited; input = input; output = output; refusals = refusals }
+
+-- What it began with: its door, its spawner, its way to the caller, and the queue of the sessions that left.
+pub record Start (D I O S : Type 0) : Type 0 where
+  pub door : D
+  pub spawner : S
+  pub coming : Putter (Comes I O)
+  pub gone : Taker ℕ
+
+abbrev pub start_of : {D I O S : Type 0} → D → S → Putter (Comes I O) → Taker ℕ → Start D I O S
+start_of door spawner coming gone = record { door = door; spawner = spawner; coming = coming; gone = gone }
+
+-- There is one at least.
+abbrev pub HasBegun : {T : Type 0} → List T → Type 0
+HasBegun [] = ⊥
+HasBegun (item ∷ items) = Unit {0}
+
+-- From its start on it asked the door, and with these last calls the door gave no client. The caller was told each
+-- client, once and in order, and each has its threads.
+pub record IsTaking {D I O S R : Type 0} (h : Hosts D I O S) (start : Start D I O S) (last : List (Visit I O))
+    (door : D) (a : Acceptor I O S R) : Type 0 where
+  pub visits : List (Visit I O)
+  pub arrivals : List (Arrival I O)
+  pub visited : h.visited start.door (visits ++ last) door
+  pub asks : All IsOpen visits
+  pub coming : IsSamePutter start.coming a.teller.coming
+  pub gone : IsSameTaker start.gone a.places.gone
+  pub told : put_by a.teller.coming ≡ put_by start.coming ++ (told_first visits ++ told_clients arrivals)
+  pub joins : links_of arrivals ≡ clients visits
+  pub seated : AllFit (IsSeated h.input h.output) arrivals a.sessions.seated.items
+  pub refused : RoseBy (h.refusals start.spawner) (refused_of arrivals) (h.refusals a.spawner)
+  pub none : a.has_asked ≡ false → visits ≡ []
+  pub some : a.has_asked ≡ true → HasBegun visits
+  pub room : length arrivals + a.places.free + length (taken_by start.gone) ≤ 64 + length (taken_by a.places.gone)
+
+-- Why it asks no more, by the last calls of its door and the count of its clients: the door ended or failed, or the
+-- last number was given; there was no memory; or the caller has closed.
+abbrev pub IsEnd : {I O : Type 0} → End → List (Visit I O) → ℕ → Type 0
+IsEnd end.Over last count = (last ≡ Ended ∷ []) ⊎ ((last ≡ Failed ∷ []) ⊎ ((last ≡ []) × (4294967295 ≤ count)))
+IsEnd end.OutOfMemory last count = (last ≡ []) ⊎ (last ≡ OutOfMemory ∷ [])
+IsEnd end.Closed last count = last ≡ []
+
+-- It asks no more, for this reason.
+pub record HasEnded {D I O S R : Type 0} (h : Hosts D I O S) (start : Start D I O S) (why : End) (door : D)
+    (a : Acceptor I O S R) : Type 0 where
+  pub last : List (Visit I O)
+  pub taking : IsTaking h start last door a
+  pub ended : IsEnd why last (length taking.arrivals)
+
+-- It asked for one client, and asks on, or no more for this reason.
+abbrev pub HasAsked : {D I O S R : Type 0} → Hosts D I O S → Start D I O S → Option End → D → Acceptor I O S R → Type 0
+HasAsked h start (Some why) door a = HasEnded h start why door a
+HasAsked h start None door a = IsTaking h start [] door a
+
+-- A client was taken: its threads were started or refused, and the caller was told.
+pub record HasTaken {I O S R : Type 0} (input : InGhosts I) (output : OutGhosts O) (refusals : S → ℕ) (links : I × O)
+    (old new : Acceptor I O S R) : Type 0 where
+  pub arrival : Arrival I O
+  pub threads : Seated I O R
+  pub coming : IsSamePutter old.teller.coming new.teller.coming
+  pub told : put_by new.teller.coming ≡ put_by old.teller.coming ++ Client arrival ∷ []
+  pub links_are : (arrival.input.value ≡ links.0) × (arrival.output.value ≡ links.1)
+  pub seated : new.sessions.seated.items ≡ old.sessions.seated.items ++ threads ∷ []
+  pub fits : IsSeated input output arrival threads
+  pub cause : HasCause (refusals old.spawner) (refusals new.spawner) (arrival.refused ≡ true)
+  pub asked : new.has_asked ≡ true
+  pub place : new.places.free + 1 ≡ old.places.free
+  pub gone : new.places.gone ≡ old.places.gone
+
+-- The caller was told that no client had come, where it had been told nothing of the door.
+pub record HasToldNobody {I O S R : Type 0} (old new : Acceptor I O S R) : Type 0 where
+  pub coming : IsSamePutter old.teller.coming new.teller.coming
+  pub known : old.has_asked ≡ true → put_by new.teller.coming ≡ put_by old.teller.coming
+  pub told : old.has_asked ≡ false → put_by new.teller.coming ≡ put_by old.teller.coming ++ Nobody ∷ []
+  pub asked : new.has_asked ≡ true
+  pub sessions : new.sessions ≡ old.sessions
+  pub spawner : new.spawner ≡ old.spawner
+  pub places : new.places ≡ old.places
+
+-- There is room for one session more, and nothing else has changed.
+pub record HasRoom {I O S R : Type 0} (old new : Acceptor I O S R) : Type 0 where
+  pub seated : new.sessions.seated.items ≡ old.sessions.seated.items
+  pub teller : new.teller ≡ old.teller
+  pub spawner : new.spawner ≡ old.spawner
+  pub places : new.places ≡ old.places
+  pub asked : new.has_asked ≡ old.has_asked
+
+-- Places may have become free, each for a session of which the caller said that it left, and nothing else has changed.
+pub record HasPlaced {I O S R : Type 0} (old new : Acceptor I O S R) : Type 0 where
+  pub sessions : new.sessions ≡ old.sessions
+  pub teller : new.teller ≡ old.teller
+  pub spawner : new.spawner ≡ old.spawner
+  pub asked : new.has_asked ≡ old.has_asked
+  pub gone : IsSameTaker old.places.gone new.places.gone
+  pub left : new.places.free + length (taken_by old.places.gone) ≡ old.places.free + length (taken_by new.places.gone)

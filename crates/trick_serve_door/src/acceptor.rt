@@ -1,0 +1,137 @@
+//! What the acceptor has in hand while it takes clients.
+
+ghost use Rattle.std.specs.Prelude.{◌≡◌, ◌↔◌, ◌++◌, ◌∷◌, [], ◌+◌, ◌<◌, ◌≤◌, IsTrue, List, OnOk, vec_capacity, vec_len};
+ghost use Rattle.trick_serve_door.specs.Pairs.{AllFit};
+ghost use Rattle.trick_serve_door.specs.Seats.{IsPast, IsSeated};
+ghost use Rattle.trick_serve_door.specs.Told.{told_end};
+ghost use Rattle.trick_wire.specs.Ends.{IsSamePutter, put_by};
+
+use crate::ask::End;
+use crate::past::Past;
+use crate::seat::Seated;
+use crate::{Arrival, Comes};
+use std::alloc::{AllocError, Global};
+use std::sync::{Arc, Wait};
+use std::thread::Threads;
+use trick_outside::{LinkIn, LinkOut};
+use trick_turn::Bell;
+use trick_wire::Putter;
+
+// The way to the caller: what comes is put there, and the bell is rung after it.
+#[derive(Drop)]
+pub(crate) struct Teller<I, O> {
+    pub(crate) coming: Putter<Comes<I, O>>,
+    pub(crate) bell: Arc<Bell>,
+}
+
+impl<I: Drop, O: Drop> Teller<I, O> {
+    // Tells the caller, and rests where there is no room.
+    pub(crate) fn tell<R: Wait>(&mut self, rt: &R, item: Comes<I, O>)
+        ensures queue { IsSamePutter self.old.coming self.new.coming }
+        ensures put { put_by self.new.coming ≡ put_by self.old.coming ++ item ∷ [] }
+    {
+        let mut mine = item;
+        for _ in rt.forever() {
+            let mark = self.coming.mark();
+            match self.coming.push(rt, mine) {
+                Ok(()) => {
+                    self.bell.ring();
+                    return;
+                }
+                Err(back) => mine = back,
+            }
+            self.coming.rest(rt, mark);
+        }
+        unreachable!()
+    }
+
+    // Tells the caller why no client comes any more, where it does not know.
+    pub(crate) fn tell_end<R: Wait>(&mut self, rt: &R, end: End)
+        ensures queue { IsSamePutter self.old.coming self.new.coming }
+        ensures put { put_by self.new.coming ≡ put_by self.old.coming ++ told_end end }
+    {
+        match end {
+            End::Over => self.tell(rt, Comes::Over),
+            End::OutOfMemory => self.tell(rt, Comes::OutOfMemory),
+            End::Closed => {}
+        }
+    }
+}
+
+// The sessions that were begun, in the order of their numbers, and room for what their threads hand back.
+#[derive(Drop)]
+pub(crate) struct Sessions<
+    I: LinkIn + Send + Drop + 'static,
+    O: LinkOut + Send + Drop + 'static,
+    R: Wait + Send + Drop + 'static,
+> {
+    pub(crate) seated: Vec<Seated<I, O, R>>,
+    pub(crate) past: Vec<Past<I, O>>,
+    pub ghost room: { vec_len seated ≤ vec_capacity past },
+    pub ghost none: { vec_len past ≡ 0 },
+}
+
+impl<
+    I: LinkIn + Send + Drop + 'static,
+    O: LinkOut + Send + Drop + 'static,
+    R: Wait + Send + Drop + 'static,
+> Sessions<I, O, R> {
+    // No session.
+    pub(crate) fn new(alloc: Global) -> Sessions<I, O, R>
+        ensures { result.seated.items ≡ [] }
+    {
+        Sessions {
+            seated: Vec::new(alloc),
+            past: Vec::new(alloc),
+        }
+    }
+
+    // Makes room for one more.
+    pub(crate) fn reserve(&mut self) -> Result<(), AllocError>
+        ensures seated { self.new.seated.items ≡ self.old.seated.items }
+        ensures room { OnOk result (vec_len self.new.seated + 1 ≤ vec_capacity self.new.past) }
+        ensures place { OnOk result (vec_len self.new.seated < vec_capacity self.new.seated) }
+    {
+        self.seated.reserve(1)?;
+        self.past.reserve(self.seated.len().saturating_add(1))?;
+        Ok(())
+    }
+
+    // Adds one for which there is room.
+    pub(crate) fn add(&mut self, seated: Seated<I, O, R>)
+        requires room { vec_len self.old.seated + 1 ≤ vec_capacity self.old.past }
+        requires place { vec_len self.old.seated < vec_capacity self.old.seated }
+        ensures { self.new.seated.items ≡ self.old.seated.items ++ seated ∷ [] }
+    {
+        self.seated.push_reserved(seated);
+    }
+
+    // Whether the last number was given.
+    pub(crate) fn is_full(&self) -> bool
+        ensures { IsTrue result ↔ (u32.MAX ≤ vec_len self.now.seated) }
+    {
+        u32::MAX as usize <= self.seated.len()
+    }
+}
+
+impl<
+    I: LinkIn + Send + Drop + 'static,
+    O: LinkOut + Send + Drop + 'static,
+    R: Threads + Wait + Copy + Send + Drop + 'static,
+> Sessions<I, O, R> {
+    // Takes the threads of all in.
+    pub(crate) fn take_in(self, rt: &R) -> Vec<Past<I, O>>
+        ensures { (arrivals : List (Arrival I O)) → AllFit (IsSeated I.LinkIn O.LinkOut) arrivals self.seated.items
+            → AllFit (IsPast I.LinkIn O.LinkOut) arrivals result.items }
+    {
+        let Sessions {
+            mut seated,
+            mut past,
+        } = self;
+        while let Some(last) = seated.pop() {
+            past.push_reserved(last.take_in(rt));
+        }
+        past.reverse();
+        past
+    }
+}

@@ -1,0 +1,18 @@
+//! How the clients of a served run come and go: the acceptor, which takes clients from a door and starts the reader and
+//! the writer of each, and the end of a session, at which both are taken in and the links go back to the door.
+#![tactic(auto)]
+
+mod acceptor;
+mod arrival;
+mod ask;
+mod ending;
+mod past;
+mod places;
+mod queues;
+mod seat;
+mod taking;
+
+pub use arrival::{Arrival, Comes};
+pub use ending::{Ended, Ends, end_session};
+pub use past::Past;
+pub use taking::{Accepting, Taken, accept};
