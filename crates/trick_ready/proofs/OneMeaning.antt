@@ -206,4 +206,4 @@ module _ (one_program : OneProgram) (one_refusal : OneRefusal) (not_both : NotBo
       told.unaccepted.known told.unaccepted.first
 
   pub one_meaning : HaveOneMeaning s_define input
-  one_meaning = record { planned = planned; refused = refused; accepted = accepted }
+  one_meaning = record { planned = planned; one_plan = same_plan; refused = refused; accepted = accepted }

@@ -19,7 +19,7 @@ use Rattle.trick_resume.specs.Loaded.{IsCheckpointOf}
 use Rattle.trick_serial.specs.Serial.{RunsSerially, ended_by}
 use Rattle.trick_serial.specs.declared.ended.Ended.{Ended}
 use Rattle.trick_top.proofs.JoinLemmas.{none_join}
-use Rattle.trick_top.specs.Acts.{Acts, HasActed, accepted_verdict, checked, ended_verdict, last_state, listed, listed_verdict}
+use Rattle.trick_top.specs.Acts.{Acts, HasActed, StopsWith, accepted_verdict, checked, ended_verdict, last_state, listed, listed_verdict}
 use Rattle.trick_top.specs.Acts.{no_memory, no_memory_to_write, not_written, ran, run_steps, unloaded}
 use Rattle.trick_top.specs.First.{IsFirst, IsLoadedFrom}
 use Rattle.trick_top.specs.Runs.{IsUnderWay}
@@ -54,6 +54,10 @@ module _ {S : Type 0} {shelf : Ghosts S} {old new : S} (plan : Plan) (from : Opt
   under_way : {result : Result Ended Stop} → (runs : RunsSerially shelf (plan_of plan) first old new result) → IsUnderWay plan None first runs.lists
   under_way runs = record { goes = runs.runs.goes; published = runs.runs.published }
 
+  -- how it stopped
+  stopped_so : {e : Stop} (runs : RunsSerially shelf (plan_of plan) first old new (Err e)) → StopsWith plan first runs.lists runs.runs.does.calls
+  stopped_so runs = let stops = runs.runs.stops (λ ok. cc) in record { part = runs.runs.does.part; said = stops.0; stops = stops.1 }
+
   -- no session joins in a run without clients
   alone : {result : Result Ended Stop} (runs : RunsSerially shelf (plan_of plan) first old new result) → Acts plan from None task.Run (run_steps plan first runs.lists) (ended_verdict plan first runs.lists)
       → Acts plan from None task.Run (run_steps plan first runs.lists) (EndedBy (ended_by (last_state plan first runs.lists)) 0)
@@ -70,12 +74,12 @@ module _ {S : Type 0} {shelf : Ghosts S} {old new : S} (plan : Plan) (from : Opt
   acted_run (Err stop.Shelf) runs = record {
     calls = runs.runs.does.calls;
     went = runs.runs.does.went;
-    acts = not_written first runs.lists starts (under_way runs) runs.runs.does.part (runs.runs.does.failed refl);
+    acts = not_written first runs.lists starts (under_way runs) (stopped_so runs) (runs.runs.does.failed refl);
   }
   acted_run (Err stop.Memory) runs = record {
     calls = runs.runs.does.calls;
     went = runs.runs.does.went;
-    acts = no_memory_to_write first runs.lists starts (under_way runs) runs.runs.does.part (true_or_false (fails runs.runs.does.calls) (λ e. (let fault = runs.runs.does.fault e in cc)));
+    acts = no_memory_to_write first runs.lists starts (under_way runs) (stopped_so runs) (true_or_false (fails runs.runs.does.calls) (λ e. (let fault = runs.runs.does.fault e in cc)));
   }
 
 -- a text that is no checkpoint

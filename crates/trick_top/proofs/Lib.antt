@@ -2,6 +2,8 @@ pub mod FoundLemmas
 pub mod OutcomeLemmas
 pub mod SaysLemmas
 pub mod StandsLemmas
+-- What a run that stopped leaves of its files.
+pub mod StoppedLemmas
 pub mod CompleteLemmas
 pub mod PrintLemmas
 pub mod JoinLemmas

@@ -66,10 +66,10 @@ acted_faults {plan = plan} (ran first lists starts whole) =
 acted_faults {plan = plan} (not_written first lists starts under_way part fault) = record {
   there = λ e. refl;
   back = λ e. fault;
-  ends = part_ends _ (run_steps plan first lists) part (steps_quiet (all_writes plan first lists));
+  ends = part_ends _ (run_steps plan first lists) part.part (steps_quiet (all_writes plan first lists));
 }
 acted_faults {plan = plan} (no_memory_to_write first lists starts under_way part none) =
-    quiet _ _ none (part_ends _ (run_steps plan first lists) part (steps_quiet (all_writes plan first lists))) (λ e. cc)
+    quiet _ _ none (part_ends _ (run_steps plan first lists) part.part (steps_quiet (all_writes plan first lists))) (λ e. cc)
 
 performed_faults : {t : Task} {given : Sources} {calls : List Call} {verdict : Verdict} → Performed t given calls verdict → Faults calls verdict
 performed_faults (text_refused is) = quiet _ _ refl tt (λ e. cc)

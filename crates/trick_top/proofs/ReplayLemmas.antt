@@ -56,12 +56,12 @@ module _ (plan : Plan) (from : Option (List ℕ)) (first : State) (starts : IsFi
     acted_replay (Err stop.Shelf) runs = record {
       calls = runs.does.calls;
       went = runs.does.went;
-      acts = not_written first runs.lists starts (record { journal = journal; is = is; follows = runs.follows }) runs.does.part (runs.does.failed refl);
+      acts = not_written first runs.lists starts (record { journal = journal; is = is; follows = runs.follows }) (record { part = runs.does.part; said = runs.stops.0; stops = runs.stops.1 }) (runs.does.failed refl);
     }
     acted_replay (Err stop.Memory) runs = record {
       calls = runs.does.calls;
       went = runs.does.went;
-      acts = no_memory_to_write first runs.lists starts (record { journal = journal; is = is; follows = runs.follows }) runs.does.part
+      acts = no_memory_to_write first runs.lists starts (record { journal = journal; is = is; follows = runs.follows }) (record { part = runs.does.part; said = runs.stops.0; stops = runs.stops.1 })
           (true_or_false (fails runs.does.calls) (λ e. (let fault = runs.does.fault e in cc)));
     }
 

@@ -4,6 +4,7 @@ use Rattle.std.specs.FinMap.{get}
 use Rattle.trick_base.proofs.WriteLemmas.{all_written-append, front_of_all, front_of_late}
 use Rattle.trick_base.specs.Files.{Files, Write, all_written}
 use Rattle.trick_base.specs.Fronts.{IsFrontOf}
+use Rattle.trick_model.specs.PlanOf.{plan_of}
 use Rattle.trick_model.specs.State.{State}
 use Rattle.trick_model.specs.declared.entry.Entry.{Entry}
 use Rattle.trick_model.specs.declared.plan.Plan.{Plan}
@@ -12,11 +13,13 @@ use Rattle.trick_outside.specs.Calls.{AllLeave, Call}
 use Rattle.trick_outside.specs.Does.{IsPartOf, Went}
 use Rattle.trick_outside.specs.declared.shelf.Shelf.{Ghosts}
 use Rattle.trick_ready.specs.Texts.{IsReady}
+use Rattle.trick_run_facts.specs.Left.{Left}
 use Rattle.trick_tic.proofs.StepLemmas as steps
 use Rattle.trick_tic.specs.Steps.{steps_of}
 use Rattle.trick_top.proofs.FoundLemmas.{leave_reads, leave_steps}
 use Rattle.trick_top.proofs.SaysLemmas.{leave_earlier, written_by}
-use Rattle.trick_top.specs.Acts.{Acts, all_writes, checked, listed, misfits, no_journal, no_memory, no_memory_to_write, not_written, ran, run_steps, unloaded}
+use Rattle.trick_top.proofs.StoppedLemmas.{left_so}
+use Rattle.trick_top.specs.Acts.{Acts, StopsWith, all_writes, checked, listed, misfits, no_journal, no_memory, no_memory_to_write, not_written, ran, run_steps, unloaded}
 use Rattle.trick_top.specs.First.{IsFirst}
 use Rattle.trick_top.specs.Found.{reads}
 use Rattle.trick_top.specs.Generated.{text_steps, text_writes}
@@ -42,7 +45,7 @@ module _ {S : Type 0} (shelf : Ghosts S) (old new : S) (words : Words) where
   -- such writes make what is held of what was held
   record HasWritten (held now : Files) : Type 0 where
     pub writes : List Write
-    pub may : MayWrite shelf old words writes
+    pub may : MayWrite shelf old words held writes
     pub is : now ≡ all_written writes held
 
   none_written : (held now : Files) → now ≡ held → HasWritten held now
@@ -77,7 +80,7 @@ module _ {S : Type 0} (shelf : Ghosts S) (old new : S) (words : Words) where
     texts_written is = early_written request held now (earlier_writes request) gives (front_of_all (earlier_writes request)) is
 
     -- all of these writes
-    whole_written : (writes : List Write) → MayWrite shelf old words (earlier_writes request ++ writes) → AllLeave (steps_of writes) begun now → HasWritten held now
+    whole_written : (writes : List Write) → MayWrite shelf old words held (earlier_writes request ++ writes) → AllLeave (steps_of writes) begun now → HasWritten held now
     whole_written writes may left = record {
       writes = earlier_writes request ++ writes;
       may = may;
@@ -86,15 +89,18 @@ module _ {S : Type 0} (shelf : Ghosts S) (old new : S) (words : Words) where
 
     -- a part of a run
     part_written : {plan : Plan} (first : State) (lists : List (List Entry)) (part : List Call) → task_of request ≡ Run → IsReady given.s_define given.input plan → IsFirst plan given.from first
-        → IsUnderWay plan given.journal first lists → IsPartOf part (run_steps plan first lists) → AllLeave part begun now → HasWritten held now
+        → IsUnderWay plan given.journal first lists → StopsWith plan first lists part → AllLeave part begun now → HasWritten held now
     part_written {plan = plan} first lists part is_run ready starts under_way is left =
         let writes = all_writes plan first lists in
-        let front = front_of part (run_steps plan first lists) begun now (steps.all_done writes) is left in
+        let front = front_of part (run_steps plan first lists) begun now (steps.all_done writes) is.part left in
         let of_run : IsFrontOf front.writes writes = subst (λ (w : List Write). IsFrontOf front.writes w) (steps.writes_of-steps_of writes) front.front in
+        let all : now ≡ all_written (earlier_writes request ++ front.writes) held = front.is ∙ sym (all_written-append (earlier_writes request) front.writes held) in
         record {
           writes = earlier_writes request ++ front.writes;
-          may = a_front first lists gives is_run ready starts under_way (front_of_late (earlier_writes request) front.writes writes of_run);
-          is = front.is ∙ sym (all_written-append (earlier_writes request) front.writes held);
+          may = a_front first lists is.said gives is_run ready starts under_way (front_of_late (earlier_writes request) front.writes writes of_run)
+              (subst (λ (files : Files). Left (plan_of plan) first lists is.said begun files) all
+              (left_so plan given.journal first lists part under_way is begun now left));
+          is = all;
         }
 
     acted_written : {t : Task} {plan : Plan} {calls : List Call} {verdict : Verdict} → task_of request ≡ t → Acts plan given.from given.journal t calls verdict → IsReady given.s_define given.input plan → AllLeave calls begun now → HasWritten held now

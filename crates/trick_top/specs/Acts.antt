@@ -4,9 +4,10 @@ use Rattle.trick_base.specs.Files.{Write}
 use Rattle.trick_codes.specs.declared.load_fault.LoadFault.{LoadFault}
 use Rattle.trick_journal.specs.declared.journal_fault.JournalFault.{JournalFault}
 use Rattle.trick_memory.specs.Listing.{listing_text}
-use Rattle.trick_model.specs.Files.{run_writes}
+use Rattle.trick_model.specs.Files.{run_writes, start_writes}
 use Rattle.trick_model.specs.PlanOf.{plan_of}
 use Rattle.trick_model.specs.Run.{final}
+use Rattle.trick_model.specs.Session.{Message}
 use Rattle.trick_model.specs.State.{State}
 use Rattle.trick_model.specs.declared.entry.Entry.{Entry}
 use Rattle.trick_model.specs.declared.journal.Journal.{Journal}
@@ -16,6 +17,7 @@ use Rattle.trick_outside.specs.Does.{IsPartOf, Went}
 use Rattle.trick_outside.specs.declared.shelf.Shelf.{Ghosts}
 use Rattle.trick_refusal.specs.Checkpoint.{checkpoint_line}
 use Rattle.trick_refusal.specs.Journal.{journal_line}
+use Rattle.trick_runs.specs.Stops.{StopsAt}
 use Rattle.trick_turns.specs.Joins.{joins_of}
 use Rattle.trick_serial.specs.Serial.{ended_by}
 use Rattle.trick_tic.specs.Steps.{steps_of}
@@ -55,6 +57,13 @@ ended_verdict plan first lists = Ended (ended_by (last_state plan first lists)) 
 abbrev pub length_verdict : Plan → State → Journal → Verdict
 length_verdict plan first journal = JournalLength journal.end (given_turn plan first journal)
 
+-- A run from a state, whose turns were given these lists, stopped when it had made these calls: a part of those of
+-- the run, and its last files only where it is over; no message was handed over before its turn's entries were noted.
+pub record StopsWith (plan : Plan) (first : State) (lists : List (List Entry)) (calls : List Call) : Type 0 where
+  pub part : IsPartOf calls (run_steps plan first lists)
+  pub said : List Message
+  pub stops : StopsAt (plan_of plan) first (start_writes (plan_of plan) first.turn) lists calls said
+
 -- How a command goes with an accepted plan, with the text of a checkpoint and with that of a journal, where there
 -- are such texts: its calls of the shelf, and the verdict. The checkpoint decides before the journal.
 pub data Acts (plan : Plan) (from journal : Option (List ℕ)) : Task → List Call → Verdict → Type 0 where
@@ -76,11 +85,11 @@ pub data Acts (plan : Plan) (from journal : Option (List ℕ)) : Task → List C
       → Acts plan from journal task.Run (short_steps plan first told) (length_verdict plan first told)
   -- the last call failed
   not_written : (first : State) (lists : List (List Entry)) {part : List Call} → IsFirst plan from first
-      → IsUnderWay plan journal first lists → IsPartOf part (run_steps plan first lists) → fails part ≡ true
+      → IsUnderWay plan journal first lists → StopsWith plan first lists part → fails part ≡ true
       → Acts plan from journal task.Run part ShelfFault
   -- no call failed
   no_memory_to_write : (first : State) (lists : List (List Entry)) {part : List Call} → IsFirst plan from first
-      → IsUnderWay plan journal first lists → IsPartOf part (run_steps plan first lists) → fails part ≡ false
+      → IsUnderWay plan journal first lists → StopsWith plan first lists part → fails part ≡ false
       → Acts plan from journal task.Run part OutOfMemory
 
 -- How a command went with an accepted plan on a shelf, from old to new, with the texts of a checkpoint and of a

@@ -8,6 +8,7 @@ use Rattle.trick_codes.specs.declared.load_fault.LoadFault.{LoadFault}
 use Rattle.trick_journal.specs.declared.journal_fault.JournalFault.{JournalFault}
 use Rattle.trick_model.specs.Files.{file}
 use Rattle.trick_model.specs.PlanOf.{plan_of}
+use Rattle.trick_model.specs.Session.{Message}
 use Rattle.trick_model.specs.State.{State}
 use Rattle.trick_model.specs.declared.entry.Entry.{Entry}
 use Rattle.trick_model.specs.declared.journal.Journal.{Journal}
@@ -20,6 +21,7 @@ use Rattle.trick_ready.specs.Texts.{IsPlanRefused, IsReady, IsTextRefused}
 use Rattle.trick_refusal.specs.Checkpoint.{checkpoint_line}
 use Rattle.trick_refusal.specs.Journal.{journal_line}
 use Rattle.trick_resume.specs.Loaded.{IsCheckpointOf}
+use Rattle.trick_run_facts.specs.Left.{Left}
 use Rattle.trick_top.specs.Acts.{accepted_verdict, all_writes, ended_verdict, last_state, length_verdict}
 use Rattle.trick_top.specs.Acts.{listed_verdict, run_steps}
 use Rattle.trick_top.specs.First.{IsFirst, IsUnloaded}
@@ -266,29 +268,33 @@ pub record IsMisfitIn (given : Sources) : Type 0 where
   pub replays : given.journal ≡ Some text
   pub misfit : HasJournal given (λ plan first journal. IsFitting plan first journal → ⊥)
 
--- What may have been written: nothing, or a front of the texts of a generated simulation; or a front of what the
--- run writes that the texts describe, or all of it, after what was written before it; or what a run writes whose
--- journal does not fit.
-pub data MayWrite {S : Type 0} (shelf : Ghosts S) (old : S) (words : Words) : List Write → Type 0 where
-  nothing : MayWrite shelf old words []
+-- What may have been written over these files: nothing, or a front of the texts of a generated simulation; or a front
+-- of what the run writes that the texts describe, or all of it, after what was written before it; or what a run writes
+-- whose journal does not fit. Where it is a front, the whole lines of the journal tell what happened: every other file
+-- of the run is as it was when the run began, or a prefix of its file in the run under these lines.
+pub data MayWrite {S : Type 0} (shelf : Ghosts S) (old : S) (words : Words) (files : Files) : List Write → Type 0 where
+  nothing : MayWrite shelf old words files []
   of_texts : {objects : ℕ} {writes : List Write} → Asks words (Generated objects)
-      → IsFrontOf writes (text_writes objects) → MayWrite shelf old words writes
+      → IsFrontOf writes (text_writes objects) → MayWrite shelf old words files writes
   a_front : {request : Request} {given : Sources} {plan : Plan} (first : State) (lists : List (List Entry))
-      {writes : List Write} → Gives shelf old words request given → task_of request ≡ task.Run
+      (said : List Message) {writes : List Write} → Gives shelf old words request given → task_of request ≡ task.Run
       → IsReady given.s_define given.input plan → IsFirst plan given.from first
       → IsUnderWay plan given.journal first lists
-      → IsFrontOf writes (earlier_writes request ++ all_writes plan first lists) → MayWrite shelf old words writes
+      → IsFrontOf writes (earlier_writes request ++ all_writes plan first lists)
+      → Left (plan_of plan) first lists said (all_written (earlier_writes request) files) (all_written writes files)
+      → MayWrite shelf old words files writes
   of_whole : {request : Request} {given : Sources} {plan : Plan} (first : State) (lists : List (List Entry))
       → Gives shelf old words request given → task_of request ≡ task.Run → IsReady given.s_define given.input plan
       → IsFirst plan given.from first → IsWholeRun plan given.journal first lists
-      → MayWrite shelf old words (earlier_writes request ++ all_writes plan first lists)
+      → MayWrite shelf old words files (earlier_writes request ++ all_writes plan first lists)
   of_misfit : {request : Request} {given : Sources} {plan : Plan} {first : State} {text : List ℕ} {journal : Journal}
       → Gives shelf old words request given → task_of request ≡ task.Run → IsReady given.s_define given.input plan
       → IsFirst plan given.from first → given.journal ≡ Some text → IsMisfit plan text first journal
-      → MayWrite shelf old words (earlier_writes request ++ short_writes plan first journal)
+      → MayWrite shelf old words files (earlier_writes request ++ short_writes plan first journal)
 
 -- Whatever the status is: what the shelf holds is what was held, and what such writes make of it.
 abbrev pub Stands : {S : Type 0} (shelf : Ghosts S) (old new : S) (words : Words) → Type 0
 Stands shelf old new words =
     (files : Files) → shelf.holds old ≡ Some files
-    → (writes : List Write) × MayWrite shelf old words writes × (shelf.holds new ≡ Some (all_written writes files))
+    → (writes : List Write) × MayWrite shelf old words files writes
+    × (shelf.holds new ≡ Some (all_written writes files))

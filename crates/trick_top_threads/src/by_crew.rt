@@ -82,8 +82,9 @@ where
 /// Runs an accepted plan, which it shares with its workers, from a state by threads, without clients, until the run is
 /// over: so a run goes on from a checkpoint. Each scheduled child thread that has a job is started in a thread of its
 /// own, as far as the spawner admits it, and the caller does the jobs of all others, and those of must-finish and
-/// asynchronous threads; where there is no such child, the caller runs it all, as fast as on one thread. It writes the files of the run, and where it stops a part of them: at `Stop::Shelf` the shelf
-/// failed, and at `Stop::Memory` there was no memory.
+/// asynchronous threads; where there is no such child, the caller runs it all, as fast as on one thread. It writes the
+/// files of the run, and where it stops a part of them: at `Stop::Shelf` the shelf failed, and at `Stop::Memory` there
+/// was no memory.
 pub fn run_from<F: Shelf, S: Spawner, G, R>(
     threads: &mut InThreads<'_, S, G, R>,
     alloc: Global,
