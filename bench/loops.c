@@ -5,9 +5,11 @@
    loops rows N FILE         N rows of a tic and eight numbers, each written by a call of its own
    loops scan FILE           sorts each byte of a file into letters, digits, white space and marks
    loops print N FILE        N lines `o.m[i] = number;` into a file
-   loops load FILE           reads such lines back */
+   loops load FILE           reads such lines back
+   loops threads N TICS K    four loops of N steps a tic, shared among K threads, which meet after each tic */
 #include <ctype.h>
 #include <fcntl.h>
+#include <pthread.h>
 #include <stdio.h>
 #include <stdlib.h>
 #include <string.h>
@@ -107,6 +109,34 @@ static long load(const char *name)
     return sum;
 }
 
+static long steps, tics, crew;
+static pthread_barrier_t met;
+static struct { volatile long sum; char beside[120]; } bodies[4];
+
+static void *work(void *first)
+{
+    for (long tic = 0; tic < tics; tic++) {
+        for (long k = (long)first; k < 4; k += crew)
+            for (long i = 0; i < steps; i++)
+                bodies[k].sum += i;
+        pthread_barrier_wait(&met);
+    }
+    return 0;
+}
+
+static long threads(void)
+{
+    pthread_t others[4];
+    pthread_barrier_init(&met, 0, crew);
+    for (long k = 1; k < crew; k++)
+        if (pthread_create(others + k, 0, work, (void *)k))
+            exit(1);
+    work(0);
+    for (long k = 1; k < crew; k++)
+        pthread_join(others[k], 0);
+    return bodies[0].sum + bodies[1].sum + bodies[2].sum + bodies[3].sum;
+}
+
 int main(int count, char **words)
 {
     long result = 0;
@@ -122,6 +152,10 @@ int main(int count, char **words)
         result = print(atol(words[2]), words[3]);
     else if (count > 2 && !strcmp(words[1], "load"))
         result = load(words[2]);
+    else if (count > 4 && !strcmp(words[1], "threads") && atol(words[4]) >= 1 && atol(words[4]) <= 4) {
+        steps = atol(words[2]), tics = atol(words[3]), crew = atol(words[4]);
+        result = threads();
+    }
     printf("%ld\n", result);
     return 0;
 }

@@ -1,5 +1,5 @@
-//! Tests of a crew with real threads: its workers are at work at one moment, and whatever threads do, and however many
-//! could be started, tics come to what one thread makes of them. After a crew has ended, no thread of it is left.
+//! Tests of whole runs by real threads, by the top call: workers are at work at one moment, and whatever threads do, and
+//! however many could be started, the run writes what it writes on one thread. After it no thread is left.
 #![tactic(auto)]
 
 #[cfg(test)]

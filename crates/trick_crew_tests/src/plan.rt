@@ -1,15 +1,10 @@
-//! The plan of the tests: eight threads of five jobs each, which are due at every tic.
-
-use std::alloc::Global;
-use std::sync::Arc;
-use std::test::Fail;
-use trick_model::Accepted;
-use trick_ready::ready;
+//! The plan of the tests: eight threads of five jobs each, which are due at each of three tics. Each tic is a software
+//! frame and has a row of a log, and a checkpoint is written in the second frame.
 
 /// An object on each of eight threads, thread 0 first. Job `three` of each but the first reads what that of the one
 /// before it writes, and job `five` of the first reads what `three` of the last one writes. Where `y` is even, `four`
 /// of all but the first divides by zero.
-const S_DEFINE: &str = "class A : public Trick::SimObject {
+pub(crate) const S_DEFINE: &str = "class A : public Trick::SimObject {
   public:
     long x, y;
     void one() { x = x * 3 + 1; }
@@ -148,7 +143,7 @@ H h;
 ";
 
 /// Who reads runs after who writes.
-const INPUT: &str = "trick.exec_add_depends_on_job('b.three', 1, 'a.three', 1)
+pub(crate) const INPUT: &str = "trick.exec_add_depends_on_job('b.three', 1, 'a.three', 1)
 trick.exec_add_depends_on_job('c.three', 1, 'b.three', 1)
 trick.exec_add_depends_on_job('d.three', 1, 'c.three', 1)
 trick.exec_add_depends_on_job('e.three', 1, 'd.three', 1)
@@ -156,12 +151,11 @@ trick.exec_add_depends_on_job('f.three', 1, 'e.three', 1)
 trick.exec_add_depends_on_job('g.three', 1, 'f.three', 1)
 trick.exec_add_depends_on_job('h.three', 1, 'g.three', 1)
 trick.exec_add_depends_on_job('a.five', 1, 'h.three', 1)
+trick.exec_set_software_frame(0.000001)
+g = trick.DRAscii('g')
+g.set_cycle(0.000001)
+g.add_variable('a.x')
+trick.add_data_record_group(g)
+trick.add_read(0.000001, 'trick.checkpoint()')
+trick.stop(0.000002)
 ";
-
-/// The plan.
-pub(crate) fn plan(alloc: Global) -> Result<Arc<Accepted, Global>, Fail> {
-    let accepted = ready(alloc, S_DEFINE.as_bytes(), INPUT.as_bytes())
-        .ok()
-        .ok_or("an accepted plan")?;
-    Ok(Arc::new(alloc, accepted)?)
-}

@@ -1,7 +1,6 @@
-//! Runs of a plan by crews.
+//! Runs of the plan by threads. Each writes what the run on one thread writes.
 
 use crate::gates::{Meeting, Shaking};
-use crate::plan::plan;
 use crate::runs::{Came, by_one_thread, by_threads};
 use std::alloc::{AllocError, Global};
 use std::process::Abort;
@@ -10,7 +9,6 @@ use std::sync::{Arc, Wait};
 use std::test::Fail;
 use std::thread::Threads;
 use std::time::Instant;
-use trick_model::Accepted;
 use trick_outside::{ListSpawner, Spawner, ThreadSpawner};
 
 /// Runs under a gate that shakes, if there is time for so many.
@@ -19,11 +17,8 @@ const RUNS: u64 = 1_000;
 /// The runs that there is always time for.
 const FEW: u64 = 20;
 
-/// The tics of such a run.
-const TICS: u64 = 3;
-
 /// Seconds after which no further run begins.
-const ENOUGH: u64 = 8;
+const ENOUGH: u64 = 30;
 
 /// Seconds in which all these runs end, also beside much other work.
 const SECONDS: u64 = 50;
@@ -40,19 +35,14 @@ struct Seen {
     is_over: bool,
 }
 
-// Some tics by a crew whose workers wait for one another between take and commit. Starts of these numbers are refused.
-fn meet<R>(
-    rt: R,
-    alloc: Global,
-    accepted: &Arc<Accepted, Global>,
-    refused: Vec<u64>,
-) -> Result<Seen, AllocError>
+// A run whose workers wait for one another between take and commit. Starts of these numbers are refused.
+fn meet<R>(rt: R, alloc: Global, refused: Vec<u64>) -> Result<Seen, AllocError>
 where
     R: Threads + Wait + Copy + Send + Drop + 'static,
 {
     let mut gate = Arc::new(alloc, Meeting::new())?;
     let mut spawner = ListSpawner::refusing(refused);
-    let came = by_threads(rt, alloc, accepted, &mut spawner, &gate, TICS)?;
+    let came = by_threads(rt, alloc, &mut spawner, &gate)?;
     let have_met = gate.have_met();
     Ok(Seen {
         came,
@@ -62,19 +52,14 @@ where
     })
 }
 
-// Some tics by a crew under a gate that shakes, beginning with this number.
-fn shake<R>(
-    rt: R,
-    alloc: Global,
-    accepted: &Arc<Accepted, Global>,
-    first: u64,
-) -> Result<Seen, AllocError>
+// A run under a gate that shakes, beginning with this number.
+fn shake<R>(rt: R, alloc: Global, first: u64) -> Result<Seen, AllocError>
 where
     R: Threads + Wait + Clock + Copy + Send + Sync + Drop + 'static,
 {
     let mut gate = Arc::new(alloc, Shaking::new(rt, first))?;
     let mut spawner = ThreadSpawner::new();
-    let came = by_threads(rt, alloc, accepted, &mut spawner, &gate, TICS)?;
+    let came = by_threads(rt, alloc, &mut spawner, &gate)?;
     Ok(Seen {
         came,
         refused: spawner.faults(),
@@ -86,47 +71,52 @@ where
 #[test]
 fn workers_meet_where_threads_start(rt: HostRuntime) -> Result<(), Fail> {
     let alloc = rt.alloc();
-    let accepted = plan(alloc)?;
-    let wanted = by_one_thread(alloc, &accepted, TICS)?;
-    let all = meet(rt, alloc, &accepted, Vec::new(alloc))?;
+    let wanted = by_one_thread(alloc)?;
+    let all = meet(rt, alloc, Vec::new(alloc))?;
     assert!(rt;
         all.refused == 0 && all.have_met && all.is_over,
         "two workers at one moment"
     );
-    assert!(rt; all.came.is(&wanted), "with all threads");
-    let none = meet(rt, alloc, &accepted, vec![in alloc; 0, 1, 2, 3, 4, 5, 6]?)?;
+    let is_same = all.came.is(&wanted)?;
+    assert!(rt; is_same, "with all threads");
+    let none = meet(rt, alloc, vec![in alloc; 0, 1, 2, 3, 4, 5, 6]?)?;
     assert!(rt;
         none.refused == 7 && !none.have_met && none.is_over,
         "no worker"
     );
-    assert!(rt; none.came.is(&wanted), "with no thread");
-    let some = meet(rt, alloc, &accepted, vec![in alloc; 0, 2, 4, 6]?)?;
+    let is_same = none.came.is(&wanted)?;
+    assert!(rt; is_same, "with no thread");
+    let some = meet(rt, alloc, vec![in alloc; 0, 2, 4, 6]?)?;
     assert!(rt;
         some.refused == 4 && some.have_met && some.is_over,
         "three workers"
     );
-    assert!(rt; some.came.is(&wanted), "with every second thread");
+    let is_same = some.came.is(&wanted)?;
+    assert!(rt; is_same, "with every second thread");
     Ok(())
 }
 
 #[test]
-fn every_run_gives_one_memory(rt: HostRuntime) -> Result<(), Fail> {
+fn every_run_writes_the_same_files(rt: HostRuntime) -> Result<(), Fail> {
     let begin = Instant::now(&rt).ok().ok_or("a clock")?;
     let alloc = rt.alloc();
-    let accepted = plan(alloc)?;
-    let first = by_one_thread(alloc, &accepted, 1)?;
+    let wanted = by_one_thread(alloc)?;
+    assert!(rt; wanted.status == 4, "some job divides by zero");
     assert!(rt;
-        first.numbers.first() == Some(&1_120_934),
+        wanted
+            .file(b"log_g.csv")
+            .starts_with(b"tic,a.x\n0,1120934\n"),
         "the first cell after a tic, by hand"
     );
-    let wanted = by_one_thread(alloc, &accepted, TICS)?;
+    assert!(rt; !wanted.file(b"chkpnt_2.chk").is_empty(), "a checkpoint");
     for run in 0..RUNS {
-        let seen = shake(rt, alloc, &accepted, run)?;
+        let seen = shake(rt, alloc, run)?;
         assert!(rt;
             seen.refused == 0 && seen.is_over,
             "the threads of run {run}"
         );
-        assert!(rt; seen.came.is(&wanted), "run {run}");
+        let is_same = seen.came.is(&wanted)?;
+        assert!(rt; is_same, "run {run}");
         let took = begin.elapsed(&rt).ok().ok_or("a clock")?.as_secs();
         assert!(rt; took < SECONDS, "run {run} hangs");
         if took >= ENOUGH && run >= FEW {

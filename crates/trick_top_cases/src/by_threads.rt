@@ -1,4 +1,4 @@
-//! Whether a command comes to the same where its run is by threads.
+//! Whether a command comes to the same where its run is by threads, and how many threads it asks for.
 
 use crate::outcome::{Outcome, Setting, in_threads_of};
 use crate::text::Text;
@@ -6,9 +6,9 @@ use std::alloc::{AllocError, Global};
 use std::sync::Wait;
 use std::thread::Threads;
 use trick_base::Word;
-use trick_outside::ListSpawner;
+use trick_outside::{ListSpawner, Spawner};
 
-/// The starts that are refused: none, every second one, and all that there can be.
+/// The starts that are refused: none, every second one, and last all that there can be.
 const REFUSED: [&[u64]; 3] = [
     &[],
     &[1, 3, 5, 7, 9, 11, 13],
@@ -31,24 +31,37 @@ fn run_words(alloc: Global, words: &[Word]) -> Result<Option<Vec<Word>>, AllocEr
     Ok(Some(run))
 }
 
-/// Whether a run on one thread that came to this comes to it by threads too, as many as are admitted. Other commands
-/// are not run by threads.
-pub(crate) fn is_same_by_threads<R: Threads + Wait + Copy + Send + Drop + 'static>(
+/// What a command comes to by threads.
+#[derive(Clone, Copy, Drop)]
+pub(crate) struct ByThreads {
+    /// It comes to the same, whichever starts are refused.
+    pub(crate) is_same: bool,
+    /// How many threads it asks to start.
+    pub(crate) starts: u64,
+}
+
+/// What a run on one thread that came to this comes to by threads, as many as are admitted. Other commands are not run
+/// by threads.
+pub(crate) fn by_threads<R: Threads + Wait + Copy + Send + Drop + 'static>(
     rt: R,
     alloc: Global,
     words: &[Word],
     done: (&Setting, &[Text], &Outcome),
-) -> Result<bool, AllocError> {
+) -> Result<ByThreads, AllocError> {
     let (setting, before, outcome) = done;
-    let Some(words) = run_words(alloc, words)? else {
-        return Ok(true);
+    let mut seen = ByThreads {
+        is_same: true,
+        starts: 0,
     };
-    for starts in REFUSED {
-        let mut spawner = ListSpawner::refusing(Vec::from_slice(alloc, starts)?);
+    let Some(words) = run_words(alloc, words)? else {
+        return Ok(seen);
+    };
+    for refused in REFUSED {
+        let mut spawner = ListSpawner::refusing(Vec::from_slice(alloc, refused)?);
         let other = in_threads_of(rt, alloc, &words, (setting, before), &mut spawner)?;
-        if !outcome.is_same(&other) {
-            return Ok(false);
-        }
+        seen.is_same = seen.is_same && outcome.is_same(&other);
+        // Where all starts are refused, the last time, each that was asked for is counted.
+        seen.starts = spawner.faults();
     }
-    Ok(true)
+    Ok(seen)
 }

@@ -1,6 +1,6 @@
 //! The case that is read, and what each line does to it.
 
-use crate::by_threads::is_same_by_threads;
+use crate::by_threads::{ByThreads, by_threads};
 use crate::escapes::{bytes_of, is_numbered, numbers_of, pieces_of, text_of, words_of};
 use crate::line::{Line, Piece, number};
 use crate::mistake::Mistake;
@@ -33,6 +33,8 @@ pub(crate) struct Cases<R> {
     setting: Setting,
     each: Vec<Word>,
     shown: Option<Vec<Word>>,
+    // Whether it is printed how many threads a run asks for.
+    tells_starts: bool,
 }
 
 impl<R: Threads + Wait + Copy + Send + Drop + 'static> Cases<R> {
@@ -46,6 +48,7 @@ impl<R: Threads + Wait + Copy + Send + Drop + 'static> Cases<R> {
             setting: Setting::new(alloc),
             each: Vec::new(alloc),
             shown: None,
+            tells_starts: false,
         }
     }
 
@@ -90,6 +93,7 @@ impl<R: Threads + Wait + Copy + Send + Drop + 'static> Cases<R> {
             Line::Taking(most) => self.setting.taking = number(most)?,
             Line::Only(names) => self.setting.only = Some(words_of(alloc, names)?),
             Line::Show(names) => self.shown = Some(words_of(alloc, names)?),
+            Line::Starts => self.tells_starts = true,
             Line::Each(words) => self.each = words_of(alloc, words)?,
             _ => {}
         }
@@ -101,6 +105,7 @@ impl<R: Threads + Wait + Copy + Send + Drop + 'static> Cases<R> {
         self.begun = Begun::Nothing;
         self.each = Vec::new(alloc);
         self.shown = None;
+        self.tells_starts = false;
     }
 
     /// Begins a text or a file.
@@ -195,18 +200,18 @@ impl<R: Threads + Wait + Copy + Send + Drop + 'static> Cases<R> {
         Ok(())
     }
 
-    /// What a command comes to, with these pieces in the holes; and whether a run by threads comes to the same.
+    /// What a command comes to, with these pieces in the holes; and what it comes to by threads.
     fn outcome(
         &mut self,
         alloc: Global,
         words: &[Word],
         pieces: &[Vec<u8>],
-    ) -> Result<(Outcome, bool), AllocError> {
+    ) -> Result<(Outcome, ByThreads), AllocError> {
         let setting = mem::replace(&mut self.setting, Setting::new(alloc));
         let before = all_filled(alloc, &self.files, pieces)?;
         let outcome = outcome_of(alloc, words, &setting, &before)?;
-        let is_same = is_same_by_threads(self.rt, alloc, words, (&setting, &before, &outcome))?;
-        Ok((outcome, is_same))
+        let seen = by_threads(self.rt, alloc, words, (&setting, &before, &outcome))?;
+        Ok((outcome, seen))
     }
 
     /// Does a command with these pieces in the holes, and reports what it comes to.
@@ -217,9 +222,12 @@ impl<R: Threads + Wait + Copy + Send + Drop + 'static> Cases<R> {
         pieces: &[Vec<u8>],
         report: &mut Report,
     ) -> Result<Outcome, AllocError> {
-        let (outcome, is_same) = self.outcome(alloc, words, pieces)?;
+        let (outcome, seen) = self.outcome(alloc, words, pieces)?;
         report.outcome(&outcome, self.shown.as_ref())?;
-        if !is_same {
+        if self.tells_starts {
+            report.starts(seen.starts)?;
+        }
+        if !seen.is_same {
             report.line("by threads it comes to something else")?;
         }
         Ok(outcome)
@@ -294,7 +302,7 @@ impl<R: Threads + Wait + Copy + Send + Drop + 'static> Cases<R> {
         report: &mut Report,
     ) -> Result<(), AllocError> {
         let words = self.each.clone()?;
-        let (outcome, _is_same) = self.outcome(alloc, &words, &[])?;
+        let (outcome, _seen) = self.outcome(alloc, &words, &[])?;
         report.front(count, &outcome)
     }
 }

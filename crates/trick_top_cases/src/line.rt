@@ -43,6 +43,8 @@ pub(crate) enum Line<'a> {
     Only(&'a str),
     /// `show final.chk` lets only these files be printed by their lines, up to the end of the case.
     Show(&'a str),
+    /// `starts` lets it be printed how many threads each run asks to start, up to the end of the case.
+    Starts,
     /// `run serial s i` does a command, and keeps the files that it wrote.
     Run(&'a str),
     /// `try serial s i` does a command, and keeps nothing.
@@ -64,6 +66,7 @@ impl<'a> Line<'a> {
             "##" => Ok(Line::Section),
             "text" => Ok(Line::Text(rest)),
             "case" => Ok(Line::Case),
+            "starts" => Ok(Line::Starts),
             "file" => Ok(Line::File(rest)),
             "@" if rest.is_empty() => Ok(Line::Hole(1)),
             "@" => Ok(Line::Hole(number(rest)?)),

@@ -74,6 +74,11 @@ impl Report {
         self.same(&outcome.same)
     }
 
+    /// How many threads a run asked to start.
+    pub(crate) fn starts(&mut self, count: u64) -> Result<(), AllocError> {
+        writeln!(self.text, "starts {count}")
+    }
+
     /// The names of files that were written as they are, where there are some.
     fn same(&mut self, names: &[Vec<u8>]) -> Result<(), AllocError> {
         if names.is_empty() {
