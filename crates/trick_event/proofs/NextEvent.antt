@@ -9,7 +9,7 @@ use Rattle.trick_base.specs.Time.{tic_limit}
 use Rattle.trick_model.specs.declared.event.Event.{Event}
 use Rattle.trick_model.specs.declared.flags.Flags.{Flags}
 use Rattle.trick_queue.proofs.Trees.{below_or, same_or}
-use Rattle.trick_queue.specs.Queue.{IsNext}
+use Rattle.trick_queue.specs.Calendar.{IsNext}
 use Rattle.trick_queue.specs.Tree.{never}
 
 -- when an event of a place may be due

@@ -10,7 +10,7 @@ use Rattle.trick_model.specs.declared.event.Event.{Event}
 use Rattle.trick_model.specs.declared.flags.Flags.{Flags}
 use Rattle.trick_model.specs.declared.plan.Plan.{Plan as PlanValue}
 use Rattle.trick_model.specs.declared.read_at.ReadAt.{ReadAt}
-use Rattle.trick_queue.specs.Queue.{IsNext}
+use Rattle.trick_queue.specs.Calendar.{IsNext}
 use Rattle.trick_queue.specs.Tree.{never}
 
 -- ---- when something is due

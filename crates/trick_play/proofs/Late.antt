@@ -12,7 +12,7 @@ use Rattle.trick_model.specs.declared.plan.Plan.{Plan as PlanValue}
 use Rattle.trick_queue.proofs.Answered.{filter_none, not_due_at}
 use Rattle.trick_queue.proofs.Orders.{queue_due}
 use Rattle.trick_queue.proofs.Queued.{all_scheduled, ids_at, ids_length, times_in_range}
-use Rattle.trick_queue.specs.Queue.{id_at, no_id, queue_of, times_at}
+use Rattle.trick_queue.specs.Line.{id_at, no_id, queue_of, times_at}
 
 -- the jobs of numbers
 jobs_of_numbers : List ℕ → List JobId

@@ -1,5 +1,5 @@
 -- The key order of some of the jobs, and which jobs are due.
-use Rattle.std.proofs.Common.{◌≡◌, ℕ, zero, suc, ◌+◌, ◌==◌, ◌<◌, ◌≤◌, List, [], ◌∷◌, length, Bool, true, false, ◌&&◌, ◌||◌, IsTrue, refl, sym, ◌∙◌, ap, subst, arith}
+use Rattle.std.proofs.Common.{◌≡◌, ℕ, suc, ◌+◌, ◌==◌, ◌<◌, ◌≤◌, List, [], ◌∷◌, length, Bool, true, false, ◌&&◌, ◌||◌, refl, sym, ◌∙◌, ap, arith}
 use Rattle.std.proofs.lemmas.Bool.Decides.{nat_tests}
 use Rattle.std.specs.Prelude.{cond, filter}
 use Rattle.trick_cycle.specs.Due.{is_due_at}
@@ -7,13 +7,12 @@ use Rattle.trick_lang.specs.declared.class.Class.TheVariants as class
 use Rattle.trick_lang.specs.declared.job.Job.{Job}
 use Rattle.trick_model.proofs.Keys.{key_order_is_one}
 use Rattle.trick_model.specs.Laws.{AreInKeyOrder, AreJobs, IsBefore, is_among}
-use Rattle.trick_model.specs.Order.{in_key_order, is_due, is_of_class, jobs_at, precedes}
-use Rattle.trick_model.specs.Plan.{Plan, is_on_scheduled, job_numbers, numbers_from}
+use Rattle.trick_model.specs.Order.{in_key_order, is_of_class, jobs_at}
+use Rattle.trick_model.specs.Plan.{is_on_scheduled, job_numbers, numbers_from}
 use Rattle.trick_model.specs.PlanOf.{plan_of}
-use Rattle.trick_model.specs.Time.{due_of}
 use Rattle.trick_model.specs.declared.flags.Flags.{Flags}
 use Rattle.trick_model.specs.declared.plan.Plan.{Plan as PlanValue}
-use Rattle.trick_queue.specs.Queue.{queue_of, times_at}
+use Rattle.trick_queue.specs.Line.{queue_of, times_at}
 
 -- ---- tests
 

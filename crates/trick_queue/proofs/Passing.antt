@@ -1,10 +1,10 @@
 -- A tic that is passed: job after job, and what then is known of the next tics.
-use Rattle.std.proofs.Common.{◌≡◌, ◌≢◌, ℕ, zero, suc, ◌+◌, ◌-◌, ◌<◌, ◌≤◌, ◌^◌, List, [], ◌∷◌, ◌++◌, length, get_or, set, take, Bool, true, false, IsTrue, refl, sym, ◌∙◌, ap, subst, arith, inl, inr}
+use Rattle.std.proofs.Common.{◌≡◌, ◌≢◌, ℕ, zero, suc, ◌+◌, ◌-◌, ◌<◌, ◌≤◌, List, [], ◌∷◌, ◌++◌, length, get_or, set, take, Bool, true, false, sym, ◌∙◌, ap, subst, arith, inl, inr}
 use Rattle.std.proofs.lemmas.List.{append-nil, length-append, get_or-set_same, get_or-set_other, length-set}
 use Rattle.std.proofs.lemmas.List.Elements.{filter_more}
 use Rattle.std.proofs.Math.Seq.{take-length}
-use Rattle.std.specs.Prelude.{◌⊎◌, cond, filter}
-use Rattle.trick_cycle.specs.Due.{IsDue, is_due_at}
+use Rattle.std.specs.Prelude.{cond, filter}
+use Rattle.trick_cycle.specs.Due.{is_due_at}
 use Rattle.trick_cycle.specs.declared.Due.{Due}
 use Rattle.trick_lang.specs.declared.job.Job.{Job}
 use Rattle.trick_lang.specs.declared.job.JobId.{JobId}
@@ -12,7 +12,8 @@ use Rattle.trick_base.specs.Time.{tic_limit}
 use Rattle.trick_model.specs.Valid.{ids}
 use Rattle.trick_queue.proofs.Queued.{ids_at, ids_length, ids_more}
 use Rattle.trick_queue.proofs.Trees.{below_or, same_or}
-use Rattle.trick_queue.specs.Queue.{AreKnown, AreNext, IsKnown, IsNext, IsPassed, id_at, no_id, times_at}
+use Rattle.trick_queue.specs.Calendar.{IsNext}
+use Rattle.trick_queue.specs.Line.{AreKnown, AreNext, IsKnown, IsPassed, id_at, no_id, times_at}
 use Rattle.trick_queue.specs.Tree.{AreLater, IsFirst, never}
 
 next_later : (d : Due) (tic n : ℕ) → tic ≤ tic_limit → IsNext d (tic + 1) n → tic < n

@@ -1,10 +1,9 @@
 -- The jobs of a queue: which they are, and that they have times.
-use Rattle.std.proofs.Common.{◌≡◌, ℕ, zero, suc, ◌+◌, ◌==◌, ◌<◌, ◌≤◌, List, [], ◌∷◌, ◌++◌, length, get_or, take, Bool, true, false, ◌&&◌, IsTrue, refl, sym, ◌∙◌, ap, subst, arith, inl, inr}
-use Rattle.std.proofs.Math.ListN.{get_or-map}
+use Rattle.std.proofs.Common.{◌≡◌, ℕ, zero, suc, ◌+◌, ◌==◌, ◌<◌, ◌≤◌, List, [], ◌∷◌, ◌++◌, length, get_or, take, Bool, true, false, refl, sym, ◌∙◌, ap, subst, arith, inl, inr}
 use Rattle.std.proofs.lemmas.Bool.Decides.{nat_tests}
 use Rattle.std.proofs.lemmas.List.Elements.{filter_more}
 use Rattle.std.proofs.lemmas.List.Sums.{AllPass-from_list_all}
-use Rattle.std.specs.Prelude.{cond, filter, map}
+use Rattle.std.specs.Prelude.{cond, filter}
 use Rattle.trick_cycle.specs.Due.{IsInRange}
 use Rattle.trick_lang.specs.Valid.{has_right_times, have_right_times, is_scheduled_right}
 use Rattle.trick_lang.specs.declared.class.Class.{Class}
@@ -15,7 +14,7 @@ use Rattle.trick_model.specs.Order.{in_key_order, is_of_class, jobs_in, precedes
 use Rattle.trick_model.specs.Plan.{Plan, is_on_scheduled, job_at, job_numbers, no_job, numbers_from}
 use Rattle.trick_model.specs.Valid.{ids}
 use Rattle.trick_queue.proofs.Trees.{below_or, past}
-use Rattle.trick_queue.specs.Queue.{id_at, no_id, queue_of, times_at}
+use Rattle.trick_queue.specs.Line.{id_at, queue_of, times_at}
 
 -- ---- times
 

@@ -3,7 +3,7 @@ use Rattle.std.proofs.Common.{◌≡◌, ◌≢◌, ℕ, zero, suc, ◌+◌, ◌
 use Rattle.std.proofs.lemmas.Bool.Decides.{nat_tests}
 use Rattle.std.proofs.lemmas.List.{get_or-replicate, length-set, get_or-set_same, get_or-set_other}
 use Rattle.std.specs.Prelude.{◌⊎◌, min, nat_lt, cond, replicate}
-use Rattle.trick_queue.specs.Tree.{AreLater, AreRight, AreRightBut, FindsFirst, IsChild, IsFirst, IsLeast, IsPower, IsRight, IsShaped, IsTree, low_of, never, one, twice}
+use Rattle.trick_queue.specs.Tree.{AreLater, AreRight, AreRightBut, IsChild, IsFirst, IsLeast, IsPower, IsRight, IsShaped, IsTree, low_of, never, one, twice}
 
 -- ---- numbers
 

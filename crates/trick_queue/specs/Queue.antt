@@ -1,91 +1,53 @@
--- The jobs of a queue, and their next tics.
+-- Queues of the scheduled jobs, in groups that are due together.
 use Rattle.std.specs.List.{slice_index_or}
 use Rattle.std.specs.Option.{IfSome}
-use Rattle.std.specs.Prelude.{◌≡◌, ◌≢◌, ◌⊎◌, ℕ, ◌+◌, ◌<◌, ◌≤◌, Bool, true, false, List, [], length, filter, Option, Some}
-use Rattle.trick_cycle.specs.Due.{IsDue, is_due_at}
-use Rattle.trick_cycle.specs.declared.Due.{Due}
-use Rattle.trick_lang.specs.declared.class.Class.TheVariants as class
-use Rattle.trick_lang.specs.declared.job.Job.{Job}
+use Rattle.std.specs.Prelude.{◌≡◌, ◌≢◌, ◌⊎◌, ℕ, ◌+◌, ◌≤◌, List, [], ◌∷◌, length, map, Option, Some}
 use Rattle.trick_lang.specs.declared.job.JobId.{JobId}
-use Rattle.trick_model.specs.Order.{is_of_class, jobs_at, jobs_in}
-use Rattle.trick_model.specs.Plan.{Plan, is_on_scheduled, job_at}
+use Rattle.trick_model.specs.Order.{jobs_at}
 use Rattle.trick_model.specs.PlanOf.{plan_of}
 use Rattle.trick_model.specs.Valid.{ids}
 use Rattle.trick_model.specs.declared.flags.Flags.{Flags}
 use Rattle.trick_model.specs.declared.plan.Plan.{Plan as PlanValue}
-use Rattle.trick_queue.specs.Tree.{never}
+use Rattle.trick_queue.specs.Calendar.{AreNext}
+use Rattle.trick_queue.specs.Groups.{AreGroups, HaveJobs, times_by}
+use Rattle.trick_queue.specs.Merged.{places_in}
+use Rattle.trick_queue.specs.Line.{id_at, queue_of}
+use Rattle.trick_queue.specs.declared.group.Group.{Group}
 
--- The jobs of class scheduled on scheduled threads, in key order.
-abbrev pub queue_of : Plan → List ℕ
-queue_of p = filter (is_on_scheduled p.jobs p.threads) (jobs_in p.jobs class.Scheduled)
-
--- The start, cycle and stop of a job.
-abbrev pub times_at : List Job → ℕ → Due
-times_at jobs k = let job = job_at jobs k in record { start = job.start; cycle = job.cycle; stop = job.stop }
-
--- The least due tic that is not below `from`, and `never` where there is none.
-pub record IsNext (d : Due) (from next : ℕ) : Type 0 where
-  pub none_before : (t : ℕ) → from ≤ t → t < next → IsDue d t → ⊥
-  pub due : (next ≡ never) ⊎ ((from ≤ next) × IsDue d next)
-
--- a job that is none
-abbrev pub no_id : JobId
-no_id = record { 0 = 0 }
-
--- the number of the job at a place
-abbrev pub id_at : List JobId → ℕ → ℕ
-id_at ids place = (slice_index_or ids place no_id).0
-
--- So it is with these jobs, from one place to another.
-abbrev pub AreNext : List Job → List JobId → List ℕ → (from first end : ℕ) → Type 0
-AreNext jobs ids tics from first end =
-    (place : ℕ) → first ≤ place → place < end
-    → IsNext (times_at jobs (id_at ids place)) from (slice_index_or tics place never)
-
--- Queues: their jobs in key order with the next tic of each, the first tic that is not passed, the tic
--- asked for last, and the jobs that are due then.
+-- Queues: all jobs in key order, their groups with the next tic of each, the first tic that is not passed, the tic that
+-- was asked for last and the groups that are due then, and the groups whose jobs were put together last, with these.
 pub record QueuesView : Type 0 where
   pub jobs : List JobId
+  pub groups : List Group
   pub tics : List ℕ
   pub from : ℕ
   pub asked : Option ℕ
-  pub due : List JobId
+  pub due : List ℕ
+  pub merged : List ℕ
+  pub merged_jobs : List JobId
 
--- The jobs at these places are of class scheduled.
-abbrev pub AreScheduled : List Job → List JobId → Type 0
-AreScheduled jobs ids = (place : ℕ) → place < length ids → is_of_class jobs class.Scheduled (id_at ids place) ≡ true
+-- the jobs of each group
+abbrev pub jobs_by : List Group → List (List JobId)
+jobs_by groups = map (λ (group : Group). group.jobs.items) groups
 
--- The lists of queues fit one another.
-pub record IsRoomy (jobs : List JobId) (tics : List ℕ) (room : ℕ) : Type 0 where
-  pub as_many : length tics ≡ length jobs
-  pub room_is : length jobs ≤ room
-
--- The job is not due at the tic, and its next tic is one of those after it.
-pub record IsKnown (d : Due) (tic next_tic : ℕ) : Type 0 where
-  pub not_due : is_due_at d tic ≡ false
-  pub next : IsNext d (tic + 1) next_tic
-
--- So it is with these jobs, from one place to another, whose next tic is later.
-abbrev pub AreKnown : List Job → List JobId → List ℕ → (tic first end : ℕ) → Type 0
-AreKnown jobs ids tics tic first end =
-    (place : ℕ) → first ≤ place → place < end → tic < slice_index_or tics place never
-    → IsKnown (times_at jobs (id_at ids place)) tic (slice_index_or tics place never)
-
--- A tic is passed: these are its due jobs, and each job has its next tic after it.
-pub record IsPassed (jobs : List Job) (ids_of : List JobId) (tics : List ℕ) (tic : ℕ) (due : List JobId) : Type 0 where
-  pub as_many : length tics ≡ length ids_of
-  pub next : AreNext jobs ids_of tics (tic + 1) 0 (length ids_of)
-  pub due_is : ids due ≡ filter (λ k. is_due_at (times_at jobs k) tic) (ids ids_of)
+-- The jobs of the groups that are due: none, those of the one group, or those that were put together.
+abbrev pub due_jobs : List Group → List ℕ → List JobId → List JobId
+due_jobs groups [] merged = []
+due_jobs groups (at ∷ []) merged = slice_index_or (jobs_by groups) at []
+due_jobs groups (at ∷ other ∷ due) merged = merged
 
 -- The due jobs of the tic asked for last.
 pub record IsAsked (plan : PlanValue) (q : QueuesView) (tic : ℕ) : Type 0 where
   pub passed : q.from ≡ tic + 1
-  pub due : (on : Flags) → ids q.due ≡ jobs_at (plan_of plan) on tic
+  pub due : (on : Flags) → ids (due_jobs q.groups q.due q.merged_jobs) ≡ jobs_at (plan_of plan) on tic
 
 -- Queues of a plan.
 pub record IsFor (plan : PlanValue) (q : QueuesView) : Type 0 where
   pub jobs : ids q.jobs ≡ queue_of (plan_of plan)
-  pub next : AreNext plan.program.jobs q.jobs q.tics q.from 0 (length q.jobs)
+  pub groups : AreGroups plan.program.jobs q.jobs (length q.jobs) q.groups
+  pub have : HaveJobs plan.program.jobs q.jobs (length q.jobs) q.groups
+  pub next : AreNext (times_by q.groups) q.from q.tics
+  pub merged : ids q.merged_jobs ≡ map (id_at q.jobs) (places_in plan.program.jobs q.jobs q.groups q.merged)
   pub asked : IfSome q.asked (IsAsked plan q)
 
 -- The tic is not passed, or is the one that was asked for last.

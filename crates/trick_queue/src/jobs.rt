@@ -6,7 +6,8 @@ ghost use Rattle.trick_lang.specs.declared.class.Class.TheVariants as class;
 ghost use Rattle.trick_model.specs.Order.{is_of_class};
 ghost use Rattle.trick_model.specs.PlanOf.{plan_of};
 ghost use Rattle.trick_model.specs.Valid.{ids};
-ghost use Rattle.trick_queue.specs.Queue.{IsNext, queue_of, times_at};
+ghost use Rattle.trick_queue.specs.Calendar.{IsNext};
+ghost use Rattle.trick_queue.specs.Line.{queue_of, times_at};
 
 use crate::tree::NEVER;
 use std::alloc::{AllocError, Global};

@@ -2,10 +2,21 @@
 //! at the jobs that are not; and the tree of tics by which they are found.
 #![tactic(auto)]
 
+mod calendar;
+mod group;
 mod jobs;
+mod line;
+mod merge;
+mod one_tic;
 mod queues;
+mod steps;
 mod tree;
 
+pub use calendar::Calendar;
+pub use group::Group;
 pub use jobs::{next_of, times};
-pub use queues::{Queues, fill, pass};
+pub use line::{fill, pass};
+pub use merge::Merge;
+pub use queues::Queues;
+pub use steps::Steps;
 pub use tree::{NEVER, Tics};

@@ -1,117 +1,108 @@
-ghost use Rattle.std.specs.Prelude.{◌≡◌, ℕ, ◌∷◌, ◌++◌, ◌+◌, ◌<◌, ◌≤◌, [], IfOk, None, Some, cond, filter, length, vec_capacity};
-ghost use Rattle.trick_cycle.specs.Due.{IsInRange, is_due_at};
+//! The due jobs of a tic in key order, and the next tic at which a job is due.
+ghost use Rattle.std.specs.Prelude.{◌≡◌, ℕ, ◌+◌, ◌<◌, ◌≤◌, [], IfOk, List, None, Some, length};
+ghost use Rattle.trick_base.specs.Time.{tic_limit};
 ghost use Rattle.trick_cycle.specs.Least.{FindsLeast};
+ghost use Rattle.trick_lang.specs.declared.job.Job.{Job};
 ghost use Rattle.trick_model.specs.Order.{jobs_at};
 ghost use Rattle.trick_model.specs.PlanOf.{plan_of};
-ghost use Rattle.trick_base.specs.Time.{tic_limit};
 ghost use Rattle.trick_model.specs.Valid.{ids};
 ghost use Rattle.trick_model.specs.declared.flags.Flags.{Flags};
 ghost use Rattle.trick_model.specs.declared.plan.Plan.{Plan as PlanValue};
-ghost use Rattle.trick_queue.specs.Queue.{AreKnown, AreNext, AreScheduled, CanAsk, IsBusy, IsFor, IsPassed, id_at};
+ghost use Rattle.trick_queue.specs.Calendar.{AreNext};
+ghost use Rattle.trick_queue.specs.Groups.{AreGroups, times_by};
+ghost use Rattle.trick_queue.specs.Merged.{AreThere, HasRoom, IsMergeOf, gathered};
+ghost use Rattle.trick_queue.specs.Passed.{AreInRange, AreOnce, late};
+ghost use Rattle.trick_queue.specs.Queue.{CanAsk, IsBusy, IsFor};
 
-use crate::jobs::{next_of, queue, times};
-use crate::tree::{NEVER, Tics};
+use crate::calendar::Calendar;
+use crate::group::{Group, groups_of};
+use crate::jobs::queue;
+use crate::merge::Merge;
+use crate::one_tic::pass_tic;
+use crate::steps::Steps;
 use std::alloc::{AllocError, Global};
-use std::marker::Model;
-use trick_cycle::{Due, is_due, laws};
+use std::marker::{Brand, Model};
+use std::sync::ledger::{Blank, Ledger};
+use trick_cycle::{Due, laws};
 use trick_lang::JobId;
 use trick_model::Plan;
 
-/// The jobs of class scheduled on scheduled threads, in key order, with the next tic of each. It gives
-/// the due jobs of a tic at a cost for each due job that grows with the height of a tree over all jobs.
+/// The jobs of class scheduled on scheduled threads, in groups of those that are due at the same tics, with the next
+/// tic of each group. It gives the due jobs of a tic at a cost for each group that is due, and for each due job where
+/// several groups are.
 #[derive(Drop)]
 pub struct Queues {
     jobs: Vec<JobId>,
-    tics: Tics,
-    due: Vec<JobId>,
+    groups: Vec<Group>,
+    calendar: Calendar,
+    // the groups that are due at the tic that was asked for last
+    due: Vec<u32>,
+    merge: Merge,
     from: u64,
     asked: Option<u64>,
 }
 
 impl Model for Queues {
-    ghost use Rattle.std.specs.Prelude.{vec_capacity};
-    ghost use Rattle.trick_queue.specs.Queue.{IsRoomy, QueuesView};
+    ghost use Rattle.std.specs.Prelude.{◌≤◌, length, vec_capacity};
+    ghost use Rattle.trick_queue.specs.Merged.{AreThere, HasRoom};
+    ghost use Rattle.trick_queue.specs.Queue.{QueuesView};
 
     ghost Value = { QueuesView };
 
     ghost view = { λ q. record {
       jobs = q.jobs.items;
-      tics = q.tics;
+      groups = q.groups.items;
+      tics = q.calendar;
       from = q.from;
       asked = q.asked;
       due = q.due.items;
+      merged = q.merge.groups.items;
+      merged_jobs = q.merge.jobs.items;
     } };
 
-    ghost invariant = { λ q. IsRoomy q.jobs.items q.tics (vec_capacity q.due) };
+    ghost invariant = { λ q. (length q.groups.items ≤ vec_capacity q.due)
+        × HasRoom q.merge (length q.groups.items) (length q.jobs.items)
+        × AreThere q.due.items (length q.groups.items) };
 }
 
-// The job at a place.
-fn job_of(jobs: &[JobId], place: usize) -> JobId
-    requires { place < length jobs.now }
-    ensures { result.0 ≡ id_at jobs.now place }
+// When each of these groups is due.
+fn times_of(alloc: Global, groups: &[Group]) -> Result<Vec<Due>, AllocError>
+    ensures { IfOk result (λ times. times.items ≡ times_by groups.now) }
 {
-    jobs[place]
-}
-
-// Whether a job is due.
-fn is_due_then(times: Due, tic: u64) -> bool
-    requires { IsInRange times }
-    ensures { result ≡ is_due_at times tic }
-{
-    laws::due_test_is_exact();
-    is_due(times, tic)
-}
-
-/// Gives each of these jobs its next tic from a tic on.
-pub fn fill(plan: &Plan, jobs: &[JobId], from: u64, tics: &mut Tics)
-    requires scheduled { AreScheduled plan.now.program.jobs jobs.now }
-    requires as_many { length tics.old ≡ length jobs.now }
-    ensures as_many { length tics.new ≡ length jobs.now }
-    ensures next { AreNext plan.now.program.jobs jobs.now tics.new from 0 (length jobs.now) }
-{
-    for place in 0..jobs.len() {
-        let times = times(plan, job_of(jobs, place));
-        tics.set(place, next_of(times, from));
+    let mut times = Vec::with_capacity(alloc, groups.len())?;
+    for group in groups {
+        times.push_reserved(group.times);
     }
+    Ok(times)
 }
 
-// Notes a job where it is due.
-fn note(due: &mut Vec<JobId>, job: JobId, is_due: bool)
-    requires { length due.old.items < vec_capacity due.old }
-    ensures items { due.new.items ≡ due.old.items ++ cond is_due (job ∷ []) [] }
-    ensures capacity { vec_capacity due.new ≡ vec_capacity due.old }
+// The calendar of these groups from a tic on.
+fn calendar_of(alloc: Global, groups: &[Group], from: u64) -> Result<Calendar, AllocError>
+    requires few { length groups.now ≤ 65536 }
+    requires range { AreInRange (times_by groups.now) }
+    ensures { IfOk result (λ calendar. AreNext (times_by groups.now) from calendar) }
 {
-    if is_due {
-        due.push_reserved(job);
-    }
+    let times = times_of(alloc, groups)?;
+    Calendar::new(alloc, &times, from)
 }
 
-/// Passes a tic, which is not above 10^15: notes the jobs that are due then, and gives each job whose tic
-/// is not later its next one. Only these are looked at, at a cost that grows with the height of the tree.
-/// Takes no memory.
-pub fn pass(plan: &Plan, jobs: &[JobId], tic: u64, tics: &mut Tics, due: &mut Vec<JobId>)
-    requires scheduled { AreScheduled plan.now.program.jobs jobs.now }
-    requires as_many { length tics.old ≡ length jobs.now }
-    requires known { AreKnown plan.now.program.jobs jobs.now tics.old tic 0 (length jobs.now) }
-    requires empty { due.old.items ≡ [] }
-    requires room { length jobs.now ≤ vec_capacity due.old }
-    requires tic { tic ≤ tic_limit }
-    ensures passed { IsPassed plan.now.program.jobs jobs.now tics.new tic due.new.items }
-    ensures capacity { vec_capacity due.new ≡ vec_capacity due.old }
+// Puts the jobs of the groups that are due together, where there are several and these are not together yet.
+fn merge_due(jobs: &[JobId], groups: &[Group], due: &[u32], merge: &mut Merge)
+    requires room { HasRoom merge.old (length groups.now) (length jobs.now) }
+    requires many { length due.now ≤ length groups.now }
+    requires there { AreThere due.now (length groups.now) }
+    requires once { AreOnce due.now }
+    requires few { length (gathered groups.now due.now) ≤ length jobs.now }
+    requires places { AreThere (gathered groups.now due.now) (length jobs.now) }
+    ensures room { HasRoom merge.new (length groups.now) (length jobs.now) }
+    ensures several { 2 ≤ length due.now → merge.new.groups.items ≡ due.now }
+    ensures merged { (program : List Job) → AreGroups program jobs.now (length jobs.now) groups.now
+        → IsMergeOf program jobs.now groups.now merge.old → IsMergeOf program jobs.now groups.now merge.new }
 {
-    let mut passed = 0;
-    while passed < jobs.len() {
-        match tics.first_by(tic) {
-            None => return,
-            Some(place) => {
-                let job = job_of(jobs, place);
-                let times = times(plan, job);
-                note(due, job, is_due_then(times, tic));
-                tics.set(place, next_of(times, tic + 1));
-                passed = place + 1;
-            }
-        }
+    if due.len() < 2 || due == merge.groups.as_slice() {
+        return;
     }
+    merge.make(jobs, groups, due);
 }
 
 impl Queues {
@@ -122,20 +113,61 @@ impl Queues {
         ensures asked { IfOk result (λ q. q.asked ≡ None) }
     {
         let jobs = queue(alloc, plan)?;
-        let mut tics = Tics::new(alloc, jobs.len())?;
-        let due = Vec::with_capacity(alloc, jobs.len())?;
-        fill(plan, &jobs, tic, &mut tics);
+        let groups = groups_of(alloc, plan, &jobs)?;
+        let calendar = calendar_of(alloc, &groups, tic)?;
+        let due = Vec::with_capacity(alloc, groups.len())?;
+        let merge = Merge::new(alloc, groups.len(), jobs.len())?;
         Ok(Queues {
             jobs,
-            tics,
+            groups,
+            calendar,
             due,
+            merge,
             from: tic,
             asked: None,
         })
     }
 
     /// Asks for the due jobs of a tic, which [`due`](Self::due) then gives. The tic is not passed yet,
-    /// or is the one that was asked for last. All tics up to it are passed then. Takes no memory.
+    /// or is the one that was asked for last. All tics up to it are passed then. Takes no memory, and at most one step
+    /// for each group of jobs whose least due tic not passed is at most the tic, and one more.
+    pub fn ask_counted<L: Ledger>(&mut self, plan: &Plan, tic: u64, steps: &mut Steps<L>)
+        requires own { IsFor plan.now self.old }
+        requires tic { CanAsk self.old tic }
+        requires range { tic ≤ tic_limit }
+        ensures own { IsFor plan.now self.new }
+        ensures from { self.new.from ≡ tic + 1 }
+        ensures asked { self.new.asked ≡ Some tic }
+        ensures steps { steps.new ≤ steps.old + late tic self.old.tics + 1 }
+    {
+        if self.asked == Some(tic) {
+            return;
+        }
+        laws::due_test_is_exact();
+        self.due.clear();
+        pass_tic(&self.groups, tic, &mut self.calendar, &mut self.due, steps);
+        merge_due(&self.jobs, &self.groups, &self.due, &mut self.merge);
+        self.from = tic + 1;
+        self.asked = Some(tic);
+    }
+
+    // Asks with a counter of its own.
+    fn ask_by<L: Ledger>(&mut self, plan: &Plan, tic: u64, blank: Blank)
+        requires own { IsFor plan.now self.old }
+        requires tic { CanAsk self.old tic }
+        requires range { tic ≤ tic_limit }
+        requires name { blank.name ≡ L.name }
+        requires parts { blank.parts ≡ L.parts }
+        requires one { 0 < L.parts }
+        ensures own { IsFor plan.now self.new }
+        ensures from { self.new.from ≡ tic + 1 }
+        ensures asked { self.new.asked ≡ Some tic }
+    {
+        let mut steps = Steps::<L>::new(blank);
+        self.ask_counted(plan, tic, &mut steps);
+    }
+
+    /// Asks for the due jobs of a tic, as [`ask_counted`](Self::ask_counted) does.
     pub fn ask(&mut self, plan: &Plan, tic: u64)
         requires own { IsFor plan.now self.old }
         requires tic { CanAsk self.old tic }
@@ -144,14 +176,7 @@ impl Queues {
         ensures from { self.new.from ≡ tic + 1 }
         ensures asked { self.new.asked ≡ Some tic }
     {
-        if self.asked == Some(tic) {
-            return;
-        }
-        laws::due_test_is_exact();
-        self.due.clear();
-        pass(plan, &self.jobs, tic, &mut self.tics, &mut self.due);
-        self.from = tic + 1;
-        self.asked = Some(tic);
+        self.ask_by::<Brand>(plan, tic, Blank::new(1));
     }
 
     /// The due jobs of scheduled threads of the tic that was asked for last, in key order.
@@ -159,7 +184,11 @@ impl Queues {
         ensures { (plan : PlanValue) (on : Flags) (tic : ℕ) → IsFor plan self.now → self.now.asked ≡ Some tic
             → ids result.now ≡ jobs_at (plan_of plan) on tic }
     {
-        &self.due
+        match self.due.as_slice() {
+            [] => &[],
+            [group] => &self.groups[*group as usize].jobs,
+            _ => &self.merge.jobs,
+        }
     }
 
     /// The least tic that is not passed at which a job is due. `None` where there is none.
@@ -168,7 +197,6 @@ impl Queues {
             → FindsLeast (IsBusy plan on self.now.from) result }
     {
         laws::due_test_is_exact();
-        let least = self.tics.least();
-        if least < NEVER { Some(least) } else { None }
+        self.calendar.least()
     }
 }

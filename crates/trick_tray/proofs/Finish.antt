@@ -43,7 +43,7 @@ use Rattle.trick_tray.specs.declared.worker.Worker.{Worker}
 use Rattle.trick_post.specs.Work.{CanStart, Started, finished, folded, jobs_at_work, publication, thread_at, tics_between}
 use Rattle.trick_post.specs.declared.posts.Job1.{Job1}
 use Rattle.trick_post.specs.declared.posts.Job1.TheVariants as work
-use Rattle.trick_queue.specs.Queue.{times_at}
+use Rattle.trick_queue.specs.Line.{times_at}
 
 -- what was handed: numbers, flags and work
 abbrev pub handed : List ℤ → List Bool → Job1 → Started

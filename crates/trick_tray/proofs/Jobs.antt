@@ -33,7 +33,7 @@ use Rattle.trick_post.specs.declared.posts.Job1.TheVariants as work
 use Rattle.trick_queue.proofs.Orders.{among_filter, filter_both, filter_order, filter_same, jobs_kept, numbers_are}
 use Rattle.trick_queue.proofs.Queued.{filter_few, ids_length, numbers_length, order_length}
 use Rattle.trick_queue.proofs.Trees.{below_or, past}
-use Rattle.trick_queue.specs.Queue.{AreScheduled, id_at, no_id, times_at}
+use Rattle.trick_queue.specs.Line.{AreScheduled, id_at, no_id, times_at}
 
 -- ---- the thread that was handed something
 

@@ -16,7 +16,8 @@ use Rattle.trick_post.specs.declared.posts.Job1.TheVariants as work
 use Rattle.trick_queue.proofs.Answered.{filter_none, not_due_at}
 use Rattle.trick_queue.proofs.Queued.{ids_at, ids_length}
 use Rattle.trick_queue.proofs.Trees.{below_or}
-use Rattle.trick_queue.specs.Queue.{AreKnown, AreNext, IsNext, id_at, no_id, times_at}
+use Rattle.trick_queue.specs.Calendar.{IsNext}
+use Rattle.trick_queue.specs.Line.{AreKnown, AreNext, id_at, no_id, times_at}
 use Rattle.trick_queue.specs.Tree.{IsLeast, never}
 
 -- the test tells when a job is due, and only then

@@ -27,7 +27,7 @@ use Rattle.trick_tray.specs.Scratch.{AreStored, IsWritten, cell_ids}
 use Rattle.trick_tray.specs.Trays.{AreSet}
 use Rattle.trick_post.specs.declared.posts.Job1.{Job1}
 use Rattle.trick_queue.proofs.Trees.{same_or}
-use Rattle.trick_queue.specs.Queue.{no_id}
+use Rattle.trick_queue.specs.Line.{no_id}
 
 -- ---- cells
 

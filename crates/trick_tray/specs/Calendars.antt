@@ -12,7 +12,7 @@ use Rattle.trick_tray.specs.declared.calendar.Calendar.{Calendar}
 use Rattle.trick_post.specs.Work.{tics_between}
 use Rattle.trick_post.specs.declared.posts.Job1.{Job1}
 use Rattle.trick_post.specs.declared.posts.Job1.TheVariants as work
-use Rattle.trick_queue.specs.Queue.{AreNext, AreScheduled, times_at}
+use Rattle.trick_queue.specs.Line.{AreNext, AreScheduled, times_at}
 
 -- the jobs of class scheduled on a thread, in key order
 abbrev pub scheduled_of : Plan → ℕ → List ℕ

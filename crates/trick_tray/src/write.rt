@@ -13,7 +13,7 @@ ghost use Rattle.trick_model.specs.Valid.{ids};
 ghost use Rattle.trick_tray.specs.Calendars.{EndsInTime, has_work as has_work_of};
 ghost use Rattle.trick_tray.specs.Scratch.{IsWritten};
 ghost use Rattle.trick_tray.specs.Trays.{AreWrites};
-ghost use Rattle.trick_queue.specs.Queue.{AreScheduled};
+ghost use Rattle.trick_queue.specs.Line.{AreScheduled};
 
 use crate::scratch::Scratch;
 use trick_base::Items;

@@ -2,7 +2,7 @@ use Rattle.std.proofs.Common.{rules, ◌≡◌, ℕ, ◌+◌, ◌<◌, ap, arith
 use Rattle.std.specs.List.{slice_index_or}
 use Rattle.trick_board.proofs.Passed.{one_more}
 use Rattle.trick_board.specs.Search.{is_open}
-use Rattle.trick_queue.specs.Queue.{no_id}
+use Rattle.trick_queue.specs.Line.{no_id}
 use Rattle.trick_schedule.specs.Play.{stage_at}
 use Rattle.trick_board.proofs.search.pass.Goals as goal
 

@@ -4,7 +4,7 @@ use Rattle.trick_board.proofs.Among.{all_cleared, one_cleared}
 use Rattle.trick_board.specs.Board.{AreDueAmong}
 use Rattle.trick_lang.specs.declared.job.JobId.{JobId}
 use Rattle.trick_model.specs.Valid.{ids}
-use Rattle.trick_queue.specs.Queue.{no_id}
+use Rattle.trick_queue.specs.Line.{no_id}
 use Rattle.trick_schedule.specs.declared.stage.Stage.TheVariants.{Idle}
 use Rattle.std.specs.List.{slice_index_or}
 use Rattle.trick_board.proofs.step.clear_stages.Goals as goal

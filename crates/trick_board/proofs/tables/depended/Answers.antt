@@ -5,7 +5,7 @@ use Rattle.trick_model.specs.PlanOf.{plan_of}
 use Rattle.trick_model.specs.Valid.{ids}
 use Rattle.trick_model.specs.declared.depends.Depends.{Depends as Pair}
 use Rattle.trick_queue.proofs.Queued.{queue_more}
-use Rattle.trick_queue.specs.Queue.{no_id}
+use Rattle.trick_queue.specs.Line.{no_id}
 use Rattle.trick_schedule.specs.Tics.{depends_on}
 use Rattle.trick_board.proofs.tables.depended.Goals as goal
 

@@ -3,7 +3,7 @@ use Rattle.std.specs.Prelude.{cond}
 use Rattle.trick_model.specs.Plan.{is_on_scheduled}
 use Rattle.trick_model.specs.Valid.{ids}
 use Rattle.trick_queue.proofs.Queued.{queue_more}
-use Rattle.trick_queue.specs.Queue.{no_id}
+use Rattle.trick_queue.specs.Line.{no_id}
 use Rattle.trick_queue.proofs.jobs.queue.Goals as goal
 
 pub loop-job-preserved : goal.loop-job-preserved

@@ -1,4 +1,4 @@
-use Rattle.std.proofs.Common.{length, ◌<◌, ◌≡◌}
+use Rattle.std.proofs.Common.{length, ◌<◌}
 use Rattle.trick_queue.specs.Tree.{AreRightBut, IsShaped}
 use Rattle.trick_queue.proofs.tree.mend.Given as goal
 

@@ -4,7 +4,8 @@ use Rattle.trick_base.specs.Time.{tic_limit}
 use Rattle.trick_tray.proofs.Tics.{work_by_next}
 use Rattle.trick_tray.specs.Calendars.{EndsInTime, has_work}
 use Rattle.trick_post.specs.declared.posts.Job1.{Job1}
-use Rattle.trick_queue.specs.Queue.{IsNext, times_at}
+use Rattle.trick_queue.specs.Calendar.{IsNext}
+use Rattle.trick_queue.specs.Line.{times_at}
 use Rattle.trick_tray.proofs.write.has_work.Goals as goal
 
 pub returns-in-Frame : goal.returns-in-Frame

@@ -11,7 +11,7 @@ use Rattle.trick_tray.proofs.Writes.{wanted_more, written_join, written_same}
 use Rattle.trick_tray.proofs.Jobs.{scheduled_there}
 use Rattle.trick_tray.specs.Calendars.{has_work}
 use Rattle.trick_tray.specs.Scratch.{IsWritten}
-use Rattle.trick_queue.specs.Queue.{no_id}
+use Rattle.trick_queue.specs.Line.{no_id}
 use Rattle.std.specs.List.{slice_index_or}
 use Rattle.trick_tray.proofs.write.write_jobs.Goals as goal
 

@@ -4,7 +4,7 @@ use Rattle.trick_eval.specs.Bench.{IsFor}
 use Rattle.trick_model.specs.Valid.{ids}
 use Rattle.trick_play.proofs.Follows.{Laws}
 use Rattle.trick_play.proofs.OneByOne.{all_along, at_self, board_open, close_not_left, close_serial, job_committed, job_taken}
-use Rattle.trick_queue.specs.Queue.{no_id}
+use Rattle.trick_queue.specs.Line.{no_id}
 use Rattle.trick_schedule.specs.Schedule.{one_by_one}
 use Rattle.trick_schedule.specs.declared.step.Step.TheVariants.{Take}
 use Rattle.trick_play.proofs.single.SinglePhases.tic.Goals as goal

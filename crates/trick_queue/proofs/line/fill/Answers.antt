@@ -1,9 +1,10 @@
-use Rattle.std.proofs.Common.{◌≡◌, ◌+◌, ◌≤◌, ◌∙◌, ap, arith, length, subst, sym}
+use Rattle.std.proofs.Common.{◌≡◌, ◌+◌, ◌∙◌, ap, arith, length, subst, sym}
 use Rattle.std.proofs.lemmas.List.{length-set}
 use Rattle.trick_cycle.specs.declared.Due.{Due}
 use Rattle.trick_queue.proofs.Passing.{next_more}
-use Rattle.trick_queue.specs.Queue.{AreNext, IsNext, id_at, times_at}
-use Rattle.trick_queue.proofs.queues.fill.Goals as goal
+use Rattle.trick_queue.specs.Calendar.{IsNext}
+use Rattle.trick_queue.specs.Line.{AreNext, id_at, times_at}
+use Rattle.trick_queue.proofs.line.fill.Goals as goal
 
 pub loop-place-preserved : goal.loop-place-preserved
 loop-place-preserved c =

@@ -1,12 +1,13 @@
-use Rattle.std.proofs.Common.{◌≡◌, ◌+◌, ◌≤◌, ◌∷◌, ◌++◌, [], ◌∙◌, List, ap, arith, length, refl, set, subst, sym}
+use Rattle.std.proofs.Common.{◌≡◌, ◌+◌, ◌∷◌, ◌++◌, [], ◌∙◌, List, ap, refl, set, subst, sym}
 use Rattle.std.specs.Prelude.{cond}
 use Rattle.trick_cycle.specs.Due.{is_due_at}
 use Rattle.trick_cycle.specs.declared.Due.{Due}
 use Rattle.trick_lang.specs.declared.job.JobId.{JobId}
 use Rattle.trick_queue.proofs.Passing.{IsPassing, passing_ends, passing_more, passing_starts, passing_stops}
-use Rattle.trick_queue.specs.Queue.{IsNext, id_at, times_at}
+use Rattle.trick_queue.specs.Calendar.{IsNext}
+use Rattle.trick_queue.specs.Line.{times_at}
 use Rattle.trick_queue.specs.Tree.{FindsFirst}
-use Rattle.trick_queue.proofs.queues.pass.Goals as goal
+use Rattle.trick_queue.proofs.line.pass.Goals as goal
 
 pub loop-passed-init : goal.loop-passed-init
 loop-passed-init c = record {

@@ -1,6 +1,6 @@
 use Rattle.std.proofs.Common.{◌≡◌, length}
-use Rattle.trick_queue.specs.Queue.{AreNext}
-use Rattle.trick_queue.proofs.queues.fill.Given as goal
+use Rattle.trick_queue.specs.Line.{AreNext}
+use Rattle.trick_queue.proofs.line.fill.Given as goal
 
 -- the first jobs have their next tics
 abbrev pub invariant-loop-place : goal.invariant-loop-place

@@ -1,7 +1,7 @@
 use Rattle.std.proofs.Common.{◌≡◌, ◌-◌, length}
 use Rattle.std.specs.Prelude.{vec_capacity}
 use Rattle.trick_queue.proofs.Passing.{IsPassing}
-use Rattle.trick_queue.proofs.queues.pass.Given as goal
+use Rattle.trick_queue.proofs.line.pass.Given as goal
 
 -- the first jobs have passed the tic
 abbrev pub invariant-loop-passed : goal.invariant-loop-passed
