@@ -24,3 +24,5 @@ pub mod IdleTurns
 pub mod Own
 -- What a run did whose source gave nothing and whose posts were always ready.
 pub mod OwnRuns
+-- Turns in Freeze that are given no entry, as the code passes them.
+pub mod GapLemmas

@@ -1,12 +1,13 @@
 //! The turns of a run.
 
-ghost use Rattle.std.specs.Prelude.{◌≡◌, ◌||◌, ◌<◌, ◌≤◌, [], IfOk, IsTrue, false, length, nat_le};
+ghost use Rattle.std.specs.Prelude.{◌≡◌, ◌||◌, ◌+◌, [], IfOk, false, min, nat_le};
 ghost use Rattle.trick_exec.specs.Ended.{AreTurns, HasMemory};
 ghost use Rattle.trick_eval.specs.Bench.{IsFor};
 ghost use Rattle.trick_exec.specs.Lent.{IsReady, IsSame, place};
 ghost use Rattle.trick_model.specs.PlanOf.{plan_of};
 ghost use Rattle.trick_model.specs.Run.{is_shut};
 ghost use Rattle.trick_model.specs.State.{seen};
+ghost use Rattle.trick_model.specs.Time.{last_turn};
 ghost use Rattle.trick_runs.specs.Hosts.{hosts};
 ghost use Rattle.trick_runs.specs.Rounds.{no_waits};
 ghost use Rattle.trick_turns.specs.Turns.{no_sessions};
@@ -41,9 +42,16 @@ fn most_turns<M: Cells>(state: &State<M>) -> u64 {
         .saturating_add(1)
 }
 
+// The turn that comes so many turns after another one, up to where the count stands still.
+fn later(turn: u64, turns: u64) -> u64
+    ensures { result ≡ min (turn + turns) last_turn }
+{
+    turn.saturating_add(turns).min(LAST_TURN)
+}
+
 impl<'a, F: Shelf, H, P: Posts, T> Run<'a, F, H, P, T> {
     /// The turns of a run, until it is over. Before each its source is asked for the turn's entries. A turn in
-    /// which nothing is done costs next to nothing. It stops as for want of memory where
+    /// which nothing is done costs next to nothing, and turns in Freeze without an entry pass at once. It stops as for want of memory where
     /// entries come without an end at the last turn that is counted.
     pub(crate) fn go<M: Cells + Drop>(
         &mut self,
@@ -91,6 +99,10 @@ impl<'a, F: Shelf, H, P: Posts, T> Run<'a, F, H, P, T> {
                         continue;
                     }
                     world = self.turn(accepted, given, world)?;
+                }
+                Next::Gap { turns } => {
+                    world.state.turn = later(world.state.turn, turns);
+                    continue;
                 }
                 Next::NoMore => return Ok(Ended::Done(world)),
                 Next::Length { kept, given } => return Ok(Ended::Length { kept, given }),

@@ -11,10 +11,12 @@ mod lines;
 mod publish;
 mod rest;
 mod sending;
+mod start;
 mod turn;
 mod whole;
 mod world;
 
 pub use ended::Ended;
+pub use start::Start;
 pub use whole::run;
 pub use world::World;

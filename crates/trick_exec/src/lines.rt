@@ -21,7 +21,6 @@ ghost use Rattle.trick_tic.specs.Steps.{steps_of};
 ghost use Rattle.trick_turns.specs.Turns.{Sessions as SessionsOf, may_all_come};
 
 use crate::World;
-use std::alloc::Global;
 use trick_event::Asked;
 use trick_files::note;
 use trick_hear::{Hearing, Message, hear};
@@ -79,7 +78,6 @@ fn look_again<M: Cells>(plan: &Plan, lines: &[Entry], state: &State<M>, course: 
 /// Begins a turn: its lines are noted and then heard. Where there are some, they may have changed flags, so
 /// that the course is looked at again. It stops where the shelf failed, or where there was no memory.
 pub(crate) fn hear_lines<M: Cells + Drop, F: Shelf>(
-    alloc: Global,
     accepted: &Accepted,
     lines: &[Entry],
     world: World<M>,
@@ -107,6 +105,7 @@ pub(crate) fn hear_lines<M: Cells + Drop, F: Shelf>(
 {
     laws::plans_are_sound();
     let plan = accepted.plan();
+    let alloc = equipment.course.alloc;
     note(alloc, world.state.turn, lines, shelf)?;
     let World { state, sessions } = world;
     let asked = Asked {

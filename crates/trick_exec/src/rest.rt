@@ -25,7 +25,7 @@ use trick_hear::{Hearing, samples, stay};
 use trick_lang::Cells;
 use trick_model::{Accepted, Entry, Session, State};
 use trick_outside::{Shelf, Stop};
-use trick_pass::pass;
+use trick_pass::{Rest, pass};
 use trick_phase::Phases;
 use trick_post::Posts;
 use trick_turns::Turns;
@@ -91,15 +91,11 @@ impl<'a, F: Shelf, H, P: Posts, T> Run<'a, F, H, P, T> {
         let Ok(()) = send_all(&replies, self.turns) else {
             return Err(Stop::Memory);
         };
-        let state = pass(
-            self.alloc,
-            accepted,
-            publications,
+        let rest = Rest {
             current,
-            self.equipment,
-            self.shelf,
-            self.workers,
-        )?;
+            publications,
+        };
+        let state = pass(accepted, rest, self.equipment, self.shelf, self.workers)?;
         let mut sessions = sessions;
         let Ok(()) = send_samples(self.alloc, &sessions, &state, from, self.turns) else {
             return Err(Stop::Memory);

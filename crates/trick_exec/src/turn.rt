@@ -60,17 +60,15 @@ impl<'a, F: Shelf, H, P: Posts, T> Run<'a, F, H, P, T> {
     {
         laws::plans_are_sound();
         laws::runs_join();
-        let alloc = self.alloc;
         let Given { entries, decides } = given;
         let number = world.state.turn;
         let (lines, tail) = entries.split_at(count_lines(entries));
-        let heard = hear_lines(alloc, accepted, lines, world, self.equipment, self.shelf)?;
+        let heard = hear_lines(accepted, lines, world, self.equipment, self.shelf)?;
         let state = &heard.hearing.current.state;
-        let stations = self.equipment.course.stations();
+        let course = &self.equipment.course;
         let Ok(chosen) = choose_publications(
-            alloc,
             decides,
-            stations,
+            course,
             state,
             self.waits.as_mut_slice(),
             &mut self.workers.posts,
@@ -78,16 +76,7 @@ impl<'a, F: Shelf, H, P: Posts, T> Run<'a, F, H, P, T> {
             return Err(Stop::Memory);
         };
         let publications = decided(decides, tail, &chosen);
-        let plan = accepted.plan();
-        note_publications(
-            alloc,
-            plan,
-            number,
-            publications,
-            stations,
-            state,
-            self.shelf,
-        )?;
+        note_publications(number, publications, course, state, self.shelf)?;
         let world = self.finish(accepted, heard, publications)?;
         Ok(world)
     }

@@ -23,7 +23,7 @@ ghost use Rattle.trick_tic.specs.Steps.{steps_of};
 ghost use Rattle.trick_turns.specs.Turns.{no_sessions};
 
 use crate::lent::{Keeping, Run};
-use crate::{Ended, World};
+use crate::{Ended, Start, World};
 use std::alloc::{AllocError, Global};
 use trick_beside::{Station, start_held};
 use trick_eval::Bench;
@@ -174,9 +174,8 @@ impl<'a, F: Shelf, H, P: Posts, T> Run<'a, F, H, P, T> {
 /// started again. `docs/RULES.md` has the rules of a run and `docs/FORMATS.md` the files. It stops where the
 /// shelf failed, or where there was no memory; the world is gone then.
 pub fn run<M: Cells + Drop, F: Shelf, H: Phases<M>, P: Posts, T: Turns<M>>(
-    alloc: Global,
     accepted: &Accepted,
-    state: State<M>,
+    start: Start<M>,
     shelf: &mut F,
     workers: &mut Workers<H, P>,
     turns: &mut T,
@@ -184,14 +183,17 @@ pub fn run<M: Cells + Drop, F: Shelf, H: Phases<M>, P: Posts, T: Turns<M>>(
     requires own { H.is_for workers.old.phases accepted.now.plan }
     requires posts { P.plan workers.old.posts ≡ accepted.now.plan }
     requires free { IsFree (plan_of accepted.now.plan) (P.in_flight workers.old.posts) }
-    requires valid { IsStateOf (plan_of accepted.now.plan) (seen M.numbers state) }
-    requires memory { IsMemoryOf accepted.now.plan.program (M.numbers state.memory) (M.scalars state.memory) }
+    requires valid { IsStateOf (plan_of accepted.now.plan) (seen M.numbers start.state) }
+    requires memory { IsMemoryOf accepted.now.plan.program (M.numbers start.state.memory)
+        (M.scalars start.state.memory) }
     requires unknown { T.sessions turns.old ≡ no_sessions }
     requires paid { T.owes turns.old ≡ false }
-    ensures run { IsRun (hosts F.Shelf T.Turns P.Posts) M.numbers (plan_of accepted.now.plan) (seen M.numbers state)
-        (at shelf.old turns.old workers.old.posts) (at shelf.new turns.new workers.new.posts) result }
+    ensures run { IsRun (hosts F.Shelf T.Turns P.Posts) M.numbers (plan_of accepted.now.plan)
+        (seen M.numbers start.state) (at shelf.old turns.old workers.old.posts)
+        (at shelf.new turns.new workers.new.posts) result }
 {
     laws::runs_join();
+    let Start { alloc, state } = start;
     let Ok(mut keeping) = keep(alloc, accepted.plan(), &state) else {
         return Err(Stop::Memory);
     };

@@ -10,3 +10,5 @@ pub mod Joining
 pub mod Coming
 -- from one turn of a replay to the next
 pub mod Replaying
+-- turns in Freeze that are given no entry
+pub mod Gaps

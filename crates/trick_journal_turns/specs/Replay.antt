@@ -1,6 +1,6 @@
 -- What a replay tells, and what it answers.
 use mathlib.Core.Path.{subst}
-use Rattle.std.specs.Prelude.{◌≡◌, ℕ, ◌-◌, ◌<◌, false, IsTrue, List, [], ◌∷◌, ◌++◌, Option, Some, None}
+use Rattle.std.specs.Prelude.{◌≡◌, ℕ, ◌+◌, ◌-◌, ◌<◌, false, true, IsTrue, List, [], ◌∷◌, ◌++◌, Option, Some, None}
 use Rattle.trick_journal_turns.specs.Due.{sessions_so_far}
 use Rattle.trick_journal_turns.specs.declared.journal_turns.JournalTurns.{JournalTurns}
 use Rattle.trick_model.specs.Journal.{lists_from}
@@ -17,6 +17,16 @@ told_of turns = record { lists = lists_from turns.at (turns.end - turns.at) turn
 -- the sessions by the lists that were given
 abbrev pub sessions_of : JournalTurns → Sessions
 sessions_of turns = sessions_so_far turns.over turns.start turns.at turns.whole.value
+
+-- So many turns that were given no entry are passed, and an entry is owed.
+pub record IsLater (turns : ℕ) (old new : JournalTurns) : Type 0 where
+  pub at : new.at ≡ old.at + turns
+  pub due : new.due ≡ old.due
+  pub whole : new.whole.value ≡ old.whole.value
+  pub start : new.start ≡ old.start
+  pub end : new.end ≡ old.end
+  pub over : new.over ≡ old.over
+  pub owes : new.owes ≡ true
 
 -- what a journal has still to give after an answer
 abbrev pub after_answer : Told → Option (List Entry) → Told

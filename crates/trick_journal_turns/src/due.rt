@@ -109,6 +109,14 @@ impl Due {
         Ok(())
     }
 
+    /// The turn of the first entry that is left. No entry stands before it.
+    pub fn first_turn(&self) -> Option<u64>
+        ensures { IfSome result (λ turn. before turn self.now ≡ []) }
+    {
+        let (turn, _) = self.entries.front()?;
+        Some(*turn)
+    }
+
     // Takes the first entry out.
     fn pop(&mut self) -> Option<(u64, Entry)>
         ensures items { self.old ≡ option_to_list result ++ self.new }

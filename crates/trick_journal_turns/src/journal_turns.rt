@@ -2,8 +2,8 @@
 
 ghost use Rattle.std.specs.Coded.{Coded-set};
 ghost use Rattle.std.specs.List.{list_any};
-ghost use Rattle.std.specs.Prelude.{◌≡◌, ◌≤◌, ◌&&◌, ◌||◌, not, nat_le, cond, true, false, IsTrue};
-ghost use Rattle.trick_journal_turns.specs.Due.{is_line, may_go_on, sessions_so_far, since};
+ghost use Rattle.std.specs.Prelude.{◌≡◌, ◌≤◌, ◌<◌, ◌+◌, [], ◌&&◌, ◌||◌, not, nat_le, cond, true, false, IsTrue};
+ghost use Rattle.trick_journal_turns.specs.Due.{before, is_line, may_go_on, sessions_so_far, since};
 ghost use Rattle.trick_model.specs.Time.{last_turn};
 ghost use Rattle.trick_model.specs.Turn.{is_frozen as is_frozen_of};
 
@@ -57,7 +57,7 @@ fn owes_after(frozen: bool, said: bool, owed: bool) -> bool
 
 impl JournalTurns {
     ghost use Rattle.std.specs.Prelude.{IfOk, OnErr, OnOk};
-    ghost use Rattle.trick_journal_turns.specs.Replay.{sessions_of, told_of};
+    ghost use Rattle.trick_journal_turns.specs.Replay.{IsLater, sessions_of, told_of};
     ghost use Rattle.trick_model.specs.Journal.{is_of_session};
     ghost use Rattle.trick_model.specs.Run.{lists_of, next_of};
     ghost use Rattle.trick_turns.specs.Joins.{joins_of};
@@ -97,6 +97,34 @@ impl JournalTurns {
         ensures { result ≡ (frozen && not (list_any is_line self.now.due)) }
     {
         frozen && !self.due.has_line()
+    }
+
+    // How many turns are given no entry in Freeze, where no entry stands before the turn after them: the one that
+    // comes next, which is this one, and those after it. Elsewhere none.
+    fn gap(&self, frozen: bool, turn: u64) -> u64
+        ensures frozen { 0 < result → frozen ≡ true }
+        ensures none { 0 < result → before (self.now.at + result) self.now.due ≡ [] }
+        ensures below { 0 < result → turn + result ≤ self.now.end }
+    {
+        if !frozen {
+            return 0;
+        }
+        match self.due.first_turn() {
+            Some(first) => first
+                .saturating_sub(self.at)
+                .min(self.end.saturating_sub(turn)),
+            None => 0,
+        }
+    }
+
+    // Passes so many turns in Freeze, before which no entry stands, while a line is still to come.
+    fn pass_gap(&mut self, turns: u64)
+        requires line { list_any is_line self.old.due ≡ true }
+        requires none { before (self.old.at + turns) self.old.due ≡ [] }
+        ensures { IsLater turns self.old self.new }
+    {
+        self.at += turns;
+        self.owes = true;
     }
 
     // The entries of the turn that comes next, in Freeze or not. Where memory runs out nothing changes.
@@ -149,6 +177,11 @@ impl<M: Cells> Turns<M> for JournalTurns {
                 kept: self.end,
                 given: (self.end + 1).max(state.turn),
             };
+        }
+        let turns = self.gap(frozen, state.turn);
+        if turns > 0 {
+            self.pass_gap(turns);
+            return Next::Gap { turns };
         }
         match self.next(alloc, frozen) {
             Ok(list) => Next::Entries(list),

@@ -12,7 +12,7 @@ use std::alloc::{AllocError, Global};
 use std::process::Abort;
 use std::sync::Arc;
 use std::test::Fail;
-use trick_exec::{Ended, run};
+use trick_exec::{Ended, Start, run};
 use trick_journal::read;
 use trick_journal_turns::JournalTurns;
 use trick_lang::Cells;
@@ -106,7 +106,7 @@ fn comes_to_end<M: Cells + Drop, H: Phases<M>, P: Posts, T: Turns<M>>(
     requires paid { T.owes turns.old ≡ false }
 {
     let mut shelf = MemoryShelf::new(alloc);
-    let ended = run(alloc, accepted, state, &mut shelf, workers, turns);
+    let ended = run(accepted, Start { alloc, state }, &mut shelf, workers, turns);
     matches!(ended, Ok(Ended::Done(_)))
 }
 

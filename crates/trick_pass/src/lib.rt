@@ -8,4 +8,4 @@ mod rest;
 
 pub use equipment::Equipment;
 pub use idle::pass_idle;
-pub use rest::pass;
+pub use rest::{Rest, pass};

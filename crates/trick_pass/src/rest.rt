@@ -23,13 +23,18 @@ use trick_phase::Phases;
 use trick_post::Posts;
 use trick_tic::{Current, Workers, frame};
 
+/// What is left of a turn whose entries were heard: where it is, and the rounds that its frame publishes first.
+#[derive(Drop)]
+pub struct Rest<'a, M> {
+    pub current: Current<M>,
+    pub publications: &'a [Entry],
+}
+
 // A run frame: the publications, the top_of_frame jobs, the tics, the end_of_frame jobs, and Freeze
 // where it was asked for.
 fn run_frame<M: Cells + Drop, F: Shelf, H: Phases<M>, P: Posts>(
-    alloc: Global,
     accepted: &Accepted,
-    entries: &[Entry],
-    current: Current<M>,
+    rest: Rest<'_, M>,
     equipment: &mut Equipment,
     shelf: &mut F,
     workers: &mut Workers<H, P>,
@@ -37,11 +42,13 @@ fn run_frame<M: Cells + Drop, F: Shelf, H: Phases<M>, P: Posts>(
     requires own { H.is_for workers.old.phases accepted.now.plan }
     requires posts { P.plan workers.old.posts ≡ accepted.now.plan }
     requires equipped { IsEquipped accepted.now.plan equipment.old (P.in_flight workers.old.posts)
-        (seen M.numbers current.state) (M.scalars current.state.memory) }
+        (seen M.numbers rest.current.state) (M.scalars rest.current.state.memory) }
     ensures state { IfOk result (λ after. asking_of M.numbers after
-        ≡ (run_frame (plan_of accepted.now.plan) entries.now (asking_of M.numbers current)).asking) }
+        ≡ (run_frame (plan_of accepted.now.plan) rest.entry.publications.now
+        (asking_of M.numbers rest.entry.current)).asking) }
     ensures does { Does F.Shelf shelf.old shelf.new result
-        (steps_of (run_frame (plan_of accepted.now.plan) entries.now (asking_of M.numbers current)).writes) }
+        (steps_of (run_frame (plan_of accepted.now.plan) rest.entry.publications.now
+        (asking_of M.numbers rest.entry.current)).writes) }
     ensures equipped { IfOk result (λ after. IsEquipped accepted.now.plan equipment.new (P.in_flight workers.new.posts)
         (seen M.numbers after.state) (M.scalars after.state.memory)) }
     ensures own { H.is_for workers.new.phases accepted.now.plan }
@@ -49,11 +56,14 @@ fn run_frame<M: Cells + Drop, F: Shelf, H: Phases<M>, P: Posts>(
 {
     laws::plans_are_sound();
     let plan = accepted.plan();
-    let mut current = current;
+    let Rest {
+        mut current,
+        publications,
+    } = rest;
     publish_all(
-        alloc,
+        equipment.course.alloc,
         equipment.course.stations(),
-        entries,
+        publications,
         &mut current.state,
         &mut workers.posts,
     );
@@ -63,14 +73,7 @@ fn run_frame<M: Cells + Drop, F: Shelf, H: Phases<M>, P: Posts>(
         &mut current.state,
         &mut equipment.bench,
     );
-    let mut current = frame(
-        alloc,
-        accepted,
-        current,
-        &mut equipment.course,
-        shelf,
-        workers,
-    )?;
+    let mut current = frame(accepted, current, &mut equipment.course, shelf, workers)?;
     run_class(
         plan,
         Class::EndOfFrame,
@@ -88,10 +91,8 @@ fn run_frame<M: Cells + Drop, F: Shelf, H: Phases<M>, P: Posts>(
 
 // The frame of a turn: a run frame, or in a freeze frame nothing.
 fn framed<M: Cells + Drop, F: Shelf, H: Phases<M>, P: Posts>(
-    alloc: Global,
     accepted: &Accepted,
-    entries: &[Entry],
-    current: Current<M>,
+    rest: Rest<'_, M>,
     equipment: &mut Equipment,
     shelf: &mut F,
     workers: &mut Workers<H, P>,
@@ -99,22 +100,22 @@ fn framed<M: Cells + Drop, F: Shelf, H: Phases<M>, P: Posts>(
     requires own { H.is_for workers.old.phases accepted.now.plan }
     requires posts { P.plan workers.old.posts ≡ accepted.now.plan }
     requires equipped { IsEquipped accepted.now.plan equipment.old (P.in_flight workers.old.posts)
-        (seen M.numbers current.state) (M.scalars current.state.memory) }
+        (seen M.numbers rest.current.state) (M.scalars rest.current.state.memory) }
     ensures state { IfOk result (λ after. asking_of M.numbers after
-        ≡ (framed (plan_of accepted.now.plan) (runs_of (seen M.numbers current.state))
-        entries.now (asking_of M.numbers current)).asking) }
+        ≡ (framed (plan_of accepted.now.plan) (runs_of (seen M.numbers rest.entry.current.state))
+        rest.entry.publications.now (asking_of M.numbers rest.entry.current)).asking) }
     ensures does { Does F.Shelf shelf.old shelf.new result
-        (steps_of (framed (plan_of accepted.now.plan) (runs_of (seen M.numbers current.state))
-        entries.now (asking_of M.numbers current)).writes) }
+        (steps_of (framed (plan_of accepted.now.plan) (runs_of (seen M.numbers rest.entry.current.state))
+        rest.entry.publications.now (asking_of M.numbers rest.entry.current)).writes) }
     ensures equipped { IfOk result (λ after. IsEquipped accepted.now.plan equipment.new (P.in_flight workers.new.posts)
         (seen M.numbers after.state) (M.scalars after.state.memory)) }
     ensures own { H.is_for workers.new.phases accepted.now.plan }
     ensures asks { AsksNothing P.Posts workers.old.posts workers.new.posts }
 {
-    if !current.state.runs() {
-        return Ok(current);
+    if !rest.current.state.runs() {
+        return Ok(rest.current);
     }
-    let current = run_frame(alloc, accepted, entries, current, equipment, shelf, workers)?;
+    let current = run_frame(accepted, rest, equipment, shelf, workers)?;
     Ok(current)
 }
 
@@ -158,10 +159,8 @@ pub(crate) fn count<M: Cells>(state: &mut State<M>)
 /// for. It stops where the shelf failed, or where there was no memory for what is written or for a record
 /// that was never filled; the state is gone then.
 pub fn pass<M: Cells + Drop, F: Shelf, H: Phases<M>, P: Posts>(
-    alloc: Global,
     accepted: &Accepted,
-    entries: &[Entry],
-    current: Current<M>,
+    rest: Rest<'_, M>,
     equipment: &mut Equipment,
     shelf: &mut F,
     workers: &mut Workers<H, P>,
@@ -169,11 +168,13 @@ pub fn pass<M: Cells + Drop, F: Shelf, H: Phases<M>, P: Posts>(
     requires own { H.is_for workers.old.phases accepted.now.plan }
     requires posts { P.plan workers.old.posts ≡ accepted.now.plan }
     requires equipped { IsEquipped accepted.now.plan equipment.old (P.in_flight workers.old.posts)
-        (seen M.numbers current.state) (M.scalars current.state.memory) }
+        (seen M.numbers rest.current.state) (M.scalars rest.current.state.memory) }
     ensures state { IfOk result (λ after. seen M.numbers after
-        ≡ (passed (plan_of accepted.now.plan) entries.now (asking_of M.numbers current)).state) }
+        ≡ (passed (plan_of accepted.now.plan) rest.entry.publications.now
+        (asking_of M.numbers rest.entry.current)).state) }
     ensures does { Does F.Shelf shelf.old shelf.new result
-        (steps_of (passed (plan_of accepted.now.plan) entries.now (asking_of M.numbers current)).writes) }
+        (steps_of (passed (plan_of accepted.now.plan) rest.entry.publications.now
+        (asking_of M.numbers rest.entry.current)).writes) }
     ensures equipped { IfOk result (λ after. IsEquipped accepted.now.plan equipment.new (P.in_flight workers.new.posts)
         (seen M.numbers after) (M.scalars after.memory)) }
     ensures own { H.is_for workers.new.phases accepted.now.plan }
@@ -181,8 +182,9 @@ pub fn pass<M: Cells + Drop, F: Shelf, H: Phases<M>, P: Posts>(
 {
     laws::plans_are_sound();
     let plan = accepted.plan();
-    let ran = current.state.runs();
-    let current = framed(alloc, accepted, entries, current, equipment, shelf, workers)?;
+    let alloc = equipment.course.alloc;
+    let ran = rest.current.state.runs();
+    let current = framed(accepted, rest, equipment, shelf, workers)?;
     let Current { mut state, asked } = current;
     checkpoint_jobs(plan, asked.checkpoint, &mut state, &mut equipment.bench);
     let stations = equipment.course.stations();

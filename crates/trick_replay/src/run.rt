@@ -12,7 +12,7 @@ ghost use Rattle.trick_replay.specs.Replay.{RunsReplay};
 use crate::Replayed;
 use std::alloc::Global;
 use std::sync::Arc;
-use trick_exec::{Ended, run};
+use trick_exec::{Ended, Start, run};
 use trick_journal_turns::JournalTurns;
 use trick_lang::Cells;
 use trick_model::{Accepted, Journal, State, laws};
@@ -25,28 +25,30 @@ use trick_tic::Workers;
 
 // Replays a journal from a state by these workers.
 fn replay_by<M: Cells + Drop, F: Shelf, H: Phases<M> + Drop, P: Posts + Drop>(
-    alloc: Global,
     accepted: &Accepted,
     journal: Journal,
-    state: State<M>,
+    start: Start<M>,
     shelf: &mut F,
     workers: Workers<H, P>,
 ) -> Result<Replayed, Stop>
     requires own { H.is_for workers.phases accepted.now.plan }
     requires posts { P.plan workers.posts ≡ accepted.now.plan }
     requires free { (n : ℕ) → P.in_flight workers.posts n ≡ None }
-    requires valid { IsStateOf (plan_of accepted.now.plan) (seen M.numbers state) }
-    requires memory { IsMemoryOf accepted.now.plan.program (M.numbers state.memory) (M.scalars state.memory) }
-    ensures run { RunsReplay F.Shelf (plan_of accepted.now.plan) (seen M.numbers state) journal
+    requires valid { IsStateOf (plan_of accepted.now.plan) (seen M.numbers start.state) }
+    requires memory { IsMemoryOf accepted.now.plan.program (M.numbers start.state.memory)
+        (M.scalars start.state.memory) }
+    ensures run { RunsReplay F.Shelf (plan_of accepted.now.plan) (seen M.numbers start.state) journal
         shelf.old shelf.new result }
 {
     journals_show();
+    let Start { alloc, state } = start;
     let mut workers = workers;
     let Ok(mut turns) = JournalTurns::new(alloc, journal, state.turn, state.mode) else {
         return Err(Stop::Memory);
     };
     let joins = turns.joins();
-    match run(alloc, accepted, state, shelf, &mut workers, &mut turns)? {
+    let start = Start { alloc, state };
+    match run(accepted, start, shelf, &mut workers, &mut turns)? {
         Ended::Done(world) => Ok(Replayed::Ended {
             ended: ended_by(&world.state),
             joins,
@@ -78,7 +80,8 @@ pub fn replay_from<M: Cells + Drop, F: Shelf>(
     let Ok(workers) = one_thread::<M>(alloc, accepted) else {
         return Err(Stop::Memory);
     };
-    replay_by(alloc, accepted, journal, state, shelf, workers)
+    let start = Start { alloc, state };
+    replay_by(accepted, journal, start, shelf, workers)
 }
 
 /// Runs an accepted plan, which it shares with its workers, from its start under a journal, on the caller's

@@ -33,7 +33,7 @@ use Rattle.trick_runs.specs.Turned.{Asks, Turned}
 use Rattle.trick_turns.specs.Turns.{Answer, Told, after_entries, after_lists, behind, has_line, in_next, may_all_come, no_sessions, owes_after}
 use Rattle.trick_turns.specs.declared.turns.Turns.{Ghosts as TurnsGhosts}
 
-never_err : IsErrOf fine Shelf → ⊥
+pub never_err : IsErrOf fine Shelf → ⊥
 never_err f = cc
 
 -- ---- what joins

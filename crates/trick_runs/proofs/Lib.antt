@@ -26,3 +26,5 @@ pub mod SayLemmas
 pub mod TurnedLemmas
 -- Hearing entries changes neither the count of turns, nor the next tic, nor what is taken.
 pub mod Times
+-- Turns in Freeze that are given no entry raise the count alone.
+pub mod Gaps

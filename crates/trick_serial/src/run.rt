@@ -17,7 +17,7 @@ use crate::workers::one_thread;
 use std::alloc::Global;
 use std::sync::Arc;
 use trick_exec::laws::{runs_are_alone, serial_forms_are_alone};
-use trick_exec::run;
+use trick_exec::{Start, run};
 use trick_lang::Cells;
 use trick_model::{Accepted, State, laws};
 use trick_one_post::OnePost;
@@ -46,7 +46,8 @@ pub fn serial_by<M: Cells + Drop, F: Shelf, H: Phases<M>>(
     runs_are_alone::<M, F, OnePost, NoTurns>();
     serial_forms_are_alone::<M, F>();
     let mut turns = NoTurns;
-    match run(alloc, accepted, state, shelf, workers, &mut turns)? {
+    let start = Start { alloc, state };
+    match run(accepted, start, shelf, workers, &mut turns)? {
         trick_exec::Ended::Done(world) => Ok(ended_by(&world.state)),
         trick_exec::Ended::Length { .. } => unreachable!(),
     }

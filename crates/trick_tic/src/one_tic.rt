@@ -14,7 +14,6 @@ ghost use Rattle.trick_tic.specs.Due.{AreJobsFor};
 ghost use Rattle.trick_tic.specs.Steps.{steps_of};
 
 use crate::{Course, Current, Workers};
-use std::alloc::Global;
 use trick_lang::Cells;
 use trick_model::{Accepted, State, laws};
 use trick_outside::{Shelf, Stop};
@@ -60,7 +59,6 @@ fn run_due<M: Cells, H: Phases<M>>(
 /// due at the tic. It stops where the shelf failed, or where there was no memory for a row or for the
 /// record of a thread that takes for the first time; the state is gone then.
 pub fn tic<M: Cells + Drop, F: Shelf, H: Phases<M>, P: Posts>(
-    alloc: Global,
     accepted: &Accepted,
     current: Current<M>,
     course: &mut Course,
@@ -90,7 +88,7 @@ pub fn tic<M: Cells + Drop, F: Shelf, H: Phases<M>, P: Posts>(
     course.fire(accepted.plan(), tic, &mut state, &mut asked);
     let Ok(()) = course
         .ends
-        .finish(alloc, tic, &mut state, &mut workers.posts)
+        .finish(course.alloc, tic, &mut state, &mut workers.posts)
     else {
         return Err(Stop::Memory);
     };

@@ -2,3 +2,5 @@
 pub mod Turns
 -- How many sessions join.
 pub mod Joins
+-- Turns in Freeze that are given no entry, all by one answer.
+pub mod Gap

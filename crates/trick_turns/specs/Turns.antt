@@ -1,6 +1,6 @@
 -- Who gives turns their entries: what it answers, and what it promises.
 use Rattle.std.specs.List.{list_any}
-use Rattle.std.specs.Prelude.{◌≡◌, ℕ, ◌+◌, ◌<◌, ◌≤◌, ◌==◌, max, nat_lt, Bool, true, false, cond, ◌&&◌, not, IsTrue, List, [], ◌∷◌, ◌++◌, filter, Option, Some, None, Result, Ok, Err}
+use Rattle.std.specs.Prelude.{◌≡◌, ℕ, zero, suc, ◌+◌, ◌<◌, ◌≤◌, ◌==◌, max, nat_lt, Bool, true, false, cond, ◌&&◌, not, IsTrue, List, [], ◌∷◌, ◌++◌, filter, Option, Some, None, Result, Ok, Err}
 use Rattle.std.specs.declared.alloc.AllocError.{AllocError}
 use Rattle.trick_turns.specs.declared.turns.Next.{Next}
 use Rattle.trick_turns.specs.declared.turns.Next.TheVariants as next
@@ -8,7 +8,7 @@ use Rattle.trick_model.specs.Journal.{is_entry, is_of_session, may_follow}
 use Rattle.trick_model.specs.Run.{has_session_entry, next_of, rest_of}
 use Rattle.trick_model.specs.Session.{Message}
 use Rattle.trick_model.specs.State.{State}
-use Rattle.trick_model.specs.Turn.{is_frozen}
+use Rattle.trick_model.specs.Turn.{counted, is_frozen}
 use Rattle.trick_model.specs.declared.entry.Entry.{Entry}
 use Rattle.trick_model.specs.declared.entry.Entry.TheVariants.{Join, Said, Leave, Publish}
 use Rattle.trick_model.specs.declared.mode.Mode.{Mode}
@@ -24,10 +24,17 @@ pub record Answer : Type 0 where
   pub sessions : List Session
   pub list : Option (List Entry)
 
--- The answers that one call adds: only a list and `NoMore` count.
+-- the answers by which so many turns in Freeze are given an empty list each
+abbrev pub empty_answers : ℕ → State → List Session → List Answer
+empty_answers zero s there = []
+empty_answers (suc turns) s there =
+    record { turn = s.turn; mode = s.mode; sessions = there; list = Some [] } ∷ empty_answers turns (counted s) there
+
+-- The answers that one call adds: only lists and `NoMore` count.
 abbrev pub answered : State → List Session → Next → List Answer
 answered s there (next.Entries list) =
     record { turn = s.turn; mode = s.mode; sessions = there; list = Some list.items } ∷ []
+answered s there (next.Gap turns) = empty_answers turns s there
 answered s there next.NoMore = record { turn = s.turn; mode = s.mode; sessions = there; list = None } ∷ []
 answered s there (next.Length kept given) = []
 answered s there next.OutOfMemory = []
@@ -48,9 +55,11 @@ has_line entries = list_any is_of_session entries
 abbrev pub owes_after : Mode → List Entry → Bool → Bool
 owes_after mode entries owed = cond (has_line entries) false (cond (is_frozen mode) true owed)
 
--- Lists change what is owed. `NoMore` comes in Freeze alone, and only where nothing is owed.
+-- Lists change what is owed; what a gap leaves is told turn by turn. `NoMore` comes in Freeze alone, and only where
+-- nothing is owed.
 abbrev pub Pays : State → Next → Bool → Bool → Type 0
 Pays s (next.Entries list) owed now = now ≡ owes_after s.mode list.items owed
+Pays s (next.Gap turns) owed now = Unit {0}
 Pays s next.NoMore owed now = IsTrue (is_frozen s.mode) × (owed ≡ false) × (now ≡ false)
 Pays s (next.Length kept given) owed now = now ≡ owed
 Pays s next.OutOfMemory owed now = Unit {0}
@@ -67,16 +76,19 @@ abbrev pub behind : Told → Told
 behind told = record told { lists = rest_of told.lists }
 
 -- What is answered is what the journal says: in Freeze `NoMore` exactly where no list that is left has a
--- join, a line or a leave; else its next list where its end is above the turn; else its end, and the turn
--- at which a run under it would stop. Without a journal there is no such length.
+-- join, a line or a leave; else its next list, or a gap, where its end is above the turn; else its end, and the turn
+-- at which a run under it would stop. Without a journal there is no such length and no gap. What a gap leaves is
+-- told turn by turn.
 abbrev pub Gives : State → Option Told → Next → Option Told → Type 0
 Gives s None (next.Entries list) now = now ≡ None
+Gives s None (next.Gap turns) now = ⊥
 Gives s None next.NoMore now = now ≡ None
 Gives s None (next.Length kept given) now = ⊥
 Gives s None next.OutOfMemory now = now ≡ None
 Gives s (Some told) (next.Entries list) now =
     (list.items ≡ next_of told.lists) × (s.turn < told.end)
     × (is_frozen s.mode ≡ true → has_session_entry told.lists ≡ true) × (now ≡ Some (behind told))
+Gives s (Some told) (next.Gap turns) now = Unit {0}
 Gives s (Some told) next.NoMore now = (has_session_entry told.lists ≡ false) × (now ≡ Some told)
 Gives s (Some told) (next.Length kept given) now =
     (kept ≡ told.end) × (given ≡ max (told.end + 1) s.turn) × (told.end ≤ s.turn)
@@ -151,11 +163,13 @@ is_succession [] s = true
 is_succession (list ∷ lists) s =
     may_all_come list (in_next s) && is_succession lists (after_entries list (in_next s))
 
--- A list goes on from those before it. Only who decides what is published gives publications.
+-- A list goes on from those before it. Only who decides what is published gives publications. The lists of a gap have
+-- no entry, and what they leave is told turn by turn.
 abbrev pub GoesOn : Bool → Sessions → Next → Sessions → Type 0
 GoesOn decides s (next.Entries list) now =
     IsTrue (may_all_come list.items (in_next s)) × (now ≡ after_entries list.items (in_next s))
     × (decides ≡ false → list_any (λ entry. not (is_of_session entry)) list.items ≡ false)
+GoesOn decides s (next.Gap turns) now = Unit {0}
 GoesOn decides s next.NoMore now = now ≡ s
 GoesOn decides s (next.Length kept given) now = now ≡ s
 GoesOn decides s next.OutOfMemory now = Unit {0}

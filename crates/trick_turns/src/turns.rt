@@ -11,6 +11,9 @@ use trick_model::{Entry, Session, State};
 pub enum Next {
     /// The turn's entries, in order.
     Entries(Vec<Entry>),
+    /// So many turns are given no entry, this one and those after it. It comes in Freeze alone, where such turns
+    /// do nothing but to be counted, and they are one at least.
+    Gap { turns: u64 },
     /// No join, line or leave comes any more. It comes in Freeze alone, where the run is then over.
     NoMore,
     /// The journal ends at turn `kept`, and the run would end at turn `given`.
@@ -24,6 +27,7 @@ pub enum Next {
 /// `docs/RULES.md` says which entries may come. What was answered and handed over stands in `went`, so
 /// that a run can say what it was given; no history is stored.
 pub trait Turns<M: Cells> {
+    ghost use Rattle.trick_turns.specs.Gap.{Gap, GivesNone, IfGap};
     ghost use Rattle.trick_turns.specs.Turns.{answered, Answer, EndsAt, Gives, GoesOn, is_among, Pays, sent, Sessions, Told};
 
     /// On the way from the first value to the second just these answers were given, and these messages
@@ -46,13 +50,15 @@ pub trait Turns<M: Cells> {
     ghost takes: { Self → ℕ → Type 0 };
 
     /// The entries of the turn that comes next, in this state, where these sessions are there. Where it
-    /// tells a journal, what it answers is what the journal says.
+    /// tells a journal, what it answers is what the journal says. A gap is what as many empty lists would be.
     fn entries(&mut self, alloc: Global, state: &State<M>, live: &[Session]) -> Next
         ensures step { went self.old (answered (seen M.numbers state.now) live.now result) [] self.new }
         ensures pays { Pays (seen M.numbers state.now) result (owes self.old) (owes self.new) }
         ensures gives { Gives (seen M.numbers state.now) (journal self.old) result (journal self.new) }
         ensures rules { GoesOn (decided self.old) (sessions self.old) result (sessions self.new) }
-        ensures decides { decided self.new ≡ decided self.old };
+        ensures decides { decided self.new ≡ decided self.old }
+        ensures gap { IfGap result (λ turns. Gap (λ s old new. GivesNone went owes journal decided sessions live.now s old new)
+            (seen M.numbers state.now) turns self.old self.new) };
 
     /// Where a run is over at this turn: the journal's end and the turn, exactly where a journal is
     /// told and its end is another turn.

@@ -20,7 +20,7 @@ returns-in_default g c =
     let p = plan_of c.args.accepted.now.plan in
     let h = hosts g.F.Shelf g.T.Turns g.P.Posts in
     let laws : Laws h = record { shelf = g.met.F.Shelf.called_join; turns = g.met.T.Turns.went_join; posts = g.met.P.Posts.asked_join; runs = c.runs_join.ensures } in
-    let start : State = seen g.M.Cells.numbers c.args.state in
+    let start : State = seen g.M.Cells.numbers c.args.start.state in
     let result : Result (EndedValue g.row.M.Denot) Stop = Err Memory in
     record {
       run = (
@@ -33,7 +33,7 @@ returns-in_default g c =
 pub whole-requires : goal.whole-requires
 whole-requires g c =
     let plan = c.args.accepted.now.plan in
-    let s : State = seen g.M.Cells.numbers c.args.state in
+    let s : State = seen g.M.Cells.numbers c.args.start.state in
     let work = c.new-run.ensures.workers in
     record {
       starts = record {
@@ -54,7 +54,7 @@ pub returns : goal.returns
 returns g c =
     let p = plan_of c.args.accepted.now.plan in
     let h = hosts g.F.Shelf g.T.Turns g.P.Posts in
-    let start : State = seen g.M.Cells.numbers c.args.state in
+    let start : State = seen g.M.Cells.numbers c.args.start.state in
     let old : Place g.row.F.Denot g.row.T.Denot g.row.P.Denot = at c.args.shelf.now c.args.turns.now c.args.workers.now.posts in
     let new : Place g.row.F.Denot g.row.T.Denot g.row.P.Denot = at c.shelf-1.given.0 c.turns-1.given.0 c.workers-1.given.0.posts in
     let made = c.new-run.ensures in

@@ -21,7 +21,7 @@ use Rattle.trick_tic.specs.Current.{asking_of}
 pub returns-in_err-current-clause-does : goal.returns-in_err-current-clause-does
 returns-in_err-current-clause-does g c =
     let error = err_from_is_err_and c.from_residual.result c.from_residual.ensures.1 in
-    pass_stops (plan_of c.args.accepted.now.plan) c.args.entries.now (asking_of g.M.Cells.numbers c.args.current) _ _ _ c.in_err-current.ensures.does
+    pass_stops (plan_of c.args.accepted.now.plan) c.args.rest.publications.now (asking_of g.M.Cells.numbers c.args.rest.current) _ _ _ c.in_err-current.ensures.does
     refl error.1 error.2
 
 pub rounds-requires-clause-goes : goal.rounds-requires-clause-goes
@@ -43,7 +43,7 @@ rounds-requires-clause-goes g c =
 
 pub returns-in_default-clause-does : goal.returns-in_default-clause-does
 returns-in_default-clause-does g c =
-    pass_wants (plan_of c.args.accepted.now.plan) c.args.entries.now (asking_of g.M.Cells.numbers c.args.current) _ g.met.F.Shelf.called_join
+    pass_wants (plan_of c.args.accepted.now.plan) c.args.rest.publications.now (asking_of g.M.Cells.numbers c.args.rest.current) _ g.met.F.Shelf.called_join
     c.in_ok-current.ensures.does refl (g.met.F.Shelf.called_none _) (λ d. cc) (λ f. cc)
 
 pub returns-in_default-clause-asks : goal.returns-in_default-clause-asks
@@ -58,10 +58,10 @@ returns-clause-asks g c = asks_then g.met.P.Posts.asked_join c.framed.ensures.as
 pub returns-clause-does : goal.returns-clause-does
 returns-clause-does g c =
     let plan = c.args.accepted.now.plan in
-    let a : Asking = asking_of g.M.Cells.numbers c.args.current in
+    let a : Asking = asking_of g.M.Cells.numbers c.args.rest.current in
     let ran : Asking = asking_of g.M.Cells.numbers c.in_ok-current.current in
     let jobs : State = seen g.M.Cells.numbers c.checkpoint_jobs.new.state in
-    let steps = pass_steps (plan_of plan) c.args.entries.now a ran jobs (seen g.M.Cells.numbers c.rounds.new.state) (seen g.M.Cells.numbers c.count.new.state)
+    let steps = pass_steps (plan_of plan) c.args.rest.publications.now a ran jobs (seen g.M.Cells.numbers c.rounds.new.state) (seen g.M.Cells.numbers c.count.new.state)
     c.in_ok-current.ensures.state
     (c.checkpoint_jobs.ensures.ran ∙ ap (λ (x : Plan). checkpoint_jobs (plan_of x) ran.checkpoint ran.state) c.plan-plan.ensures.plan)
     (c.in-Ok.ensures.state ∙ ap (λ (x : Plan). rounds (plan_of x) c.runs-ran.result jobs) (c.framed.ensures.asks.plan ∙ c.requires.posts)
@@ -74,10 +74,10 @@ pub returns-in_err-write_checkpoint-clause-does : goal.returns-in_err-write_chec
 returns-in_err-write_checkpoint-clause-does g c =
     let error = err_from_is_err_and c.from_residual-in_err-write_checkpoint.result c.from_residual-in_err-write_checkpoint.ensures.1 in
     let plan = c.args.accepted.now.plan in
-    let a : Asking = asking_of g.M.Cells.numbers c.args.current in
+    let a : Asking = asking_of g.M.Cells.numbers c.args.rest.current in
     let ran : Asking = asking_of g.M.Cells.numbers c.in_ok-current.current in
     let jobs : State = seen g.M.Cells.numbers c.checkpoint_jobs.new.state in
-    let steps = pass_steps (plan_of plan) c.args.entries.now a ran jobs (seen g.M.Cells.numbers c.rounds.new.state) (seen g.M.Cells.numbers c.count.new.state)
+    let steps = pass_steps (plan_of plan) c.args.rest.publications.now a ran jobs (seen g.M.Cells.numbers c.rounds.new.state) (seen g.M.Cells.numbers c.count.new.state)
     c.in_ok-current.ensures.state
     (c.checkpoint_jobs.ensures.ran ∙ ap (λ (x : Plan). checkpoint_jobs (plan_of x) ran.checkpoint ran.state) c.plan-plan.ensures.plan)
     (c.in-Ok.ensures.state ∙ ap (λ (x : Plan). rounds (plan_of x) c.runs-ran.result jobs) (c.framed.ensures.asks.plan ∙ c.requires.posts)

@@ -15,7 +15,7 @@ pub frame-requires-clause-under_way : goal.frame-requires-clause-under_way
 frame-requires-clause-under_way g c =
     let plan = c.args.accepted.now.plan in
     let course = c.args.equipment.now.course in
-    let start = c.args.current.state in
+    let start = c.args.rest.current.state in
     let shown = c.publish_all.new.state in
     let top = c.run_class.new.state in
     let posts = g.P.Posts.in_flight c.publish_all.new.posts in
@@ -24,7 +24,7 @@ frame-requires-clause-under_way g c =
     (c.run_class.ensures.ran ∙ ap (λ (x : Plan). run_class (plan_of x) class.TopOfFrame (seen g.M.Cells.numbers shown)) c.plan-plan.ensures.plan)
     (subst (λ (x : Plan). IsMemoryOf x.program (g.M.Cells.numbers top.memory) (g.M.Cells.scalars top.memory)) c.plan-plan.ensures.plan c.run_class.ensures.memory)
     (published_goes plan (g.P.Posts.plan c.args.workers.now.posts) (g.P.Posts.plan c.publish_all.new.posts) course
-    (g.P.Posts.in_flight c.args.workers.now.posts) posts c.args.entries.now (seen g.M.Cells.numbers start) (seen g.M.Cells.numbers shown)
+    (g.P.Posts.in_flight c.args.workers.now.posts) posts c.args.rest.publications.now (seen g.M.Cells.numbers start) (seen g.M.Cells.numbers shown)
     (g.M.Cells.scalars start.memory) (g.M.Cells.scalars shown.memory) c.requires.posts c.publish_all.ensures.asks.plan c.publish_all.ensures.state
     c.publish_all.ensures.goes c.requires.equipped.under_way)
 

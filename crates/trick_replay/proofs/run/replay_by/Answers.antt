@@ -11,14 +11,14 @@ use Rattle.trick_turns.specs.Turns.{Told}
 
 pub returns-in_default : goal.returns-in_default
 returns-in_default g c =
-    record { run = none_kept _ (plan_of c.args.accepted.now.plan) (seen g.M.Cells.numbers c.args.state) c.args.journal (g.met.F.Shelf.called_none _) }
+    record { run = none_kept _ (plan_of c.args.accepted.now.plan) (seen g.M.Cells.numbers c.args.start.state) c.args.journal (g.met.F.Shelf.called_none _) }
 
 pub returns-in_err-world : goal.returns-in_err-world
 returns-in_err-world g c =
     let error = err_from_is_err_and c.from_residual.result c.from_residual.ensures.1 in
     let run = c.in_err-world.ensures.run in
     rw error.1 (record {
-      run = stopped (plan_of c.args.accepted.now.plan) (seen g.M.Cells.numbers c.args.state) c.args.journal run.0 _ _ run.1 refl
+      run = stopped (plan_of c.args.accepted.now.plan) (seen g.M.Cells.numbers c.args.start.state) c.args.journal run.0 _ _ run.1 refl
           (ap (λ (told : Told). Some told) c.in-Ok.ensures.told) refl error.2;
     })
 
@@ -26,7 +26,7 @@ pub returns-in-Done : goal.returns-in-Done
 returns-in-Done g c =
     let run = rw c.in-Done.is at c.in_ok-world.ensures.run in
     record {
-      run = whole (plan_of c.args.accepted.now.plan) (seen g.M.Cells.numbers c.args.state) c.args.journal run.0 _ _ c.journals_show.ensures run.1 refl
+      run = whole (plan_of c.args.accepted.now.plan) (seen g.M.Cells.numbers c.args.start.state) c.args.journal run.0 _ _ c.journals_show.ensures run.1 refl
           (ap (λ (told : Told). Some told) c.in-Ok.ensures.told)
           (c.ended_by.ensures ∙ ap (λ (w : World). ended_by w.state) run.2)
           (c.joins-joins.ensures ∙ ap (λ (told : Told). joins_of told.lists) c.in-Ok.ensures.told);
@@ -36,6 +36,6 @@ pub returns : goal.returns
 returns g c =
     let run = rw c.in-Length.is at c.in_ok-world.ensures.run in
     record {
-      run = misfit (plan_of c.args.accepted.now.plan) (seen g.M.Cells.numbers c.args.state) c.args.journal run.0 c.in-Length.kept c.in-Length.given
+      run = misfit (plan_of c.args.accepted.now.plan) (seen g.M.Cells.numbers c.args.start.state) c.args.journal run.0 c.in-Length.kept c.in-Length.given
           c.journals_show.ensures run.1 refl (ap (λ (told : Told). Some told) c.in-Ok.ensures.told);
     }

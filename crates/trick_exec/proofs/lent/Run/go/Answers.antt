@@ -3,6 +3,7 @@ use Rattle.std.proofs.lemmas.List.{length-map}
 use Rattle.std.proofs.lemmas.Result.{err_from_is_err_and}
 use Rattle.std.specs.Prelude.{Option, Result, nat_le}
 use Rattle.trick_exec.proofs.GoLemmas.{both_false, came_as, gave_as, none_known, step_as, under_more, under_stops}
+use Rattle.trick_exec.proofs.GapLemmas.{equipped_later, gap_as, gap_known, under_as, under_gap}
 use Rattle.trick_exec.proofs.IdleTurns.{idle_known, idle_turn}
 use Rattle.trick_exec.proofs.lent.Run.go.Goals as goal
 use Rattle.trick_exec.specs.CameTo.{HasGiven}
@@ -19,9 +20,11 @@ use Rattle.trick_model.specs.declared.thread.Thread.{Thread}
 use Rattle.trick_outside.specs.declared.stop.Stop.TheVariants.{Memory}
 use Rattle.trick_outside.specs.declared.stop.Stop.{Stop}
 use Rattle.trick_runs.proofs.Ending.{ends_short, over_asked, over_unasked, stops_between}
+use Rattle.trick_runs.proofs.Gaps.{AreQuiet, AreStill, GivesTurn, none_still, turn_still}
 use Rattle.trick_runs.proofs.Going.{Gave, IsGoing, Laws, going_starts}
 use Rattle.trick_runs.specs.Hosts.{Place, at, hosts}
 use Rattle.trick_runs.specs.Rounds.{no_waits}
+use Rattle.trick_turns.specs.Gap.{Gap}
 use Rattle.trick_turns.specs.Turns.{Gives, Sessions, Told, after_entries, in_next}
 use Rattle.trick_turns.specs.declared.turns.Next.TheVariants as next
 
@@ -44,6 +47,7 @@ turns-init g c =
       same = (refl, refl, refl);
       waits = ap length c.requires.waits ∙ length-map (threads_beside p) (λ (thread : Thread). 0);
       known = none_known p c.args.world.sessions.items (g.T.Turns.sessions c.args.self.now.turns.now) c.requires.sessions c.requires.unknown;
+      still = none_still c.args.world.sessions.items c.requires.sessions;
     }
 
 pub returns-then-is_over-clause-turns : goal.returns-then-is_over-clause-turns
@@ -111,6 +115,9 @@ turns-preserved g c =
       same = Prim.search rules;
       waits = c.in_ok-world-in-Entries.ensures.waits;
       known = c.in_ok-world-in-Entries.ensures.known;
+      still = turn_still p (world_of g.M.Cells.numbers c.idles.new.world) c.in_ok-world-in-Entries.ensures.came_to.entries
+          c.in_ok-world-in-Entries.world.sessions.items
+          (ap (λ (v : World). v.sessions) c.in_ok-world-in-Entries.ensures.came_to.world);
     }
 
 pub turns-preserved-then-idles : goal.turns-preserved-then-idles
@@ -151,6 +158,35 @@ turns-preserved-then-idles g c =
       known = idle_known p known (g.T.Turns.sessions c.entries.new.self) c.turns.world.sessions.items c.idles.new.world.sessions.items c.turns.invariant.known
           (c.in-Entries.ensures.rules.1 ∙ ap (λ (l : List Entry). after_entries l (in_next known)) (sym c.deref-in-Entries.ensures.value ∙ idle.none refl))
           (ap (λ v. v.items) c.idles.ensures.sessions);
+      still = subst AreStill (sym (ap (λ v. v.items) c.idles.ensures.sessions)) c.turns.invariant.still;
+    }
+
+pub turns-preserved-in-Gap : goal.turns-preserved-in-Gap
+turns-preserved-in-Gap g c =
+    let plan = c.args.accepted.now.plan in
+    let p = plan_of plan in
+    let h = hosts g.F.Shelf g.T.Turns g.P.Posts in
+    let laws : Laws h = record { shelf = g.met.F.Shelf.called_join; turns = g.met.T.Turns.went_join; posts = g.met.P.Posts.asked_join; runs = c.runs_join.ensures } in
+    let quiet : AreQuiet h = record { shelf = g.met.F.Shelf.called_none; turns = g.met.T.Turns.went_none; posts = g.met.P.Posts.asked_none } in
+    let start : State = seen g.M.Cells.numbers c.args.world.state in
+    let w : World = world_of g.M.Cells.numbers c.turns.world in
+    let tests = both_false (is_shut w.state.mode) (nat_le w.state.limit w.state.tic) (sym c.is_over.ensures ∙ c.if-is_over.false) in
+    let now = c.entries.new.self in
+    let given : Gap (GivesTurn g.T.Turns w.sessions) w.state c.in-Gap.turns c.turns.self.turns.now now =
+    gap_as g.T.Turns c.deref.result.now w.sessions w.state c.in-Gap.turns c.turns.self.turns.now now c.deref.ensures.value c.in-Gap.ensures.gap in
+    let counted = sym c.later-world.ensures in
+    record {
+      under = under_as g.M.Cells.numbers c.turns.world c.in-Gap.turns c.later-world.result counted
+          (under_gap h laws quiet p start c.in-Gap.turns now c.turns.invariant.under tests.1 c.turns.invariant.still given);
+      ready = record {
+        own = c.turns.invariant.ready.own;
+        posts = c.turns.invariant.ready.posts;
+        equipped = equipped_later plan _ _ w.state _ c.in-Gap.turns _ counted c.turns.invariant.ready.equipped;
+      };
+      same = c.turns.invariant.same;
+      waits = c.turns.invariant.waits;
+      known = gap_known p g.T.Turns w.sessions w.state c.in-Gap.turns c.turns.self.turns.now now w.sessions given c.turns.invariant.known;
+      still = c.turns.invariant.still;
     }
 
 pub returns-in_err-world-in-Entries-clause-turns : goal.returns-in_err-world-in-Entries-clause-turns

@@ -7,6 +7,7 @@ use Rattle.trick_exec.specs.Worlds.{world_of}
 use Rattle.trick_model.specs.Plan.{threads_beside}
 use Rattle.trick_model.specs.PlanOf.{plan_of}
 use Rattle.trick_model.specs.State.{seen}
+use Rattle.trick_runs.proofs.Gaps.{AreStill}
 use Rattle.trick_runs.specs.Hosts.{hosts}
 
 -- so many turns are done
@@ -21,4 +22,5 @@ invariant-turns g l =
       ready : IsReady g.H.Phases g.P.Posts plan l.self (seen g.M.Cells.numbers l.world.state) (g.M.Cells.scalars l.world.state.memory);
       waits : length l.self.waits.now.items ≡ length (threads_beside p);
       known : AreKnown p (g.T.Turns.sessions l.self.turns.now) l.world.sessions.items;
+      still : AreStill l.world.sessions.items;
     }

@@ -3,7 +3,6 @@ use Rattle.std.proofs.lemmas.Result.{err_from_is_err_and}
 use Rattle.std.specs.Prelude.{Result, cond}
 use Rattle.trick_beside.proofs.Seats.{stations_many}
 use Rattle.trick_beside.specs.Flight.{GoesWith}
-use Rattle.trick_beside.specs.Stations.{AreStations}
 use Rattle.trick_choice.proofs.ChoiceLemmas.{goes_as_is}
 use Rattle.trick_exec.proofs.SendLemmas.{not_ok}
 use Rattle.trick_exec.proofs.TurnLemmas.{apart_of, asks_of, came, came_late, came_short, heard_goes, line_entries, line_known, line_reached, line_replies, line_sessions, made, written_back}
@@ -135,8 +134,7 @@ returns-in_err-note_publications-clause-came_to g c =
     let first : Result (Unit {0}) Stop = Err c.in_err-note_publications.field-0.0 in
     let counted : Does g.F.Shelf c.hear_lines.new.shelf c.note_publications.new.shelf first (steps_of (note w.state.turn (counting p hearing.asking.state pubs))) =
     subst (λ (es : List Entry). Does g.F.Shelf c.hear_lines.new.shelf c.note_publications.new.shelf first (steps_of (note w.state.turn (counting p hearing.asking.state es)))) published
-    (subst (λ (x : PlanValue). Does g.F.Shelf c.hear_lines.new.shelf c.note_publications.new.shelf first (steps_of (note w.state.turn (counting (plan_of x) hearing.asking.state c.decided-publications.result.now))))
-    c.plan-plan.ensures.plan c.in_err-note_publications.ensures) in
+    (c.in_err-note_publications.ensures plan c.in_ok-heard.ensures.course.ends.stations) in
     let waits = c.args.self.now.waits.now.items in
     let asks = asks_of g.P.Posts c.args.given.decides plan hearing.asking.state _ waits chosen c.args.self.now.workers.now.posts c.choose_publications.new.posts
     c.requires.ready.posts c.as_mut_slice.ensures.value c.in-Ok.ensures.asks in
@@ -229,8 +227,7 @@ returns-in_err-world-clause-came_to g c =
     let noted_result : Result (Unit {0}) Stop = Ok c.in_ok-note_publications.field-0 in
     let counted : Does g.F.Shelf c.hear_lines.new.shelf c.note_publications.new.shelf noted_result (steps_of (note w.state.turn (counting p hearing.asking.state pubs))) =
     subst (λ (es : List Entry). Does g.F.Shelf c.hear_lines.new.shelf c.note_publications.new.shelf noted_result (steps_of (note w.state.turn (counting p hearing.asking.state es)))) published
-    (subst (λ (x : PlanValue). Does g.F.Shelf c.hear_lines.new.shelf c.note_publications.new.shelf noted_result (steps_of (note w.state.turn (counting (plan_of x) hearing.asking.state c.decided-publications.result.now))))
-    c.plan-plan.ensures.plan c.in_ok-note_publications.ensures) in
+    (c.in_ok-note_publications.ensures plan c.in_ok-heard.ensures.course.ends.stations) in
     let error = err_from_is_err_and c.from_residual-in_err-world.result c.from_residual-in_err-world.ensures.1 in
     let result : Result (WorldValue g.row.M.Denot) Stop = c.from_residual-in_err-world.result in
     let rest : Does g.F.Shelf c.note_publications.new.shelf c.finish.new.self.shelf.now result (steps_of (writes_after p pubs hearing.asking)) =
@@ -274,15 +271,13 @@ returns-clause-came_to g c =
     let noted_result : Result (Unit {0}) Stop = Ok c.in_ok-note_publications.field-0 in
     let counted : Does g.F.Shelf c.hear_lines.new.shelf c.note_publications.new.shelf noted_result (steps_of (note w.state.turn (counting p hearing.asking.state pubs))) =
     subst (λ (es : List Entry). Does g.F.Shelf c.hear_lines.new.shelf c.note_publications.new.shelf noted_result (steps_of (note w.state.turn (counting p hearing.asking.state es)))) published
-    (subst (λ (x : PlanValue). Does g.F.Shelf c.hear_lines.new.shelf c.note_publications.new.shelf noted_result (steps_of (note w.state.turn (counting (plan_of x) hearing.asking.state c.decided-publications.result.now))))
-    c.plan-plan.ensures.plan c.in_ok-note_publications.ensures) in
+    (c.in_ok-note_publications.ensures plan c.in_ok-heard.ensures.course.ends.stations) in
     let last = c.in_ok-world.world in
     let result : Result (WorldValue g.row.M.Denot) Stop = Ok last in
     let rest : Does g.F.Shelf c.note_publications.new.shelf c.finish.new.self.shelf.now result (steps_of (writes_after p pubs hearing.asking)) =
     subst (λ (es : List Entry). Does g.F.Shelf c.note_publications.new.shelf c.finish.new.self.shelf.now result (steps_of (writes_after p es hearing.asking))) published
     (does_ok last c.in_ok-world.ensures.does refl) in
     let waits = c.args.self.now.waits.now.items in
-    let stations_of : AreStations p c.stations-stations.result.now = subst (AreStations p) (sym c.stations-stations.ensures) c.in_ok-heard.ensures.course.ends.stations in
     let state_is : seen g.M.Cells.numbers last.state ≡ (turn p w (lines ++ pubs)).world.state =
     c.in_ok-world.ensures.state ∙ ap (λ (es : List Entry). state_after p es hearing.asking) published ∙ sym built.state in
     let sessions_are : last.sessions.items ≡ (turn p w (lines ++ pubs)).world.sessions = c.in_ok-world.ensures.sessions ∙ sym built.sessions in
@@ -294,7 +289,7 @@ returns-clause-came_to g c =
     (says_as result (replies p lines (begun w) ++ samples w.state.tic (state_after p pubs hearing.asking) hearing.sessions) same_said c.in_ok-world.ensures.says (λ ok. refl)))
     world_is asks c.finish.ensures.asks.asked
     (λ none. ap (λ v. v.items) c.finish.ensures.waits ∙ written_back c.args.self.now.waits.now.len c.choose_publications.new.waits waits (omega (arith, c.args.self.now.waits.now.ok.0))
-    (c.choose_publications.ensures.as_many ∙ stations_many p c.stations-stations.result.now stations_of ∙ sym c.requires.waits)
+    (c.choose_publications.ensures.as_many ∙ stations_many p c.hear_lines.new.equipment.course.ends.stations c.in_ok-heard.ensures.course.ends.stations ∙ sym c.requires.waits)
     ∙ c.in-Ok.ensures.waits none
     ∙ ap (λ (l : List ℕ). waited (plan_of (g.P.Posts.plan c.args.self.now.workers.now.posts)) hearing.asking.state l chosen) c.as_mut_slice.ensures.value
     ∙ ap (λ (x : PlanValue). waited (plan_of x) hearing.asking.state waits chosen) c.requires.ready.posts)

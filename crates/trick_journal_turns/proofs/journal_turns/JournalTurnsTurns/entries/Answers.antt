@@ -1,8 +1,10 @@
 use Rattle.std.proofs.Common.{◌≡◌, Some, ap, refl, rules, false, sym, ◌∙◌}
 use Rattle.std.specs.List.{list_any}
+use Rattle.trick_journal_turns.proofs.Gaps.{answers_told, gap_of}
 use Rattle.trick_journal_turns.proofs.Replaying.{done_else, done_then, lines_left}
 use Rattle.trick_journal_turns.specs.Due.{is_line, sessions_so_far}
 use Rattle.trick_journal_turns.proofs.journal_turns.JournalTurnsTurns.entries.Goals as goal
+use Rattle.trick_model.specs.State.{seen}
 use Rattle.trick_turns.specs.Turns.{Told}
 
 pub returns-then-is_done-clause-step : goal.returns-then-is_done-clause-step
@@ -28,6 +30,23 @@ returns-then-self-state-clause-gives g c =
           lines_left s.at s.end (sessions_so_far s.over s.start s.at s.whole.value) s.due s.rules
           ∙ done_else c.is_frozen-frozen.result (list_any is_line s.due) (sym c.is_done.ensures ∙ c.if-is_done.false) (c.is_frozen-frozen.ensures ∙ frozen),
     )
+
+pub returns-then-turns-gt0-clause-gap : goal.returns-then-turns-gt0-clause-gap
+returns-then-turns-gt0-clause-gap g c =
+    let frozen = c.gap-turns.ensures.frozen c.if-turns-gt0.true in
+    let line = done_else c.is_frozen-frozen.result (list_any is_line c.args.self.now.due) (sym c.is_done.ensures ∙ c.if-is_done.false) frozen in
+    gap_of c.gap-turns.result c.args._live.now (seen g.M.Cells.numbers c.args.state.now) c.args.self.now c.pass_gap.new.self c.if-turns-gt0.true
+    (sym c.is_frozen-frozen.ensures ∙ frozen) (c.gap-turns.ensures.below c.if-turns-gt0.true) line (c.gap-turns.ensures.none c.if-turns-gt0.true)
+    c.pass_gap.ensures
+
+pub returns-then-turns-gt0-clause-step : goal.returns-then-turns-gt0-clause-step
+returns-then-turns-gt0-clause-step g c =
+    let frozen = c.gap-turns.ensures.frozen c.if-turns-gt0.true in
+    let line = done_else c.is_frozen-frozen.result (list_any is_line c.args.self.now.due) (sym c.is_done.ensures ∙ c.if-is_done.false) frozen in
+    answers_told c.args._live.now (seen g.M.Cells.numbers c.args.state.now) c.gap-turns.result c.args.self.now c.pass_gap.new.self
+    (gap_of c.gap-turns.result c.args._live.now (seen g.M.Cells.numbers c.args.state.now) c.args.self.now c.pass_gap.new.self c.if-turns-gt0.true
+    (sym c.is_frozen-frozen.ensures ∙ frozen) (c.gap-turns.ensures.below c.if-turns-gt0.true) line (c.gap-turns.ensures.none c.if-turns-gt0.true)
+    c.pass_gap.ensures)
 
 pub next-requires : goal.next-requires
 next-requires g c =
