@@ -1,0 +1,2 @@
+-- How long a run under a journal lasts.
+pub mod Lasting

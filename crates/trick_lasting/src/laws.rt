@@ -1,0 +1,26 @@
+//! Laws of runs under journals. A function that calls one of them may rest on what it says; the call itself does
+//! nothing.
+
+ghost use Rattle.trick_lasting.specs.Lasting.{EveryJournalLasts, LastingFits, StatesHaveOwnJournals};
+
+/// The lists that the turns of a run under a journal were given are those of a whole run, which comes to the same end.
+pub fn lists_of_runs_fit()
+    ensures { LastingFits }
+{}
+
+/// A run from a valid state is over some time, whatever journal it is under, and whether its plan is accepted or not:
+/// each turn uses a list of the journal up, or raises the tic.
+pub fn every_journal_lasts()
+    ensures { EveryJournalLasts }
+{
+    trick_model::laws::turns_keep_validity();
+    trick_model::laws::plans_are_sound();
+}
+
+/// So is a run without clients: each valid state has the journal of one.
+pub fn states_have_own_journals()
+    ensures { StatesHaveOwnJournals }
+{
+    trick_model::laws::turns_keep_validity();
+    trick_model::laws::plans_are_sound();
+}

@@ -1,0 +1,2 @@
+-- What the plans of texts are named.
+pub mod Texts
