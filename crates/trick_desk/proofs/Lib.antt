@@ -12,3 +12,5 @@ pub mod Clerks
 pub mod Desks
 -- a post as it is made
 pub mod Making
+-- where the work of a thread begins
+pub mod Beginnings

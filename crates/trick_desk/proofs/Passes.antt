@@ -421,6 +421,18 @@ back_stands chosen plan post new log seat n s given back is less stands seat_is 
     (subst (λ (x : Standing). IsPostAt plan (with_standing (after log) n x) new) (sym (ap put_back works))
     (swapped_at plan (after log) post new n (Ready s) given back less (stands plan is).state swapped fits holds)))
 
+-- what was worked at and put back is ready
+pub back_ready : (log all : List Event) (seat n : ℕ) (s : Started) → all ≡ log ++ Back seat n ∷ [] → (after log).standings n ≡ Working s
+    → stage_of ((after all).standings n) ≡ stage.Ready
+back_ready log all seat n s is works =
+    ap (λ (l : List Event). stage_of ((after l).standings n)) is
+    ∙ ap (λ (h : Account). stage_of (h.standings n)) (after_more fresh log (Back seat n))
+    ∙ ap (λ (b : Bool). stage_of (cond b (put_back ((after log).standings n)) ((after log).standings n))) (itself n)
+    ∙ ap (λ (x : Standing). stage_of (put_back x)) works
+  where
+    itself : (m : ℕ) → (m == m) ≡ true
+    itself m = grind (arith, nat_tests)
+
 -- a clerk that has what its thread works at has work in its tray
 pub has_work_in : (tray : Tray) (s : Started) → held_in tray ≡ Some s → IsSome tray.work
 has_work_in tray s is = by_work tray.work is

@@ -10,3 +10,5 @@ pub mod Lateness
 pub mod Clerks
 -- A plan is data.
 pub mod Plans
+-- Where the work of a thread begins.
+pub mod Beginnings

@@ -1,13 +1,19 @@
 //! A clerk, who does the work of one thread.
 ghost use Rattle.std.specs.Arc.{arc_value};
+ghost use Rattle.std.specs.Option.{option_map};
 ghost use Rattle.std.specs.Prelude.{◌≡◌, ◌<◌, IfOk};
 ghost use Rattle.trick_desk.specs.Answers.{HasAdded, IsAtWork, PicksAt};
+ghost use Rattle.trick_desk.specs.Beginnings.{first_of, first_tic};
 ghost use Rattle.trick_desk.specs.Clerks.{IsClerkPass};
-ghost use Rattle.trick_desk.specs.Histories.{clerk_seat};
+ghost use Rattle.trick_desk.specs.Histories.{after, clerk_seat, stage_of};
 ghost use Rattle.trick_desk.specs.declared.picked.Picked.TheVariants as picked;
+ghost use Rattle.trick_desk.specs.declared.stage.Stage.TheVariants as stage;
+ghost use Rattle.trick_lang.specs.declared.job.JobId.{JobId};
+ghost use Rattle.trick_model.specs.PlanOf.{plan_of};
+ghost use Rattle.trick_tray.specs.Calendars.{scheduled_of};
 ghost use Rattle.trick_tray.specs.Outputs.{IsParcelOf};
 ghost use Rattle.trick_tray.specs.Trays.{IsWorkerOf};
-ghost use Rattle.trick_turn.specs.Passes.{IsPassOf, Rests, number_of};
+ghost use Rattle.trick_turn.specs.Passes.{IsPassOf, Rests, number_of, seen};
 
 use crate::event::Event;
 use crate::held::Held;
@@ -18,7 +24,9 @@ use crate::turns::end_turn;
 use std::alloc::{AllocError, Global};
 use std::marker::Brand;
 use std::sync::{Arc, Wait};
+use trick_lang::JobId;
 use trick_model::Planned;
+use trick_post::Job1;
 use trick_tray::{Parcel, Worker};
 use trick_turn::{Pass, TurnLock};
 
@@ -84,6 +92,25 @@ impl<P: Planned> Clerk<P> {
         picked
     }
 
+    /// The tic at which the work begins that it has: the first one of a frame. A round is of no tic, and 0 stands for
+    /// it, as where there is no work.
+    pub fn tic(&self) -> u64
+        ensures { result ≡ first_tic self.now.parcel.tray.work }
+    {
+        match self.parcel.tray.work {
+            Some(Job1::Frame { first, .. }) => first,
+            Some(Job1::Round) | None => 0,
+        }
+    }
+
+    /// The first job of its thread, in key order, if the thread has one.
+    pub fn first_job(&self) -> Option<JobId>
+        ensures { option_map (λ (job : JobId). job.0) result
+            ≡ first_of (scheduled_of (plan_of (arc_value self.now.held.accepted).plan) self.now.thread) }
+    {
+        self.parcel.tray.calendar.jobs.as_slice().first().copied()
+    }
+
     /// Does the work that it picked, without the turn, and puts back what that comes to.
     pub fn put_back<R: Wait>(&mut self, rt: &R)
         requires work { IsAtWork self.old.thread self.old.pass self.old.parcel }
@@ -91,6 +118,7 @@ impl<P: Planned> Clerk<P> {
         ensures lock { self.new.lock ≡ self.old.lock }
         ensures thread { self.new.thread ≡ self.old.thread }
         ensures adds { HasAdded self.old.pass self.new.pass (Event.Back (clerk_seat self.old.thread) self.old.thread) }
+        ensures ready { stage_of ((after (seen self.new.pass)).standings self.old.thread) ≡ stage.Ready }
     {
         let held = &self.held;
         let plan = held.accepted.plan();

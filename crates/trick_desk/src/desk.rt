@@ -8,14 +8,13 @@ ghost use Rattle.trick_tray.specs.Trays.{IsWorkerOf};
 ghost use Rattle.trick_turn.specs.Passes.{own};
 
 use crate::event::Event;
-use crate::places::Places;
 use crate::rack::Rack;
+use crate::shut_post::ShutPost;
 use std::sync::Wait;
 use trick_lang::Cells;
 use trick_model::{Faults, Planned, Taken};
 use trick_post::{Job1, Posted, Posts};
 use trick_tray::Worker;
-use trick_turn::Pass;
 
 /// The desk of a post: the work of must-finish and asynchronous threads is handed to clerks, and what comes of it is
 /// published here. Whatever the clerks do, that is what one thread makes of what was handed in.
@@ -49,6 +48,7 @@ impl<P: Planned, R: Wait + Drop> Desk<P, R> {
         requires started { IsSome (started_in (own self.old.rack.pass) thread) }
         ensures answer { AsksAt thread self.old.rack.pass self.new.rack.pass result }
         ensures held { self.new.rack.held ≡ self.old.rack.held }
+        ensures lock { self.new.rack.lock ≡ self.old.rack.lock }
         ensures late { self.new.late ≡ late_after self.old.late result }
         ensures rises { self.old.late ≤ self.new.late }
     {
@@ -59,10 +59,11 @@ impl<P: Planned, R: Wait + Drop> Desk<P, R> {
         posted
     }
 
-    /// Shuts the post, and gives the desk's pass, which has seen all that was done until then. The clerks find the post
-    /// shut from now on.
-    pub fn shut(self) -> Pass<Places<P>>
-        ensures { HasAdded self.rack.pass result (Event.Shut desk_seat) }
+    /// Shuts the post. The clerks find it shut from now on, and are to be taken in once they have ended. What the desk
+    /// has seen then is all that was done until the post was shut.
+    pub fn shut(self) -> ShutPost<P>
+        ensures lock { result.lock ≡ self.rack.lock }
+        ensures adds { HasAdded self.rack.pass result.pass (Event.Shut desk_seat) }
     {
         let Desk { rt, rack, .. } = self;
         rack.shut(&rt)
@@ -70,7 +71,7 @@ impl<P: Planned, R: Wait + Drop> Desk<P, R> {
 }
 
 impl<P: Planned, R: Wait + Drop> Posts for Desk<P, R> {
-    ghost use Rattle.std.proofs.Common.{refl};
+    ghost use Rattle.std.proofs.Common.{◌∙◌, refl};
     ghost use Rattle.std.specs.Arc.{arc_value};
     ghost use Rattle.std.specs.Prelude.{◌≡◌};
     ghost use Rattle.trick_desk.specs.Histories.{started_in};
@@ -83,7 +84,9 @@ impl<P: Planned, R: Wait + Drop> Posts for Desk<P, R> {
 
     ghost lateness = { λ desk. desk.late };
 
-    ghost asked = { λ old polls new. new.late ≡ late_through old.late polls };
+    // It is a desk of the same post, too.
+    ghost asked = { λ old polls new.
+        (new.late ≡ late_through old.late polls) × (new.rack.lock ≡ old.rack.lock) };
 
     fn start(&mut self, thread: u8, taken: &Taken, work: Job1) {
         self.rack.start(&self.rt, thread, taken, work);
@@ -106,9 +109,10 @@ impl<P: Planned, R: Wait + Drop> Posts for Desk<P, R> {
         self.worker.publish(plan, parcel, memory, faults, tic);
     }
 
-    ghost asked_none = { λ desk. refl };
+    ghost asked_none = { λ desk. (refl, refl) };
 
-    ghost asked_join = { λ first second third early late. counts_join first.late second.late third.late early late };
+    ghost asked_join = { λ first second third early late one two.
+        (counts_join first.late second.late third.late early late one.0 two.0, two.1 ∙ one.1) };
 
-    ghost asked_late = { λ old new polls counted. rose_counted old.late new.late polls counted };
+    ghost asked_late = { λ old new polls counted. rose_counted old.late new.late polls counted.0 };
 }

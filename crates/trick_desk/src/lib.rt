@@ -10,6 +10,7 @@ mod picked;
 mod places;
 mod post;
 mod rack;
+mod shut_post;
 mod stage;
 mod turns;
 
@@ -21,4 +22,5 @@ pub use picked::Picked;
 pub use places::{Place, Places};
 pub use post::Post;
 pub use rack::Rack;
+pub use shut_post::ShutPost;
 pub use stage::Stage;

@@ -13,6 +13,7 @@ ghost use Rattle.trick_turn.specs.Passes.{IsPassOf, Rests, number_of, own};
 use crate::event::Event;
 use crate::held::Held;
 use crate::places::Places;
+use crate::shut_post::ShutPost;
 use crate::stage::Stage;
 use crate::turns::{end_start, end_turn};
 use std::alloc::Global;
@@ -138,14 +139,15 @@ impl<P: Planned> Rack<P> {
         self.send(rt, thread, taken, work);
     }
 
-    /// Shuts the post, and gives the pass, which has seen all that was done until then.
-    pub(crate) fn shut<R: Wait>(self, rt: &R) -> Pass<Places<P>>
-        ensures { HasAdded self.pass result (Event.Shut desk_seat) }
+    /// Shuts the post.
+    pub(crate) fn shut<R: Wait>(self, rt: &R) -> ShutPost<P>
+        ensures lock { result.lock ≡ self.lock }
+        ensures adds { HasAdded self.pass result.pass (Event.Shut desk_seat) }
     {
         let Rack { lock, mut pass, .. } = self;
         let mut turn = pass.claim(rt, &lock);
         turn.value().shut();
         turn.release::<Brand>();
-        pass
+        ShutPost { lock, pass }
     }
 }

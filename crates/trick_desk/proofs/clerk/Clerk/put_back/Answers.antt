@@ -1,6 +1,6 @@
 use Rattle.std.proofs.Common.{◌≡◌, ◌∙◌, ℕ, ◌<◌, List, ap, arith, length, subst, sym}
 use Rattle.std.specs.Arc.{arc_value}
-use Rattle.trick_desk.proofs.Passes.{added_as, back_stands, has_work_in, outcome_held, same_number, still_works}
+use Rattle.trick_desk.proofs.Passes.{added_as, back_ready, back_stands, has_work_in, outcome_held, same_number, still_works}
 use Rattle.trick_desk.proofs.Posts.{returned_own}
 use Rattle.trick_desk.specs.Histories.{after, clerk_seat}
 use Rattle.trick_desk.specs.Places.{PostView, Stands}
@@ -12,6 +12,7 @@ use Rattle.trick_tray.specs.Outputs.{IsOutcome, IsParcelOf}
 use Rattle.trick_tray.specs.Trays.{IsWorkerOf, held_in}
 use Rattle.std.specs.Option.{IfSome}
 use Rattle.trick_turn.specs.Passes.{number_of, seen}
+use Rattle.trick_turn.specs.declared.view.View.{View}
 use Rattle.trick_desk.proofs.clerk.Clerk.put_back.Goals as goal
 
 pub work-requires-clause-own : goal.work-requires-clause-own
@@ -84,3 +85,15 @@ returns-clause-adds g c =
       added_as _ _ _ _ _ (Back (number_of c.claim-turn.result.pass.now) n) (Back (clerk_seat n) n) got c.end_turn.ensures
           (ap (λ (m : ℕ). Back m n) (got.number ∙ c.args.self.now.seat)),
     )
+
+pub returns-clause-ready : goal.returns-clause-ready
+returns-clause-ready g c =
+    let plan = (arc_value c.args.self.now.held.accepted).plan in
+    let got = c.claim-turn.ensures.got in
+    let log : List Event = seen c.claim-turn.result.pass.now in
+    let n = c.args.self.now.thread in
+    let at_ = c.requires.work in
+    let works = still_works _ plan c.claim-turn.result.value c.args.self.now.pass _ _ n at_.started got (got.state plan c.args.self.now.held.is)
+    c.args.self.now.seat at_.entries at_.standing in
+    back_ready log _ (number_of c.claim-turn.result.pass.now) n at_.started
+    (ap (λ (v : View Event). v.seen) c.end_turn.ensures.view) works
