@@ -22,6 +22,7 @@ use Rattle.trick_serve.specs.Rules.{AreSeated, Keeps, is_live, sessions_by}
 use Rattle.trick_serve.specs.Sides.{Side, nobody, queues_of, side, side_of}
 use Rattle.trick_serve.specs.declared.seat.Seat.{Seat}
 use Rattle.trick_turns.specs.Turns.{Sessions, after_entry, in_next, is_among}
+use Rattle.trick_wire.specs.Ends.{put_by, taken_by}
 
 -- ---- a list begins
 
@@ -244,11 +245,18 @@ quiet_looked there was seats list late n i d seat is inside quiet did = ⊎_elim
 
 -- ---- a client is seated
 
+-- Nothing has gone through the ends of its queues, and it has left already where a thread was refused to it.
+pub record IsFreshSeat (seat : Seat) : Type 0 where
+  pub no_line : taken_by seat.inbox ≡ []
+  pub no_message : put_by seat.outbox ≡ []
+  pub no_cause : taken_by seat.causes ≡ []
+  pub refused : seat.refused ≡ seat.left
+
 pub gathers_joined : (there : List Session) (was : List Seat) (known : List ℕ) (seats : List Seat) (live : List ℕ) (list late : List Entry)
     (n : ℕ) (seat : Seat) → Gathers there was known seats live list true → n ≡ length seats + 1 → AreSeated live seats → n ≤ 4294967295
-    → seat.slow ≡ false → late ≡ list ++ (Join n ∷ cond seat.left (Leave n cause.NoThread ∷ []) [])
+    → seat.slow ≡ false → IsFreshSeat seat → late ≡ list ++ (Join n ∷ cond seat.left (Leave n cause.NoThread ∷ []) [])
     → Gathers there was known (seats ++ seat ∷ []) (live ++ n ∷ []) late true
-gathers_joined there was known seats live list late n seat so is seated high slow added = record {
+gathers_joined there was known seats live list late n seat so is seated high slow new added = record {
   count = omega (arith, so.count, length_push seats seat);
   fresh = λ d k past. far k (past_one k past) ∙ so.fresh refl k (past_two k past);
   lives = λ k. ⊎_elim (λ here. subst At (sym here.1) at_new) (λ no. at_other k no.1) (eqb_tells k (length seats));
@@ -283,7 +291,7 @@ gathers_joined there was known seats live list late n seat so is seated high slo
     goes : Goes n (side was (length seats)) (side (seats ++ seat ∷ []) (length seats)) (entries_of_all n hs)
     goes = record {
       happened = hs;
-      happens = (record { first = first; seated = λ i. record (side_of seat) { slow = slow i } }, side_push seats seat (length seats) refl);
+      happens = (record { first = first; seated = λ i. record (side_of seat) { slow = slow i }; fresh = (new.no_line, new.no_cause, new.no_message); client = (queues_of seat, refl, new.refused) }, side_push seats seat (length seats) refl);
       entries = refl;
     }
 

@@ -1,5 +1,7 @@
 -- What happens to a session, one thing after another.
 pub mod Living
+-- Which client a seat is of, as seats change.
+pub mod Seating
 -- Places of sessions.
 pub mod Placing
 -- The rules of entries, as a list grows.

@@ -56,7 +56,7 @@ listed_join n a b c first second third done one two = record {
 
 -- ---- a session that left
 
-some≢none : (q : Queues) → Some q ≢ None
+pub some≢none : (q : Queues) → Some q ≢ None
 some≢none q is = cc
 
 -- Nothing happens to a session that was seated and has left.

@@ -70,6 +70,7 @@ looked_so there old mid new reached over over' broke seated before so empty = re
             subst (λ (l : List Entry). Lives (k + 1) there (side mid.seats.items k) (side new.seats.items k) l) (one.2 refl ∙ ap (own (k + 1)) empty) one.1;
       };
       sessions = same;
+      whole = refl;
     }
 
 pub looked_more : (there : List Session) (old : View) (mid new : Roll) (reached reached' : List ℕ) (over over' broke broke' : Bool)
@@ -127,15 +128,16 @@ lost there old found now reached over broke done so seats = record {
 -- ---- the answers
 
 pub went_given : (there : List Session) (turn : ℕ) (mode : Mode) (old new : View) (list : List Entry) → old.broke ≡ false
-    → HasGiven there (is_frozen mode) old new list
+    → new.broke ≡ old.broke → HasGiven there (is_frozen mode) old new list
     → Went old new (record { turn = turn; mode = mode; sessions = there; list = Some list } ∷ []) []
-went_given there turn mode old new list whole so =
+went_given there turn mode old new list whole kept so =
     went_join old so.mid new [] _ [] [] so.looks.looked
     (went_one (Answers (record { turn = turn; mode = mode; sessions = there; list = Some list })) so.mid new (
       record {
         lives = so.lives;
         rules = subst (λ (s : Sessions). Keeps (in_next s) list new.sessions) (sym so.looks.same) so.rules;
         frozen = so.filled;
+        whole = kept ∙ sym so.looks.whole;
       },
       so.looks.whole ∙ whole,
     ))
@@ -147,7 +149,7 @@ went_over there turn mode old new so =
     (went_one (Answers (record { turn = turn; mode = mode; sessions = there; list = None })) new new
     (record {
       frozen = so.frozen_is;
-      quiet = record { lives = record { each = λ k. inr (record { happened = []; happens = refl; entries = refl }) }; sessions = refl };
+      quiet = record { lives = record { each = λ k. inr (record { happened = []; happens = refl; entries = refl }) }; sessions = refl; whole = refl };
       over = so.over;
       ended = so.ended;
     }))

@@ -1,11 +1,12 @@
 -- Laws of calls: none, and one after another.
-use Rattle.std.proofs.Common.{◌≡◌, ◌∙◌, ⊎_elim, ℕ, ◌<◌, ◌≤◌, Bool, List, [], ◌∷◌, ◌++◌, ap, append_assoc, append-nil, length, refl, subst, sym}
+use Rattle.std.proofs.Common.{◌≡◌, ◌∙◌, ⊎_elim, ℕ, ◌<◌, ◌≤◌, Bool, false, List, [], ◌∷◌, ◌++◌, ap, append_assoc, append-nil, length, refl, Option, Some, None, subst, sym}
 use Rattle.std.proofs.lemmas.Bool.{false≢true}
 use Rattle.std.proofs.lemmas.Bool.Decides.{eqb_tells}
 use Rattle.std.proofs.lemmas.List.Elements.{All-head, All-tail}
 use Rattle.std.specs.Prelude.{◌||◌, IsTrue}
 use Rattle.trick_model.specs.Session.{Message}
-use Rattle.trick_serve.specs.Calls.{Call, DoAll, Does, View, Went, answer_of, answers_of, message_of, messages_of}
+use Rattle.trick_model.specs.declared.entry.Entry.{Entry}
+use Rattle.trick_serve.specs.Calls.{Answers, Breaks, Call, DoAll, Does, Hands, IsAnswered, Looks, View, Went, answer_of, answers_of, message_of, messages_of}
 use Rattle.trick_serve.specs.Rules.{AreSeated}
 use Rattle.trick_serve.specs.declared.seat.Seat.{Seat}
 use Rattle.trick_turns.specs.Turns.{Answer, is_among}
@@ -58,3 +59,14 @@ seated_among session (n ∷ numbers) seats seated among = ⊎_elim
     (λ no. seated_among session numbers seats (All-tail (λ m. (0 < m) × (m ≤ length seats)) n numbers seated)
     (sym (ap (λ (b : Bool). b || is_among session numbers) no.0) ∙ among))
     (eqb_tells n session)
+
+-- Where there was memory after a call, there was memory before it.
+pub whole_before : (call : Call) (old new : View) → Does call old new → new.broke ≡ false → old.broke ≡ false
+whole_before (Looks there) old new did whole = sym did.whole ∙ whole
+whole_before (Answers answer) old new did whole = by answer.list did
+  where
+    by : (list : Option (List Entry)) → IsAnswered list answer old new → old.broke ≡ false
+    by None over = sym over.quiet.whole ∙ whole
+    by (Some list) given = given.1
+whole_before (Breaks there) old new did whole = absurd (false≢true (sym whole ∙ did.broke))
+whole_before (Hands message) old new did whole = sym did.broke ∙ whole

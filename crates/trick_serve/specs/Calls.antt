@@ -27,12 +27,14 @@ pub record View : Type 0 where
 pub record IsQuiet (there : List Session) (old new : View) : Type 0 where
   pub lives : AllLive there old.seats new.seats []
   pub sessions : new.sessions ≡ old.sessions
+  pub whole : new.broke ≡ old.broke
 
 -- A list is given, which in Freeze is not empty.
 pub record IsGiven (answer : Answer) (list : List Entry) (old new : View) : Type 0 where
   pub lives : AllLive answer.sessions old.seats new.seats list
   pub rules : Keeps (in_next old.sessions) list new.sessions
   pub frozen : IsTrue (is_frozen answer.mode) → list ≢ []
+  pub whole : new.broke ≡ old.broke
 
 -- No line comes any more: no client comes, and of each session that has not left the end was heard.
 pub record IsOver (answer : Answer) (old new : View) : Type 0 where

@@ -8,6 +8,8 @@ pub mod Life
 pub mod Rules
 -- The list of a turn as it is gathered.
 pub mod Gathering
+-- Which client a seat is of.
+pub mod Clients
 -- A message that is handed to a session.
 pub mod Messages
 -- What the source of entries did, call after call.

@@ -12,7 +12,7 @@ use Rattle.trick_model.specs.declared.entry.Entry.{Entry}
 use Rattle.trick_model.specs.declared.entry.Entry.TheVariants.{Join, Said, Leave, Publish}
 use Rattle.trick_model.specs.declared.session.Session.{Session}
 use Rattle.trick_serve.specs.Ended.{has_end}
-use Rattle.trick_serve.specs.Sides.{IsHere, Side, nobody, side}
+use Rattle.trick_serve.specs.Sides.{IsHere, Queues, Side, nobody, side}
 use Rattle.trick_serve.specs.declared.seat.Seat.{Seat}
 use Rattle.trick_wire.specs.declared.heard.Heard.{Heard}
 use Rattle.trick_wire.specs.declared.heard.Heard.TheVariants as heard
@@ -109,10 +109,13 @@ IsRight heard.LongLine = Unit {0}
 IsRight heard.LinkFault = Unit {0}
 IsRight heard.OutOfMemory = Unit {0}
 
--- A client is seated once, and leaves at once where a thread was refused to it.
+-- A client is seated once, before anything has gone through the ends of its queues here, and leaves at once where a
+-- thread was refused to it.
 pub record CanSit (s : Side) (refused : Bool) (old : Side) : Type 0 where
   pub first : old ≡ nobody
   pub seated : s ≡ record s { slow = false; left = refused }
+  pub fresh : (s.heard ≡ []) × (s.told ≡ []) × (s.put ≡ [])
+  pub client : (queues : Queues) × (s.queues ≡ Some queues) × (queues.refused ≡ refused)
 
 -- What happens to a session that was seated and has not left. It leaves for being slow only where a message to it was
 -- left out.

@@ -8,12 +8,13 @@ use Rattle.trick_wire.specs.declared.heard.Heard.{Heard}
 use Rattle.trick_wire.specs.declared.heard.WriteStop.{WriteStop}
 use Rattle.trick_wire.specs.declared.queue.Shared.{Shared}
 
--- a session's three queues, and for how many messages there is room
+-- a session's three queues, for how many messages there is room, and whether a thread was refused to its client
 pub record Queues : Type 0 where
   pub inbox : Shared Heard
   pub outbox : Shared (List ℕ)
   pub causes : Shared WriteStop
   pub room : ℕ
+  pub refused : Bool
 
 -- Of a session: its queues, which nobody has before its client is seated; what was taken of its inbox and of its
 -- causes, what was put into its outbox, whether a message to it was left out, and whether it left.
@@ -29,13 +30,14 @@ pub record Side : Type 0 where
 abbrev pub nobody : Side
 nobody = record { queues = None; heard = []; told = []; put = []; slow = false; left = false }
 
--- the queues of a seat
+-- the queues of a seat, and whether a thread was refused to its client
 abbrev pub queues_of : Seat → Queues
 queues_of seat = record {
   inbox = arc_value seat.inbox.shared;
   outbox = arc_value seat.outbox.shared;
   causes = arc_value seat.causes.shared;
   room = room_of seat.outbox;
+  refused = seat.refused;
 }
 
 -- the session of a seat

@@ -1,8 +1,10 @@
 //! What is done with the roll of sessions.
 
-ghost use Rattle.std.specs.Prelude.{◌≡◌, ◌++◌, ◌<◌, ◌+◌, ◌-◌, ◌≤◌, ◌≢◌, [], List, OnOk, filter, is_ok, length, ℕ, true};
+ghost use Rattle.std.specs.Prelude.{◌≡◌, ◌++◌, ◌<◌, ◌+◌, ◌-◌, ◌≤◌, ◌≢◌, ◌∷◌, []};
+ghost use Rattle.std.specs.Prelude.{List, OnOk, false, filter, is_ok, length, ℕ, true};
 ghost use Rattle.std.specs.Vec.{vec_capacity, vec_len};
 ghost use Rattle.trick_model.specs.declared.session.Session.{Session};
+ghost use Rattle.trick_serve.specs.Clients.{KeepQueues, client_queues, seat_queues};
 ghost use Rattle.trick_serve.specs.Gathering.{Gathers};
 ghost use Rattle.trick_serve.specs.Messages.{IsHanded};
 ghost use Rattle.trick_serve.specs.Rolls.{AreEnded, HasRoom, IsGathered, IsSameRoll, seated_entries};
@@ -18,8 +20,11 @@ use std::alloc::{AllocError, Global};
 use std::mem;
 use std::sync::Wait;
 use trick_model::{Cause, Entry, Session};
-use trick_serve_door::Arrival;
+use trick_serve_door::{Arrival, Departure};
 use trick_wire::{Message, Putter};
+
+/// The greatest number of a session.
+const LAST: usize = 4294967295;
 
 // Whether a session has not left.
 fn is_live(seats: &[Seat], session: u32) -> bool
@@ -68,7 +73,7 @@ impl Roll {
     }
 
     /// Closes the queues of each session that left, and tells its number.
-    pub(crate) fn dismiss<R: Wait>(&self, rt: &R, gone: &mut Putter<u32>)
+    pub(crate) fn dismiss<R: Wait>(&self, rt: &R, gone: &mut Putter<Departure>)
         ensures { IsSamePutter gone.old gone.new }
     {
         for session in &self.live {
@@ -77,7 +82,7 @@ impl Roll {
                 seat.inbox.close();
                 seat.outbox.close();
                 // it has room for all that live at once
-                let _told = gone.push(rt, *session);
+                let _told = gone.push(rt, Departure::Session(*session));
             }
         }
     }
@@ -96,17 +101,27 @@ impl Roll {
     /// Lists the sessions that hang up, in an empty list.
     pub(crate) fn hang_up(&mut self, there: &[Session]) -> Result<(), AllocError>
         requires { self.old.list.items ≡ [] }
-        ensures { IsGathered there.now self.old.seats.items self.old.live.items self.new (is_ok result) }
+        ensures gathered { IsGathered there.now self.old.seats.items self.old.live.items self.new (is_ok result) }
+        ensures queues { KeepQueues self.old.seats.items self.new.seats.items }
     {
         hang_up_all(there, &self.live, &mut self.seats, &mut self.list)
     }
 
     /// Lists what came of each session.
     pub(crate) fn listen<R: Wait>(&mut self, rt: &R, alloc: Global) -> Result<(), AllocError>
-        ensures { (there : List Session) (was : List Seat) (known : List ℕ)
+        ensures gathered { (there : List Session) (was : List Seat) (known : List ℕ)
             → IsGathered there was known self.old true → IsGathered there was known self.new (is_ok result) }
+        ensures queues { KeepQueues self.old.seats.items self.new.seats.items }
     {
         listen_all(rt, alloc, &self.live, &mut self.seats, &mut self.list)
+    }
+
+    /// Whether the last number was given.
+    pub(crate) fn is_full(&self) -> bool
+        ensures full { result ≡ true → 4294967295 ≤ length self.now.seats.items }
+        ensures free { result ≡ false → length self.now.seats.items < 4294967295 }
+    {
+        LAST <= self.seats.len()
     }
 
     /// Makes room for one session more.
@@ -124,8 +139,11 @@ impl Roll {
     pub(crate) fn join<I: Drop, O: Drop>(&mut self, arrival: Arrival<I, O>)
         requires room { HasRoom self.old }
         requires number { length self.old.seats.items < 4294967295 }
-        ensures { (there : List Session) (was : List Seat) (known : List ℕ)
+        ensures gathered { (there : List Session) (was : List Seat) (known : List ℕ)
             → IsGathered there was known self.old true → IsGathered there was known self.new true }
+        ensures queues { seat_queues self.new.seats.items
+            ≡ seat_queues self.old.seats.items ++ client_queues arrival ∷ [] }
+        ensures count { length self.new.seats.items ≡ length self.old.seats.items + 1 }
     {
         let session = self.seats.len() as u32 + 1;
         let seat = Seat::of(arrival);
@@ -141,6 +159,7 @@ impl Roll {
             (side self.new.seats.items (session - 1)) }
         ensures others { (k : ℕ) → session ≢ k + 1 → side self.new.seats.items k ≡ side self.old.seats.items k }
         ensures count { length self.new.seats.items ≡ length self.old.seats.items }
+        ensures queues { KeepQueues self.old.seats.items self.new.seats.items }
         ensures live { self.new.live ≡ self.old.live }
     {
         hand(rt, &mut self.seats[session as usize - 1], message);

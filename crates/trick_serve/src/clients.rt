@@ -1,10 +1,11 @@
 //! Clients that come.
 
-ghost use Rattle.std.specs.Prelude.{◌≡◌, List, ℕ, is_ok, true};
+ghost use Rattle.std.specs.Prelude.{◌≡◌, List, Ok, ℕ, is_ok, true};
 ghost use Rattle.trick_model.specs.declared.session.Session.{Session};
+ghost use Rattle.trick_serve.specs.Clients.{AreOfClients, IsLast};
 ghost use Rattle.trick_serve.specs.Rolls.{IsGathered};
 ghost use Rattle.trick_serve.specs.declared.seat.Seat.{Seat};
-ghost use Rattle.trick_wire.specs.Ends.{IsSameTaker};
+ghost use Rattle.trick_wire.specs.Ends.{IsSameTaker, taken_by};
 
 use crate::Roll;
 use std::alloc::AllocError;
@@ -15,11 +16,8 @@ use trick_wire::Taker;
 /// How many clients are seated for one turn at most.
 const MOST: usize = 64;
 
-/// The greatest number of a session.
-const LAST: usize = 4294967295;
-
 /// What was taken of the queue of clients.
-#[derive(Clone, Copy, Debug, PartialEq, Eq)]
+#[derive(Clone, Copy)]
 pub(crate) enum Took {
     /// Nothing waited there.
     Nothing,
@@ -36,10 +34,15 @@ fn take_client<I: Drop, O: Drop, R: Wait>(
     roll: &mut Roll,
 ) -> Result<Took, AllocError>
     ensures queue { IsSameTaker coming.old coming.new }
+    ensures clients { AreOfClients (taken_by coming.old) roll.old.seats.items
+        → AreOfClients (taken_by coming.new) roll.new.seats.items }
+    ensures still { IsLast (taken_by coming.old) roll.old.seats.items
+        → IsLast (taken_by coming.new) roll.new.seats.items }
+    ensures last { result ≡ Ok Took.Over → IsLast (taken_by coming.new) roll.new.seats.items }
     ensures gathers { (there : List Session) (was : List Seat) (known : List ℕ)
         → IsGathered there was known roll.old true → IsGathered there was known roll.new (is_ok result) }
 {
-    if roll.seats.len() >= LAST {
+    if roll.is_full() {
         return Ok(Took::Over);
     }
     roll.make_room()?;
@@ -50,7 +53,9 @@ fn take_client<I: Drop, O: Drop, R: Wait>(
             Ok(Took::Some)
         }
         Some(Comes::Nobody) => Ok(Took::Some),
-        Some(Comes::Over) | Some(Comes::Closed) => Ok(Took::Over),
+        Some(Comes::Over) => Ok(Took::Over),
+        // it is told only after the end of the run
+        Some(Comes::Closed) => Ok(Took::Nothing),
         Some(Comes::OutOfMemory) => Err(AllocError),
     }
 }
@@ -62,6 +67,11 @@ pub(crate) fn take_clients<I: Drop, O: Drop, R: Wait>(
     roll: &mut Roll,
 ) -> Result<Took, AllocError>
     ensures queue { IsSameTaker coming.old coming.new }
+    ensures clients { AreOfClients (taken_by coming.old) roll.old.seats.items
+        → AreOfClients (taken_by coming.new) roll.new.seats.items }
+    ensures still { IsLast (taken_by coming.old) roll.old.seats.items
+        → IsLast (taken_by coming.new) roll.new.seats.items }
+    ensures last { result ≡ Ok Took.Over → IsLast (taken_by coming.new) roll.new.seats.items }
     ensures gathers { (there : List Session) (was : List Seat) (known : List ℕ)
         → IsGathered there was known roll.old true → IsGathered there was known roll.new (is_ok result) }
 {

@@ -1,20 +1,23 @@
 //! What the source of entries of a run with clients gives and takes.
 
-ghost use Rattle.std.specs.Prelude.{◌≡◌, ◌≢◌, [], IfOk, Ok, OnOk, false, filter, is_ok, true};
+ghost use Rattle.std.specs.Prelude.{◌≡◌, ◌≢◌, ◌++◌, ◌∷◌, [], IfOk, Ok, OnOk, false, filter, is_ok, true};
+ghost use Rattle.trick_serve.specs.Clients.{AreOfClients, IsLast, clients_of};
 ghost use Rattle.trick_serve.specs.Looks.{Came, HasFound, HasNoMore};
 ghost use Rattle.trick_serve.specs.Rolls.{IsGathered, view};
 ghost use Rattle.trick_serve.specs.Rules.{is_live, sessions_by};
+ghost use Rattle.trick_serve_door.specs.declared.departure.Departure.TheVariants.{Run};
 ghost use Rattle.trick_turns.specs.Turns.{no_sessions};
 ghost use Rattle.trick_model.specs.Turn.{is_frozen as is_frozen_of};
+ghost use Rattle.trick_wire.specs.Ends.{IsSamePutter, put_by, taken_by};
 
 use crate::clients::{Took, take_clients};
-use crate::{Roll, Served};
+use crate::{Finished, Roll, Served};
 use std::alloc::{AllocError, Global};
 use std::sync::{Arc, Wait};
 use trick_base::Items;
 use trick_lang::Cells;
 use trick_model::{Entry, Mode, Session, State};
-use trick_serve_door::Comes;
+use trick_serve_door::{Comes, Departure};
 use trick_turn::Bell;
 use trick_turns::{Next, Turns};
 use trick_wire::{Putter, Taker};
@@ -26,17 +29,48 @@ fn is_frozen(mode: Mode) -> bool
     matches!(mode, Mode::Freeze)
 }
 
+// Whether something had come of the door, after this was taken.
+fn is_asked(asked: bool, took: Took) -> bool
+    ensures { asked ≡ true → result ≡ true }
+{
+    asked || !matches!(took, Took::Nothing)
+}
+
+// Whether no client comes any more, after this was taken.
+fn is_over(over: bool, took: Took) -> bool
+    ensures reason { result ≡ true → over ≡ false → took ≡ Took.Over }
+    ensures stays { over ≡ true → result ≡ true }
+{
+    over || matches!(took, Took::Over)
+}
+
+// Tells that the run is over, and rests where there is no room.
+fn tell_over<R: Wait>(rt: &R, gone: &mut Putter<Departure>)
+    ensures queue { IsSamePutter gone.old gone.new }
+    ensures put { put_by gone.new ≡ put_by gone.old ++ Run ∷ [] }
+{
+    for _ in rt.forever() {
+        let mark = gone.mark();
+        if gone.push(rt, Departure::Run).is_ok() {
+            return;
+        }
+        gone.rest(rt, mark);
+    }
+    unreachable!()
+}
+
 impl<I: Drop, O: Drop, R: Wait + Copy> Served<I, O, R> {
-    /// The source of entries of a run to which no client has come yet. Clients come by `coming`, and the numbers of
-    /// those that left go into `gone`. The bell is rung after each put into `coming`, into an inbox and into a queue
-    /// of causes. Takes no memory.
+    /// The source of entries of a run to which no client has come yet. Clients come by `coming`, and into `gone` goes
+    /// which sessions left, and at the end that the run is over; it needs room for 65. The bell is rung after each put
+    /// into `coming`, into an inbox and into a queue of causes. Takes no memory.
     pub fn new(
         rt: R,
         alloc: Global,
         bell: Arc<Bell>,
         coming: Taker<Comes<I, O>>,
-        gone: Putter<u32>,
+        gone: Putter<Departure>,
     ) -> Self
+        requires none { clients_of (taken_by coming) ≡ [] }
         ensures seats { result.roll.seats.items ≡ [] }
         ensures sessions { sessions_by result.roll.seats.items result.roll.live.items result.reached.items
             ≡ no_sessions }
@@ -58,11 +92,32 @@ impl<I: Drop, O: Drop, R: Wait + Copy> Served<I, O, R> {
         }
     }
 
-    /// Closes the inbox and the outbox of each session, and the queue of those that left, at the end of a run. The
+    /// Ends the run: closes the inbox and the outbox of each session, tells that the run is over, and hands out the
+    /// seats, of which the n-th is of the n-th client that was taken of `coming`, and the queues to the acceptor. The
     /// messages that wait can still be written.
-    pub fn close(&self) {
+    pub fn finish(self) -> Finished<I, O>
+        ensures seats { result.seats ≡ self.roll.seats }
+        ensures clients { AreOfClients (taken_by result.coming) result.seats.items }
+        ensures last { self.over ≡ true → IsLast (taken_by result.coming) result.seats.items }
+        ensures coming { result.coming ≡ self.coming }
+        ensures gone { IsSamePutter self.gone result.gone }
+        ensures told { put_by result.gone ≡ put_by self.gone ++ Run ∷ [] }
+    {
         self.roll.close();
-        self.gone.close();
+        let Served {
+            rt,
+            roll,
+            coming,
+            mut gone,
+            ..
+        } = self;
+        tell_over(&rt, &mut gone);
+        let Roll { seats, .. } = roll;
+        Finished {
+            seats,
+            coming,
+            gone,
+        }
     }
 
     // Looks once at what came, and gathers a list of it.
@@ -76,14 +131,9 @@ impl<I: Drop, O: Drop, R: Wait + Copy> Served<I, O, R> {
         self.roll.dismiss(&rt, &mut self.gone);
         self.roll.begin();
         self.roll.hang_up(there)?;
-        match take_clients(&rt, &mut self.coming, &mut self.roll)? {
-            Took::Nothing => {}
-            Took::Some => self.asked = true,
-            Took::Over => {
-                self.asked = true;
-                self.over = true;
-            }
-        }
+        let took = take_clients(&rt, &mut self.coming, &mut self.roll)?;
+        self.asked = is_asked(self.asked, took);
+        self.over = is_over(self.over, took);
         self.roll.listen(&rt, self.alloc)
     }
 

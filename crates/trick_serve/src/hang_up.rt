@@ -3,6 +3,7 @@
 ghost use Rattle.std.specs.Prelude.{◌≡◌, ◌||◌, ◌++◌, ◌∷◌, ◌<◌, ◌≤◌, [], List, ℕ, OnErr, OnOk, is_ok, length, true};
 ghost use Rattle.trick_model.specs.Session.{is_empty};
 ghost use Rattle.trick_model.specs.declared.session.Session.{Session};
+ghost use Rattle.trick_serve.specs.Clients.{KeepQueues};
 ghost use Rattle.trick_serve.specs.Gathering.{Gathers, HasLooked};
 ghost use Rattle.trick_serve.specs.Rules.{AreSeated};
 ghost use Rattle.trick_serve.specs.Sides.{side_of};
@@ -53,6 +54,7 @@ pub(crate) fn hang_up_all(
     requires seated { AreSeated live.now seats.old.items }
     requires empty { list.old.items ≡ [] }
     ensures count { length seats.new.items ≡ length seats.old.items }
+    ensures queues { KeepQueues seats.old.items seats.new.items }
     ensures gathers { Gathers there.now seats.old.items live.now seats.new.items live.now list.new.items
         (is_ok result) }
 {

@@ -7,6 +7,7 @@ ghost use Rattle.std.specs.Vec.{vec_capacity, vec_len};
 ghost use Rattle.trick_model.specs.Journal.{is_line};
 ghost use Rattle.trick_model.specs.declared.entry.Entry.TheVariants.{Leave};
 ghost use Rattle.trick_model.specs.declared.session.Session.{Session};
+ghost use Rattle.trick_serve.specs.Clients.{KeepQueues};
 ghost use Rattle.trick_serve.specs.Gathering.{Gathers, HasListed, IsListed};
 ghost use Rattle.trick_serve.specs.Life.{is_exit};
 ghost use Rattle.trick_serve.specs.Rules.{AreSeated};
@@ -149,6 +150,7 @@ pub(crate) fn listen_all<R: Wait>(
 ) -> Result<(), AllocError>
     requires { AreSeated live.now seats.old.items }
     ensures count { length seats.new.items ≡ length seats.old.items }
+    ensures queues { KeepQueues seats.old.items seats.new.items }
     ensures gathers { (there : List Session) (was : List Seat) (known : List ℕ)
         → Gathers there was known seats.old.items live.now list.old.items true
         → Gathers there was known seats.new.items live.now list.new.items (is_ok result) }

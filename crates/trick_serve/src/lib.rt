@@ -14,4 +14,4 @@ mod served;
 
 pub use roll::Roll;
 pub use seat::Seat;
-pub use served::Served;
+pub use served::{Finished, Served};

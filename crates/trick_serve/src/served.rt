@@ -1,11 +1,14 @@
 //! The source of entries of a run with clients.
 
+ghost use Rattle.std.specs.Prelude.{◌≡◌, true};
+ghost use Rattle.trick_serve.specs.Clients.{AreOfClients, IsLast};
 ghost use Rattle.trick_serve.specs.Rules.{AreSeated};
+ghost use Rattle.trick_wire.specs.Ends.{taken_by};
 
-use crate::Roll;
+use crate::{Roll, Seat};
 use std::alloc::Global;
 use std::sync::Arc;
-use trick_serve_door::Comes;
+use trick_serve_door::{Comes, Departure};
 use trick_turn::Bell;
 use trick_wire::{Putter, Taker};
 
@@ -22,12 +25,27 @@ pub struct Served<I, O, R> {
     // The clients that come.
     pub(crate) coming: Taker<Comes<I, O>>,
     // The numbers of those that left.
-    pub(crate) gone: Putter<u32>,
+    pub(crate) gone: Putter<Departure>,
     // It was heard whether the door gave a client at once.
     pub(crate) asked: bool,
     // No client comes any more.
     pub(crate) over: bool,
     // There was no memory once.
     pub(crate) broke: bool,
+    // Session n is of the n-th client that was taken of those that come.
+    ghost clients: { AreOfClients (taken_by coming) roll.seats.items },
+    // That no client comes any more has its reason.
+    ghost last: { over ≡ true → IsLast (taken_by coming) roll.seats.items },
     ghost reach: { AreSeated reached.items roll.seats.items },
+}
+
+/// What a source of entries hands out at the end of a run.
+#[derive(Drop)]
+pub struct Finished<I, O> {
+    /// The n-th is of the n-th client that was taken of `coming`.
+    pub seats: Vec<Seat>,
+    /// The clients that came. Those that wait there have no seat.
+    pub coming: Taker<Comes<I, O>>,
+    /// Which sessions left, and that the run is over.
+    pub gone: Putter<Departure>,
 }

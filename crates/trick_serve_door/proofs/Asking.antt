@@ -5,17 +5,18 @@ use Rattle.trick_outside.specs.Causes.{RoseBy}
 use Rattle.trick_outside.specs.VisitLaws.{clients_join}
 use Rattle.trick_outside.specs.Visits.{Gave, NotYet, Visit, clients}
 use Rattle.trick_serve_door.proofs.Pairs.{fit_more}
-use Rattle.trick_serve_door.proofs.Telling.{begun_more, clients_more, first_gave, first_later, links_more, refused_more, rose_more}
+use Rattle.trick_serve_door.proofs.Telling.{begun_more, clients_more, first_gave, first_later, gives_more, links_more, not_none, refused_more, rose_more}
+use Rattle.trick_serve_door.specs.Departures.{is_over, left_of}
 use Rattle.trick_serve_door.specs.Pairs.{AllFit}
 use Rattle.trick_serve_door.specs.Seats.{IsSeated}
 use Rattle.trick_serve_door.specs.Taking.{HasBegun, HasTaken, HasEnded, HasPlaced, HasRoom, HasToldNobody, Hosts, IsEnd, IsTaking, Start}
-use Rattle.trick_serve_door.specs.Told.{IsOpen, links_of, refused_of, told_clients, told_first}
+use Rattle.trick_serve_door.specs.Told.{GivesFirst, IsOpen, links_of, refused_of, told_clients, told_first}
 use Rattle.trick_serve_door.specs.declared.arrival.Arrival.{Arrival}
 use Rattle.trick_serve_door.specs.declared.arrival.Comes.{Comes}
 use Rattle.trick_serve_door.specs.declared.arrival.Comes.TheVariants.{Client, Nobody}
 use Rattle.trick_serve_door.specs.declared.ask.Acceptor.{Acceptor}
 use Rattle.trick_serve_door.specs.declared.ask.End.{End}
-use Rattle.trick_serve_door.specs.declared.ask.End.TheVariants.{Over}
+use Rattle.trick_serve_door.specs.declared.ask.End.TheVariants.{Closed, Over}
 use Rattle.trick_wire.specs.Ends.{put_by, taken_by}
 
 module _ {I O : Type 0} where
@@ -57,8 +58,8 @@ module _ {D I O S R : Type 0} (h : Hosts D I O S) (start : Start D I O S) where
   -- the door was asked once more
   pub taking_asked : (old new : D) (a : Acceptor I O S R) (visit : Visit I O)
       → ((first second third : D) (early late : List (Visit I O)) → h.visited first early second → h.visited second late third → h.visited first (early ++ late) third)
-      → IsTaking h start [] old a → h.visited old (visit ∷ []) new → IsTaking h start (visit ∷ []) new a
-  taking_asked old new a visit join t asked = record {
+      → IsTaking h start [] old a → h.visited old (visit ∷ []) new → (h.has_client old → GivesFirst (visit ∷ [])) → IsTaking h start (visit ∷ []) new a
+  taking_asked old new a visit join t asked gives = record {
     visits = t.visits;
     arrivals = t.arrivals;
     visited = join start.door old new t.visits (visit ∷ []) (subst (λ (visits : List (Visit I O)). h.visited start.door visits old) (append-nil t.visits) t.visited) asked;
@@ -72,6 +73,8 @@ module _ {D I O S R : Type 0} (h : Hosts D I O S) (start : Start D I O S) where
     none = t.none;
     some = t.some;
     room = t.room;
+    untouched = λ none. absurd (not_none t.visits visit none);
+    first = λ has. gives_more t.visits visit (λ none. gives (subst h.has_client (sym (t.untouched (append-nil t.visits ∙ none))) has)) (subst GivesFirst (append-nil t.visits) (t.first has));
   }
 
   pub taking_taken : (door : D) (old new : Acceptor I O S R) (input : I) (output : O) → IsTaking h start (Gave input output ∷ []) door old → HasTaken h.input h.output h.refusals (input, output) old new
@@ -94,7 +97,9 @@ module _ {D I O S R : Type 0} (h : Hosts D I O S) (start : Start D I O S) where
         (rose_more (h.refusals start.spawner) (refused_of t.arrivals) (h.refusals old.spawner) (h.refusals new.spawner) more.arrival.refused t.refused more.cause);
     none = λ no. absurd (let yes = more.asked in cc);
     some = λ yes. begun_more t.visits (Gave input output);
-    room = (let before = t.room in let one = more.place in let same = ap (λ gone. length (taken_by gone)) more.gone in let many = length-append t.arrivals (more.arrival ∷ []) in omega arith);
+    room = (let before = t.room in let one = more.place in let same = ap (λ gone. left_of (taken_by gone)) more.gone in let many = length-append t.arrivals (more.arrival ∷ []) in omega arith);
+    untouched = λ none. absurd (not_none t.visits (Gave input output) (sym (append-nil (t.visits ++ Gave input output ∷ [])) ∙ none));
+    first = λ has. subst GivesFirst (sym (append-nil (t.visits ++ Gave input output ∷ []))) (t.first has);
   }
 
   pub taking_idle : (door : D) (old new : Acceptor I O S R) → IsTaking h start (NotYet ∷ []) door old → HasToldNobody old new → IsTaking h start [] door new
@@ -111,7 +116,9 @@ module _ {D I O S R : Type 0} (h : Hosts D I O S) (start : Start D I O S) where
     refused = subst (λ s. RoseBy (h.refusals start.spawner) (refused_of t.arrivals) (h.refusals s)) (sym more.spawner) t.refused;
     none = λ no. absurd (let yes = more.asked in cc);
     some = λ yes. begun_more t.visits NotYet;
-    room = subst (λ places. length t.arrivals + places.free + length (taken_by start.gone) ≤ 64 + length (taken_by places.gone)) (sym more.places) t.room;
+    room = subst (λ places. length t.arrivals + places.free + left_of (taken_by start.gone) ≤ 64 + left_of (taken_by places.gone)) (sym more.places) t.room;
+    untouched = λ none. absurd (not_none t.visits NotYet (sym (append-nil (t.visits ++ NotYet ∷ [])) ∙ none));
+    first = λ has. subst GivesFirst (sym (append-nil (t.visits ++ NotYet ∷ []))) (t.first has);
   }
 
   -- room was made for one session more
@@ -129,11 +136,14 @@ module _ {D I O S R : Type 0} (h : Hosts D I O S) (start : Start D I O S) where
     refused = subst (λ s. RoseBy (h.refusals start.spawner) (refused_of t.arrivals) (h.refusals s)) (sym same.spawner) t.refused;
     none = λ no. t.none (sym same.asked ∙ no);
     some = λ yes. t.some (sym same.asked ∙ yes);
-    room = subst (λ places. length t.arrivals + places.free + length (taken_by start.gone) ≤ 64 + length (taken_by places.gone)) (sym same.places) t.room;
+    room = subst (λ places. length t.arrivals + places.free + left_of (taken_by start.gone) ≤ 64 + left_of (taken_by places.gone)) (sym same.places) t.room;
+    untouched = t.untouched;
+    first = t.first;
   }
 
-  pub ended_here : (why : End) (last : List (Visit I O)) (door : D) (a : Acceptor I O S R) → IsTaking h start last door a → ((count : ℕ) → IsEnd why last count) → HasEnded h start why door a
-  ended_here why last door a t ended = record { last = last; taking = t; ended = ended (length t.arrivals) }
+  pub ended_here : (why : End) (last : List (Visit I O)) (door : D) (a : Acceptor I O S R) → IsTaking h start last door a → ((count : ℕ) → IsEnd why last count)
+      → (why ≡ Closed → is_over (taken_by a.places.gone) ≡ true) → HasEnded h start why door a
+  ended_here why last door a t ended closed = record { last = last; taking = t; ended = ended (length t.arrivals); closed = closed }
 
   -- the last number was given
   pub ended_full : (door : D) (a : Acceptor I O S R) → IsTaking h start [] door a → 4294967295 ≤ length a.sessions.seated.items → HasEnded h start Over door a
@@ -141,6 +151,7 @@ module _ {D I O S R : Type 0} (h : Hosts D I O S) (start : Start D I O S) where
     last = [];
     taking = t;
     ended = inr (inr (refl, (let same = fit_length (IsSeated h.input h.output) t.arrivals a.sessions.seated.items t.seated in omega arith)));
+    closed = λ no. absurd (cc);
   }
 
   -- places became free
@@ -159,6 +170,8 @@ module _ {D I O S R : Type 0} (h : Hosts D I O S) (start : Start D I O S) where
     none = λ no. t.none (sym same.asked ∙ no);
     some = λ yes. t.some (sym same.asked ∙ yes);
     room = (let before = t.room in let left = same.left in omega arith);
+    untouched = t.untouched;
+    first = t.first;
   }
 
   -- at its start
@@ -177,5 +190,7 @@ module _ {D I O S R : Type 0} (h : Hosts D I O S) (start : Start D I O S) where
     refused = (let more = ap h.refusals same in omega arith);
     none = λ asked. refl;
     some = λ yes. absurd (cc);
-    room = (let many = ap (λ gone. length (taken_by gone)) left in omega arith);
+    room = (let many = ap (λ gone. left_of (taken_by gone)) left in omega arith);
+    untouched = λ none. refl;
+    first = λ has. tt;
   }

@@ -1,7 +1,11 @@
 -- lists of which each item fits the one at its place
 pub mod Pairs
+-- what the caller told, with one thing more
+pub mod Departing
 -- what the caller is told, with one call more of the door
 pub mod Telling
+-- how the links go back to their door
+pub mod Backs
 -- how far an acceptor is after one call more of its door
 pub mod Asking
 -- what the threads of a client hand back, by what they promise

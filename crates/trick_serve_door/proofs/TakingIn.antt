@@ -18,7 +18,7 @@ pub record IsTakingIn {I O R : Type 0} (input : InGhosts I) (output : OutGhosts 
   pub sit : AllFit (IsSeated input output) front seated
   pub gone : AllFit (IsPast input output) back (reverse past)
 
-no_items : {A : Type 0} (items : List A) → length items ≡ 0 → items ≡ []
+pub no_items : {A : Type 0} (items : List A) → length items ≡ 0 → items ≡ []
 no_items [] none = refl
 no_items (item ∷ items) none = absurd (cc)
 

@@ -1,9 +1,9 @@
 -- What the caller is told, with one call more of the door.
-use Rattle.std.proofs.Common.{◌≡◌, ℕ, ◌+◌, Bool, true, false, List, [], ◌∷◌, ◌++◌, ap, arith, refl}
-use Rattle.trick_outside.specs.Causes.{HasCause, RoseBy}
+use Rattle.std.proofs.Common.{◌≡◌, ℕ, ◌+◌, ◌≤◌, Bool, true, false, List, [], ◌∷◌, ◌++◌, ap, arith, refl}
+use Rattle.trick_outside.specs.Causes.{HasCause, Rose, RoseBy}
 use Rattle.trick_outside.specs.Visits.{Back, Ended, Failed, Gave, NotYet, OutOfMemory, Visit}
 use Rattle.trick_serve_door.specs.Taking.{HasBegun}
-use Rattle.trick_serve_door.specs.Told.{links_of, refused_of, told_clients, told_first}
+use Rattle.trick_serve_door.specs.Told.{GivesFirst, links_of, refused_of, told_clients, told_first}
 use Rattle.trick_serve_door.specs.declared.arrival.Arrival.{Arrival}
 use Rattle.trick_serve_door.specs.declared.arrival.Comes.{Comes}
 use Rattle.trick_serve_door.specs.declared.arrival.Comes.TheVariants.{Client}
@@ -37,6 +37,20 @@ module _ {I O : Type 0} where
   first_later (OutOfMemory ∷ visits) late begun = refl
   first_later (Back n i o ∷ visits) late begun = refl
 
+  pub not_none : (visits : List (Visit I O)) (visit : Visit I O) → visits ++ visit ∷ [] ≡ [] → ⊥
+  not_none [] visit none = cc
+  not_none (first ∷ visits) visit none = cc
+
+  -- nor what its first answer is
+  pub gives_more : (visits : List (Visit I O)) (visit : Visit I O) → (visits ≡ [] → GivesFirst (visit ∷ [])) → GivesFirst visits → GivesFirst (visits ++ visit ∷ [])
+  gives_more [] visit gives first = gives refl
+  gives_more (Gave i o ∷ visits) visit gives first = tt
+  gives_more (NotYet ∷ visits) visit gives first = first
+  gives_more (Ended ∷ visits) visit gives first = first
+  gives_more (Failed ∷ visits) visit gives first = first
+  gives_more (OutOfMemory ∷ visits) visit gives first = tt
+  gives_more (Back n i o ∷ visits) visit gives first = first
+
   pub begun_more : (visits : List (Visit I O)) (visit : Visit I O) → HasBegun (visits ++ visit ∷ [])
   begun_more [] visit = tt
   begun_more (first ∷ visits) visit = tt
@@ -57,6 +71,10 @@ refused_more (first ∷ arrivals) arrival =
     let mine = refused_one first (refused_of arrivals) first.refused in
     let all = refused_one first (refused_of (arrivals ++ arrival ∷ [])) first.refused in
     omega arith
+
+-- where a start was admitted and then refused
+pub rose_later : (old mid new : ℕ) (Cause : Type 0) → old ≤ mid → mid ≤ new → Rose mid new → HasCause old new Cause
+rose_later old mid new Cause before later rose = record { later = omega (arith, before, later); failed = λ no. omega (arith, before, later, rose) }
 
 pub rose_more : (first count before now : ℕ) (refused : Bool) → RoseBy first count before → HasCause before now (refused ≡ true) → RoseBy first (count + one_if refused) now
 rose_more first count before now true rose cause = let more = cause.failed refl in let later = cause.later in omega arith

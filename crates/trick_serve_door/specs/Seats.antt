@@ -1,9 +1,10 @@
 -- What is known of a client's threads, and of what they hand back.
-use Rattle.std.specs.Prelude.{◌≡◌, ◌<◌, []}
+use Rattle.std.specs.Prelude.{◌≡◌, ◌<◌, [], false}
 use Rattle.trick_outside.specs.Works.{Runs}
 use Rattle.trick_outside.specs.declared.link_in.LinkIn.{Ghosts as InGhosts}
 use Rattle.trick_outside.specs.declared.link_out.LinkOut.{Ghosts as OutGhosts}
 use Rattle.trick_outside.specs.declared.work.Running.{Running}
+use Rattle.trick_outside.specs.declared.work.Running.TheVariants.{Here, There}
 use Rattle.trick_serve_door.specs.declared.arrival.Arrival.{Arrival}
 use Rattle.trick_serve_door.specs.declared.past.Past.{Past}
 use Rattle.trick_serve_door.specs.declared.queues.Queues.{Queues}
@@ -57,7 +58,13 @@ pub record IsWriterOf {I O : Type 0} (link : OutGhosts O) (arrival : Arrival I O
 abbrev pub ComesTo : {W O : Type 0} → (W → O → Type 0) → Running W O → (O → Type 0) → Type 0
 ComesTo {W} {O} promises running Is = (work : W) × Runs promises work running × ((out : O) → promises work out → Is out)
 
--- The threads are those of this client, and nothing has gone through the caller's ends.
+-- It was started in a thread of its own.
+abbrev pub IsThread : {W O : Type 0} → Running W O → Type 0
+IsThread (There child) = Unit {0}
+IsThread (Here out) = ⊥
+
+-- The threads are those of this client, and nothing has gone through the caller's ends. A client that is not told as
+-- refused has both its threads.
 pub record IsSeated {I O R : Type 0} (input : InGhosts I) (output : OutGhosts O) (arrival : Arrival I O)
     (seated : Seated I O R) : Type 0 where
   pub writing : ComesTo (Writes output) seated.writing (IsWriterOf output arrival)
@@ -65,6 +72,7 @@ pub record IsSeated {I O R : Type 0} (input : InGhosts I) (output : OutGhosts O)
   pub no_line : taken_by arrival.inbox ≡ []
   pub no_message : put_by arrival.outbox ≡ []
   pub no_cause : taken_by arrival.causes ≡ []
+  pub started : arrival.refused ≡ false → IsThread seated.writing × IsThread seated.reading
 
 -- This is what the threads of this client handed back, and the client came with nothing through its caller's ends.
 pub record IsPast {I O : Type 0} (input : InGhosts I) (output : OutGhosts O) (arrival : Arrival I O) (past : Past I O)

@@ -4,41 +4,52 @@ use Rattle.trick_outside.specs.Causes.{HasCause, RoseBy}
 use Rattle.trick_outside.specs.Visits.{Ended, Failed, OutOfMemory, Visit, clients}
 use Rattle.trick_outside.specs.declared.link_in.LinkIn.{Ghosts as InGhosts}
 use Rattle.trick_outside.specs.declared.link_out.LinkOut.{Ghosts as OutGhosts}
+use Rattle.trick_serve_door.specs.Departures.{is_over, left_of}
 use Rattle.trick_serve_door.specs.Pairs.{AllFit}
 use Rattle.trick_serve_door.specs.Seats.{IsSeated}
-use Rattle.trick_serve_door.specs.Told.{IsOpen, links_of, refused_of, told_clients, told_first}
+use Rattle.trick_serve_door.specs.Told.{GivesFirst, IsOpen, links_of, refused_of, told_clients, told_first}
 use Rattle.trick_serve_door.specs.declared.arrival.Arrival.{Arrival}
 use Rattle.trick_serve_door.specs.declared.arrival.Comes.{Comes}
 use Rattle.trick_serve_door.specs.declared.arrival.Comes.TheVariants.{Client, Nobody}
 use Rattle.trick_serve_door.specs.declared.ask.Acceptor.{Acceptor}
 use Rattle.trick_serve_door.specs.declared.ask.End.{End}
 use Rattle.trick_serve_door.specs.declared.ask.End.TheVariants as end
+use Rattle.trick_serve_door.specs.declared.departure.Departure.{Departure}
 use Rattle.trick_serve_door.specs.declared.seat.Seated.{Seated}
 use Rattle.trick_wire.specs.Ends.{IsSamePutter, IsSameTaker, put_by, taken_by}
 use Rattle.trick_wire.specs.declared.queue.Putter.{Putter}
 use Rattle.trick_wire.specs.declared.queue.Taker.{Taker}
 
--- What an acceptor has to do with: the calls of its door, the links of its clients, and the count of refused starts.
+-- What an acceptor has to do with: the calls of its door, the links of its clients, the count of refused starts, and
+-- whether its door tells that it has a client.
 pub record Hosts (D I O S : Type 0) : Type 1 where
   pub visited : D → List (Visit I O) → D → Type 0
   pub input : InGhosts I
   pub output : OutGhosts O
   pub refusals : S → ℕ
+  pub has_client : D → Type 0
 
 -- the hosts of an acceptor, by the records of its bounds
 abbrev pub hosts : {D I O S : Type 0} → (D → List (Visit I O) → D → Type 0) → InGhosts I → OutGhosts O → (S → ℕ)
-    → Hosts D I O S
-hosts visited input output refusals =
-    record { visited = visited; input = input; output = output; refusals = refusals }
+    → (D → Type 0) → Hosts D I O S
+hosts visited input output refusals has_client = record {
+  visited = visited;
+  input = input;
+  output = output;
+  refusals = refusals;
+  has_client = has_client;
+}
 
--- What it began with: its door, its spawner, its way to the caller, and the queue of the sessions that left.
+-- What it began with: its door, its spawner, its way to the caller, and the queue in which the caller tells which
+-- sessions left, and that the run is over.
 pub record Start (D I O S : Type 0) : Type 0 where
   pub door : D
   pub spawner : S
   pub coming : Putter (Comes I O)
-  pub gone : Taker ℕ
+  pub gone : Taker Departure
 
-abbrev pub start_of : {D I O S : Type 0} → D → S → Putter (Comes I O) → Taker ℕ → Start D I O S
+abbrev pub start_of : {D I O S : Type 0} → D → S → Putter (Comes I O) → Taker Departure
+    → Start D I O S
 start_of door spawner coming gone = record { door = door; spawner = spawner; coming = coming; gone = gone }
 
 -- There is one at least.
@@ -47,7 +58,7 @@ HasBegun [] = ⊥
 HasBegun (item ∷ items) = Unit {0}
 
 -- From its start on it asked the door, and with these last calls the door gave no client. The caller was told each
--- client, once and in order, and each has its threads.
+-- client, once and in order, and each has its threads. Where the door told that it has a client, that came first.
 pub record IsTaking {D I O S R : Type 0} (h : Hosts D I O S) (start : Start D I O S) (last : List (Visit I O))
     (door : D) (a : Acceptor I O S R) : Type 0 where
   pub visits : List (Visit I O)
@@ -62,10 +73,12 @@ pub record IsTaking {D I O S R : Type 0} (h : Hosts D I O S) (start : Start D I 
   pub refused : RoseBy (h.refusals start.spawner) (refused_of arrivals) (h.refusals a.spawner)
   pub none : a.has_asked ≡ false → visits ≡ []
   pub some : a.has_asked ≡ true → HasBegun visits
-  pub room : length arrivals + a.places.free + length (taken_by start.gone) ≤ 64 + length (taken_by a.places.gone)
+  pub room : length arrivals + a.places.free + left_of (taken_by start.gone) ≤ 64 + left_of (taken_by a.places.gone)
+  pub untouched : visits ++ last ≡ [] → door ≡ start.door
+  pub first : h.has_client start.door → GivesFirst (visits ++ last)
 
 -- Why it asks no more, by the last calls of its door and the count of its clients: the door ended or failed, or the
--- last number was given; there was no memory; or the caller has closed.
+-- last number was given; there was no memory; or the run is over.
 abbrev pub IsEnd : {I O : Type 0} → End → List (Visit I O) → ℕ → Type 0
 IsEnd end.Over last count = (last ≡ Ended ∷ []) ⊎ ((last ≡ Failed ∷ []) ⊎ ((last ≡ []) × (4294967295 ≤ count)))
 IsEnd end.OutOfMemory last count = (last ≡ []) ⊎ (last ≡ OutOfMemory ∷ [])
@@ -77,6 +90,7 @@ pub record HasEnded {D I O S R : Type 0} (h : Hosts D I O S) (start : Start D I 
   pub last : List (Visit I O)
   pub taking : IsTaking h start last door a
   pub ended : IsEnd why last (length taking.arrivals)
+  pub closed : why ≡ end.Closed → is_over (taken_by a.places.gone) ≡ true
 
 -- It asked for one client, and asks on, or no more for this reason.
 abbrev pub HasAsked : {D I O S R : Type 0} → Hosts D I O S → Start D I O S → Option End → D → Acceptor I O S R → Type 0
@@ -123,4 +137,5 @@ pub record HasPlaced {I O S R : Type 0} (old new : Acceptor I O S R) : Type 0 wh
   pub spawner : new.spawner ≡ old.spawner
   pub asked : new.has_asked ≡ old.has_asked
   pub gone : IsSameTaker old.places.gone new.places.gone
-  pub left : new.places.free + length (taken_by old.places.gone) ≡ old.places.free + length (taken_by new.places.gone)
+  pub left : new.places.free + left_of (taken_by old.places.gone)
+      ≤ old.places.free + left_of (taken_by new.places.gone)

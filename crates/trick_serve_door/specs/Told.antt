@@ -34,6 +34,16 @@ module _ {I O : Type 0} where
   refused_of (arrival ∷ arrivals) =
       elim arrival.refused [ true ↦ 1 + refused_of arrivals | false ↦ refused_of arrivals ]
 
+  -- The first answer, if there is one, is a client, or there was no memory for one.
+  abbrev pub GivesFirst : List (Visit I O) → Type 0
+  GivesFirst [] = Unit {0}
+  GivesFirst (Gave input output ∷ visits) = Unit {0}
+  GivesFirst (NotYet ∷ visits) = ⊥
+  GivesFirst (Ended ∷ visits) = ⊥
+  GivesFirst (Failed ∷ visits) = ⊥
+  GivesFirst (OutOfMemory ∷ visits) = Unit {0}
+  GivesFirst (Back number input output ∷ visits) = ⊥
+
   -- While it is asked, the door gives clients, or none yet.
   abbrev pub IsOpen : Visit I O → Type 0
   IsOpen (Gave input output) = Unit {0}

@@ -1,5 +1,8 @@
 //! What the acceptor tells its caller of the clients that the door gives.
 
+ghost use Rattle.std.specs.Prelude.{◌≡◌, []};
+ghost use Rattle.trick_wire.specs.Ends.{put_by, taken_by};
+
 use std::snapshot::Snapshot;
 use trick_wire::{Heard, Message, Putter, Taker, WriteStop};
 
@@ -22,6 +25,9 @@ pub struct Arrival<I, O> {
     pub output: Snapshot<O>,
     /// A thread was refused to it, so it is not served: its inbox stays empty.
     pub refused: bool,
+    pub ghost no_line: { taken_by inbox ≡ [] },
+    pub ghost no_message: { put_by outbox ≡ [] },
+    pub ghost no_cause: { taken_by causes ≡ [] },
 }
 
 /// What the acceptor puts into the queue to its caller. After the first of `Over` and `OutOfMemory` comes no client.
@@ -37,6 +43,6 @@ pub enum Comes<I, O> {
     Over,
     /// There was no memory for the next client.
     OutOfMemory,
-    /// The caller closed the queue of those that left, and all that came stands before this.
+    /// The caller told that the run is over, and all that came stands before this.
     Closed,
 }

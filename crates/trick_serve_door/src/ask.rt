@@ -1,8 +1,11 @@
 //! How the door is asked for the clients.
 
-ghost use Rattle.std.specs.Prelude.{◌<◌, ◌+◌, ◌≤◌, [], IfOk, OnOk, vec_capacity, vec_len};
+ghost use Rattle.std.specs.Prelude.{◌≡◌, ◌<◌, ◌+◌, ◌≤◌, [], IfOk, OnOk, true, vec_capacity, vec_len};
+ghost use Rattle.trick_serve_door.specs.Departures.{is_over};
 ghost use Rattle.trick_serve_door.specs.Seats.{AreFresh};
-ghost use Rattle.trick_serve_door.specs.Taking.{HasAsked, HasRoom, HasTaken, HasToldNobody, IsTaking, Start, hosts};
+ghost use Rattle.trick_serve_door.specs.Taking.{HasAsked, HasPlaced, HasRoom, HasTaken, HasToldNobody, IsTaking};
+ghost use Rattle.trick_serve_door.specs.Taking.{Start, hosts};
+ghost use Rattle.trick_wire.specs.Ends.{taken_by};
 
 use crate::Comes;
 use crate::acceptor::{Sessions, Teller};
@@ -21,7 +24,7 @@ pub(crate) enum End {
     Over,
     // There was no memory for the next client.
     OutOfMemory,
-    // The caller closed the queue of those that left.
+    // The run is over.
     Closed,
 }
 
@@ -74,6 +77,16 @@ impl<
         self.teller.tell(&self.rt, Comes::Nobody);
     }
 
+    // Whether the run is over, as far as the caller told it.
+    fn is_over(&mut self) -> bool
+        ensures placed { HasPlaced self.old self.new }
+        ensures free { self.old.places.free ≤ self.new.places.free }
+        ensures over { result ≡ true → is_over (taken_by self.new.places.gone) ≡ true }
+    {
+        let rt = self.rt;
+        self.places.is_over(&rt)
+    }
+
     // Makes room for one session more, and its queues.
     fn prepare(&mut self) -> Result<Queues, AllocError>
         ensures fresh { IfOk result AreFresh }
@@ -97,15 +110,16 @@ where
     D::Out: Send + Drop + 'static,
     requires free { 0 < acceptor.old.places.free }
     ensures { (start : Start D D.In D.Out S)
-        → IsTaking (hosts D.visited D.In.LinkIn D.Out.LinkOut S.failures) start [] door.old acceptor.old
-        → HasAsked (hosts D.visited D.In.LinkIn D.Out.LinkOut S.failures) start result door.new acceptor.new }
+        → IsTaking (hosts D.visited D.In.LinkIn D.Out.LinkOut S.failures D.has_client) start [] door.old acceptor.old
+        → HasAsked (hosts D.visited D.In.LinkIn D.Out.LinkOut S.failures D.has_client) start result door.new
+        acceptor.new }
 {
     let Ok(queues) = acceptor.prepare() else {
         return Some(End::OutOfMemory);
     };
     let rt = acceptor.rt;
     for _ in rt.forever() {
-        if acceptor.places.gone.is_closed() {
+        if acceptor.is_over() {
             return Some(End::Closed);
         }
         match door.next() {

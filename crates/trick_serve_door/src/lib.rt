@@ -5,14 +5,18 @@
 mod acceptor;
 mod arrival;
 mod ask;
+mod departure;
 mod ending;
 mod past;
 mod places;
 mod queues;
+mod returning;
 mod seat;
 mod taking;
 
 pub use arrival::{Arrival, Comes};
+pub use departure::Departure;
 pub use ending::{Ended, Ends, end_session};
 pub use past::Past;
+pub use returning::give_back;
 pub use taking::{Accepting, Taken, accept};

@@ -3,7 +3,7 @@
 ghost use Rattle.std.specs.Prelude.{◌≡◌, false, true};
 ghost use Rattle.trick_outside.specs.Causes.{HasCause};
 ghost use Rattle.trick_outside.specs.Works.{Runs};
-ghost use Rattle.trick_serve_door.specs.Seats.{AreFresh, IsPast, IsSeated, Reads, Writes};
+ghost use Rattle.trick_serve_door.specs.Seats.{AreFresh, IsPast, IsSeated, IsThread, Reads, Writes};
 
 use crate::queues::Queues;
 use crate::{Arrival, Past};
@@ -57,32 +57,42 @@ fn unwritten<O: LinkOut + Send + Drop, R: Wait + Send + Drop>(writer: Writer<O, 
     }
 }
 
-// Starts a writer. False where its start was refused.
+// Starts a writer. False where its start was refused, or it was not done by a thread.
 fn begin_writer<
     O: LinkOut + Send + Drop + 'static,
     S: Spawner,
     R: Threads + Wait + Copy + Send + Drop + 'static,
 >(rt: &R, alloc: Global, spawner: &mut S, writer: Writer<O, R>) -> (Running<Writer<O, R>>, bool)
     ensures runs { Runs (Writes O.LinkOut) writer result.0 }
+    ensures started { result.1 ≡ true → IsThread result.0 }
     ensures cause { HasCause (S.failures spawner.old) (S.failures spawner.new) (result.1 ≡ false) }
 {
     match start(rt, alloc, spawner, writer) {
-        Begun::Started(running) => (running, true),
+        Begun::Started(Running::There(child)) => (Running::There(child), true),
+        Begun::Started(Running::Here(done)) => {
+            spawner.refuse();
+            (Running::Here(done), false)
+        }
         Begun::Refused(writer) => (Running::Here(unwritten(writer)), false),
     }
 }
 
-// Starts a reader. False where its start was refused.
+// Starts a reader. False where its start was refused, or it was not done by a thread.
 fn begin_reader<
     I: LinkIn + Send + Drop + 'static,
     S: Spawner,
     R: Threads + Wait + Copy + Send + Drop + 'static,
 >(rt: &R, alloc: Global, spawner: &mut S, reader: Reader<I, R>) -> (Running<Reader<I, R>>, bool)
     ensures runs { Runs (Reads I.LinkIn) reader result.0 }
+    ensures started { result.1 ≡ true → IsThread result.0 }
     ensures cause { HasCause (S.failures spawner.old) (S.failures spawner.new) (result.1 ≡ false) }
 {
     match start(rt, alloc, spawner, reader) {
-        Begun::Started(running) => (running, true),
+        Begun::Started(Running::There(child)) => (Running::There(child), true),
+        Begun::Started(Running::Here(done)) => {
+            spawner.refuse();
+            (Running::Here(done), false)
+        }
         Begun::Refused(reader) => (Running::Here(unread(reader)), false),
     }
 }

@@ -4,11 +4,11 @@ ghost use Rattle.std.specs.Prelude.{[]};
 ghost use Rattle.trick_serve_door.specs.Accepted.{HasAccepted};
 ghost use Rattle.trick_serve_door.specs.Taking.{HasEnded, IsTaking, Start, hosts, start_of};
 
-use crate::Comes;
 use crate::acceptor::{Sessions, Teller};
 use crate::ask::{Acceptor, End, ask};
 use crate::past::Past;
-use crate::places::{PLACES, Places};
+use crate::places::Places;
+use crate::{Comes, Departure};
 use std::alloc::Global;
 use std::sync::{Arc, Wait};
 use std::thread::Threads;
@@ -31,8 +31,8 @@ where
     pub spawner: S,
     /// To the caller: what comes. It has to have room for 66 at least, else the acceptor rests where it is full.
     pub coming: Putter<Comes<D::In, D::Out>>,
-    /// From the caller: the number of each session that left. The caller closes it at the end of the run.
-    pub gone: Taker<u32>,
+    /// From the caller: which sessions left, and that the run is over.
+    pub gone: Taker<Departure>,
     /// The bell of the caller, which is rung after each line, each cause of a stop, and whatever comes.
     pub bell: Arc<Bell>,
 }
@@ -47,7 +47,7 @@ where
     pub door: D,
     pub spawner: S,
     pub coming: Putter<Comes<D::In, D::Out>>,
-    pub gone: Taker<u32>,
+    pub gone: Taker<Departure>,
     /// What the threads of client n handed back stands at place n - 1.
     pub sessions: Vec<Past<D::In, D::Out>>,
 }
@@ -61,8 +61,9 @@ where
     D::In: Send + Drop + 'static,
     D::Out: Send + Drop + 'static,
     ensures { (start : Start D D.In D.Out S)
-        → IsTaking (hosts D.visited D.In.LinkIn D.Out.LinkOut S.failures) start [] door.old acceptor.old
-        → HasEnded (hosts D.visited D.In.LinkIn D.Out.LinkOut S.failures) start result door.new acceptor.new }
+        → IsTaking (hosts D.visited D.In.LinkIn D.Out.LinkOut S.failures D.has_client) start [] door.old acceptor.old
+        → HasEnded (hosts D.visited D.In.LinkIn D.Out.LinkOut S.failures D.has_client) start result door.new
+        acceptor.new }
 {
     let rt = acceptor.rt;
     for _ in rt.forever() {
@@ -80,8 +81,9 @@ where
 }
 
 /// Takes the clients of a door, while fewer than 64 live and until the door ends or fails, client 4294967295
-/// was taken, memory lacks or the caller closes `gone`. Each gets a writer and a reader, and the caller is told. It
-/// then rests until `gone` is closed, tells that, and takes all threads in, the writer of a session before its reader.
+/// was taken, memory lacks or the caller tells that the run is over. Each gets a writer and a reader, and the caller is
+/// told. It then rests until the run is over, tells that, and takes all threads in, the writer of a session before its
+/// reader.
 ///
 /// The caller has to close the inbox and the outbox of each client that it was told of: else a writer rests on.
 pub fn accept<D: Door + Drop, S: Spawner + Drop, R: Threads + Wait + Copy + Send + Drop + 'static>(
@@ -90,7 +92,7 @@ pub fn accept<D: Door + Drop, S: Spawner + Drop, R: Threads + Wait + Copy + Send
 where
     D::In: Send + Drop + 'static,
     D::Out: Send + Drop + 'static,
-    ensures { HasAccepted (hosts D.visited D.In.LinkIn D.Out.LinkOut S.failures)
+    ensures { HasAccepted (hosts D.visited D.In.LinkIn D.Out.LinkOut S.failures D.has_client)
         (start_of work.door work.spawner work.coming work.gone)
         result.door result.spawner result.coming result.gone result.sessions.items }
 {
@@ -103,25 +105,27 @@ where
         gone,
         bell,
     } = work;
+    let places = Places::new(gone);
+    let sessions = Sessions::new(alloc);
     let mut acceptor = Acceptor {
         rt,
         alloc,
         spawner,
         teller: Teller { coming, bell },
-        places: Places { gone, free: PLACES },
-        sessions: Sessions::new(alloc),
+        places,
+        sessions,
         has_asked: false,
     };
     let end = take_clients(&mut door, &mut acceptor);
     let Acceptor {
         spawner,
         mut teller,
-        places,
+        mut places,
         sessions,
         ..
     } = acceptor;
     teller.tell_end(&rt, end);
-    places.wait_until_closed(&rt);
+    places.wait_for_end(&rt);
     teller.tell(&rt, Comes::Closed);
     let sessions = sessions.take_in(&rt);
     Taken {

@@ -1,7 +1,51 @@
-use Rattle.std.proofs.Common.{rules, ◌≡◌, ◌∙◌, true, false, Bool, subst, sym}
+use Rattle.std.proofs.Common.{rules, ◌≡◌, ◌∙◌, Ok, true, false, Bool, Result, refl, subst, sym}
 use Rattle.std.specs.Prelude.{is_ok}
-use Rattle.trick_serve.specs.Rolls.{IsGathered}
+use Rattle.std.specs.declared.alloc.AllocError.{AllocError}
 use Rattle.trick_serve.proofs.clients.take_clients.Goals as goal
+use Rattle.trick_serve.specs.Rolls.{IsGathered}
+use Rattle.trick_serve.specs.declared.clients.Took.{Took}
+use Rattle.trick_serve.specs.declared.clients.Took.TheVariants as kind
+
+ok_same : (a b : Took) → (let one : Result Took AllocError = Ok a in one) ≡ Ok b → a ≡ b
+ok_same a b is = cc
+
+pub loop-init : goal.loop-init
+loop-init g c = record {
+  queue = refl;
+  clients = λ so. so;
+  still = λ so. so;
+  took = λ no. cc;
+  gathers = λ there was known so. so;
+}
+
+pub returns-in_err-take_client-clause-clients : goal.returns-in_err-take_client-clause-clients
+returns-in_err-take_client-clause-clients g c = λ so. c.take_client.ensures.clients (c.loop.invariant.clients so)
+
+pub returns-in_err-take_client-clause-still : goal.returns-in_err-take_client-clause-still
+returns-in_err-take_client-clause-still g c = λ so. c.take_client.ensures.still (c.loop.invariant.still so)
+
+pub returns-in-Nothing-clause-clients : goal.returns-in-Nothing-clause-clients
+returns-in-Nothing-clause-clients g c = λ so. c.take_client.ensures.clients (c.loop.invariant.clients so)
+
+pub returns-in-Nothing-clause-still : goal.returns-in-Nothing-clause-still
+returns-in-Nothing-clause-still g c = λ so. c.take_client.ensures.still (c.loop.invariant.still so)
+
+pub returns-in-Nothing-clause-last : goal.returns-in-Nothing-clause-last
+returns-in-Nothing-clause-last g c = λ yes. absurd (c.loop.invariant.took (ok_same c.loop.took kind.Over yes))
+
+pub returns-in-Over-clause-clients : goal.returns-in-Over-clause-clients
+returns-in-Over-clause-clients g c = λ so. c.take_client.ensures.clients (c.loop.invariant.clients so)
+
+pub returns-in-Over-clause-still : goal.returns-in-Over-clause-still
+returns-in-Over-clause-still g c = λ so. c.take_client.ensures.still (c.loop.invariant.still so)
+
+pub returns-in-Over-clause-last : goal.returns-in-Over-clause-last
+returns-in-Over-clause-last g c =
+    let is : c.take_client.result ≡ Ok kind.Over = search rules in
+    λ yes. c.take_client.ensures.last is
+
+pub returns-clause-last : goal.returns-clause-last
+returns-clause-last g c = λ yes. absurd (c.loop.invariant.took (ok_same c.loop.took kind.Over yes))
 
 pub returns-in_err-take_client-clause-gathers : goal.returns-in_err-take_client-clause-gathers
 returns-in_err-take_client-clause-gathers g c =
@@ -28,6 +72,9 @@ loop-preserved g c =
     let same : is_ok c.take_client.result ≡ true = search rules in
     record {
       queue = c.take_client.ensures.queue ∙ c.loop.invariant.queue;
+      clients = λ so. c.take_client.ensures.clients (c.loop.invariant.clients so);
+      still = λ so. c.take_client.ensures.still (c.loop.invariant.still so);
+      took = λ no. cc;
       gathers = λ there was known so. subst (λ (b : Bool). IsGathered there was known c.take_client.new.roll b) same
           (c.take_client.ensures.gathers there was known (c.loop.invariant.gathers there was known so));
     }

@@ -1,12 +1,17 @@
-use Rattle.std.proofs.Common.{ℕ, List, true}
+use Rattle.std.proofs.Common.{◌≢◌, ℕ, List, true}
 use Rattle.trick_model.specs.declared.session.Session.{Session}
 use Rattle.trick_serve.proofs.clients.take_clients.Given as goal
+use Rattle.trick_serve.specs.Clients.{AreOfClients, IsLast}
 use Rattle.trick_serve.specs.Rolls.{IsGathered}
+use Rattle.trick_serve.specs.declared.clients.Took.TheVariants as kind
 use Rattle.trick_serve.specs.declared.seat.Seat.{Seat}
-use Rattle.trick_wire.specs.Ends.{IsSameTaker}
+use Rattle.trick_wire.specs.Ends.{IsSameTaker, taken_by}
 
 abbrev pub invariant-loop : goal.invariant-loop
 invariant-loop g l = record {
   queue : IsSameTaker l.fn.coming l.coming;
+  clients : AreOfClients (taken_by l.fn.coming) l.fn.roll.seats.items → AreOfClients (taken_by l.coming) l.roll.seats.items;
+  still : IsLast (taken_by l.fn.coming) l.fn.roll.seats.items → IsLast (taken_by l.coming) l.roll.seats.items;
+  took : l.took ≢ kind.Over;
   gathers : (there : List Session) (was : List Seat) (known : List ℕ) → IsGathered there was known l.fn.roll true → IsGathered there was known l.roll true;
 }

@@ -24,7 +24,7 @@ returns-in-Line g c =
     (λ e. listed_one c.args.session (Hears (heard.Line line)) (side_of c.args.seat.now) (side_of c.list_line.new.seat) c.args.list.now.items c.list_line.new.list.items
     ((record { queues = queues_of c.args.seat.now; seated = refl; stays = c.requires.stays }), right)
     (e.0 ∙ (λ i. record {
-      queues = Some (record { inbox = arc_value (c.pop.ensures.queue i); outbox = arc_value c.args.seat.now.outbox.shared; causes = arc_value c.args.seat.now.causes.shared; room = room_of c.args.seat.now.outbox });
+      queues = Some (record { inbox = arc_value (c.pop.ensures.queue i); outbox = arc_value c.args.seat.now.outbox.shared; causes = arc_value c.args.seat.now.causes.shared; room = room_of c.args.seat.now.outbox; refused = c.args.seat.now.refused });
       heard = taken i;
       told = taken_by c.args.seat.now.causes;
       put = put_by c.args.seat.now.outbox;
@@ -35,7 +35,7 @@ returns-in-Line g c =
     (λ e. listed_one c.args.session (Misses (heard.Line line)) (side_of c.args.seat.now) (side_of c.list_line.new.seat) c.args.list.now.items c.list_line.new.list.items
     (record { queues = queues_of c.args.seat.now; seated = refl; stays = c.requires.stays })
     (e.0 ∙ (λ i. record {
-      queues = Some (record { inbox = arc_value (c.pop.ensures.queue i); outbox = arc_value c.args.seat.now.outbox.shared; causes = arc_value c.args.seat.now.causes.shared; room = room_of c.args.seat.now.outbox });
+      queues = Some (record { inbox = arc_value (c.pop.ensures.queue i); outbox = arc_value c.args.seat.now.outbox.shared; causes = arc_value c.args.seat.now.causes.shared; room = room_of c.args.seat.now.outbox; refused = c.args.seat.now.refused });
       heard = taken i;
       told = taken_by c.args.seat.now.causes;
       put = put_by c.args.seat.now.outbox;
@@ -52,7 +52,7 @@ returns-in-End g c =
     listed_one c.args.session (Hears heard.End) (side_of c.args.seat.now) _ c.args.list.now.items c.reserve.new.self.items
     ((record { queues = queues_of c.args.seat.now; seated = refl; stays = c.requires.stays }), tt)
     (λ i. record {
-      queues = Some (record { inbox = arc_value (c.pop.ensures.queue i); outbox = arc_value c.args.seat.now.outbox.shared; causes = arc_value c.args.seat.now.causes.shared; room = room_of c.args.seat.now.outbox });
+      queues = Some (record { inbox = arc_value (c.pop.ensures.queue i); outbox = arc_value c.args.seat.now.outbox.shared; causes = arc_value c.args.seat.now.causes.shared; room = room_of c.args.seat.now.outbox; refused = c.args.seat.now.refused });
       heard = taken i;
       told = taken_by c.args.seat.now.causes;
       put = put_by c.args.seat.now.outbox;
@@ -68,7 +68,7 @@ returns-in-LongLine g c =
     listed_one c.args.session (Hears heard.LongLine) (side_of c.args.seat.now) (side_of c.leave.new.seat) c.args.list.now.items c.leave.new.list.items
     ((record { queues = queues_of c.args.seat.now; seated = refl; stays = c.requires.stays }), tt)
     (c.leave.ensures.side ∙ (λ i. record {
-      queues = Some (record { inbox = arc_value (c.pop.ensures.queue i); outbox = arc_value c.args.seat.now.outbox.shared; causes = arc_value c.args.seat.now.causes.shared; room = room_of c.args.seat.now.outbox });
+      queues = Some (record { inbox = arc_value (c.pop.ensures.queue i); outbox = arc_value c.args.seat.now.outbox.shared; causes = arc_value c.args.seat.now.causes.shared; room = room_of c.args.seat.now.outbox; refused = c.args.seat.now.refused });
       heard = taken i;
       told = taken_by c.args.seat.now.causes;
       put = put_by c.args.seat.now.outbox;
@@ -84,7 +84,7 @@ returns-in-LinkFault g c =
     listed_one c.args.session (Hears heard.LinkFault) (side_of c.args.seat.now) (side_of c.leave-in-LinkFault.new.seat) c.args.list.now.items c.leave-in-LinkFault.new.list.items
     ((record { queues = queues_of c.args.seat.now; seated = refl; stays = c.requires.stays }), tt)
     (c.leave-in-LinkFault.ensures.side ∙ (λ i. record {
-      queues = Some (record { inbox = arc_value (c.pop.ensures.queue i); outbox = arc_value c.args.seat.now.outbox.shared; causes = arc_value c.args.seat.now.causes.shared; room = room_of c.args.seat.now.outbox });
+      queues = Some (record { inbox = arc_value (c.pop.ensures.queue i); outbox = arc_value c.args.seat.now.outbox.shared; causes = arc_value c.args.seat.now.causes.shared; room = room_of c.args.seat.now.outbox; refused = c.args.seat.now.refused });
       heard = taken i;
       told = taken_by c.args.seat.now.causes;
       put = put_by c.args.seat.now.outbox;
@@ -100,7 +100,7 @@ returns-in-OutOfMemory g c =
     listed_one c.args.session (Hears heard.OutOfMemory) (side_of c.args.seat.now) (side_of c.leave-in-OutOfMemory.new.seat) c.args.list.now.items c.leave-in-OutOfMemory.new.list.items
     ((record { queues = queues_of c.args.seat.now; seated = refl; stays = c.requires.stays }), tt)
     (c.leave-in-OutOfMemory.ensures.side ∙ (λ i. record {
-      queues = Some (record { inbox = arc_value (c.pop.ensures.queue i); outbox = arc_value c.args.seat.now.outbox.shared; causes = arc_value c.args.seat.now.causes.shared; room = room_of c.args.seat.now.outbox });
+      queues = Some (record { inbox = arc_value (c.pop.ensures.queue i); outbox = arc_value c.args.seat.now.outbox.shared; causes = arc_value c.args.seat.now.causes.shared; room = room_of c.args.seat.now.outbox; refused = c.args.seat.now.refused });
       heard = taken i;
       told = taken_by c.args.seat.now.causes;
       put = put_by c.args.seat.now.outbox;

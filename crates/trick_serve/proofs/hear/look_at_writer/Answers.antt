@@ -24,7 +24,7 @@ returns-in-LinkFault g c =
     listed_one c.args.session (IsTold stop.LinkFault) (side_of c.args.seat.now) (side_of c.leave-in-LinkFault.new.seat) c.args.list.now.items c.leave-in-LinkFault.new.list.items
     (record { queues = queues_of c.args.seat.now; seated = refl; stays = c.requires.stays })
     (c.leave-in-LinkFault.ensures.side ∙ (λ i. record {
-      queues = Some (record { inbox = arc_value c.args.seat.now.inbox.shared; outbox = arc_value c.args.seat.now.outbox.shared; causes = arc_value (c.pop.ensures.queue i); room = room_of c.args.seat.now.outbox });
+      queues = Some (record { inbox = arc_value c.args.seat.now.inbox.shared; outbox = arc_value c.args.seat.now.outbox.shared; causes = arc_value (c.pop.ensures.queue i); room = room_of c.args.seat.now.outbox; refused = c.args.seat.now.refused });
       heard = taken_by c.args.seat.now.inbox;
       told = taken i;
       put = put_by c.args.seat.now.outbox;
@@ -40,7 +40,7 @@ returns-in-OutOfMemory g c =
     listed_one c.args.session (IsTold stop.OutOfMemory) (side_of c.args.seat.now) (side_of c.leave-in-OutOfMemory.new.seat) c.args.list.now.items c.leave-in-OutOfMemory.new.list.items
     (record { queues = queues_of c.args.seat.now; seated = refl; stays = c.requires.stays })
     (c.leave-in-OutOfMemory.ensures.side ∙ (λ i. record {
-      queues = Some (record { inbox = arc_value c.args.seat.now.inbox.shared; outbox = arc_value c.args.seat.now.outbox.shared; causes = arc_value (c.pop.ensures.queue i); room = room_of c.args.seat.now.outbox });
+      queues = Some (record { inbox = arc_value c.args.seat.now.inbox.shared; outbox = arc_value c.args.seat.now.outbox.shared; causes = arc_value (c.pop.ensures.queue i); room = room_of c.args.seat.now.outbox; refused = c.args.seat.now.refused });
       heard = taken_by c.args.seat.now.inbox;
       told = taken i;
       put = put_by c.args.seat.now.outbox;
@@ -56,7 +56,7 @@ returns-in-Closed g c =
     listed_one c.args.session (IsTold stop.Closed) (side_of c.args.seat.now) _ c.args.list.now.items c.reserve.new.self.items
     (record { queues = queues_of c.args.seat.now; seated = refl; stays = c.requires.stays })
     (λ i. record {
-      queues = Some (record { inbox = arc_value c.args.seat.now.inbox.shared; outbox = arc_value c.args.seat.now.outbox.shared; causes = arc_value (c.pop.ensures.queue i); room = room_of c.args.seat.now.outbox });
+      queues = Some (record { inbox = arc_value c.args.seat.now.inbox.shared; outbox = arc_value c.args.seat.now.outbox.shared; causes = arc_value (c.pop.ensures.queue i); room = room_of c.args.seat.now.outbox; refused = c.args.seat.now.refused });
       heard = taken_by c.args.seat.now.inbox;
       told = taken i;
       put = put_by c.args.seat.now.outbox;

@@ -16,7 +16,7 @@ returns-then-is_err g c =
       seated = refl;
       full = full;
       is = λ i. record {
-        queues = Some (record { inbox = arc_value c.args.seat.now.inbox.shared; outbox = arc_value (queue i); causes = arc_value c.args.seat.now.causes.shared; room = room i });
+        queues = Some (record { inbox = arc_value c.args.seat.now.inbox.shared; outbox = arc_value (queue i); causes = arc_value c.args.seat.now.causes.shared; room = room i; refused = c.args.seat.now.refused });
         heard = taken_by c.args.seat.now.inbox;
         told = taken_by c.args.seat.now.causes;
         put = kept i;

@@ -1,50 +1,57 @@
-use Rattle.std.proofs.Common.{[], ◌∷◌, ◌+◌, ◌<◌, ◌≤◌, inl, inr, refl, subst, sym, vec_capacity, vec_len}
+use Rattle.std.proofs.Common.{[], ◌∙◌, ◌∷◌, ◌+◌, ◌<◌, ◌≤◌, ap, arith, inl, inr, refl, rules, subst, sym, vec_capacity, vec_len}
 use Rattle.trick_outside.specs.Visits.{Ended, Failed, Gave, NotYet, OutOfMemory}
-use Rattle.trick_serve_door.proofs.Asking.{ended_here, taking_asked, taking_idle, taking_room, taking_taken}
+use Rattle.trick_serve_door.proofs.Asking.{ended_here, taking_asked, taking_idle, taking_placed, taking_room, taking_taken}
 use Rattle.trick_serve_door.proofs.ask.ask.Goals as goal
 use Rattle.trick_serve_door.specs.Taking.{Hosts, hosts}
 use Rattle.trick_serve_door.specs.declared.ask.End.TheVariants as end
 
-pub returns-then-is_closed : goal.returns-then-is_closed
-returns-then-is_closed g c = λ start t.
-    let h : Hosts g.row.D.Denot g.row.D-In.Denot g.row.D-Out.Denot g.row.S.Denot = hosts g.D.Door.visited g.D.In.LinkIn g.D.Out.LinkOut g.S.Spawner.failures in
-    ended_here h start end.Closed [] c.loop.door c.loop.acceptor (c.loop.invariant.taking start (taking_room h start [] _ _ _ t c.prepare.ensures.same)) (λ count. refl)
+pub returns-then-is_over : goal.returns-then-is_over
+returns-then-is_over g c = λ start t.
+    let h : Hosts g.row.D.Denot g.row.D-In.Denot g.row.D-Out.Denot g.row.S.Denot = hosts g.D.Door.visited g.D.In.LinkIn g.D.Out.LinkOut g.S.Spawner.failures g.D.Door.has_client in
+    let before = c.loop.invariant.taking start (taking_room h start [] _ _ _ t c.prepare.ensures.same) in
+    ended_here h start end.Closed [] c.loop.door c.is_over.new.self (taking_placed h start [] c.loop.door c.loop.acceptor c.is_over.new.self before c.is_over.ensures.placed) (λ count. refl)
+    (λ same. c.is_over.ensures.over (search rules))
 
 pub returns-in-Client : goal.returns-in-Client
 returns-in-Client g c = λ start t.
-    let h : Hosts g.row.D.Denot g.row.D-In.Denot g.row.D-Out.Denot g.row.S.Denot = hosts g.D.Door.visited g.D.In.LinkIn g.D.Out.LinkOut g.S.Spawner.failures in
+    let h : Hosts g.row.D.Denot g.row.D-In.Denot g.row.D-Out.Denot g.row.S.Denot = hosts g.D.Door.visited g.D.In.LinkIn g.D.Out.LinkOut g.S.Spawner.failures g.D.Door.has_client in
     let before = c.loop.invariant.taking start (taking_room h start [] _ _ _ t c.prepare.ensures.same) in
-    let now = taking_asked h start c.loop.door c.next-in-loop.new.self c.loop.acceptor (Gave c.in-Client.input c.in-Client.output) g.met.D.Door.visited_join before c.in-Client.ensures.visited in
-    taking_taken h start c.next-in-loop.new.self c.loop.acceptor c.take.new.self c.in-Client.input c.in-Client.output now c.take.ensures
+    let placed = taking_placed h start [] c.loop.door c.loop.acceptor c.is_over.new.self before c.is_over.ensures.placed in
+    let now = taking_asked h start c.loop.door c.next-in-loop.new.self c.is_over.new.self (Gave c.in-Client.input c.in-Client.output) g.met.D.Door.visited_join placed c.in-Client.ensures.visited (λ has. tt) in
+    taking_taken h start c.next-in-loop.new.self c.is_over.new.self c.take.new.self c.in-Client.input c.in-Client.output now c.take.ensures
 
 pub loop-preserved : goal.loop-preserved
 loop-preserved g c = record {
-  free = subst (λ places. 0 < places.free) (sym c.tell_nobody.ensures.places) c.loop.invariant.free;
-  room = subst (λ sessions. vec_len sessions.seated + 1 ≤ vec_capacity sessions.past) (sym c.tell_nobody.ensures.sessions) c.loop.invariant.room;
-  place = subst (λ sessions. vec_len sessions.seated < vec_capacity sessions.seated) (sym c.tell_nobody.ensures.sessions) c.loop.invariant.place;
+  free = (let same = ap (λ places. places.free) c.tell_nobody.ensures.places in let more = c.is_over.ensures.free in let some = c.loop.invariant.free in omega arith);
+  room = subst (λ sessions. vec_len sessions.seated + 1 ≤ vec_capacity sessions.past) (sym c.is_over.ensures.placed.sessions ∙ sym c.tell_nobody.ensures.sessions) c.loop.invariant.room;
+  place = subst (λ sessions. vec_len sessions.seated < vec_capacity sessions.seated) (sym c.is_over.ensures.placed.sessions ∙ sym c.tell_nobody.ensures.sessions) c.loop.invariant.place;
   taking = λ start t.
-      let h : Hosts g.row.D.Denot g.row.D-In.Denot g.row.D-Out.Denot g.row.S.Denot = hosts g.D.Door.visited g.D.In.LinkIn g.D.Out.LinkOut g.S.Spawner.failures in
-      let now = taking_asked h start c.loop.door c.next-in-loop.new.self c.loop.acceptor NotYet g.met.D.Door.visited_join (c.loop.invariant.taking start t) c.in-NotYet.ensures.visited in
-      taking_idle h start c.next-in-loop.new.self c.loop.acceptor c.tell_nobody.new.self now c.tell_nobody.ensures;
+      let h : Hosts g.row.D.Denot g.row.D-In.Denot g.row.D-Out.Denot g.row.S.Denot = hosts g.D.Door.visited g.D.In.LinkIn g.D.Out.LinkOut g.S.Spawner.failures g.D.Door.has_client in
+      let placed = taking_placed h start [] c.loop.door c.loop.acceptor c.is_over.new.self (c.loop.invariant.taking start t) c.is_over.ensures.placed in
+      let now = taking_asked h start c.loop.door c.next-in-loop.new.self c.is_over.new.self NotYet g.met.D.Door.visited_join placed c.in-NotYet.ensures.visited c.in-NotYet.ensures.first in
+      taking_idle h start c.next-in-loop.new.self c.is_over.new.self c.tell_nobody.new.self now c.tell_nobody.ensures;
 }
 
 pub returns-in-Ended : goal.returns-in-Ended
 returns-in-Ended g c = λ start t.
-    let h : Hosts g.row.D.Denot g.row.D-In.Denot g.row.D-Out.Denot g.row.S.Denot = hosts g.D.Door.visited g.D.In.LinkIn g.D.Out.LinkOut g.S.Spawner.failures in
+    let h : Hosts g.row.D.Denot g.row.D-In.Denot g.row.D-Out.Denot g.row.S.Denot = hosts g.D.Door.visited g.D.In.LinkIn g.D.Out.LinkOut g.S.Spawner.failures g.D.Door.has_client in
     let before = c.loop.invariant.taking start (taking_room h start [] _ _ _ t c.prepare.ensures.same) in
-    let now = taking_asked h start c.loop.door c.next-in-loop.new.self c.loop.acceptor Ended g.met.D.Door.visited_join before c.in-Ended.ensures.visited in
-    ended_here h start end.Over (Ended ∷ []) c.next-in-loop.new.self c.loop.acceptor now (λ count. inl refl)
+    let placed = taking_placed h start [] c.loop.door c.loop.acceptor c.is_over.new.self before c.is_over.ensures.placed in
+    let now = taking_asked h start c.loop.door c.next-in-loop.new.self c.is_over.new.self Ended g.met.D.Door.visited_join placed c.in-Ended.ensures.visited c.in-Ended.ensures.first in
+    ended_here h start end.Over (Ended ∷ []) c.next-in-loop.new.self c.is_over.new.self now (λ count. inl refl) (λ no. absurd (cc))
 
 pub returns-in-Failed : goal.returns-in-Failed
 returns-in-Failed g c = λ start t.
-    let h : Hosts g.row.D.Denot g.row.D-In.Denot g.row.D-Out.Denot g.row.S.Denot = hosts g.D.Door.visited g.D.In.LinkIn g.D.Out.LinkOut g.S.Spawner.failures in
+    let h : Hosts g.row.D.Denot g.row.D-In.Denot g.row.D-Out.Denot g.row.S.Denot = hosts g.D.Door.visited g.D.In.LinkIn g.D.Out.LinkOut g.S.Spawner.failures g.D.Door.has_client in
     let before = c.loop.invariant.taking start (taking_room h start [] _ _ _ t c.prepare.ensures.same) in
-    let now = taking_asked h start c.loop.door c.next-in-loop.new.self c.loop.acceptor Failed g.met.D.Door.visited_join before c.in-Failed.ensures.visited in
-    ended_here h start end.Over (Failed ∷ []) c.next-in-loop.new.self c.loop.acceptor now (λ count. inr (inl refl))
+    let placed = taking_placed h start [] c.loop.door c.loop.acceptor c.is_over.new.self before c.is_over.ensures.placed in
+    let now = taking_asked h start c.loop.door c.next-in-loop.new.self c.is_over.new.self Failed g.met.D.Door.visited_join placed c.in-Failed.ensures.visited c.in-Failed.ensures.first in
+    ended_here h start end.Over (Failed ∷ []) c.next-in-loop.new.self c.is_over.new.self now (λ count. inr (inl refl)) (λ no. absurd (cc))
 
 pub returns-in-OutOfMemory : goal.returns-in-OutOfMemory
 returns-in-OutOfMemory g c = λ start t.
-    let h : Hosts g.row.D.Denot g.row.D-In.Denot g.row.D-Out.Denot g.row.S.Denot = hosts g.D.Door.visited g.D.In.LinkIn g.D.Out.LinkOut g.S.Spawner.failures in
+    let h : Hosts g.row.D.Denot g.row.D-In.Denot g.row.D-Out.Denot g.row.S.Denot = hosts g.D.Door.visited g.D.In.LinkIn g.D.Out.LinkOut g.S.Spawner.failures g.D.Door.has_client in
     let before = c.loop.invariant.taking start (taking_room h start [] _ _ _ t c.prepare.ensures.same) in
-    let now = taking_asked h start c.loop.door c.next-in-loop.new.self c.loop.acceptor OutOfMemory g.met.D.Door.visited_join before c.in-OutOfMemory.ensures.visited in
-    ended_here h start end.OutOfMemory (OutOfMemory ∷ []) c.next-in-loop.new.self c.loop.acceptor now (λ count. inr refl)
+    let placed = taking_placed h start [] c.loop.door c.loop.acceptor c.is_over.new.self before c.is_over.ensures.placed in
+    let now = taking_asked h start c.loop.door c.next-in-loop.new.self c.is_over.new.self OutOfMemory g.met.D.Door.visited_join placed c.in-OutOfMemory.ensures.visited (λ has. tt) in
+    ended_here h start end.OutOfMemory (OutOfMemory ∷ []) c.next-in-loop.new.self c.is_over.new.self now (λ count. inr refl) (λ no. absurd (cc))

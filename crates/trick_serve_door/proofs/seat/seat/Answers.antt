@@ -1,9 +1,9 @@
-use Rattle.std.proofs.Common.{subst, sym}
+use Rattle.std.proofs.Common.{◌≡◌, ◌∙◌, ap, rules, subst, sym, true}
 use Rattle.trick_outside.specs.Works.{Runs}
 use Rattle.trick_serve_door.proofs.Seating.{reader_is_of, writer_is_of}
 use Rattle.trick_serve_door.proofs.seat.seat.Goals as goal
 use Rattle.trick_serve_door.proofs.seat.seat.Goals.{then-writes, else-writes}
-use Rattle.trick_serve_door.specs.Seats.{Reads}
+use Rattle.trick_serve_door.specs.Seats.{IsThread, Reads}
 use Rattle.trick_wire.specs.declared.works.Reader.{Reader}
 use Rattle.trick_wire.specs.declared.works.Writer.{Writer}
 
@@ -16,10 +16,15 @@ returns-clause-seated g c =
     let runs : Runs (Reads g.I.LinkIn) reader c.if-writes.reading.0 = elim c.if-writes.branch [
       | then-writes w ↦ subst (λ reading. Runs (Reads g.I.LinkIn) reader reading.0) (sym w.reading-is) w.begin_reader.ensures.runs
       | else-writes w ↦ subst (λ reading. Runs (Reads g.I.LinkIn) reader reading.0) (sym w.reading-is) w.unread.ensures
+    ] in
+    let threads : c.if-writes.reading.1 ≡ true → IsThread c.begin_writer-writing.result.0 × IsThread c.if-writes.reading.0 = elim c.if-writes.branch [
+      | then-writes w ↦ λ reads. (c.begin_writer-writing.ensures.started w.if-writes.true, subst (λ reading. IsThread reading.0) (sym w.reading-is) (w.begin_reader.ensures.started (sym (ap (λ reading. reading.1) w.reading-is) ∙ reads)))
+      | else-writes w ↦ λ reads. absurd (let no = ap (λ reading. reading.1) w.reading-is in cc)
     ] in record {
       writing = (writer, c.begin_writer-writing.ensures.runs, λ done writes. writer_is_of g.O.LinkOut _ writer done fresh.outbox fresh.no_message.1 fresh.causes fresh.no_cause.0 fresh.room c.of-output.ensures writes);
       reading = (reader, runs, λ done reads. reader_is_of g.I.LinkIn _ reader done fresh.inbox fresh.no_line.0 c.of-input.ensures reads);
       no_line = fresh.no_line.1;
       no_message = fresh.no_message.0;
       no_cause = fresh.no_cause.1;
+      started = λ served. threads (search rules);
     }

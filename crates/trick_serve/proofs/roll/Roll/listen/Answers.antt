@@ -3,8 +3,8 @@ use Rattle.std.specs.Prelude.{is_ok}
 use Rattle.trick_serve.proofs.roll.Roll.listen.Goals as goal
 use Rattle.trick_serve.specs.Gathering.{Gathers}
 
-pub returns : goal.returns
-returns g c = λ there was known so.
+pub returns-clause-gathered : goal.returns-clause-gathered
+returns-clause-gathered g c = λ there was known so.
     subst (λ (l : List ℕ). Gathers there was known c.listen_all.new.seats.items l c.listen_all.new.list.items (is_ok c.listen_all.result)) c.deref.ensures.value
     (c.listen_all.ensures.gathers there was known
     (subst (λ (l : List ℕ). Gathers there was known c.args.self.now.seats.items l c.args.self.now.list.items true) (sym c.deref.ensures.value) so))

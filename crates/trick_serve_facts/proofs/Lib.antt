@@ -1,0 +1,18 @@
+-- What holds of a session all along a run.
+pub mod Keeping
+-- The entries of one session, all along a run.
+pub mod Lives
+-- The messages to one session, all along a run.
+pub mod Messages
+-- Where a session hangs up.
+pub mod HangUps
+-- What the session of one client came to.
+pub mod Clients
+-- Which sessions join in a run.
+pub mod Joins
+-- What a run with clients came to.
+pub mod IsServed
+-- The turns of a run as its source was handed them, and the ends of its sessions.
+pub mod Tales
+-- What a session is sent, turn by turn.
+pub mod Texts

@@ -1,0 +1,33 @@
+//! The laws. A function that calls one of these may rest on what it says; the call itself does nothing.
+
+ghost use Rattle.trick_serve_facts.specs.Clients.{ClientsAreServed, OthersAreAbsent};
+ghost use Rattle.trick_serve_facts.specs.IsServed.{RunsAreServed};
+ghost use Rattle.trick_serve_facts.specs.Joins.{JoinsAreInOrder};
+ghost use Rattle.trick_serve_facts.specs.Texts.{TextsAreByTurns};
+
+/// Each client that was seated in a run was served: its entries are its join, its lines and its leave, its lines are
+/// the first lines of its bytes, and it was sent a first part of its session text, turn after turn.
+pub fn clients_are_served()
+    ensures { ClientsAreServed }
+{}
+
+/// A session without a seat has no entry, and no message is to it.
+pub fn others_are_absent()
+    ensures { OthersAreAbsent }
+{}
+
+/// Clients join under the numbers 1, 2 and so on, in order, as many as have seats.
+pub fn joins_are_in_order()
+    ensures { JoinsAreInOrder }
+{}
+
+/// A run whose turns were served, and whose lists keep the rules of entries, is a served run.
+pub fn runs_are_served()
+    ensures { RunsAreServed }
+{}
+
+/// The text of a session is that of its turns, one after another: of each turn the replies to its lines, and then the
+/// sample that is due, of the state in which the turn ends.
+pub fn texts_are_by_turns()
+    ensures { TextsAreByTurns }
+{}

@@ -1,0 +1,2 @@
+-- What an acceptor in a thread comes to, and where it is.
+pub mod Running
