@@ -4,6 +4,8 @@
 
 mod callees;
 pub mod laws;
+mod lower;
+mod ranks;
 mod reach;
 mod rounds;
 mod search;

@@ -1,7 +1,9 @@
-ghost use Rattle.std.specs.Prelude.{◌≡◌, ℕ, ◌<◌, ◌∷◌, [], false, true, length, slice_index_or, IfOk, MatchOption, OnOk};
+ghost use Rattle.std.specs.Prelude.{◌≡◌, ℕ, ◌<◌, ◌∷◌, [], false, true, length, slice_index_or, IfOk, IfSome, MatchOption, OnOk};
 ghost use Rattle.trick_order.specs.Calls.{AreCallees, IsFirst, ReachesItself, callees, has};
 ghost use Rattle.trick_order.specs.Reached.{Adds};
 
+use crate::lower::{first_level, never_rises};
+use crate::ranks::ranks;
 use std::alloc::{AllocError, Global};
 use trick_base::Items;
 
@@ -61,8 +63,8 @@ fn reaches_itself(alloc: Global, calls: &[Items<usize>], method: usize) -> Resul
     Ok(seen[method])
 }
 
-/// The first method that reaches itself. Each method is searched from anew, up to that one.
-pub fn first_recursive(alloc: Global, calls: &[Items<usize>]) -> Result<Option<usize>, AllocError>
+// The first method that reaches itself, where each is searched from anew up to that one.
+fn first_of_all(alloc: Global, calls: &[Items<usize>]) -> Result<Option<usize>, AllocError>
     requires callees { AreCallees calls.now }
     ensures { IfOk result (λ found. MatchOption found
         ((a : ℕ) → a < length calls.now → ReachesItself calls.now a → ⊥)
@@ -74,4 +76,36 @@ pub fn first_recursive(alloc: Global, calls: &[Items<usize>]) -> Result<Option<u
         }
     }
     Ok(None)
+}
+
+// The first method that reaches itself, where these ranks tell it.
+fn first_by_ranks(
+    alloc: Global,
+    calls: &[Items<usize>],
+    ranks: &[usize],
+) -> Result<Option<usize>, AllocError>
+    requires callees { AreCallees calls.now }
+    ensures { IfOk result (λ found. IfSome found (λ a. IsFirst calls.now a)) }
+{
+    let method = first_level(calls, ranks);
+    if method >= calls.len() || !never_rises(calls, ranks) {
+        return Ok(None);
+    }
+    let told = reaches_itself(alloc, calls, method)?;
+    Ok(if told { Some(method) } else { None })
+}
+
+/// The first method that reaches itself. Ranks from a search in depth tell it, and are tested, so that no
+/// method is searched from but that one. Only ranks that fail the test would have each one searched from.
+pub fn first_recursive(alloc: Global, calls: &[Items<usize>]) -> Result<Option<usize>, AllocError>
+    requires callees { AreCallees calls.now }
+    ensures { IfOk result (λ found. MatchOption found
+        ((a : ℕ) → a < length calls.now → ReachesItself calls.now a → ⊥)
+        (λ a. IsFirst calls.now a)) }
+{
+    let ranks = ranks(alloc, calls)?;
+    match first_by_ranks(alloc, calls, &ranks)? {
+        Some(method) => Ok(Some(method)),
+        None => first_of_all(alloc, calls),
+    }
 }

@@ -208,8 +208,8 @@ fn searched(alloc: Global, calls: &[Items<usize>]) -> Result<Option<Vec<usize>>,
 /// All methods in their one order, where none reaches itself: by rounds, first those that call none,
 /// then those that call none but methods of earlier rounds, and so on; in a round by their numbers. So
 /// each stands after those that it calls. `calls` has for each method those that it calls, by number.
-/// An order takes time in the number of methods and calls. A fault names the first method that reaches
-/// itself, which is searched for from each method before it.
+/// An order and a fault, which names the first method that reaches itself, take time in the number of
+/// methods and calls.
 pub fn order(alloc: Global, calls: &[Items<usize>]) -> Result<Vec<usize>, OrderFault>
     requires callees { AreCallees calls.now }
     ensures order { IfOk result (λ order. order.items ≡ order_of calls.now) }

@@ -1,5 +1,5 @@
 use Rattle.std.proofs.Common.{ℕ, ◌<◌}
-use Rattle.trick_order.proofs.reach.first_recursive.Given as goal
+use Rattle.trick_order.proofs.reach.first_of_all.Given as goal
 use Rattle.trick_order.specs.Calls.{ReachesItself}
 
 abbrev pub invariant-loop-method : goal.invariant-loop-method
