@@ -40,10 +40,10 @@ gathered_as there was was' known known' roll done seats numbers so =
 
 -- a look at which nothing came
 looked_so : (there : List Session) (old : View) (mid new : Roll) (reached : List ℕ) (over over' broke : Bool)
-    → AreSeated mid.live.items mid.seats.items → HasLooked old (view mid reached over broke)
+    → (over ≡ true → over' ≡ true) → AreSeated mid.live.items mid.seats.items → HasLooked old (view mid reached over broke)
     → IsGathered there mid.seats.items (filter (is_live mid.seats.items) mid.live.items) new true → new.list.items ≡ []
     → HasLooked old (view new reached over' broke)
-looked_so there old mid new reached over over' broke seated before so empty = record {
+looked_so there old mid new reached over over' broke stays seated before so empty = record {
   looked = went_join old (view mid reached over broke) (view new reached over' broke) [] [] [] [] before.looked
       (went_one (Looks there) (view mid reached over broke) (view new reached over' broke) quiet);
   same = same ∙ before.same;
@@ -71,16 +71,18 @@ looked_so there old mid new reached over over' broke seated before so empty = re
       };
       sessions = same;
       whole = refl;
+      over = stays;
     }
 
 pub looked_more : (there : List Session) (old : View) (mid new : Roll) (reached reached' : List ℕ) (over over' broke broke' : Bool)
-    → reached' ≡ reached → broke' ≡ broke → AreSeated mid.live.items mid.seats.items → HasLooked old (view mid reached over broke)
+    → reached' ≡ reached → broke' ≡ broke → (over ≡ true → over' ≡ true) → AreSeated mid.live.items mid.seats.items
+    → HasLooked old (view mid reached over broke)
     → IsGathered there mid.seats.items (filter (is_live mid.seats.items) mid.live.items) new true → new.list.items ≡ []
     → HasLooked old (view new reached' over' broke')
-looked_more there old mid new reached reached' over over' broke broke' same_reached same_broke seated before so empty =
+looked_more there old mid new reached reached' over over' broke broke' same_reached same_broke stays seated before so empty =
     subst (λ (r : List ℕ). HasLooked old (view new r over' broke')) (sym same_reached)
     (subst (λ (b : Bool). HasLooked old (view new reached over' b)) (sym same_broke)
-    (looked_so there old mid new reached over over' broke seated before so empty))
+    (looked_so there old mid new reached over over' broke stays seated before so empty))
 
 -- a list was gathered, or memory was wanting
 pub found_more : (there : List Session) (old : View) (mid new : Roll) (reached : List ℕ) (over broke done : Bool)
@@ -149,7 +151,7 @@ went_over there turn mode old new so =
     (went_one (Answers (record { turn = turn; mode = mode; sessions = there; list = None })) new new
     (record {
       frozen = so.frozen_is;
-      quiet = record { lives = record { each = λ k. inr (record { happened = []; happens = refl; entries = refl }) }; sessions = refl; whole = refl };
+      quiet = record { lives = record { each = λ k. inr (record { happened = []; happens = refl; entries = refl }) }; sessions = refl; whole = refl; over = λ is. is };
       over = so.over;
       ended = so.ended;
     }))

@@ -6,7 +6,7 @@ use Rattle.std.proofs.lemmas.List.Elements.{All-head, All-tail}
 use Rattle.std.specs.Prelude.{◌||◌, IsTrue}
 use Rattle.trick_model.specs.Session.{Message}
 use Rattle.trick_model.specs.declared.entry.Entry.{Entry}
-use Rattle.trick_serve.specs.Calls.{Answers, Breaks, Call, DoAll, Does, Hands, IsAnswered, Looks, View, Went, answer_of, answers_of, message_of, messages_of}
+use Rattle.trick_serve.specs.Calls.{Answers, Breaks, Call, DoAll, Does, Hands, IsAnswered, Looks, View, Went, WentOn, answer_of, answers_of, message_of, messages_of}
 use Rattle.trick_serve.specs.Rules.{AreSeated}
 use Rattle.trick_serve.specs.declared.seat.Seat.{Seat}
 use Rattle.trick_turns.specs.Turns.{Answer, is_among}
@@ -46,6 +46,17 @@ went_join first second third early late some more one two = record {
   did = do_join first second third one.calls two.calls one.did two.did;
   answers_are = answers_join one.calls two.calls ∙ (λ i. one.answers_are i ++ two.answers_are i);
   messages_are = messages_join one.calls two.calls ∙ (λ i. one.messages_are i ++ two.messages_are i);
+}
+
+pub went_on_none : {Q : Type 0} (v : View) (queue : Q) → WentOn v v queue queue [] []
+went_on_none v queue = record { went = went_none v; same = refl }
+
+pub went_on_join : {Q : Type 0} (first second third : View) (one two three : Q) (early late : List Answer)
+    (some more : List Message) → WentOn first second one two early some → WentOn second third two three late more
+    → WentOn first third one three (early ++ late) (some ++ more)
+went_on_join first second third one two three early late some more before after = record {
+  went = went_join first second third early late some more before.went after.went;
+  same = after.same ∙ before.same;
 }
 
 -- A session that is among some that have seats has one.

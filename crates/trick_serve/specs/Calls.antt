@@ -23,11 +23,12 @@ pub record View : Type 0 where
 
 -- ---- one call
 
--- Nothing came that is an entry.
+-- Nothing came that is an entry. Where no client comes any more none does later.
 pub record IsQuiet (there : List Session) (old new : View) : Type 0 where
   pub lives : AllLive there old.seats new.seats []
   pub sessions : new.sessions ≡ old.sessions
   pub whole : new.broke ≡ old.broke
+  pub over : old.over ≡ true → new.over ≡ true
 
 -- A list is given, which in Freeze is not empty.
 pub record IsGiven (answer : Answer) (list : List Entry) (old new : View) : Type 0 where
@@ -110,3 +111,9 @@ pub record Went (old new : View) (answers : List Answer) (messages : List Messag
   pub did : DoAll calls old new
   pub answers_are : answers_of calls ≡ answers
   pub messages_are : messages_of calls ≡ messages
+
+-- So it went, and the clients still come by the same queue.
+pub record WentOn {Q : Type 0} (old new : View) (before now : Q) (answers : List Answer) (messages : List Message)
+    : Type 0 where
+  pub went : Went old new answers messages
+  pub same : now ≡ before

@@ -8,7 +8,7 @@ ghost use Rattle.trick_serve.specs.Rules.{is_live, sessions_by};
 ghost use Rattle.trick_serve_door.specs.declared.departure.Departure.TheVariants.{Run};
 ghost use Rattle.trick_turns.specs.Turns.{no_sessions};
 ghost use Rattle.trick_model.specs.Turn.{is_frozen as is_frozen_of};
-ghost use Rattle.trick_wire.specs.Ends.{IsSamePutter, put_by, taken_by};
+ghost use Rattle.trick_wire.specs.Ends.{IsSamePutter, IsSameTaker, put_by, taken_by};
 
 use crate::clients::{Took, take_clients};
 use crate::{Finished, Roll, Served};
@@ -122,8 +122,10 @@ impl<I: Drop, O: Drop, R: Wait + Copy> Served<I, O, R> {
 
     // Looks once at what came, and gathers a list of it.
     fn look(&mut self, there: &[Session]) -> Result<(), AllocError>
+        ensures coming { IsSameTaker self.old.coming self.new.coming }
         ensures reached { self.new.reached ≡ self.old.reached }
         ensures broke { self.new.broke ≡ self.old.broke }
+        ensures over { self.old.over ≡ true → self.new.over ≡ true }
         ensures gathered { IsGathered there.now self.old.roll.seats.items
             (filter (is_live self.old.roll.seats.items) self.old.roll.live.items) self.new.roll (is_ok result) }
     {
@@ -139,6 +141,7 @@ impl<I: Drop, O: Drop, R: Wait + Copy> Served<I, O, R> {
 
     // Looks until a list was gathered, which in Freeze is not empty. False where no line comes any more.
     fn find(&mut self, frozen: bool, there: &[Session]) -> Result<bool, AllocError>
+        ensures coming { IsSameTaker self.old.coming self.new.coming }
         ensures reached { self.new.reached ≡ self.old.reached }
         ensures broke { self.new.broke ≡ self.old.broke }
         ensures found { result ≢ Ok false → HasFound there.now
@@ -166,6 +169,7 @@ impl<I: Drop, O: Drop, R: Wait + Copy> Served<I, O, R> {
     // Moves the list out. Those that were live as it began, and those that joined in it, can be sent messages.
     fn give(&mut self, alloc: Global) -> Result<Vec<Entry>, AllocError>
         ensures seats { self.new.roll.seats ≡ self.old.roll.seats }
+        ensures coming { self.new.coming ≡ self.old.coming }
         ensures live { self.new.roll.live ≡ self.old.roll.live }
         ensures broke { self.new.broke ≡ self.old.broke }
         ensures over { self.new.over ≡ self.old.over }
@@ -187,6 +191,7 @@ impl<I: Drop, O: Drop, R: Wait + Copy> Served<I, O, R> {
         ensures came { Came there.now frozen
             (view self.old.roll self.old.reached.items self.old.over self.old.broke)
             (view self.new.roll self.new.reached.items self.new.over self.new.broke) result }
+        ensures coming { IsSameTaker self.old.coming self.new.coming }
         ensures broke { self.new.broke ≡ self.old.broke }
     {
         if self.find(frozen, there)? {
@@ -199,14 +204,14 @@ impl<I: Drop, O: Drop, R: Wait + Copy> Served<I, O, R> {
 
 impl<M: Cells, I: Drop, O: Drop, R: Wait + Copy> Turns<M> for Served<I, O, R> {
     ghost use Rattle.std.specs.Prelude.{◌≤◌, ◌<◌, None, false, length};
-    ghost use Rattle.trick_serve.specs.Calls.{Went};
+    ghost use Rattle.trick_serve.specs.Calls.{WentOn};
     ghost use Rattle.trick_serve.specs.Rolls.{view};
     ghost use Rattle.trick_serve.specs.Rules.{sessions_by};
-    ghost use Rattle.trick_serve.specs.CallLaws.{seated_among, went_join, went_none};
+    ghost use Rattle.trick_serve.specs.CallLaws.{seated_among, went_on_join, went_on_none};
 
-    ghost went = { λ old answers messages new. Went
+    ghost went = { λ old answers messages new. WentOn
         (view old.roll old.reached.items old.over old.broke) (view new.roll new.reached.items new.over new.broke)
-        answers messages };
+        old.coming.shared new.coming.shared answers messages };
 
     ghost owes = { λ turns. false };
 
@@ -250,8 +255,8 @@ impl<M: Cells, I: Drop, O: Drop, R: Wait + Copy> Turns<M> for Served<I, O, R> {
     ghost reaches = { λ turns session there.
         seated_among session turns.reached.items turns.roll.seats.items turns.reach there };
 
-    ghost went_none = { λ turns. went_none _ };
+    ghost went_none = { λ turns. went_on_none _ _ };
 
     ghost went_join = { λ first second third early late some more one two.
-        went_join _ _ _ early late some more one two };
+        went_on_join _ _ _ _ _ _ early late some more one two };
 }

@@ -1,6 +1,6 @@
 //! The source of entries of a run with clients.
 
-ghost use Rattle.std.specs.Prelude.{◌≡◌, true};
+ghost use Rattle.std.specs.Prelude.{◌≡◌, length, not, true};
 ghost use Rattle.trick_serve.specs.Clients.{AreOfClients, IsLast};
 ghost use Rattle.trick_serve.specs.Rules.{AreSeated};
 ghost use Rattle.trick_wire.specs.Ends.{taken_by};
@@ -48,4 +48,20 @@ pub struct Finished<I, O> {
     pub coming: Taker<Comes<I, O>>,
     /// Which sessions left, and that the run is over.
     pub gone: Putter<Departure>,
+}
+
+impl<I, O, R> Served<I, O, R> {
+    /// How many clients have joined.
+    pub fn count(&self) -> usize
+        ensures { result ≡ length self.now.roll.seats.items }
+    {
+        self.roll.seats.len()
+    }
+
+    /// Whether there was memory for each list that it was asked for. Where there was not, it gives none from then on.
+    pub fn is_whole(&self) -> bool
+        ensures { result ≡ not self.now.broke }
+    {
+        !self.broke
+    }
 }

@@ -43,7 +43,7 @@ module _ {I O : Type 0} where
   told_idle before now after visits arrivals false none some joins is known told = told_nobody before now after visits arrivals (none refl) (no_clients visits arrivals joins (none refl)) is (told refl)
 
 -- the length of lists that fit
-fit_length : {A B : Type 0} (Fits : A → B → Type 0) (xs : List A) (ys : List B) → AllFit Fits xs ys → length xs ≡ length ys
+pub fit_length : {A B : Type 0} (Fits : A → B → Type 0) (xs : List A) (ys : List B) → AllFit Fits xs ys → length xs ≡ length ys
 fit_length Fits [] [] fit = refl
 fit_length Fits [] (y ∷ ys) fit = absurd fit
 fit_length Fits (x ∷ xs) [] fit = absurd fit

@@ -4,8 +4,6 @@ pub mod Pairs
 pub mod Departing
 -- what the caller is told, with one call more of the door
 pub mod Telling
--- how the links go back to their door
-pub mod Backs
 -- how far an acceptor is after one call more of its door
 pub mod Asking
 -- what the threads of a client hand back, by what they promise

@@ -20,8 +20,8 @@ use Rattle.trick_wire.specs.declared.queue.Taker.{Taker}
 -- It asked its door for clients, and no more once the door gave none any more. The caller was told each client, once
 -- and in order, then why none comes any more, and then that it is closed. The threads of each handed back what they
 -- promise. At most as many were refused a thread as the count of refused starts rose by, and at most 64 clients came
--- beside those of which the caller said that they left. The caller had told that the run is over. Where the door told
--- at the start that it has a client, the first answer was a client, or there was no memory for one.
+-- beside those of which the caller said that they left, and 4294967295 in all. The caller had told that the run is over.
+-- Where the door told at the start that it has a client, the first answer was a client, or there was no memory for one.
 pub record HasAccepted {D I O S : Type 0} (h : Hosts D I O S) (start : Start D I O S) (door : D) (spawner : S)
     (coming : Putter (Comes I O)) (gone : Taker Departure) (sessions : List (Past I O)) : Type 0 where
   pub coming_is : IsSamePutter start.coming coming
@@ -38,6 +38,7 @@ pub record HasAccepted {D I O S : Type 0} (h : Hosts D I O S) (start : Start D I
   pub joins : links_of arrivals ≡ clients visits
   pub past : AllFit (IsPast h.input h.output) arrivals sessions
   pub no_thread : RoseBy (h.refusals start.spawner) (refused_of arrivals) (h.refusals spawner)
+  pub numbers : length arrivals ≤ 4294967295
   pub room : length arrivals + left_of (taken_by start.gone) ≤ 64 + left_of (taken_by gone)
   pub over : is_over (taken_by gone) ≡ true
   pub first : h.has_client start.door → GivesFirst (visits ++ last)

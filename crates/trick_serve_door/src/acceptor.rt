@@ -69,6 +69,7 @@ pub(crate) struct Sessions<
     pub(crate) past: Vec<Past<I, O>>,
     pub ghost room: { vec_len seated ≤ vec_capacity past },
     pub ghost none: { vec_len past ≡ 0 },
+    pub ghost numbers: { vec_len seated ≤ 4294967295 },
 }
 
 impl<
@@ -101,6 +102,7 @@ impl<
     pub(crate) fn add(&mut self, seated: Seated<I, O, R>)
         requires room { vec_len self.old.seated + 1 ≤ vec_capacity self.old.past }
         requires place { vec_len self.old.seated < vec_capacity self.old.seated }
+        requires number { vec_len self.old.seated < 4294967295 }
         ensures { self.new.seated.items ≡ self.old.seated.items ++ seated ∷ [] }
     {
         self.seated.push_reserved(seated);

@@ -17,14 +17,14 @@ use std::sync::Wait;
 use std::thread::Threads;
 use trick_outside::{Came, Door, LinkIn, LinkOut, Spawner};
 
-// Why the door is asked no more.
+/// Why the door is asked no more.
 #[derive(Clone, Copy)]
-pub(crate) enum End {
-    // It ended or failed, or the last number was given.
+pub enum End {
+    /// It ended or failed, or the last number was given.
     Over,
-    // There was no memory for the next client.
+    /// There was no memory for the next client.
     OutOfMemory,
-    // The run is over.
+    /// The run is over.
     Closed,
 }
 
@@ -57,6 +57,7 @@ impl<
         requires free { 0 < self.old.places.free }
         requires room { vec_len self.old.sessions.seated + 1 ≤ vec_capacity self.old.sessions.past }
         requires place { vec_len self.old.sessions.seated < vec_capacity self.old.sessions.seated }
+        requires number { vec_len self.old.sessions.seated < 4294967295 }
         ensures { HasTaken I.LinkIn O.LinkOut S.failures links self.old self.new }
     {
         let (seated, arrival) = seat(&self.rt, self.alloc, &mut self.spawner, queues, links);
@@ -109,6 +110,7 @@ where
     D::In: Send + Drop + 'static,
     D::Out: Send + Drop + 'static,
     requires free { 0 < acceptor.old.places.free }
+    requires number { vec_len acceptor.old.sessions.seated < 4294967295 }
     ensures { (start : Start D D.In D.Out S)
         → IsTaking (hosts D.visited D.In.LinkIn D.Out.LinkOut S.failures D.has_client) start [] door.old acceptor.old
         → HasAsked (hosts D.visited D.In.LinkIn D.Out.LinkOut S.failures D.has_client) start result door.new

@@ -1,5 +1,6 @@
 //! The end of a session, once its threads handed back what they have.
 
+ghost use Rattle.std.specs.Prelude.{◌≤◌};
 ghost use Rattle.trick_outside.specs.Causes.{Rose};
 ghost use Rattle.trick_serve_door.specs.Seats.{IsPast};
 ghost use Rattle.trick_wire.specs.Ends.{AreEnds, put_by, taken_by};
@@ -47,6 +48,7 @@ pub fn end_session<I: LinkIn, O: LinkOut, R: Wait>(
         (O.failures result.output) result.wrote (put_by ends.outbox) }
     ensures cause { (arrival : Arrival I O) → IsPast I.LinkIn O.LinkOut arrival past
         → IsCauseOf (taken_by ends.causes) past.writer.stop }
+    ensures later { O.failures past.writer.link ≤ O.failures result.output }
 {
     let Ends {
         mut inbox,

@@ -1,5 +1,5 @@
 //! How the clients of a served run come and go: the acceptor, which takes clients from a door and starts the reader and
-//! the writer of each, and the end of a session, at which both are taken in and the links go back to the door.
+//! the writer of each, and the end of a session, at which both are taken in.
 #![tactic(auto)]
 
 mod acceptor;
@@ -10,13 +10,12 @@ mod ending;
 mod past;
 mod places;
 mod queues;
-mod returning;
 mod seat;
 mod taking;
 
 pub use arrival::{Arrival, Comes};
+pub use ask::End;
 pub use departure::Departure;
 pub use ending::{Ended, Ends, end_session};
 pub use past::Past;
-pub use returning::give_back;
 pub use taking::{Accepting, Taken, accept};

@@ -1,5 +1,5 @@
 -- What the session of one client came to.
-use Rattle.std.proofs.Common.{◌≡◌, ◌≢◌, ◌∙◌, ◌⊎◌, inl, inr, ⊎_elim, ℕ, ◌+◌, Bool, true, false, List, [], ◌∷◌, ◌++◌, Option, Some, None, ap, append_assoc, append-nil, refl, subst, sym}
+use Rattle.std.proofs.Common.{IsTrue, ◌≡◌, ◌≢◌, ◌∙◌, ◌⊎◌, inl, inr, ⊎_elim, ℕ, ◌+◌, Bool, true, false, List, [], ◌∷◌, ◌++◌, Option, Some, None, ap, append_assoc, append-nil, refl, subst, sym}
 use Rattle.std.proofs.lemmas.Bool.{cases_Bool, false≢true}
 use Rattle.std.proofs.lemmas.List.Folds.{list_any-append}
 use Rattle.std.specs.List.{list_any}
@@ -15,7 +15,7 @@ use Rattle.trick_model.specs.declared.entry.Entry.{Entry}
 use Rattle.trick_model.specs.declared.session.Session.{Session}
 use Rattle.trick_outside.specs.Causes.{Rose}
 use Rattle.trick_serve.specs.Calls.{View}
-use Rattle.trick_serve.specs.Ended.{is_end}
+use Rattle.trick_serve.specs.Ended.{has_end, is_end}
 use Rattle.trick_serve.specs.Life.{own}
 use Rattle.trick_serve.specs.Sides.{Queues, Side, nobody, side}
 use Rattle.trick_serve.specs.declared.seat.Seat.{Seat}
@@ -24,7 +24,7 @@ use Rattle.trick_serve_facts.proofs.Keeping.{AllShown, HoldsAlong, IsKept, IsSho
 use Rattle.trick_serve_facts.proofs.Lives.{entries_kept, lines_join}
 use Rattle.trick_serve_facts.proofs.Messages.{messages_kept, messages_none}
 use Rattle.trick_serve_facts.specs.Clients.{ClientsAreServed, EndSays, HasServed, IsUnsaid, LinkTale, OthersAreAbsent}
-use Rattle.trick_serve_facts.specs.Life.{HasEntries, HasLived, HasReason, is_fault, is_long_line, lines_in}
+use Rattle.trick_serve_facts.specs.Life.{HasEntries, HasLived, HasReason, WasRefused, is_fault, is_long_line, lines_in}
 use Rattle.trick_serve_facts.specs.Messages.{HasMessages}
 use Rattle.trick_serve_facts.specs.Serves.{GiveNothing, IsServedRun, all_entries, given_by, given_in}
 use Rattle.trick_turns.specs.Turns.{Answer}
@@ -169,6 +169,20 @@ heard_is n s mine tale was says bytes told =
       unsaid was.leave s some mark was.missed fed.0 bytes says.heard.are was.reason was.missing fed.2,
     )
 
+none_some : (why : Cause) → None ≡ Some why → ⊥
+none_some why is = cc
+
+-- of a session that has not left, and whose bytes were heard to their end, all lines were said
+pub heard_to_end : (n : ℕ) (s : Side) (mine : List Entry) (tale : LinkTale) (was : HasLived n s mine) → EndSays tale s → IsTrue (has_end s.heard)
+    → was.leave ≡ None → (bytes : List ℕ) → tale.told ≡ Some bytes → lines_of bytes ≡ was.lines
+unfolding heard_is
+heard_to_end n s mine tale was says ended stays bytes told =
+    let so = heard_is n s mine tale was says bytes told in
+    let fed = says.heard.lines_are bytes told in
+    let rest : so.0 ≡ [] = unsaid (Some cause.HungUp) s says.heard.some says.heard.mark was.missed fed.0 bytes says.heard.are ended
+    (λ never. was.missing (λ other. none_some cause.OutOfMemory (sym stays ∙ other))) fed.2 in
+    so.1 ∙ ap (λ (l : List (List ℕ)). was.lines ++ l) rest ∙ append-nil was.lines
+
 fault_is : (leave : Option Cause) (s : Side) (tale : LinkTale) → EndSays tale s → HasReason leave s → leave ≡ Some cause.LinkFault
     → Rose tale.read_before tale.read_now ⊎ Rose tale.write_before tale.write_now
 fault_is leave s tale says reason is = ⊎_elim
@@ -189,7 +203,7 @@ served_by : (p : Plan) (s : State) (lists : List (List Entry)) (n : ℕ) (here :
     → here.queues ≡ Some queues → EndSays tale here → HasLived n here (own n (all_entries lists))
     → HasMessages here (messages_to n (turns_said p (opened s) lists))
     → HasHungUp p (opened s) n lists here (own n (all_entries lists)) (messages_to n (turns_said p (opened s) lists))
-    → HasServed p s lists n queues.room tale
+    → HasServed p s lists n queues tale
 served_by p s lists n here queues tale seated says lived messages hung =
     record {
       lines = lived.lines;
@@ -209,6 +223,9 @@ served_by p s lists n here queues tale seated says lived messages hung =
           subst (λ (q : Queues). HasWaiting here.put q.room) (some_same full.queues queues (sym full.seated ∙ seated)) full.waiting)
           (λ quick. absurd (some (messages.all quick)))
           (cases_Bool here.slow);
+      no_thread = λ is.
+          let was : WasRefused here = subst (λ (o : Option Cause). HasReason o here) is lived.reason in
+          ap (λ (q : Queues). q.refused) (sym (some_same was.queues queues (sym was.seated ∙ seated))) ∙ was.refused;
       hung_up = hung_up_by p (opened s) n lists here (own n (all_entries lists)) (messages_to n (turns_said p (opened s) lists)) lived.lines
           lived.leave hung lived.entries_are;
     }

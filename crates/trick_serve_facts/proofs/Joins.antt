@@ -21,7 +21,7 @@ use Rattle.trick_turns.specs.Turns.{Sessions, after_entries, after_entry, in_nex
 
 -- ---- joins of one session
 
-joins_join : (early late : List Entry) → newcomers (early ++ late) ≡ newcomers early ++ newcomers late
+pub joins_join : (early late : List Entry) → newcomers (early ++ late) ≡ newcomers early ++ newcomers late
 joins_join [] late = refl
 joins_join (Join session ∷ early) late = ap (λ (l : List ℕ). session ∷ l) (joins_join early late)
 joins_join (Said session line ∷ early) late = joins_join early late

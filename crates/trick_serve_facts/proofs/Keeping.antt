@@ -49,7 +49,7 @@ messages_join n (m ∷ early) late = by (eqb m.0 n) (messages_join n early late)
     by true e = ap (λ (bytes : List (List ℕ)). m.1 ∷ bytes) e
     by false e = e
 
-one_to : (n : ℕ) (m : Message) → (b : Bool) → eqb m.0 n ≡ b
+pub one_to : (n : ℕ) (m : Message) → (b : Bool) → eqb m.0 n ≡ b
     → messages_to n (m ∷ []) ≡ (let all : List (List ℕ) = elim b [ true ↦ m.1 ∷ [] | false ↦ [] ] in all)
 one_to n m b is = ap (λ (b : Bool). let all : List (List ℕ) = elim b [ true ↦ m.1 ∷ [] | false ↦ [] ] in all) is
 
@@ -127,7 +127,7 @@ whole_call (Answers answer) old new did whole = tt
 whole_call (Breaks there) old new did whole = absurd (false≢true (sym whole ∙ did.broke))
 whole_call (Hands message) old new did whole = tt
 
-whole_calls : (calls : List Call) (old new : View) → DoAll calls old new → new.broke ≡ false → AreWhole calls × (old.broke ≡ false)
+pub whole_calls : (calls : List Call) (old new : View) → DoAll calls old new → new.broke ≡ false → AreWhole calls × (old.broke ≡ false)
 whole_calls [] old new did whole = (tt, ap (λ (v : View). v.broke) (sym did) ∙ whole)
 whole_calls (call ∷ calls) old new did whole =
     let rest = whole_calls calls did.0 new did.2 whole in

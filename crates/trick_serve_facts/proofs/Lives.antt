@@ -62,19 +62,19 @@ asks_more lines line true is all = record { before = lines; line = line; are = r
 asks_more lines line false is all = All-push (λ (l : List ℕ). is_exit l ≡ false) lines line all is
 
 -- what was heard and told stays a reason
-same_reason : (leave : Option Cause) (a b : Side) → b.heard ≡ a.heard → b.told ≡ a.told → (a.slow ≡ true → b.slow ≡ true) → HasReason leave a
-    → HasReason leave b
-same_reason None a b heard_is told_is slow_is so = so
-same_reason (Some cause.Exit) a b heard_is told_is slow_is so = so
-same_reason (Some cause.HungUp) a b heard_is told_is slow_is so = subst (λ (l : List Heard). IsTrue (has_end l)) (sym heard_is) so
-same_reason (Some cause.LinkFault) a b heard_is told_is slow_is so = ⊎_elim
+same_reason : (leave : Option Cause) (a b : Side) → b.queues ≡ a.queues → b.heard ≡ a.heard → b.told ≡ a.told → (a.slow ≡ true → b.slow ≡ true)
+    → HasReason leave a → HasReason leave b
+same_reason None a b queues_are heard_is told_is slow_is so = so
+same_reason (Some cause.Exit) a b queues_are heard_is told_is slow_is so = so
+same_reason (Some cause.HungUp) a b queues_are heard_is told_is slow_is so = subst (λ (l : List Heard). IsTrue (has_end l)) (sym heard_is) so
+same_reason (Some cause.LinkFault) a b queues_are heard_is told_is slow_is so = ⊎_elim
     (λ x. inl (subst (λ (l : List Heard). IsTrue (list_any is_fault l)) (sym heard_is) x))
     (λ x. inr (subst (λ (l : List WriteStop). IsTrue (list_any is_write_fault l)) (sym told_is) x))
     so
-same_reason (Some cause.LongLine) a b heard_is told_is slow_is so = subst (λ (l : List Heard). IsTrue (list_any is_long_line l)) (sym heard_is) so
-same_reason (Some cause.Slow) a b heard_is told_is slow_is so = slow_is so
-same_reason (Some cause.NoThread) a b heard_is told_is slow_is so = so
-same_reason (Some cause.OutOfMemory) a b heard_is told_is slow_is so = so
+same_reason (Some cause.LongLine) a b queues_are heard_is told_is slow_is so = subst (λ (l : List Heard). IsTrue (list_any is_long_line l)) (sym heard_is) so
+same_reason (Some cause.Slow) a b queues_are heard_is told_is slow_is so = slow_is so
+same_reason (Some cause.NoThread) a b queues_are heard_is told_is slow_is so = record { queues = so.queues; seated = queues_are ∙ so.seated; refused = so.refused }
+same_reason (Some cause.OutOfMemory) a b queues_are heard_is told_is slow_is so = so
 
 -- ---- one step of a session that is here
 
@@ -200,9 +200,9 @@ told_adds n stop.OutOfMemory a lines = still n a (after (IsTold stop.OutOfMemory
 
 -- ---- the first step
 
-seated_reason : (refused : Bool) (s : Side) → HasReason (cond refused (Some cause.NoThread) None) s
-seated_reason true s = tt
-seated_reason false s = tt
+seated_reason : (refused : Bool) (s : Side) (q : Queues) → s.queues ≡ Some q → q.refused ≡ refused → HasReason (cond refused (Some cause.NoThread) None) s
+seated_reason true s q seated is = record { queues = q; seated = seated; refused = is }
+seated_reason false s q seated is = tt
 
 seated_asks : (refused : Bool) → AskBy (cond refused (Some cause.NoThread) None) []
 seated_asks true = refl
@@ -230,7 +230,7 @@ sits n s refused a can =
       missing = λ other. refl;
       left = ap (λ (t : Side). t.left) can.seated ∙ seated_left refused;
       asks = seated_asks refused;
-      reason = seated_reason refused s;
+      reason = seated_reason refused s can.client.0 can.client.1 can.client.2;
     }
 
 -- ---- all steps
@@ -285,7 +285,7 @@ same_lived n a b mine queues heard_is told_is left_is slow_is was = record {
   missing = was.missing;
   left = left_is ∙ was.left;
   asks = was.asks;
-  reason = same_reason was.leave a b heard_is told_is slow_is was.reason;
+  reason = same_reason was.leave a b queues heard_is told_is slow_is was.reason;
 }
 
 lived_handed : (n : ℕ) (bytes : List ℕ) (a b : Side) (mine : List Entry) → IsHanded bytes a b → HasLived n a mine → HasLived n b mine

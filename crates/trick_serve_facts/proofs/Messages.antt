@@ -11,7 +11,7 @@ use Rattle.trick_serve_facts.specs.Messages.{HasMessages}
 use Rattle.trick_wire.specs.Ends.{HasWaiting}
 
 -- what is put, and whether it is slow, stay as they are
-same_messages : (a b : Side) (messages : List (List ℕ)) → b.queues ≡ a.queues → b.put ≡ a.put → b.slow ≡ a.slow → HasMessages a messages
+pub same_messages : (a b : Side) (messages : List (List ℕ)) → b.queues ≡ a.queues → b.put ≡ a.put → b.slow ≡ a.slow → HasMessages a messages
     → HasMessages b messages
 same_messages a b messages queues put_is slow_is was = record {
   dropped = was.dropped;
@@ -42,7 +42,7 @@ sits s refused a messages can was =
     no_messages messages s can.fresh.2 (ap (λ (t : Side). t.slow) can.seated)
     (was.messages_are ∙ (λ i. put_none i ++ dropped_none i))
 
-messages_happen : (h : Happening) (a : Side) (messages : List (List ℕ)) → Can h a → HasMessages a messages → HasMessages (after h a) messages
+pub messages_happen : (h : Happening) (a : Side) (messages : List (List ℕ)) → Can h a → HasMessages a messages → HasMessages (after h a) messages
 messages_happen (IsSeated s refused) a messages can was = sits s refused a messages can was
 messages_happen (Hears item) a messages can was = same_messages a (after (Hears item) a) messages refl refl refl was
 messages_happen (Misses item) a messages can was = same_messages a (after (Misses item) a) messages refl refl refl was
@@ -53,7 +53,7 @@ not_none : (items : List (List ℕ)) (item : List ℕ) → items ++ item ∷ [] 
 not_none [] item is = cc
 not_none (first ∷ items) item is = cc
 
-messages_handed : (bytes : List ℕ) (a b : Side) (messages : List (List ℕ)) → IsHanded bytes a b → HasMessages a messages
+pub messages_handed : (bytes : List ℕ) (a b : Side) (messages : List (List ℕ)) → IsHanded bytes a b → HasMessages a messages
     → HasMessages b (messages ++ bytes ∷ [])
 messages_handed bytes a b messages (inl put) was =
     let none : was.dropped ≡ [] = was.all put.before in

@@ -1,6 +1,6 @@
 -- What the session of one client came to.
 use Rattle.std.specs.List.{list_any}
-use Rattle.std.specs.Prelude.{◌≡◌, ◌≢◌, ◌⊎◌, ℕ, ◌+◌, List, [], ◌++◌, Option, Some, None, IsTrue}
+use Rattle.std.specs.Prelude.{◌≡◌, ◌≢◌, ◌⊎◌, ℕ, ◌+◌, true, List, [], ◌++◌, Option, Some, None, IsTrue}
 use Rattle.trick_model.specs.Commands.{lines as lines_of}
 use Rattle.trick_model.specs.Files.{session_text}
 use Rattle.trick_model.specs.Plan.{Plan}
@@ -57,11 +57,13 @@ IsUnsaid (Some cause.Slow) bytes rest = Unit {0}
 IsUnsaid (Some cause.NoThread) bytes rest = Unit {0}
 IsUnsaid (Some cause.OutOfMemory) bytes rest = Unit {0}
 
--- A client was served as session n: its entries are its join, its lines and its leave; its lines are the first lines of
--- its bytes; and it was sent a first part of its session text, which is, turn after turn, the replies to its lines and
--- then a sample of the state at the end of the turn where one is due. What was kept for it is all of that text, unless
--- its outbox was full once; and all that was kept was written, unless its link failed or had no memory.
-pub record HasServed (p : Plan) (s : State) (lists : List (List Entry)) (n room : ℕ) (tale : LinkTale) : Type 0 where
+-- A client with these queues was served as session n: its entries are its join, its lines and its leave; its lines are
+-- the first lines of its bytes; and it was sent a first part of its session text, which is, turn after turn, the replies
+-- to its lines and then a sample of the state at the end of the turn where one is due. What was kept for it is all of
+-- that text, unless its outbox was full once; and all that was kept was written, unless its link failed or had no
+-- memory. It left by NoThread only where a thread was refused to it.
+pub record HasServed (p : Plan) (s : State) (lists : List (List Entry)) (n : ℕ) (queues : Queues) (tale : LinkTale)
+    : Type 0 where
   pub lines : List (List ℕ)
   pub leave : Option Cause
   pub entries_are : own n (all_entries lists) ≡ life n lines leave
@@ -75,7 +77,8 @@ pub record HasServed (p : Plan) (s : State) (lists : List (List Entry)) (n room 
   pub link_fault : leave ≡ Some cause.LinkFault
       → Rose tale.read_before tale.read_now ⊎ Rose tale.write_before tale.write_now
   pub slow : leave ≡ Some cause.Slow → dropped ≢ []
-  pub full : dropped ≢ [] → HasWaiting kept room
+  pub full : dropped ≢ [] → HasWaiting kept queues.room
+  pub no_thread : leave ≡ Some cause.NoThread → queues.refused ≡ true
   pub hung_up : leave ≡ Some cause.HungUp → HangsUpIn p (opened s) lists n
 
 -- In a run that was served each client that has a seat was served.
@@ -83,7 +86,7 @@ abbrev pub ClientsAreServed : Type 0
 ClientsAreServed =
     (p : Plan) (s : State) (lists : List (List Entry)) (old new : View) (k : ℕ) (queues : Queues) (tale : LinkTale)
     → IsServedRun p s lists old new → (side new.seats k).queues ≡ Some queues → EndSays tale (side new.seats k)
-    → HasServed p s lists (k + 1) queues.room tale
+    → HasServed p s lists (k + 1) queues tale
 
 -- A session without a seat has no entry and no message.
 pub record IsAbsent (p : Plan) (s : State) (lists : List (List Entry)) (n : ℕ) : Type 0 where

@@ -27,7 +27,7 @@ FreezeHasEntries p w (entries ∷ lists) =
 pub record IsServed (p : Plan) (s : State) (lists : List (List Entry)) (seats : List Seat) : Type 0 where
   pub joins : newcomers (all_entries lists) ≡ numbers_from 1 (length seats)
   pub clients : (k : ℕ) (queues : Queues) (tale : LinkTale) → (side seats k).queues ≡ Some queues → EndSays tale (side seats k)
-      → HasServed p s lists (k + 1) queues.room tale
+      → HasServed p s lists (k + 1) queues tale
   pub others : (k : ℕ) → length seats ≤ k → IsAbsent p s lists (k + 1)
   pub frozen : FreezeHasEntries p (opened s) lists
 

@@ -16,3 +16,7 @@ pub mod IsServed
 pub mod Tales
 -- What a session is sent, turn by turn.
 pub mod Texts
+-- What a client was sent, also in a run that stopped.
+pub mod Sent
+-- How a run ends that waits in Freeze.
+pub mod Waits

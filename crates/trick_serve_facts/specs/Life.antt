@@ -75,9 +75,15 @@ AskBy (Some cause.Slow) lines = AskNothing lines
 AskBy (Some cause.NoThread) lines = lines ≡ []
 AskBy (Some cause.OutOfMemory) lines = AskNothing lines
 
+-- A thread was refused to its client.
+pub record WasRefused (s : Side) : Type 0 where
+  pub queues : Queues
+  pub seated : s.queues ≡ Some queues
+  pub refused : queues.refused ≡ true
+
 -- A session leaves by HungUp only where the end of its bytes was heard; by LongLine only where a line was too long; by
--- LinkFault only where its reader or its writer told that its link failed; and by Slow only where a message to it was
--- left out.
+-- LinkFault only where its reader or its writer told that its link failed; by Slow only where a message to it was left
+-- out; and by NoThread only where a thread was refused to its client.
 abbrev pub HasReason : Option Cause → Side → Type 0
 HasReason None s = Unit {0}
 HasReason (Some cause.Exit) s = Unit {0}
@@ -85,7 +91,7 @@ HasReason (Some cause.HungUp) s = IsTrue (has_end s.heard)
 HasReason (Some cause.LinkFault) s = IsTrue (list_any is_fault s.heard) ⊎ IsTrue (list_any is_write_fault s.told)
 HasReason (Some cause.LongLine) s = IsTrue (list_any is_long_line s.heard)
 HasReason (Some cause.Slow) s = s.slow ≡ true
-HasReason (Some cause.NoThread) s = Unit {0}
+HasReason (Some cause.NoThread) s = WasRefused s
 HasReason (Some cause.OutOfMemory) s = Unit {0}
 
 -- A session that was seated has these entries: its lines are those that were heard, in order, each once; where there

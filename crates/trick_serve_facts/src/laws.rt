@@ -3,7 +3,9 @@
 ghost use Rattle.trick_serve_facts.specs.Clients.{ClientsAreServed, OthersAreAbsent};
 ghost use Rattle.trick_serve_facts.specs.IsServed.{RunsAreServed};
 ghost use Rattle.trick_serve_facts.specs.Joins.{JoinsAreInOrder};
+ghost use Rattle.trick_serve_facts.specs.Sent.{ClientsAreSent, SentAreFronts};
 ghost use Rattle.trick_serve_facts.specs.Texts.{TextsAreByTurns};
+ghost use Rattle.trick_serve_facts.specs.Waits.{ClientsAreHeardOut, WaitingIsOver};
 
 /// Each client that was seated in a run was served: its entries are its join, its lines and its leave, its lines are
 /// the first lines of its bytes, and it was sent a first part of its session text, turn after turn.
@@ -30,4 +32,26 @@ pub fn runs_are_served()
 /// sample that is due, of the state in which the turn ends.
 pub fn texts_are_by_turns()
     ensures { TextsAreByTurns }
+{}
+
+/// Of the messages to a session that were handed over, also in a run that stopped, the first ones were kept for its
+/// client, and what was kept went to its link, as far as that took it.
+pub fn clients_are_sent()
+    ensures { ClientsAreSent }
+{}
+
+/// Where the messages that were handed over are the first ones of a run, what a client's link took is a first part of
+/// the text of its session in that run.
+pub fn sent_are_fronts()
+    ensures { SentAreFronts }
+{}
+
+/// Where a run is over as it waits in Freeze, below its limit, each client has left, or has said all lines of its bytes.
+pub fn clients_are_heard_out()
+    ensures { ClientsAreHeardOut }
+{}
+
+/// No client comes any more to a run that is over as it waits in Freeze, below its limit.
+pub fn waiting_is_over()
+    ensures { WaitingIsOver }
 {}

@@ -19,6 +19,7 @@ fn write_left<O: LinkOut, R: Wait>(rt: &R, link: &mut O, outbox: &mut Taker<Mess
     ensures wrote { (start : Option (List ℕ)) (before : ℕ)
         → Took start (O.holds link.old) (text_of (taken_by outbox.old)) → before ≤ O.failures link.old
         → HasWritten start (O.holds link.new) before (O.failures link.new) result (given_to outbox.old) }
+    ensures later { O.failures link.old ≤ O.failures link.new }
 {
     for _ in rt.forever() {
         match outbox.pop(rt) {
@@ -46,6 +47,7 @@ fn go_on<O: LinkOut, R: Wait>(
     ensures wrote { (start : Option (List ℕ)) (before : ℕ)
         → HasWritten start (O.holds link.old) before (O.failures link.old) stop (taken_by outbox.old)
         → HasWritten start (O.holds link.new) before (O.failures link.new) result (given_to outbox.old) }
+    ensures later { O.failures link.old ≤ O.failures link.new }
 {
     if stop == WriteStop::Closed {
         return write_left(rt, link, outbox);
@@ -69,6 +71,7 @@ pub fn end_writer<O: LinkOut, R: Wait>(
         → HasWritten told (O.holds writer.link) before (O.failures writer.link) writer.stop (taken_by writer.outbox)
         → HasWritten told (O.holds result.0) before (O.failures result.0) result.1 (put_by outbox) }
     ensures cause { put_by writer.causes ≡ cause_of writer.stop → IsCauseOf (taken_by causes.old) writer.stop }
+    ensures later { O.failures writer.link ≤ O.failures result.0 }
     ensures taken { taken_by causes.new ≡ taken_by causes.old }
 {
     let WriterDone {

@@ -25,6 +25,7 @@ loop-preserved g c = record {
   free = (let same = ap (λ places. places.free) c.tell_nobody.ensures.places in let more = c.is_over.ensures.free in let some = c.loop.invariant.free in omega arith);
   room = subst (λ sessions. vec_len sessions.seated + 1 ≤ vec_capacity sessions.past) (sym c.is_over.ensures.placed.sessions ∙ sym c.tell_nobody.ensures.sessions) c.loop.invariant.room;
   place = subst (λ sessions. vec_len sessions.seated < vec_capacity sessions.seated) (sym c.is_over.ensures.placed.sessions ∙ sym c.tell_nobody.ensures.sessions) c.loop.invariant.place;
+  number = subst (λ sessions. vec_len sessions.seated < 4294967295) (sym c.is_over.ensures.placed.sessions ∙ sym c.tell_nobody.ensures.sessions) c.loop.invariant.number;
   taking = λ start t.
       let h : Hosts g.row.D.Denot g.row.D-In.Denot g.row.D-Out.Denot g.row.S.Denot = hosts g.D.Door.visited g.D.In.LinkIn g.D.Out.LinkOut g.S.Spawner.failures g.D.Door.has_client in
       let placed = taking_placed h start [] c.loop.door c.loop.acceptor c.is_over.new.self (c.loop.invariant.taking start t) c.is_over.ensures.placed in

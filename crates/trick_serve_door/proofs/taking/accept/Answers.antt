@@ -1,6 +1,7 @@
 use Rattle.std.proofs.Common.{[], ◌∷◌, ◌++◌, ap, arith, refl, ◌∙◌}
-use Rattle.trick_serve_door.proofs.Asking.{taking_begins}
+use Rattle.trick_serve_door.proofs.Asking.{fit_length, taking_begins}
 use Rattle.trick_serve_door.proofs.taking.accept.Goals as goal
+use Rattle.trick_serve_door.specs.Seats.{IsSeated}
 use Rattle.trick_serve_door.specs.Taking.{Hosts, Start, hosts, start_of}
 use Rattle.trick_serve_door.specs.Told.{told_end}
 use Rattle.trick_serve_door.specs.declared.arrival.Comes.TheVariants.{Closed}
@@ -25,6 +26,8 @@ returns g c =
       joins = e.taking.joins;
       past = c.take_in-sessions.ensures e.taking.arrivals e.taking.seated;
       no_thread = e.taking.refused;
+      numbers = (let many = fit_length (IsSeated h.input h.output) e.taking.arrivals c.take_clients-end.new.acceptor.sessions.seated.items e.taking.seated in
+          omega (arith, c.take_clients-end.new.acceptor.sessions.numbers, c.take_clients-end.new.acceptor.sessions.seated.ok.0));
       room = (let room = e.taking.room in let left = c.wait_for_end.ensures.left in omega arith);
       over = c.wait_for_end.ensures.over;
       first = e.taking.first;

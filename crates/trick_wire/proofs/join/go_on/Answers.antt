@@ -6,4 +6,7 @@ pub returns-then-eq : goal.returns-then-eq
 returns-then-eq g c = search rules
 
 pub returns : goal.returns
-returns g c = record { wrote = λ start before w. let left = c.learn.ensures.left c.requires.both in wrote_front start _ before _ _ _ left.0 _ w left.1 (search rules) }
+returns g c = record {
+  later = search rules;
+  wrote = λ start before w. let left = c.learn.ensures.left c.requires.both in wrote_front start _ before _ _ _ left.0 _ w left.1 (search rules);
+}

@@ -8,3 +8,4 @@ abbrev pub invariant-loop : goal.invariant-loop
 invariant-loop g l = HasBoth l.outbox × (given_to l.outbox ≡ given_to l.initial.outbox)
     × ((start : Option (List ℕ)) (before : ℕ) → Took start (g.O.LinkOut.holds l.initial.link) (text_of (taken_by l.initial.outbox)) → before ≤ g.O.LinkOut.failures l.initial.link
     → Took start (g.O.LinkOut.holds l.link) (text_of (taken_by l.outbox)) × (before ≤ g.O.LinkOut.failures l.link))
+    × (g.O.LinkOut.failures l.initial.link ≤ g.O.LinkOut.failures l.link)

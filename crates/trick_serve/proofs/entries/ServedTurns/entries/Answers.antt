@@ -13,7 +13,7 @@ returns-in-Ok-Some-clause-step g c =
     let is : c.list.result ≡ Ok (Some c.in-Ok-Some.list) = search rules in
     let so : HasGiven c.args.there.now (is_frozen c.args.state.now.mode) (view c.args.self.now.roll c.args.self.now.reached.items c.args.self.now.over c.args.self.now.broke) (view c.list.new.self.roll c.list.new.self.reached.items c.list.new.self.over c.list.new.self.broke) c.in-Ok-Some.list.items =
     subst (λ r. Came c.args.there.now (is_frozen c.args.state.now.mode) (view c.args.self.now.roll c.args.self.now.reached.items c.args.self.now.over c.args.self.now.broke) (view c.list.new.self.roll c.list.new.self.reached.items c.list.new.self.over c.list.new.self.broke) r) is came in
-    went_given c.args.there.now _ c.args.state.now.mode (view c.args.self.now.roll c.args.self.now.reached.items c.args.self.now.over c.args.self.now.broke) (view c.list.new.self.roll c.list.new.self.reached.items c.list.new.self.over c.list.new.self.broke) c.in-Ok-Some.list.items c.if-self.false c.list.ensures.broke so
+    record { went = went_given c.args.there.now _ c.args.state.now.mode (view c.args.self.now.roll c.args.self.now.reached.items c.args.self.now.over c.args.self.now.broke) (view c.list.new.self.roll c.list.new.self.reached.items c.list.new.self.over c.list.new.self.broke) c.in-Ok-Some.list.items c.if-self.false c.list.ensures.broke so; same = c.list.ensures.coming }
 
 pub returns-in-Ok-Some-clause-pays : goal.returns-in-Ok-Some-clause-pays
 returns-in-Ok-Some-clause-pays g c =
@@ -33,7 +33,7 @@ returns-in-Ok-None-clause-step g c =
     let is : c.list.result ≡ Ok None = search rules in
     let so : HasNoMore (is_frozen c.args.state.now.mode) (view c.args.self.now.roll c.args.self.now.reached.items c.args.self.now.over c.args.self.now.broke) (view c.list.new.self.roll c.list.new.self.reached.items c.list.new.self.over c.list.new.self.broke) =
     subst (λ r. Came c.args.there.now (is_frozen c.args.state.now.mode) (view c.args.self.now.roll c.args.self.now.reached.items c.args.self.now.over c.args.self.now.broke) (view c.list.new.self.roll c.list.new.self.reached.items c.list.new.self.over c.list.new.self.broke) r) is came in
-    went_over c.args.there.now _ c.args.state.now.mode (view c.args.self.now.roll c.args.self.now.reached.items c.args.self.now.over c.args.self.now.broke) (view c.list.new.self.roll c.list.new.self.reached.items c.list.new.self.over c.list.new.self.broke) so
+    record { went = went_over c.args.there.now _ c.args.state.now.mode (view c.args.self.now.roll c.args.self.now.reached.items c.args.self.now.over c.args.self.now.broke) (view c.list.new.self.roll c.list.new.self.reached.items c.list.new.self.over c.list.new.self.broke) so; same = c.list.ensures.coming }
 
 pub returns-in-Err-clause-step : goal.returns-in-Err-clause-step
 returns-in-Err-clause-step g c =
@@ -43,4 +43,4 @@ returns-in-Err-clause-step g c =
     let is : c.list.result ≡ Err _ = search rules in
     let so : HasLost c.args.there.now (view c.args.self.now.roll c.args.self.now.reached.items c.args.self.now.over c.args.self.now.broke) (view c.list.new.self.roll c.list.new.self.reached.items c.list.new.self.over c.list.new.self.broke) =
     subst (λ r. Came c.args.there.now (is_frozen c.args.state.now.mode) (view c.args.self.now.roll c.args.self.now.reached.items c.args.self.now.over c.args.self.now.broke) (view c.list.new.self.roll c.list.new.self.reached.items c.list.new.self.over c.list.new.self.broke) r) is came in
-    went_lost c.args.there.now (view c.args.self.now.roll c.args.self.now.reached.items c.args.self.now.over c.args.self.now.broke) (view c.list.new.self.roll c.list.new.self.reached.items c.list.new.self.over c.list.new.self.broke) _ so refl refl
+    record { went = went_lost c.args.there.now (view c.args.self.now.roll c.args.self.now.reached.items c.args.self.now.over c.args.self.now.broke) (view c.list.new.self.roll c.list.new.self.reached.items c.list.new.self.over c.list.new.self.broke) _ so refl refl; same = c.list.ensures.coming }

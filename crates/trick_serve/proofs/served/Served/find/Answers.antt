@@ -31,7 +31,7 @@ returns-then-are_over-clause-over g c = λ yes.
     record {
       looks = looked_more c.args.there.now (view c.args.self.now.roll c.args.self.now.reached.items c.args.self.now.over c.args.self.now.broke)
           c.loop.self.roll c.look.new.self.roll c.loop.self.reached.items c.look.new.self.reached.items c.loop.self.over c.look.new.self.over c.loop.self.broke c.look.new.self.broke
-          (ap (λ (v : Vec ℕ Global). v.items) c.look.ensures.reached) c.look.ensures.broke c.loop.self.roll.seated c.loop.invariant.looks
+          (ap (λ (v : Vec ℕ Global). v.items) c.look.ensures.reached) c.look.ensures.broke c.look.ensures.over c.loop.self.roll.seated c.loop.invariant.looks
           (subst (λ (b : Bool). IsGathered c.args.there.now c.loop.self.roll.seats.items (filter (is_live c.loop.self.roll.seats.items) c.loop.self.roll.live.items) c.look.new.self.roll b) same c.look.ensures.gathered)
           empty;
       frozen_is = search rules;
@@ -48,9 +48,10 @@ loop-preserved g c =
     record {
       looks = looked_more c.args.there.now (view c.args.self.now.roll c.args.self.now.reached.items c.args.self.now.over c.args.self.now.broke)
           c.loop.self.roll c.look.new.self.roll c.loop.self.reached.items c.look.new.self.reached.items c.loop.self.over c.look.new.self.over c.loop.self.broke c.look.new.self.broke
-          (ap (λ (v : Vec ℕ Global). v.items) c.look.ensures.reached) c.look.ensures.broke c.loop.self.roll.seated c.loop.invariant.looks
+          (ap (λ (v : Vec ℕ Global). v.items) c.look.ensures.reached) c.look.ensures.broke c.look.ensures.over c.loop.self.roll.seated c.loop.invariant.looks
           (subst (λ (b : Bool). IsGathered c.args.there.now c.loop.self.roll.seats.items (filter (is_live c.loop.self.roll.seats.items) c.loop.self.roll.live.items) c.look.new.self.roll b) same c.look.ensures.gathered)
           empty;
+      coming = c.look.ensures.coming ∙ c.loop.invariant.coming;
       reached = c.look.ensures.reached ∙ c.loop.invariant.reached;
       broke = c.look.ensures.broke ∙ c.loop.invariant.broke;
     }
