@@ -1,0 +1,25 @@
+use Rattle.std.proofs.Common.{ap, subst, sym, ℕ, ◌≡◌, []}
+use Rattle.std.specs.Arc.{arc_value}
+use Rattle.std.specs.Prelude.{All}
+use Rattle.trick_crew_yard.proofs.Posted.{tended_of_post}
+use Rattle.trick_crew_yard.proofs.Tended.{tended_for}
+use Rattle.trick_crew_yard.proofs.yard.YardPosts.finish.Goals as goal
+use Rattle.trick_crew_yard.specs.Staffs.{RunsAtPost}
+use Rattle.trick_crew_yard.specs.Tending.{WasAsked}
+
+pub invariant_of-self : goal.invariant_of-self
+invariant_of-self g c =
+    let yard = c.args.self.now in
+    let same = ap arc_value c.finish.ensures.asked.1 in
+    record {
+      here_of_post = tended_of_post (λ (n : ℕ). n ≡ c.args.thread) (arc_value yard.desk.rack.lock) (arc_value c.finish.new.self.rack.lock) yard.staff.here.items
+          c.attend_each.new.here.items same c.attend_each.ensures yard.here_of_post;
+      away_of_post = subst (λ lock. ∥ All (RunsAtPost lock) yard.staff.away.items ∥₁) (sym same) yard.away_of_post;
+    }
+
+pub returns-clause-asked : goal.returns-clause-asked
+returns-clause-asked g c = (
+  c.finish.ensures.asked.0,
+  tended_for (λ (n : ℕ). n ≡ c.args.thread) (WasAsked []) (λ n none. absurd none) c.args.self.now.staff.here.items c.attend_each.new.here.items
+      c.attend_each.ensures,
+)

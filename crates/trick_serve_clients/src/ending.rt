@@ -1,0 +1,94 @@
+//! How the sessions are ended, one after another, and the links go back to their door.
+
+ghost use Rattle.std.specs.Prelude.{◌≡◌, ◌≤◌, ◌∷◌, ◌++◌, [], IfSome, MatchOption, None, map, vec_len};
+ghost use Rattle.trick_serve_clients.specs.Ends.{AreItsEnds, ends_left, seat_ends};
+ghost use Rattle.trick_serve_clients.specs.Ending.{EndsAll, HaveTheirEnds, IsEndedBy, as_it_was};
+
+use std::sync::Wait;
+use trick_outside::{Door, LinkIn, LinkOut};
+use trick_serve::Seat;
+use trick_serve_door::{Ended, Ends, Past, end_session};
+
+// The ends of the sessions that are not ended yet: of those with seats and of those that came late, each with the last
+// of them first.
+#[derive(Drop)]
+pub(crate) struct EndsLeft {
+    pub(crate) seats: Vec<Seat>,
+    pub(crate) late: Vec<Ends>,
+}
+
+impl EndsLeft {
+    // The ends of all sessions, in the order of their numbers.
+    pub(crate) fn new(seats: Vec<Seat>, late: Vec<Ends>) -> EndsLeft
+        ensures { ends_left result ≡ map seat_ends seats.items ++ late.items }
+    {
+        let mut seats = seats;
+        let mut late = late;
+        seats.reverse();
+        late.reverse();
+        EndsLeft { seats, late }
+    }
+
+    // The ends of the next session, where they were kept.
+    fn next(&mut self) -> Option<Ends>
+        ensures { MatchOption result ((ends_left self.old ≡ []) × (ends_left self.new ≡ []))
+            (λ ends. ends_left self.old ≡ ends ∷ ends_left self.new) }
+    {
+        match self.seats.pop() {
+            Some(seat) => Some(seat.into_ends()),
+            None => self.late.pop(),
+        }
+    }
+}
+
+// Ends one session. Where its ends were not kept, its links are as its threads left them.
+fn end_one<I: LinkIn + Drop, O: LinkOut + Drop, R: Wait>(
+    rt: &R,
+    ends: Option<Ends>,
+    past: Past<I, O>,
+) -> Ended<I, O>
+    requires { IfSome ends (λ ends. AreItsEnds ends past) }
+    ensures ended { IfSome ends (λ ends. IsEndedBy I.LinkIn O.LinkOut ends past result) }
+    ensures left { ends ≡ None → result ≡ as_it_was past }
+{
+    match ends {
+        Some(ends) => end_session(rt, ends, past),
+        None => {
+            let Past { reader, writer } = past;
+            Ended {
+                input: reader.link,
+                output: writer.link,
+                read: reader.stop,
+                wrote: writer.stop,
+            }
+        }
+    }
+}
+
+/// Ends the sessions of all clients in the order of their numbers, which begin with 1, and gives the links of each back
+/// to their door at once. Place n - 1 has what the threads of client n handed back. Takes no memory.
+pub(crate) fn end_all<D: Door, R: Wait>(
+    rt: &R,
+    door: &mut D,
+    ends: EndsLeft,
+    pasts: Vec<Past<D::In, D::Out>>,
+)
+where
+    D::In: Drop,
+    D::Out: Drop,
+    requires numbers { vec_len pasts ≤ 4294967295 }
+    requires fit { HaveTheirEnds (ends_left ends) pasts.items }
+    ensures ended { EndsAll D.visited D.In.LinkIn D.Out.LinkOut door.old door.new (ends_left ends) pasts.items }
+    ensures failures { D.failures door.new ≡ D.failures door.old }
+    ensures idle { D.idleness door.new ≡ D.idleness door.old }
+{
+    let mut ends = ends;
+    let mut left = pasts;
+    left.reverse();
+    let mut number: u32 = 0;
+    while let Some(past) = left.pop() {
+        number += 1;
+        let Ended { input, output, .. } = end_one(rt, ends.next(), past);
+        door.back(number, input, output);
+    }
+}

@@ -1,0 +1,141 @@
+//! How the clients of a run are opened.
+
+ghost use Rattle.std.specs.Prelude.{IfOk};
+ghost use Rattle.trick_serve_clients.specs.Opened.{AreUnused, IsOpenedBy};
+ghost use Rattle.trick_serve_door.specs.Taking.{hosts};
+
+use std::alloc::{AllocError, Global};
+use std::snapshot::Snapshot;
+use std::sync::{Arc, Wait};
+use std::thread::Threads;
+use trick_outside::{Door, Spawner};
+use trick_serve::Served;
+use trick_serve_door::{Accepting, Comes, Departure, Taken};
+use trick_serve_start::{AcceptorThread, RunningAcceptor, start_accepting};
+use trick_turn::Bell;
+use trick_wire::{Putter, Taker, channel};
+
+/// For how many things there is room on the way from the acceptor: 64 clients live at once, and the end is told twice.
+const COMING: usize = 66;
+
+/// For how many things there is room on the way to the acceptor: 64 sessions leave at most, and then the run is over.
+const GONE: usize = 65;
+
+// Both ends of the two queues between a run and its acceptor, and the bell of the run, once for each of them.
+#[derive(Drop)]
+pub(crate) struct Ways<I, O> {
+    pub(crate) tells: Putter<Comes<I, O>>,
+    pub(crate) coming: Taker<Comes<I, O>>,
+    pub(crate) gone: Putter<Departure>,
+    pub(crate) hears: Taker<Departure>,
+    pub(crate) bell: Arc<Bell>,
+    pub(crate) their_bell: Arc<Bell>,
+}
+
+impl<I: Drop, O: Drop> Ways<I, O> {
+    // The queues, in which nothing is yet.
+    fn new(alloc: Global) -> Result<Ways<I, O>, AllocError>
+        ensures { IfOk result AreUnused }
+    {
+        let (tells, coming) = channel(alloc, COMING)?;
+        let (gone, hears) = channel(alloc, GONE)?;
+        let bell = Arc::new(alloc, Bell::new())?;
+        let their_bell = Arc::try_clone(&bell)?;
+        Ok(Ways {
+            tells,
+            coming,
+            gone,
+            hears,
+            bell,
+            their_bell,
+        })
+    }
+}
+
+/// The clients of a run while it goes on. They are to be closed by `close_clients`.
+#[derive(Drop)]
+pub struct Clients<D: Door + Drop, S: Spawner + Drop, R: Drop>
+where
+    D::In: Drop,
+    D::Out: Drop,
+{
+    /// The source of entries, which is lent to the run.
+    pub served: Served<D::In, D::Out, R>,
+    /// The acceptor, which takes clients in a thread of its own.
+    pub acceptor: RunningAcceptor<AcceptorThread<D, S, R>, Taken<D, S>>,
+    /// With what the acceptor began, but that its spawner had not been asked yet.
+    pub begun: Snapshot<Accepting<D, S, R>>,
+}
+
+/// The clients of a run whose acceptor was refused a thread: no client was taken yet.
+#[derive(Drop)]
+pub struct Refused<D: Door + Drop, S: Drop, R: Drop>
+where
+    D::In: Drop,
+    D::Out: Drop,
+{
+    /// The source of entries. Its clients come from the work.
+    pub served: Served<D::In, D::Out, R>,
+    /// The work of the acceptor. The count of its spawner rose.
+    pub work: Accepting<D, S, R>,
+}
+
+/// How the clients of a run were opened.
+#[derive(Drop)]
+pub enum Opened<D: Door + Drop, S: Spawner + Drop, R: Drop>
+where
+    D::In: Drop,
+    D::Out: Drop,
+{
+    /// Clients may come.
+    Open(Clients<D, S, R>),
+    /// The acceptor was refused a thread.
+    Refused(Refused<D, S, R>),
+    /// There was no memory. The door and the spawner are as they were.
+    OutOfMemory(D, S),
+}
+
+/// Opens the clients of a run: from then on an acceptor in a thread of its own takes those that come to the door, and
+/// its spawner admits their threads. Where there is no memory nothing was done, and where the acceptor was refused a
+/// thread nothing but that.
+pub fn open_clients<
+    D: Door + Send + Drop + 'static,
+    S: Spawner + Send + Drop + 'static,
+    R: Threads + Wait + Copy + Send + Drop + 'static,
+>(rt: R, alloc: Global, door: D, spawner: S) -> Opened<D, S, R>
+where
+    D::In: Send + Drop + 'static,
+    D::Out: Send + Drop + 'static,
+    ensures { IsOpenedBy (hosts D.visited D.In.LinkIn D.Out.LinkOut S.failures D.has_client) door spawner result }
+{
+    let Ok(ways) = Ways::new(alloc) else {
+        return Opened::OutOfMemory(door, spawner);
+    };
+    let Ways {
+        tells,
+        coming,
+        gone,
+        hears,
+        bell,
+        their_bell,
+    } = ways;
+    let served = Served::new(rt, alloc, bell, coming, gone);
+    let work = Accepting {
+        rt,
+        alloc,
+        door,
+        spawner,
+        coming: tells,
+        gone: hears,
+        bell: their_bell,
+    };
+    let begun = Snapshot::of(&work);
+    match start_accepting(work) {
+        Ok(acceptor) => Opened::Open(Clients {
+            served,
+            acceptor,
+            begun,
+        }),
+        Err(work) => Opened::Refused(Refused { served, work }),
+    }
+}

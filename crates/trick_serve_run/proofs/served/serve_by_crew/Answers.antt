@@ -1,0 +1,31 @@
+use Rattle.std.specs.Arc.{arc_value}
+use Rattle.trick_model.specs.PlanOf.{plan_of}
+use Rattle.trick_model.specs.State.{State, seen}
+use Rattle.trick_serve_door.specs.Taking.{Hosts, hosts}
+use Rattle.trick_serve_run.proofs.Beginning.{not_begun}
+use Rattle.trick_serve_run.proofs.Earlier.{served_from}
+use Rattle.trick_serve_run.proofs.served.serve_by_crew.Goals as goal
+use Rattle.trick_serve_run.specs.Serving.{moment, outside}
+
+pub returns-in_default : goal.returns-in_default
+returns-in_default g c =
+    let h : Hosts g.row.D.Denot g.row.D-In.Denot g.row.D-Out.Denot g.row.S.Denot = hosts g.D.Door.visited g.D.In.LinkIn g.D.Out.LinkOut g.S.Spawner.failures g.D.Door.has_client in
+    let door = g.met.D.Door g.world.𝓛 g.world.𝓜 g.world.𝓡 ((λ s x. x), (λ x. x), (λ x. x), λ x. x) in
+    let p = plan_of (arc_value c.args.accepted.now).plan in
+    let s : State = seen (λ memory. memory.numbers) c.args.state in
+    rw c.not_begun.ensures
+    (record { served = not_begun g.F.Shelf h p s c.args.shelf.now c.args.serving.door c.args.serving.spawner c.crew_of.new.spawner (g.met.F.Shelf.called_none c.args.shelf.now) (door.visited_none c.args.serving.door) c.crew_of.ensures.later })
+
+pub serve_by-service-requires-clause-free : goal.serve_by-service-requires-clause-free
+serve_by-service-requires-clause-free g c κs within = λ place there. c.in-Ok.ensures.free _
+
+pub returns : goal.returns
+returns g c =
+    let h : Hosts g.row.D.Denot g.row.D-In.Denot g.row.D-Out.Denot g.row.S.Denot = hosts g.D.Door.visited g.D.In.LinkIn g.D.Out.LinkOut g.S.Spawner.failures g.D.Door.has_client in
+    let p = plan_of (arc_value c.args.accepted.now).plan in
+    let s : State = seen (λ memory. memory.numbers) c.args.state in
+    let service = c.serve_by-service.result in
+    record {
+      served = served_from (outside g.F.Shelf h) p s c.args.shelf.now c.args.serving.door c.args.serving.spawner c.crew_of.new.spawner
+          (moment c.serve_by-service.new.shelf service.door service.spawner) service.sessions service.ended c.crew_of.ensures.later (rw c.deref.ensures at c.serve_by-service.ensures.served);
+    }
