@@ -1,5 +1,6 @@
-//! Tests of whole runs by real threads, by the top call: workers are at work at one moment, and whatever threads do, and
-//! however many could be started, the run writes what it writes on one thread. After it no thread is left.
+//! Tests of whole runs by real threads, by the top call: workers, and clerks of must-finish threads, are at work at one
+//! moment, and whatever threads do, and however many could be started, the run writes what it writes on one thread. After
+//! it no thread is left.
 #![tactic(auto)]
 
 #[cfg(test)]

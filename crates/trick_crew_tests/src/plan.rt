@@ -1,10 +1,72 @@
-//! The plan of the tests: eight threads of five jobs each, which are due at each of three tics. Each tic is a software
-//! frame and has a row of a log, and a checkpoint is written in the second frame.
+//! The plans of the tests. One has eight threads of five jobs each, which are due at each of three tics. Each tic is a
+//! software frame and has a row of a log, and a checkpoint is written in the second frame. The other one has must-finish
+//! threads.
+
+/// The texts of a plan.
+#[derive(Clone, Copy)]
+pub(crate) struct Texts {
+    pub(crate) s_define: &'static str,
+    pub(crate) input: &'static str,
+}
+
+/// The plan of eight threads.
+pub(crate) const EIGHT: Texts = Texts {
+    s_define: S_DEFINE,
+    input: INPUT,
+};
+
+/// A plan with a scheduled thread and two must-finish threads, of which one adds up what thread 0 and the other one what
+/// the scheduled thread counts, in cycles of two and of three tics. What they publish is recorded, and a checkpoint is
+/// written while they are at work.
+pub(crate) const CLERKS: Texts = Texts {
+    s_define: "class W : public Trick::SimObject {
+  public:
+    long x;
+    void step() { x = (x * 3 + 1) % 1009; }
+    W() { (0.000001, \"scheduled\") step(); }
+};
+class V : public Trick::SimObject {
+  public:
+    long y;
+    void step() { y = (y * 5 + 2) % 1013; }
+    V() { C1 (0.000001, \"scheduled\") step(); }
+};
+class M : public Trick::SimObject {
+  public:
+    long sum;
+    void add() { sum = sum + w.x; }
+    M() { C2 (0.000001, \"scheduled\") add(); }
+};
+class N : public Trick::SimObject {
+  public:
+    long sum;
+    void add() { sum = sum + v.y; }
+    N() { C3 (0.000001, \"scheduled\") add(); }
+};
+W w;
+V v;
+M m;
+N n;
+",
+    input: "trick.exec_set_thread_process_type(2, trick.PROCESS_TYPE_AMF_CHILD)
+trick.exec_set_thread_process_type(3, trick.PROCESS_TYPE_AMF_CHILD)
+trick.exec_set_thread_amf_cycle_time(2, 0.000002)
+trick.exec_set_thread_amf_cycle_time(3, 0.000003)
+trick.exec_set_software_frame(0.000001)
+g = trick.DRAscii('g')
+g.set_cycle(0.000001)
+g.add_variable('m.sum')
+g.add_variable('n.sum')
+trick.add_data_record_group(g)
+trick.add_read(0.000007, 'trick.checkpoint()')
+trick.stop(0.000012)
+",
+};
 
 /// An object on each of eight threads, thread 0 first. Job `three` of each but the first reads what that of the one
 /// before it writes, and job `five` of the first reads what `three` of the last one writes. Where `y` is even, `four`
 /// of all but the first divides by zero.
-pub(crate) const S_DEFINE: &str = "class A : public Trick::SimObject {
+const S_DEFINE: &str = "class A : public Trick::SimObject {
   public:
     long x, y;
     void one() { x = x * 3 + 1; }
@@ -143,7 +205,7 @@ H h;
 ";
 
 /// Who reads runs after who writes.
-pub(crate) const INPUT: &str = "trick.exec_add_depends_on_job('b.three', 1, 'a.three', 1)
+const INPUT: &str = "trick.exec_add_depends_on_job('b.three', 1, 'a.three', 1)
 trick.exec_add_depends_on_job('c.three', 1, 'b.three', 1)
 trick.exec_add_depends_on_job('d.three', 1, 'c.three', 1)
 trick.exec_add_depends_on_job('e.three', 1, 'd.three', 1)

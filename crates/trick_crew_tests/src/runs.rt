@@ -1,6 +1,6 @@
-//! Whole runs of the plan by the top calls, and what they come to.
+//! Whole runs of a plan by the top calls, and what they come to.
 
-use crate::plan::{INPUT, S_DEFINE};
+use crate::plan::Texts;
 use std::alloc::{AllocError, Global};
 use std::sync::{Arc, Wait};
 use std::thread::Threads;
@@ -41,7 +41,7 @@ impl Came {
     }
 }
 
-// The words that ask for a run of the plan by this command.
+// The words that ask for a run of a plan by this command.
 fn words(alloc: Global, command: &[u8]) -> Result<Vec<Word>, AllocError> {
     let mut words = Vec::new(alloc);
     words.push(Word::from_bytes(alloc, command)?)?;
@@ -50,17 +50,17 @@ fn words(alloc: Global, command: &[u8]) -> Result<Vec<Word>, AllocError> {
     Ok(words)
 }
 
-// A shelf with the texts of the plan.
-fn shelf(alloc: Global) -> Result<MemoryShelf, AllocError> {
+// A shelf with the texts of a plan.
+fn shelf(alloc: Global, texts: Texts) -> Result<MemoryShelf, AllocError> {
     MemoryShelf::new(alloc)
-        .with_file(b"s", S_DEFINE.as_bytes())?
-        .with_file(b"i", INPUT.as_bytes())
+        .with_file(b"s", texts.s_define.as_bytes())?
+        .with_file(b"i", texts.input.as_bytes())
 }
 
 /// The run on one thread.
-pub(crate) fn by_one_thread(alloc: Global) -> Result<Came, AllocError> {
+pub(crate) fn by_one_thread(alloc: Global, texts: Texts) -> Result<Came, AllocError> {
     let words = words(alloc, b"serial")?;
-    let mut shelf = shelf(alloc)?;
+    let mut shelf = shelf(alloc, texts)?;
     let mut sink = MemorySink::new(alloc);
     let status = tricks_alone(alloc, &words, &mut shelf, &mut sink);
     let printed = Vec::from_slice(alloc, sink.bytes())?;
@@ -87,6 +87,7 @@ impl<G: Gate> Gate for Kept<G> {
 pub(crate) fn by_threads<S: Spawner, G, R>(
     rt: R,
     alloc: Global,
+    texts: Texts,
     spawner: &mut S,
     gate: &Arc<G, Global>,
 ) -> Result<Came, AllocError>
@@ -95,7 +96,7 @@ where
     R: Threads + Wait + Copy + Send + Drop + 'static,
 {
     let words = words(alloc, b"run")?;
-    let mut shelf = shelf(alloc)?;
+    let mut shelf = shelf(alloc, texts)?;
     let mut sink = MemorySink::new(alloc);
     let door: EndedDoor<ScriptIn, MemoryOut> = EndedDoor::new();
     let gate = Kept {

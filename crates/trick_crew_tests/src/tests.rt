@@ -1,6 +1,7 @@
-//! Runs of the plan by threads. Each writes what the run on one thread writes.
+//! Runs of the plans by threads. Each writes what the run on one thread writes.
 
 use crate::gates::{Meeting, Shaking};
+use crate::plan::{CLERKS, EIGHT, Texts};
 use crate::runs::{Came, by_one_thread, by_threads};
 use std::alloc::{AllocError, Global};
 use std::process::Abort;
@@ -10,6 +11,9 @@ use std::test::Fail;
 use std::thread::Threads;
 use std::time::Instant;
 use trick_outside::{ListSpawner, Spawner, ThreadSpawner};
+
+/// Runs of the plan with must-finish threads under a gate that shakes.
+const CLERK_RUNS: u64 = 200;
 
 /// Runs under a gate that shakes, if there is time for so many.
 const RUNS: u64 = 1_000;
@@ -36,13 +40,13 @@ struct Seen {
 }
 
 // A run whose workers wait for one another between take and commit. Starts of these numbers are refused.
-fn meet<R>(rt: R, alloc: Global, refused: Vec<u64>) -> Result<Seen, AllocError>
+fn meet<R>(rt: R, alloc: Global, texts: Texts, refused: Vec<u64>) -> Result<Seen, AllocError>
 where
     R: Threads + Wait + Copy + Send + Drop + 'static,
 {
     let mut gate = Arc::new(alloc, Meeting::new())?;
     let mut spawner = ListSpawner::refusing(refused);
-    let came = by_threads(rt, alloc, &mut spawner, &gate)?;
+    let came = by_threads(rt, alloc, texts, &mut spawner, &gate)?;
     let have_met = gate.have_met();
     Ok(Seen {
         came,
@@ -53,13 +57,13 @@ where
 }
 
 // A run under a gate that shakes, beginning with this number.
-fn shake<R>(rt: R, alloc: Global, first: u64) -> Result<Seen, AllocError>
+fn shake<R>(rt: R, alloc: Global, texts: Texts, first: u64) -> Result<Seen, AllocError>
 where
     R: Threads + Wait + Clock + Copy + Send + Sync + Drop + 'static,
 {
     let mut gate = Arc::new(alloc, Shaking::new(rt, first))?;
     let mut spawner = ThreadSpawner::new();
-    let came = by_threads(rt, alloc, &mut spawner, &gate)?;
+    let came = by_threads(rt, alloc, texts, &mut spawner, &gate)?;
     Ok(Seen {
         came,
         refused: spawner.faults(),
@@ -71,22 +75,22 @@ where
 #[test]
 fn workers_meet_where_threads_start(rt: HostRuntime) -> Result<(), Fail> {
     let alloc = rt.alloc();
-    let wanted = by_one_thread(alloc)?;
-    let all = meet(rt, alloc, Vec::new(alloc))?;
+    let wanted = by_one_thread(alloc, EIGHT)?;
+    let all = meet(rt, alloc, EIGHT, Vec::new(alloc))?;
     assert!(rt;
         all.refused == 0 && all.have_met && all.is_over,
         "two workers at one moment"
     );
     let is_same = all.came.is(&wanted)?;
     assert!(rt; is_same, "with all threads");
-    let none = meet(rt, alloc, vec![in alloc; 0, 1, 2, 3, 4, 5, 6]?)?;
+    let none = meet(rt, alloc, EIGHT, vec![in alloc; 0, 1, 2, 3, 4, 5, 6]?)?;
     assert!(rt;
         none.refused == 7 && !none.have_met && none.is_over,
         "no worker"
     );
     let is_same = none.came.is(&wanted)?;
     assert!(rt; is_same, "with no thread");
-    let some = meet(rt, alloc, vec![in alloc; 0, 2, 4, 6]?)?;
+    let some = meet(rt, alloc, EIGHT, vec![in alloc; 0, 2, 4, 6]?)?;
     assert!(rt;
         some.refused == 4 && some.have_met && some.is_over,
         "three workers"
@@ -100,7 +104,7 @@ fn workers_meet_where_threads_start(rt: HostRuntime) -> Result<(), Fail> {
 fn every_run_writes_the_same_files(rt: HostRuntime) -> Result<(), Fail> {
     let begin = Instant::now(&rt).ok().ok_or("a clock")?;
     let alloc = rt.alloc();
-    let wanted = by_one_thread(alloc)?;
+    let wanted = by_one_thread(alloc, EIGHT)?;
     assert!(rt; wanted.status == 4, "some job divides by zero");
     assert!(rt;
         wanted
@@ -110,7 +114,7 @@ fn every_run_writes_the_same_files(rt: HostRuntime) -> Result<(), Fail> {
     );
     assert!(rt; !wanted.file(b"chkpnt_2.chk").is_empty(), "a checkpoint");
     for run in 0..RUNS {
-        let seen = shake(rt, alloc, run)?;
+        let seen = shake(rt, alloc, EIGHT, run)?;
         assert!(rt;
             seen.refused == 0 && seen.is_over,
             "the threads of run {run}"
@@ -122,6 +126,55 @@ fn every_run_writes_the_same_files(rt: HostRuntime) -> Result<(), Fail> {
         if took >= ENOUGH && run >= FEW {
             break;
         }
+    }
+    Ok(())
+}
+
+#[test]
+fn clerks_meet_where_threads_start(rt: HostRuntime) -> Result<(), Fail> {
+    let alloc = rt.alloc();
+    let wanted = by_one_thread(alloc, CLERKS)?;
+    assert!(rt; wanted.status == 0, "no job faults");
+    assert!(rt;
+        wanted
+            .file(b"log_g.csv")
+            .starts_with(b"tic,m.sum,n.sum\n0,0,0\n1,0,0\n"),
+        "nothing is published before a cycle ends"
+    );
+    let all = meet(rt, alloc, CLERKS, Vec::new(alloc))?;
+    assert!(rt;
+        all.refused == 0 && all.have_met && all.is_over,
+        "a clerk is at work beside another one, or beside a worker"
+    );
+    let is_same = all.came.is(&wanted)?;
+    assert!(rt; is_same, "with all threads");
+    let none = meet(rt, alloc, CLERKS, vec![in alloc; 0, 1, 2]?)?;
+    assert!(rt;
+        none.refused == 3 && !none.have_met && none.is_over,
+        "no clerk and no worker"
+    );
+    let is_same = none.came.is(&wanted)?;
+    assert!(rt; is_same, "with no thread");
+    let some = meet(rt, alloc, CLERKS, vec![in alloc; 0, 2]?)?;
+    assert!(rt; some.refused == 2 && some.is_over, "one thread of three");
+    let is_same = some.came.is(&wanted)?;
+    assert!(rt; is_same, "with one thread of three");
+    Ok(())
+}
+
+#[test]
+fn every_run_with_clerks_writes_the_same_files(rt: HostRuntime) -> Result<(), Fail> {
+    let alloc = rt.alloc();
+    let wanted = by_one_thread(alloc, CLERKS)?;
+    assert!(rt; !wanted.file(b"chkpnt_8.chk").is_empty(), "a checkpoint");
+    for run in 0..CLERK_RUNS {
+        let seen = shake(rt, alloc, CLERKS, run)?;
+        assert!(rt;
+            seen.refused == 0 && seen.is_over,
+            "the threads of run {run}"
+        );
+        let is_same = seen.came.is(&wanted)?;
+        assert!(rt; is_same, "run {run}");
     }
     Ok(())
 }

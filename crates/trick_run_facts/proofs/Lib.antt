@@ -24,3 +24,5 @@ pub mod Once
 pub mod Counts
 -- `late` rises for each round that is left unpublished.
 pub mod Late
+-- In a run of a plan without asynchronous threads nothing is asked for.
+pub mod Rounds

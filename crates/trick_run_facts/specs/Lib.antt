@@ -10,3 +10,5 @@ pub mod Stopping
 pub mod Waiting
 -- How often rounds of asynchronous threads stay unpublished.
 pub mod Counted
+-- Runs of plans without asynchronous threads.
+pub mod Rounds

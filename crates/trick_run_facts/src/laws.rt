@@ -4,6 +4,7 @@
 ghost use Rattle.trick_run_facts.specs.Counted.{LeftAreLate, LeftAreNotReady};
 ghost use Rattle.trick_run_facts.specs.Noting.{NotedDoSame};
 ghost use Rattle.trick_run_facts.specs.Once.{FilesAreMadeOnce};
+ghost use Rattle.trick_run_facts.specs.Rounds.{GivesNothing, RunsWithoutRoundsAreAlone, RunsWithoutRoundsAreOwn};
 ghost use Rattle.trick_run_facts.specs.Stopping.{StopsLeave};
 ghost use Rattle.trick_run_facts.specs.Waiting.{RoundsAreBounded};
 ghost use Rattle.trick_runs.specs.Hosts.{hosts};
@@ -11,7 +12,7 @@ ghost use Rattle.trick_runs.specs.Hosts.{hosts};
 use trick_lang::Cells;
 use trick_outside::Shelf;
 use trick_post::Posts;
-use trick_turns::Turns;
+use trick_turns::{NoTurns, Turns};
 
 /// A run that stopped leaves whole lines in its journal; these are what was noted of all lists that it was given, or of
 /// all but the last and a part of that. Of each other file it leaves a prefix of what the run under these lines makes
@@ -48,4 +49,24 @@ pub fn left_rounds_are_not_ready()
 /// decide what is published.
 pub fn left_rounds_are_late<M: Cells, F: Shelf, P: Posts, T: Turns<M>>()
     ensures { LeftAreLate (hosts F.Shelf T.Turns P.Posts) }
+{}
+
+/// Where the plan has no asynchronous thread, and the source gave no entry, decides nothing and tells no journal, a run
+/// is the one without clients, over whatever posts: none of them is ever asked whether a round is done. What a
+/// must-finish thread publishes, and when, is fixed by the plan.
+pub fn runs_without_rounds_are_own<M: Cells, F: Shelf, P: Posts, T: Turns<M>>()
+    ensures { RunsWithoutRoundsAreOwn (hosts F.Shelf T.Turns P.Posts) M.numbers }
+{}
+
+/// Where the source is such at whatever moment, and never owes an entry, a run that stopped did a part of the run
+/// without clients.
+pub fn runs_without_rounds_are_alone<M: Cells, F: Shelf, P: Posts, T: Turns<M>>()
+    ensures { RunsWithoutRoundsAreAlone (hosts F.Shelf T.Turns P.Posts) M.numbers }
+{
+    trick_model::laws::runs_join();
+}
+
+/// `NoTurns` is such a source.
+pub fn no_turns_give_nothing<M: Cells>()
+    ensures { GivesNothing ⟦<NoTurns as Turns<M>>⟧ }
 {}

@@ -4,7 +4,9 @@
 #![tactic(auto)]
 
 mod by_crew;
+mod by_workers;
 mod in_threads;
+mod with_rounds;
 
-pub use by_crew::{run, run_from};
+pub use by_crew::{has_children, run, run_from};
 pub use in_threads::InThreads;

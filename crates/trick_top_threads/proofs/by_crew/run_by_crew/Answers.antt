@@ -9,4 +9,4 @@ returns-in_default g c =
     record { run = none_kept _ (plan_of (arc_value c.args.accepted.now).plan) (seen (λ memory. memory.numbers) c.args.state) (g.met.F.Shelf.called_none c.args.shelf.now) }
 
 pub returns : goal.returns
-returns g c = record { run = rw c.deref.ensures at c.serial_by-ended.ensures.run }
+returns g c = record { run = rw c.deref.ensures at c.run_by-ended.ensures.run }

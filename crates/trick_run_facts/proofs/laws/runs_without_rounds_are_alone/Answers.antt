@@ -1,0 +1,8 @@
+use Rattle.trick_run_facts.proofs.Rounds.{alone_without_rounds}
+use Rattle.trick_run_facts.proofs.laws.runs_without_rounds_are_alone.Goals as goal
+use Rattle.trick_runs.specs.Hosts.{hosts}
+
+pub returns : goal.returns
+returns g c = λ plan s old new result lacks source run.
+    alone_without_rounds (hosts g.F.Shelf g.T.Turns g.P.Posts) g.M.Cells.numbers plan lacks s old new result run
+    c.runs_join.ensures source

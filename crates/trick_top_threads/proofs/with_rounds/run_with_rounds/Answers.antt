@@ -1,0 +1,12 @@
+use Rattle.std.specs.Arc.{arc_value}
+use Rattle.trick_model.specs.PlanOf.{plan_of}
+use Rattle.trick_model.specs.State.{seen}
+use Rattle.trick_serial.proofs.SerialLemmas.{none_kept}
+use Rattle.trick_top_threads.proofs.with_rounds.run_with_rounds.Goals as goal
+
+pub returns-in_default : goal.returns-in_default
+returns-in_default g c =
+    record { run = none_kept _ (plan_of (arc_value c.args.accepted.now).plan) (seen (λ memory. memory.numbers) c.args.state) (g.met.F.Shelf.called_none c.args.shelf.now) }
+
+pub returns : goal.returns
+returns g c = record { run = rw c.deref.ensures at c.serial_by-ended.ensures.run }
