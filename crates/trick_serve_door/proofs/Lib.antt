@@ -5,8 +5,10 @@ pub mod Departing
 -- what the caller is told, with one call more of the door
 pub mod Telling
 -- how far an acceptor is after one call more of its door
-pub mod Asking
+pub mod Calls
 -- what the threads of a client hand back, by what they promise
 pub mod Seating
 -- how the threads of all sessions are taken in, the last session first
 pub mod TakingIn
+-- a caller that asks the door itself
+pub mod Stopping

@@ -8,6 +8,8 @@ pub mod Departures
 pub mod Told
 -- How far an acceptor is.
 pub mod Taking
+-- How far a caller is that asks the door itself.
+pub mod Asking
 -- How a door gets the links of its clients back.
 pub mod Returns
 -- What an acceptor has done, from its start to the end of the run.

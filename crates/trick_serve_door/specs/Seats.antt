@@ -22,10 +22,10 @@ pub record AreFresh (queues : Queues) : Type 0 where
   pub inbox : AreEnds queues.fills queues.inbox
   pub outbox : AreEnds queues.outbox queues.empties
   pub causes : AreEnds queues.tells queues.causes
-  pub no_line : (put_by queues.fills ≡ []) × (taken_by queues.inbox ≡ [])
-  pub no_message : (put_by queues.outbox ≡ []) × (taken_by queues.empties ≡ [])
-  pub no_cause : (put_by queues.tells ≡ []) × (taken_by queues.causes ≡ [])
-  pub room : 0 < room_of queues.tells
+  pub no_line : put_by queues.fills ≡ []
+  pub no_message : taken_by queues.empties ≡ []
+  pub no_cause : put_by queues.tells ≡ []
+  pub room : (room_of queues.outbox ≡ 1024) × (0 < room_of queues.tells)
 
 -- What a reader promises.
 abbrev pub Reads : {I R : Type 0} → InGhosts I → Reader I R → ReaderDone I → Type 0
@@ -63,8 +63,8 @@ abbrev pub IsThread : {W O : Type 0} → Running W O → Type 0
 IsThread (There child) = Unit {0}
 IsThread (Here out) = ⊥
 
--- The threads are those of this client, and nothing has gone through the caller's ends. A client that is not told as
--- refused has both its threads.
+-- The threads are those of this client, nothing has gone through the caller's ends, and its outbox has room for 1,024
+-- messages. A client that is not told as refused has both its threads.
 pub record IsSeated {I O R : Type 0} (input : InGhosts I) (output : OutGhosts O) (arrival : Arrival I O)
     (seated : Seated I O R) : Type 0 where
   pub writing : ComesTo (Writes output) seated.writing (IsWriterOf output arrival)
@@ -72,9 +72,11 @@ pub record IsSeated {I O R : Type 0} (input : InGhosts I) (output : OutGhosts O)
   pub no_line : taken_by arrival.inbox ≡ []
   pub no_message : put_by arrival.outbox ≡ []
   pub no_cause : taken_by arrival.causes ≡ []
+  pub room : room_of arrival.outbox ≡ 1024
   pub started : arrival.refused ≡ false → IsThread seated.writing × IsThread seated.reading
 
--- This is what the threads of this client handed back, and the client came with nothing through its caller's ends.
+-- This is what the threads of this client handed back. It came with nothing through its caller's ends, and with room
+-- for 1,024 messages in its outbox.
 pub record IsPast {I O : Type 0} (input : InGhosts I) (output : OutGhosts O) (arrival : Arrival I O) (past : Past I O)
     : Type 0 where
   pub writer : IsWriterOf output arrival past.writer
@@ -82,3 +84,4 @@ pub record IsPast {I O : Type 0} (input : InGhosts I) (output : OutGhosts O) (ar
   pub no_line : taken_by arrival.inbox ≡ []
   pub no_message : put_by arrival.outbox ≡ []
   pub no_cause : taken_by arrival.causes ≡ []
+  pub room : room_of arrival.outbox ≡ 1024

@@ -58,27 +58,19 @@ impl<I: Drop, O: Drop> Teller<I, O> {
     }
 }
 
-// The sessions that were begun, in the order of their numbers, and room for what their threads hand back.
+// What is in hand of each session that was begun, in the order of their numbers, and room for what threads hand back.
 #[derive(Drop)]
-pub(crate) struct Sessions<
-    I: LinkIn + Send + Drop + 'static,
-    O: LinkOut + Send + Drop + 'static,
-    R: Wait + Send + Drop + 'static,
-> {
-    pub(crate) seated: Vec<Seated<I, O, R>>,
+pub(crate) struct Sessions<T, I, O> {
+    pub(crate) seated: Vec<T>,
     pub(crate) past: Vec<Past<I, O>>,
     pub ghost room: { vec_len seated ≤ vec_capacity past },
     pub ghost none: { vec_len past ≡ 0 },
     pub ghost numbers: { vec_len seated ≤ 4294967295 },
 }
 
-impl<
-    I: LinkIn + Send + Drop + 'static,
-    O: LinkOut + Send + Drop + 'static,
-    R: Wait + Send + Drop + 'static,
-> Sessions<I, O, R> {
+impl<T: Drop, I: Drop, O: Drop> Sessions<T, I, O> {
     // No session.
-    pub(crate) fn new(alloc: Global) -> Sessions<I, O, R>
+    pub(crate) fn new(alloc: Global) -> Sessions<T, I, O>
         ensures { result.seated.items ≡ [] }
     {
         Sessions {
@@ -99,7 +91,7 @@ impl<
     }
 
     // Adds one for which there is room.
-    pub(crate) fn add(&mut self, seated: Seated<I, O, R>)
+    pub(crate) fn add(&mut self, seated: T)
         requires room { vec_len self.old.seated + 1 ≤ vec_capacity self.old.past }
         requires place { vec_len self.old.seated < vec_capacity self.old.seated }
         requires number { vec_len self.old.seated < 4294967295 }
@@ -116,24 +108,22 @@ impl<
     }
 }
 
-impl<
+// Takes the threads of all sessions in.
+pub(crate) fn take_all_in<
     I: LinkIn + Send + Drop + 'static,
     O: LinkOut + Send + Drop + 'static,
     R: Threads + Wait + Copy + Send + Drop + 'static,
-> Sessions<I, O, R> {
-    // Takes the threads of all in.
-    pub(crate) fn take_in(self, rt: &R) -> Vec<Past<I, O>>
-        ensures { (arrivals : List (Arrival I O)) → AllFit (IsSeated I.LinkIn O.LinkOut) arrivals self.seated.items
-            → AllFit (IsPast I.LinkIn O.LinkOut) arrivals result.items }
-    {
-        let Sessions {
-            mut seated,
-            mut past,
-        } = self;
-        while let Some(last) = seated.pop() {
-            past.push_reserved(last.take_in(rt));
-        }
-        past.reverse();
-        past
+>(rt: &R, sessions: Sessions<Seated<I, O, R>, I, O>) -> Vec<Past<I, O>>
+    ensures { (arrivals : List (Arrival I O)) → AllFit (IsSeated I.LinkIn O.LinkOut) arrivals sessions.seated.items
+        → AllFit (IsPast I.LinkIn O.LinkOut) arrivals result.items }
+{
+    let Sessions {
+        mut seated,
+        mut past,
+    } = sessions;
+    while let Some(last) = seated.pop() {
+        past.push_reserved(last.take_in(rt));
     }
+    past.reverse();
+    past
 }

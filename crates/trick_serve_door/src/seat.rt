@@ -1,9 +1,12 @@
-//! How a client is seated: its writer and then its reader are started.
+//! How a client is seated: its writer and then its reader are started, or neither of them.
 
-ghost use Rattle.std.specs.Prelude.{◌≡◌, false, true};
+ghost use Rattle.std.specs.Prelude.{◌≡◌, ◌<◌, [], false, true};
 ghost use Rattle.trick_outside.specs.Causes.{HasCause};
 ghost use Rattle.trick_outside.specs.Works.{Runs};
 ghost use Rattle.trick_serve_door.specs.Seats.{AreFresh, IsPast, IsSeated, IsThread, Reads, Writes};
+ghost use Rattle.trick_wire.specs.Ends.{IsSamePutter, put_by, taken_by};
+ghost use Rattle.trick_wire.specs.HasRead.{HasRead};
+ghost use Rattle.trick_wire.specs.HasWritten.{HasWritten, cause_of};
 
 use crate::queues::Queues;
 use crate::{Arrival, Past};
@@ -12,7 +15,9 @@ use std::snapshot::Snapshot;
 use std::sync::Wait;
 use std::thread::Threads;
 use trick_outside::{Begun, LinkIn, LinkOut, Running, Spawner, start};
-use trick_wire::{ReadStop, Reader, ReaderDone, WriteStop, Writer, WriterDone};
+use trick_wire::{
+    Heard, Message, Putter, ReadStop, Reader, ReaderDone, Taker, WriteStop, Writer, WriterDone,
+};
 
 // The threads of a client. Those that were refused are done.
 #[derive(Drop)]
@@ -25,11 +30,12 @@ pub(crate) struct Seated<
     pub(crate) reading: Running<Reader<I, R>>,
 }
 
-// A reader that was not started: it has read nothing.
-fn unread<I: LinkIn + Send + Drop, R: Wait + Send + Drop>(reader: Reader<I, R>) -> ReaderDone<I>
-    ensures { Reads I.LinkIn reader result }
+// What a reader that was not started hands back: it has read nothing.
+fn read_nothing<I: LinkIn>(link: I, inbox: Putter<Heard>) -> ReaderDone<I>
+    ensures inbox { result.inbox ≡ inbox }
+    ensures read { put_by inbox ≡ [] → HasRead (I.holds link) (I.holds result.link) (I.failures link)
+        (I.failures result.link) result.stop (put_by result.inbox) }
 {
-    let Reader { link, inbox, .. } = reader;
     ReaderDone {
         link,
         stop: ReadStop::Closed,
@@ -37,16 +43,19 @@ fn unread<I: LinkIn + Send + Drop, R: Wait + Send + Drop>(reader: Reader<I, R>) 
     }
 }
 
-// A writer that was not started: it has written nothing, and has hung up.
-fn unwritten<O: LinkOut + Send + Drop, R: Wait + Send + Drop>(writer: Writer<O, R>) -> WriterDone<O>
-    ensures { Writes O.LinkOut writer result }
+// What a writer that was not started hands back: it has written nothing, and has hung up.
+fn write_nothing<O: LinkOut>(
+    link: O,
+    outbox: Taker<Message>,
+    causes: Putter<WriteStop>,
+) -> WriterDone<O>
+    ensures outbox { result.outbox ≡ outbox }
+    ensures causes { result.causes ≡ causes }
+    ensures wrote { taken_by outbox ≡ [] → HasWritten (O.holds link) (O.holds result.link) (O.failures link)
+        (O.failures result.link) result.stop (taken_by result.outbox) }
+    ensures cause { put_by causes ≡ [] → put_by result.causes ≡ cause_of result.stop }
 {
-    let Writer {
-        mut link,
-        outbox,
-        causes,
-        ..
-    } = writer;
+    let mut link = link;
     link.hang_up();
     causes.close();
     WriterDone {
@@ -55,6 +64,27 @@ fn unwritten<O: LinkOut + Send + Drop, R: Wait + Send + Drop>(writer: Writer<O, 
         outbox,
         causes,
     }
+}
+
+// A reader that was not started.
+fn unread<I: LinkIn + Send + Drop, R: Wait + Send + Drop>(reader: Reader<I, R>) -> ReaderDone<I>
+    ensures { Reads I.LinkIn reader result }
+{
+    let Reader { link, inbox, .. } = reader;
+    read_nothing(link, inbox)
+}
+
+// A writer that was not started.
+fn unwritten<O: LinkOut + Send + Drop, R: Wait + Send + Drop>(writer: Writer<O, R>) -> WriterDone<O>
+    ensures { Writes O.LinkOut writer result }
+{
+    let Writer {
+        link,
+        outbox,
+        causes,
+        ..
+    } = writer;
+    write_nothing(link, outbox, causes)
 }
 
 // Starts a writer. False where its start was refused, or it was not done by a thread.
@@ -162,6 +192,46 @@ pub(crate) fn seat<
         refused: !reads,
     };
     (Seated { writing, reading }, arrival)
+}
+
+// Seats a client to whom no thread is started: nothing is read of it and nothing written to it, it is hung up on, and
+// the spawner counts it as refused.
+pub(crate) fn turn_away<I: LinkIn, O: LinkOut, S: Spawner>(
+    spawner: &mut S,
+    queues: Queues,
+    links: (I, O),
+) -> (Past<I, O>, Arrival<I, O>)
+    ensures past { AreFresh queues → IsPast I.LinkIn O.LinkOut result.1 result.0 }
+    ensures input { result.1.input.value ≡ links.0 }
+    ensures output { result.1.output.value ≡ links.1 }
+    ensures refused { result.1.refused ≡ true }
+    ensures cause { HasCause (S.failures spawner.old) (S.failures spawner.new) (result.1.refused ≡ true) }
+{
+    let Queues {
+        fills,
+        inbox,
+        outbox,
+        empties,
+        tells,
+        causes,
+        ..
+    } = queues;
+    let (link_in, link_out) = links;
+    let input = Snapshot::of(&link_in);
+    let output = Snapshot::of(&link_out);
+    let writer = write_nothing(link_out, empties, tells);
+    let reader = read_nothing(link_in, fills);
+    outbox.close();
+    spawner.refuse();
+    let arrival = Arrival {
+        inbox,
+        outbox,
+        causes,
+        input,
+        output,
+        refused: true,
+    };
+    (Past { reader, writer }, arrival)
 }
 
 impl<

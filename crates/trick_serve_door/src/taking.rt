@@ -2,12 +2,13 @@
 
 ghost use Rattle.std.specs.Prelude.{[]};
 ghost use Rattle.trick_serve_door.specs.Accepted.{HasAccepted};
+ghost use Rattle.trick_serve_door.specs.Seats.{IsSeated};
 ghost use Rattle.trick_serve_door.specs.Taking.{HasEnded, IsTaking, Start, hosts, start_of};
 
-use crate::acceptor::{Sessions, Teller};
+use crate::acceptor::{Teller, take_all_in};
 use crate::ask::{Acceptor, End, ask};
 use crate::past::Past;
-use crate::places::Places;
+use crate::seat::Seated;
 use crate::{Comes, Departure};
 use std::alloc::Global;
 use std::sync::{Arc, Wait};
@@ -55,15 +56,16 @@ where
 // Asks the door for clients, while there are places and numbers for them.
 fn take_clients<D: Door, S: Spawner + Drop, R: Threads + Wait + Copy + Send + Drop + 'static>(
     door: &mut D,
-    acceptor: &mut Acceptor<D::In, D::Out, S, R>,
+    acceptor: &mut Acceptor<D::In, D::Out, S, R, Seated<D::In, D::Out, R>>,
 ) -> End
 where
     D::In: Send + Drop + 'static,
     D::Out: Send + Drop + 'static,
     ensures { (start : Start D D.In D.Out S)
-        → IsTaking (hosts D.visited D.In.LinkIn D.Out.LinkOut S.failures D.has_client) start [] door.old acceptor.old
-        → HasEnded (hosts D.visited D.In.LinkIn D.Out.LinkOut S.failures D.has_client) start result door.new
-        acceptor.new }
+        → IsTaking (hosts D.visited D.In.LinkIn D.Out.LinkOut S.failures D.has_client)
+        (IsSeated D.In.LinkIn D.Out.LinkOut) start [] door.old acceptor.old
+        → HasEnded (hosts D.visited D.In.LinkIn D.Out.LinkOut S.failures D.has_client)
+        (IsSeated D.In.LinkIn D.Out.LinkOut) start result door.new acceptor.new }
 {
     let rt = acceptor.rt;
     for _ in rt.forever() {
@@ -105,29 +107,18 @@ where
         gone,
         bell,
     } = work;
-    let places = Places::new(gone);
-    let sessions = Sessions::new(alloc);
-    let mut acceptor = Acceptor {
-        rt,
-        alloc,
-        spawner,
-        teller: Teller { coming, bell },
-        places,
-        sessions,
-        has_asked: false,
-    };
+    let mut acceptor = Acceptor::new(rt, alloc, spawner, Teller { coming, bell }, gone);
     let end = take_clients(&mut door, &mut acceptor);
+    acceptor.tell_end(end);
+    acceptor.close();
     let Acceptor {
         spawner,
-        mut teller,
-        mut places,
+        teller,
+        places,
         sessions,
         ..
     } = acceptor;
-    teller.tell_end(&rt, end);
-    places.wait_for_end(&rt);
-    teller.tell(&rt, Comes::Closed);
-    let sessions = sessions.take_in(&rt);
+    let sessions = take_all_in(&rt, sessions);
     Taken {
         door,
         spawner,

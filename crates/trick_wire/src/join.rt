@@ -58,7 +58,7 @@ fn go_on<O: LinkOut, R: Wait>(
 
 /// Takes in the writer of a session: writes what it left in the outbox, and hangs up. What the link took is then the
 /// first part of the text of all messages that were put, and all of it where the answer is `Closed`. What was taken of
-/// the causes is the cause of the writer's stop, or nothing.
+/// the causes is the cause of the writer's stop, or nothing; what is left there can be taken after this.
 pub fn end_writer<O: LinkOut, R: Wait>(
     rt: &R,
     outbox: Putter<Message>,
@@ -73,6 +73,8 @@ pub fn end_writer<O: LinkOut, R: Wait>(
     ensures cause { put_by writer.causes ≡ cause_of writer.stop → IsCauseOf (taken_by causes.old) writer.stop }
     ensures later { O.failures writer.link ≤ O.failures result.0 }
     ensures taken { taken_by causes.new ≡ taken_by causes.old }
+    ensures both { HasBoth causes.new }
+    ensures given { given_to causes.new ≡ put_by writer.causes }
 {
     let WriterDone {
         mut link,

@@ -21,10 +21,11 @@ returns-clause-seated g c =
       | then-writes w ↦ λ reads. (c.begin_writer-writing.ensures.started w.if-writes.true, subst (λ reading. IsThread reading.0) (sym w.reading-is) (w.begin_reader.ensures.started (sym (ap (λ reading. reading.1) w.reading-is) ∙ reads)))
       | else-writes w ↦ λ reads. absurd (let no = ap (λ reading. reading.1) w.reading-is in cc)
     ] in record {
-      writing = (writer, c.begin_writer-writing.ensures.runs, λ done writes. writer_is_of g.O.LinkOut _ writer done fresh.outbox fresh.no_message.1 fresh.causes fresh.no_cause.0 fresh.room c.of-output.ensures writes);
-      reading = (reader, runs, λ done reads. reader_is_of g.I.LinkIn _ reader done fresh.inbox fresh.no_line.0 c.of-input.ensures reads);
-      no_line = fresh.no_line.1;
-      no_message = fresh.no_message.0;
-      no_cause = fresh.no_cause.1;
+      writing = (writer, c.begin_writer-writing.ensures.runs, λ done writes. writer_is_of g.O.LinkOut _ writer done fresh.outbox fresh.no_message fresh.causes fresh.no_cause fresh.room.1 c.of-output.ensures writes);
+      reading = (reader, runs, λ done reads. reader_is_of g.I.LinkIn _ reader done fresh.inbox fresh.no_line c.of-input.ensures reads);
+      no_line = queues.no_line;
+      no_message = queues.no_message;
+      no_cause = queues.no_cause;
+      room = fresh.room.0;
       started = λ served. threads (search rules);
     }

@@ -7,4 +7,5 @@ returns g c = λ arrival seated. record {
   no_line = seated.no_line;
   no_message = seated.no_message;
   no_cause = seated.no_cause;
+  room = seated.room;
 }

@@ -6,17 +6,20 @@ use Rattle.trick_outside.specs.VisitLaws.{clients_join}
 use Rattle.trick_outside.specs.Visits.{Gave, NotYet, Visit, clients}
 use Rattle.trick_serve_door.proofs.Pairs.{fit_more}
 use Rattle.trick_serve_door.proofs.Telling.{begun_more, clients_more, first_gave, first_later, gives_more, links_more, not_none, refused_more, rose_more}
+use Rattle.trick_serve_door.specs.Accepted.{HasAccepted}
 use Rattle.trick_serve_door.specs.Departures.{is_over, left_of}
 use Rattle.trick_serve_door.specs.Pairs.{AllFit}
-use Rattle.trick_serve_door.specs.Seats.{IsSeated}
-use Rattle.trick_serve_door.specs.Taking.{HasBegun, HasTaken, HasEnded, HasPlaced, HasRoom, HasToldNobody, Hosts, IsEnd, IsTaking, Start}
-use Rattle.trick_serve_door.specs.Told.{GivesFirst, IsOpen, links_of, refused_of, told_clients, told_first}
+use Rattle.trick_serve_door.specs.Seats.{IsPast}
+use Rattle.trick_serve_door.specs.Taking.{HasAnswered, HasBegun, HasClosed, HasTaken, HasEnded, HasPlaced, HasRoom, HasToldEnd, HasToldNobody, Hosts, IsEnd, IsTaking, IsUnused, Start}
+use Rattle.trick_serve_door.specs.Told.{GivesFirst, IsOpen, links_of, refused_of, told_clients, told_end, told_first}
 use Rattle.trick_serve_door.specs.declared.arrival.Arrival.{Arrival}
 use Rattle.trick_serve_door.specs.declared.arrival.Comes.{Comes}
-use Rattle.trick_serve_door.specs.declared.arrival.Comes.TheVariants.{Client, Nobody}
+use Rattle.trick_serve_door.specs.declared.arrival.Comes.TheVariants.{Client, Closed, Nobody}
 use Rattle.trick_serve_door.specs.declared.ask.Acceptor.{Acceptor}
+use Rattle.trick_serve_door.specs.declared.ask.Answer.TheVariants as answer
 use Rattle.trick_serve_door.specs.declared.ask.End.{End}
-use Rattle.trick_serve_door.specs.declared.ask.End.TheVariants.{Closed, Over}
+use Rattle.trick_serve_door.specs.declared.ask.End.TheVariants as end
+use Rattle.trick_serve_door.specs.declared.past.Past.{Past}
 use Rattle.trick_wire.specs.Ends.{put_by, taken_by}
 
 module _ {I O : Type 0} where
@@ -54,11 +57,11 @@ visited_more : {D I O : Type 0} (visited : D → List (Visit I O) → D → Type
     → visited first ((visits ++ visit ∷ []) ++ []) door
 visited_more visited first visits visit door went = subst (λ (all : List (Visit _ _)). visited first all door) (sym (append-nil (visits ++ visit ∷ []))) went
 
-module _ {D I O S R : Type 0} (h : Hosts D I O S) (start : Start D I O S) where
+module _ {D I O S R T : Type 0} (h : Hosts D I O S) (Fits : Arrival I O → T → Type 0) (start : Start D I O S) where
   -- the door was asked once more
-  pub taking_asked : (old new : D) (a : Acceptor I O S R) (visit : Visit I O)
+  pub taking_asked : (old new : D) (a : Acceptor I O S R T) (visit : Visit I O)
       → ((first second third : D) (early late : List (Visit I O)) → h.visited first early second → h.visited second late third → h.visited first (early ++ late) third)
-      → IsTaking h start [] old a → h.visited old (visit ∷ []) new → (h.has_client old → GivesFirst (visit ∷ [])) → IsTaking h start (visit ∷ []) new a
+      → IsTaking h Fits start [] old a → h.visited old (visit ∷ []) new → (h.has_client old → GivesFirst (visit ∷ [])) → IsTaking h Fits start (visit ∷ []) new a
   taking_asked old new a visit join t asked gives = record {
     visits = t.visits;
     arrivals = t.arrivals;
@@ -77,8 +80,8 @@ module _ {D I O S R : Type 0} (h : Hosts D I O S) (start : Start D I O S) where
     first = λ has. gives_more t.visits visit (λ none. gives (subst h.has_client (sym (t.untouched (append-nil t.visits ∙ none))) has)) (subst GivesFirst (append-nil t.visits) (t.first has));
   }
 
-  pub taking_taken : (door : D) (old new : Acceptor I O S R) (input : I) (output : O) → IsTaking h start (Gave input output ∷ []) door old → HasTaken h.input h.output h.refusals (input, output) old new
-      → IsTaking h start [] door new
+  pub taking_taken : (door : D) (old new : Acceptor I O S R T) (input : I) (output : O) → IsTaking h Fits start (Gave input output ∷ []) door old → HasTaken Fits h.refusals (input, output) old new
+      → IsTaking h Fits start [] door new
   taking_taken door old new input output t more = record {
     visits = t.visits ++ Gave input output ∷ [];
     arrivals = t.arrivals ++ more.arrival ∷ [];
@@ -91,8 +94,8 @@ module _ {D I O S R : Type 0} (h : Hosts D I O S) (start : Start D I O S) where
         ∙ ap (λ (l : List (Comes I O)). told_first t.visits ++ l) (sym (clients_more t.arrivals more.arrival))
         ∙ ap (λ (l : List (Comes I O)). l ++ told_clients (t.arrivals ++ more.arrival ∷ [])) (sym (first_gave t.visits input output)));
     joins = links_more t.arrivals more.arrival ∙ (λ i. t.joins i ++ (more.links_are.0 i, more.links_are.1 i) ∷ []) ∙ sym (clients_join t.visits (Gave input output ∷ []));
-    seated = subst (λ l. AllFit (IsSeated h.input h.output) (t.arrivals ++ more.arrival ∷ []) l) (sym more.seated)
-        (fit_more (IsSeated h.input h.output) t.arrivals old.sessions.seated.items more.arrival more.threads t.seated more.fits);
+    seated = subst (λ l. AllFit Fits (t.arrivals ++ more.arrival ∷ []) l) (sym more.seated)
+        (fit_more Fits t.arrivals old.sessions.seated.items more.arrival more.session t.seated more.fits);
     refused = subst (λ n. RoseBy (h.refusals start.spawner) n (h.refusals new.spawner)) (sym (refused_more t.arrivals more.arrival))
         (rose_more (h.refusals start.spawner) (refused_of t.arrivals) (h.refusals old.spawner) (h.refusals new.spawner) more.arrival.refused t.refused more.cause);
     none = λ no. absurd (let yes = more.asked in cc);
@@ -102,7 +105,7 @@ module _ {D I O S R : Type 0} (h : Hosts D I O S) (start : Start D I O S) where
     first = λ has. subst GivesFirst (sym (append-nil (t.visits ++ Gave input output ∷ []))) (t.first has);
   }
 
-  pub taking_idle : (door : D) (old new : Acceptor I O S R) → IsTaking h start (NotYet ∷ []) door old → HasToldNobody old new → IsTaking h start [] door new
+  pub taking_idle : (door : D) (old new : Acceptor I O S R T) → IsTaking h Fits start (NotYet ∷ []) door old → HasToldNobody old new → IsTaking h Fits start [] door new
   taking_idle door old new t more = record {
     visits = t.visits ++ NotYet ∷ [];
     arrivals = t.arrivals;
@@ -112,7 +115,7 @@ module _ {D I O S R : Type 0} (h : Hosts D I O S) (start : Start D I O S) where
     gone = ap (λ places. places.gone.shared) more.places ∙ t.gone;
     told = told_idle (put_by start.coming) (put_by old.teller.coming) (put_by new.teller.coming) t.visits t.arrivals old.has_asked t.none t.some t.joins t.told more.known more.told;
     joins = t.joins ∙ sym (append-nil (clients t.visits)) ∙ sym (clients_join t.visits (NotYet ∷ []));
-    seated = subst (λ sessions. AllFit (IsSeated h.input h.output) t.arrivals sessions.seated.items) (sym more.sessions) t.seated;
+    seated = subst (λ sessions. AllFit Fits t.arrivals sessions.seated.items) (sym more.sessions) t.seated;
     refused = subst (λ s. RoseBy (h.refusals start.spawner) (refused_of t.arrivals) (h.refusals s)) (sym more.spawner) t.refused;
     none = λ no. absurd (let yes = more.asked in cc);
     some = λ yes. begun_more t.visits NotYet;
@@ -122,7 +125,7 @@ module _ {D I O S R : Type 0} (h : Hosts D I O S) (start : Start D I O S) where
   }
 
   -- room was made for one session more
-  pub taking_room : (last : List (Visit I O)) (door : D) (old new : Acceptor I O S R) → IsTaking h start last door old → HasRoom old new → IsTaking h start last door new
+  pub taking_room : (last : List (Visit I O)) (door : D) (old new : Acceptor I O S R T) → IsTaking h Fits start last door old → HasRoom old new → IsTaking h Fits start last door new
   taking_room last door old new t same = record {
     visits = t.visits;
     arrivals = t.arrivals;
@@ -132,7 +135,7 @@ module _ {D I O S R : Type 0} (h : Hosts D I O S) (start : Start D I O S) where
     gone = ap (λ places. places.gone.shared) same.places ∙ t.gone;
     told = ap (λ teller. put_by teller.coming) same.teller ∙ t.told;
     joins = t.joins;
-    seated = subst (λ l. AllFit (IsSeated h.input h.output) t.arrivals l) (sym same.seated) t.seated;
+    seated = subst (λ l. AllFit Fits t.arrivals l) (sym same.seated) t.seated;
     refused = subst (λ s. RoseBy (h.refusals start.spawner) (refused_of t.arrivals) (h.refusals s)) (sym same.spawner) t.refused;
     none = λ no. t.none (sym same.asked ∙ no);
     some = λ yes. t.some (sym same.asked ∙ yes);
@@ -141,21 +144,21 @@ module _ {D I O S R : Type 0} (h : Hosts D I O S) (start : Start D I O S) where
     first = t.first;
   }
 
-  pub ended_here : (why : End) (last : List (Visit I O)) (door : D) (a : Acceptor I O S R) → IsTaking h start last door a → ((count : ℕ) → IsEnd why last count)
-      → (why ≡ Closed → is_over (taken_by a.places.gone) ≡ true) → HasEnded h start why door a
+  pub ended_here : (why : End) (last : List (Visit I O)) (door : D) (a : Acceptor I O S R T) → IsTaking h Fits start last door a → ((count : ℕ) → IsEnd why last count)
+      → (why ≡ end.Closed → is_over (taken_by a.places.gone) ≡ true) → HasEnded h Fits start why door a
   ended_here why last door a t ended closed = record { last = last; taking = t; ended = ended (length t.arrivals); closed = closed }
 
   -- the last number was given
-  pub ended_full : (door : D) (a : Acceptor I O S R) → IsTaking h start [] door a → 4294967295 ≤ length a.sessions.seated.items → HasEnded h start Over door a
+  pub ended_full : (door : D) (a : Acceptor I O S R T) → IsTaking h Fits start [] door a → 4294967295 ≤ length a.sessions.seated.items → HasEnded h Fits start end.Over door a
   ended_full door a t full = record {
     last = [];
     taking = t;
-    ended = inr (inr (refl, (let same = fit_length (IsSeated h.input h.output) t.arrivals a.sessions.seated.items t.seated in omega arith)));
+    ended = inr (inr (refl, (let same = fit_length Fits t.arrivals a.sessions.seated.items t.seated in omega arith)));
     closed = λ no. absurd (cc);
   }
 
   -- places became free
-  pub taking_placed : (last : List (Visit I O)) (door : D) (old new : Acceptor I O S R) → IsTaking h start last door old → HasPlaced old new → IsTaking h start last door new
+  pub taking_placed : (last : List (Visit I O)) (door : D) (old new : Acceptor I O S R T) → IsTaking h Fits start last door old → HasPlaced old new → IsTaking h Fits start last door new
   taking_placed last door old new t same = record {
     visits = t.visits;
     arrivals = t.arrivals;
@@ -165,7 +168,7 @@ module _ {D I O S R : Type 0} (h : Hosts D I O S) (start : Start D I O S) where
     gone = same.gone ∙ t.gone;
     told = ap (λ teller. put_by teller.coming) same.teller ∙ t.told;
     joins = t.joins;
-    seated = subst (λ sessions. AllFit (IsSeated h.input h.output) t.arrivals sessions.seated.items) (sym same.sessions) t.seated;
+    seated = subst (λ sessions. AllFit Fits t.arrivals sessions.seated.items) (sym same.sessions) t.seated;
     refused = subst (λ s. RoseBy (h.refusals start.spawner) (refused_of t.arrivals) (h.refusals s)) (sym same.spawner) t.refused;
     none = λ no. t.none (sym same.asked ∙ no);
     some = λ yes. t.some (sym same.asked ∙ yes);
@@ -175,22 +178,66 @@ module _ {D I O S R : Type 0} (h : Hosts D I O S) (start : Start D I O S) where
   }
 
   -- at its start
-  pub taking_begins : (a : Acceptor I O S R) → h.visited start.door [] start.door → a.teller.coming ≡ start.coming → a.sessions.seated.items ≡ [] → a.spawner ≡ start.spawner → a.has_asked ≡ false
-      → a.places.free ≡ 64 → a.places.gone ≡ start.gone → IsTaking h start [] start.door a
-  taking_begins a visited told none same unasked free left = record {
+  pub taking_begins : (a : Acceptor I O S R T) → h.visited start.door [] start.door → IsUnused start.spawner start.coming start.gone a → IsTaking h Fits start [] start.door a
+  taking_begins a visited new = record {
     visits = [];
     arrivals = [];
     visited = visited;
     asks = All-nil IsOpen;
-    coming = ap (λ coming. coming.shared) told;
-    gone = ap (λ gone. gone.shared) left;
-    told = ap put_by told ∙ sym (append-nil (put_by start.coming));
+    coming = ap (λ coming. coming.shared) new.coming_is;
+    gone = ap (λ gone. gone.shared) new.gone_is;
+    told = ap put_by new.coming_is ∙ sym (append-nil (put_by start.coming));
     joins = refl;
-    seated = subst (λ l. AllFit (IsSeated h.input h.output) [] l) (sym none) tt;
-    refused = (let more = ap h.refusals same in omega arith);
+    seated = subst (λ l. AllFit Fits [] l) (sym new.none) tt;
+    refused = (let more = ap h.refusals new.spawner_is in omega arith);
     none = λ asked. refl;
-    some = λ yes. absurd (cc);
-    room = (let many = ap (λ gone. left_of (taken_by gone)) left in omega arith);
+    some = λ yes. absurd (let no = new.asked in cc);
+    room = (let many = ap (λ gone. left_of (taken_by gone)) new.gone_is in let free = new.free in omega arith);
     untouched = λ none. refl;
     first = λ has. tt;
   }
+
+  -- the door gave a client
+  pub taking_client : (old new : D) (a : Acceptor I O S R T) (input : I) (output : O)
+      → ((first second third : D) (early late : List (Visit I O)) → h.visited first early second → h.visited second late third → h.visited first (early ++ late) third)
+      → IsTaking h Fits start [] old a → HasAnswered h.visited h.has_client old (answer.Client input output) new → IsTaking h Fits start (Gave input output ∷ []) new a
+  taking_client old new a input output join t more = subst (λ visit. IsTaking h Fits start (visit ∷ []) new a) more.is (taking_asked old new a more.visit join t more.visited_is more.first)
+
+  -- it gave none yet
+  pub taking_waits : (old new : D) (a : Acceptor I O S R T)
+      → ((first second third : D) (early late : List (Visit I O)) → h.visited first early second → h.visited second late third → h.visited first (early ++ late) third)
+      → IsTaking h Fits start [] old a → HasAnswered h.visited h.has_client old answer.NotYet new → IsTaking h Fits start (NotYet ∷ []) new a
+  taking_waits old new a join t more = subst (λ visit. IsTaking h Fits start (visit ∷ []) new a) more.is (taking_asked old new a more.visit join t more.visited_is more.first)
+
+  -- it gives none any more
+  pub ended_answered : (why : End) (old new : D) (a : Acceptor I O S R T)
+      → ((first second third : D) (early late : List (Visit I O)) → h.visited first early second → h.visited second late third → h.visited first (early ++ late) third)
+      → IsTaking h Fits start [] old a → HasAnswered h.visited h.has_client old (answer.End why) new → HasEnded h Fits start why new a
+  ended_answered why old new a join t more = ended_here why (more.visit ∷ []) new a (taking_asked old new a more.visit join t more.visited_is more.first) more.is
+      (λ closed. let none : more.visit ∷ [] ≡ [] = subst (λ why. IsEnd why (more.visit ∷ []) 0) closed (more.is 0) in absurd (cc))
+
+  -- it asks no more, the caller was told why, and then that it is closed
+  pub accepted : (why : End) (last : List (Visit I O)) (door : D) (before told after : Acceptor I O S R T) (sessions : List (Past I O)) → (t : IsTaking h Fits start last door before)
+      → IsEnd why last (length t.arrivals) → HasToldEnd why before told → HasClosed told after → ((arrivals : List (Arrival I O)) → AllFit Fits arrivals after.sessions.seated.items
+      → AllFit (IsPast h.input h.output) arrivals sessions) → HasAccepted h start door after.spawner after.teller.coming after.places.gone sessions
+  accepted why last door before told after sessions t ended tells closes taken_in =
+      let same : after.sessions ≡ before.sessions = closes.sessions ∙ tells.sessions in
+      let fit : AllFit Fits t.arrivals after.sessions.seated.items = subst (λ sessions. AllFit Fits t.arrivals sessions.seated.items) (sym same) t.seated in record {
+        visits = t.visits;
+        last = last;
+        arrivals = t.arrivals;
+        why = why;
+        visited = t.visited;
+        asks = t.asks;
+        ended = ended;
+        coming_is = closes.coming ∙ tells.coming ∙ t.coming;
+        gone_is = closes.gone ∙ ap (λ places. places.gone.shared) tells.places ∙ t.gone;
+        told = closes.told ∙ ap (λ (l : List (Comes I O)). l ++ Closed ∷ []) (tells.told ∙ ap (λ (l : List (Comes I O)). l ++ told_end why) t.told);
+        joins = t.joins;
+        past = taken_in t.arrivals fit;
+        no_thread = subst (λ s. RoseBy (h.refusals start.spawner) (refused_of t.arrivals) (h.refusals s)) (sym (closes.spawner ∙ tells.spawner)) t.refused;
+        numbers = (let many = fit_length Fits t.arrivals after.sessions.seated.items fit in omega (arith, many, after.sessions.numbers, after.sessions.seated.ok.0));
+        room = (let room = t.room in let left = closes.left in let free = ap (λ places. places.free) tells.places in let many = ap (λ places. left_of (taken_by places.gone)) tells.places in omega arith);
+        over = closes.over;
+        first = t.first;
+      }

@@ -1,11 +1,11 @@
 use Rattle.std.proofs.Common.{arith}
 use Rattle.trick_serve_door.proofs.TakingIn.{in_all, in_more, in_none}
-use Rattle.trick_serve_door.proofs.acceptor.Sessions.take_in.Goals as goal
+use Rattle.trick_serve_door.proofs.acceptor.take_all_in.Goals as goal
 
 pub loop-last-init : goal.loop-last-init
 loop-last-init g c = record {
-  fits = λ arrivals fit. in_none g.I.LinkIn g.O.LinkOut arrivals _ _ fit (omega (arith, c.args.self.past.ok.0, c.args.self.none));
-  room = omega (arith, c.args.self.room, c.args.self.none);
+  fits = λ arrivals fit. in_none g.I.LinkIn g.O.LinkOut arrivals _ _ fit (omega (arith, c.args.sessions.past.ok.0, c.args.sessions.none));
+  room = omega (arith, c.args.sessions.room, c.args.sessions.none);
 }
 
 pub loop-last-preserved : goal.loop-last-preserved

@@ -1,6 +1,6 @@
 use Rattle.std.proofs.Common.{◌+◌, ◌≤◌, List, vec_capacity, vec_len}
 use Rattle.trick_serve_door.proofs.TakingIn.{IsTakingIn}
-use Rattle.trick_serve_door.proofs.acceptor.Sessions.take_in.Given as goal
+use Rattle.trick_serve_door.proofs.acceptor.take_all_in.Given as goal
 use Rattle.trick_serve_door.specs.Pairs.{AllFit}
 use Rattle.trick_serve_door.specs.Seats.{IsSeated}
 use Rattle.trick_serve_door.specs.declared.arrival.Arrival.{Arrival}
