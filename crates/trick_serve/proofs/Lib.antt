@@ -2,6 +2,8 @@
 pub mod Living
 -- Which client a seat is of, as seats change.
 pub mod Seating
+-- What is told of the sessions that left.
+pub mod Leaving
 -- Places of sessions.
 pub mod Placing
 -- The rules of entries, as a list grows.
@@ -10,3 +12,7 @@ pub mod Keeping
 pub mod Gathering
 -- What a look at the clients came to.
 pub mod Looking
+-- To which sessions no message was left out.
+pub mod Quick
+-- Answers that are no gap.
+pub mod Gaps

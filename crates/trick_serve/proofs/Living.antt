@@ -68,6 +68,15 @@ left_stays (Misses item ∷ hs) a b q seated left h = absurd (false≢true (sym 
 left_stays (IsTold why ∷ hs) a b q seated left h = absurd (false≢true (sym h.0.stays ∙ left))
 left_stays (IsSlow ∷ hs) a b q seated left h = absurd (false≢true (sym h.0.0.stays ∙ left))
 
+-- Nothing but a message makes a session slow.
+pub slow_stays : (hs : List Happening) (a b : Side) (q : Queues) → a.queues ≡ Some q → Happens hs a b → b.slow ≡ a.slow
+slow_stays [] a b q seated h = ap (λ (s : Side). s.slow) h
+slow_stays (IsSeated s refused ∷ hs) a b q seated h = absurd (some≢none q (sym seated ∙ ap (λ (s : Side). s.queues) h.0.first))
+slow_stays (Hears item ∷ hs) a b q seated h = slow_stays hs (after (Hears item) a) b q seated h.1
+slow_stays (Misses item ∷ hs) a b q seated h = slow_stays hs (after (Misses item) a) b q seated h.1
+slow_stays (IsTold why ∷ hs) a b q seated h = slow_stays hs (after (IsTold why) a) b q seated h.1
+slow_stays (IsSlow ∷ hs) a b q seated h = slow_stays hs (after IsSlow a) b q seated h.1
+
 -- ---- entries of one session
 
 pub own_self_one : (n : ℕ) (entry : Entry) → is_of n entry ≡ true → own n (entry ∷ []) ≡ entry ∷ []

@@ -20,11 +20,12 @@ use Rattle.trick_serve.specs.CallLaws.{went_join, went_none, went_one}
 use Rattle.trick_serve.specs.Calls.{Answers, Breaks, Hands, IsQuiet, Looks, View, Went}
 use Rattle.trick_serve.specs.Life.{Lives, own}
 use Rattle.trick_serve.specs.Looks.{Came, HasFound, HasGiven, HasLooked, HasLost, HasNoMore}
-use Rattle.trick_serve.specs.Rolls.{IsGathered, view}
-use Rattle.trick_serve.specs.Rules.{AreSeated, Keeps, is_live, sessions_by}
+use Rattle.trick_serve.specs.Rolls.{IsGathered, view, view_of}
+use Rattle.trick_serve.specs.Rules.{AreQuick, AreSeated, Keeps, is_live, sessions_by}
 use Rattle.trick_serve.specs.Sides.{Side, side}
 use Rattle.trick_serve.specs.declared.roll.Roll.{Roll}
 use Rattle.trick_serve.specs.declared.seat.Seat.{Seat}
+use Rattle.trick_serve.specs.declared.served.Served.{Served}
 use Rattle.trick_turns.specs.Turns.{Sessions, has_line, in_next, owes_after}
 
 -- ---- looks
@@ -39,13 +40,14 @@ gathered_as there was was' known known' roll done seats numbers so =
     subst (λ (k : List ℕ). IsGathered there was' k roll done) numbers (subst (λ (w : List Seat). IsGathered there w known roll done) seats so)
 
 -- a look at which nothing came
-looked_so : (there : List Session) (old : View) (mid new : Roll) (reached : List ℕ) (over over' broke : Bool)
-    → (over ≡ true → over' ≡ true) → AreSeated mid.live.items mid.seats.items → HasLooked old (view mid reached over broke)
+looked_so : (there : List Session) (old : View) (mid new : Roll) (reached : List ℕ) (over over' broke silent silent' : Bool)
+    → (over ≡ true → over' ≡ true) → (silent ≡ true → silent' ≡ true) → AreSeated mid.live.items mid.seats.items
+    → HasLooked old (view mid reached over broke silent)
     → IsGathered there mid.seats.items (filter (is_live mid.seats.items) mid.live.items) new true → new.list.items ≡ []
-    → HasLooked old (view new reached over' broke)
-looked_so there old mid new reached over over' broke stays seated before so empty = record {
-  looked = went_join old (view mid reached over broke) (view new reached over' broke) [] [] [] [] before.looked
-      (went_one (Looks there) (view mid reached over broke) (view new reached over' broke) quiet);
+    → HasLooked old (view new reached over' broke silent')
+looked_so there old mid new reached over over' broke silent silent' stays known_still seated before so empty = record {
+  looked = went_join old (view mid reached over broke silent) (view new reached over' broke silent') [] [] [] [] before.looked
+      (went_one (Looks there) (view mid reached over broke silent) (view new reached over' broke silent') quiet);
   same = same ∙ before.same;
   whole = before.whole;
 }
@@ -63,7 +65,7 @@ looked_so there old mid new reached over over' broke stays seated before so empt
       reached = reached;
     }
 
-    quiet : IsQuiet there (view mid reached over broke) (view new reached over' broke)
+    quiet : IsQuiet there (view mid reached over broke silent) (view new reached over' broke silent')
     quiet = record {
       lives = record {
         each = λ k. let one = so.lives k in
@@ -72,60 +74,70 @@ looked_so there old mid new reached over over' broke stays seated before so empt
       sessions = same;
       whole = refl;
       over = stays;
+      silent = known_still;
     }
 
-pub looked_more : (there : List Session) (old : View) (mid new : Roll) (reached reached' : List ℕ) (over over' broke broke' : Bool)
-    → reached' ≡ reached → broke' ≡ broke → (over ≡ true → over' ≡ true) → AreSeated mid.live.items mid.seats.items
-    → HasLooked old (view mid reached over broke)
-    → IsGathered there mid.seats.items (filter (is_live mid.seats.items) mid.live.items) new true → new.list.items ≡ []
-    → HasLooked old (view new reached' over' broke')
-looked_more there old mid new reached reached' over over' broke broke' same_reached same_broke stays seated before so empty =
-    subst (λ (r : List ℕ). HasLooked old (view new r over' broke')) (sym same_reached)
-    (subst (λ (b : Bool). HasLooked old (view new reached over' b)) (sym same_broke)
-    (looked_so there old mid new reached over over' broke stays seated before so empty))
+module _ {I O R : Type 0} where
+  pub looked_more : (there : List Session) (old : View) (mid new : Served I O R) → new.reached.items ≡ mid.reached.items → new.broke ≡ mid.broke
+      → (mid.over ≡ true → new.over ≡ true) → (mid.silent ≡ true → new.silent ≡ true) → HasLooked old (view_of mid)
+      → IsGathered there mid.roll.seats.items (filter (is_live mid.roll.seats.items) mid.roll.live.items) new.roll true → new.roll.list.items ≡ []
+      → HasLooked old (view_of new)
+  looked_more there old mid new same_reached same_broke stays known_still before so empty =
+      subst (λ (r : List ℕ). HasLooked old (view new.roll r new.over new.broke new.silent)) (sym same_reached)
+      (subst (λ (b : Bool). HasLooked old (view new.roll mid.reached.items new.over b new.silent)) (sym same_broke)
+      (looked_so there old mid.roll new.roll mid.reached.items mid.over new.over mid.broke mid.silent new.silent stays known_still mid.roll.seated before so empty))
 
--- a list was gathered, or memory was wanting
-pub found_more : (there : List Session) (old : View) (mid new : Roll) (reached : List ℕ) (over broke done : Bool)
-    → AreSeated mid.live.items mid.seats.items → HasLooked old (view mid reached over broke)
-    → IsGathered there mid.seats.items (filter (is_live mid.seats.items) mid.live.items) new done
-    → HasFound there old new done
-found_more there old mid new reached over broke done seated before so = record {
-  mid = view mid reached over broke;
-  looks = before;
-  known = filter (is_live mid.seats.items) mid.live.items;
-  next = begins mid.seats.items mid.live.items reached seated ∙ ap in_next before.same;
-  gathered = so;
-}
+  -- a list was gathered, or memory was wanting
+  pub found_more : (there : List Session) (old : View) (mid new : Served I O R) (done : Bool) → HasLooked old (view_of mid)
+      → (mid.silent ≡ true → new.silent ≡ true)
+      → IsGathered there mid.roll.seats.items (filter (is_live mid.roll.seats.items) mid.roll.live.items) new.roll done
+      → HasFound there old new.roll new.silent done
+  found_more there old mid new done before known_still so = record {
+    mid = view_of mid;
+    looks = before;
+    known = filter (is_live mid.roll.seats.items) mid.roll.live.items;
+    next = begins mid.roll.seats.items mid.roll.live.items mid.reached.items mid.roll.seated ∙ ap in_next before.same;
+    gathered = so;
+    stays = known_still;
+  }
 
--- ---- what is given
+  -- ---- what is given
 
-pub given : (there : List Session) (frozen : Bool) (old : View) (found now : Roll) (reached : List ℕ) (over broke : Bool) (list : List Entry)
-    → HasFound there old found true → list ≡ found.list.items → (frozen ≡ true → found.list.items ≢ [])
-    → now.seats ≡ found.seats → now.live ≡ found.live → reached ≡ found.live.items
-    → HasGiven there frozen old (view now reached over broke) list
-given there frozen old found now reached over broke list so is filled seats live reaches = record {
-  mid = so.mid;
-  looks = so.looks;
-  lives = record {
-    each = λ k. let one = so.gathered.lives k in
-        subst (λ (l : List Entry). Lives (k + 1) there (side so.mid.seats k) (side now.seats.items k) l) (one.2 refl ∙ ap (own (k + 1)) (sym is))
-        (subst (λ v. Lives (k + 1) there (side so.mid.seats k) (side v.items k) one.0) (sym seats) one.1);
-  };
-  rules = subst (λ (l : List Entry). Keeps (in_next old.sessions) l (view now reached over broke).sessions) (sym is)
-      (subst (λ (s : Sessions). Keeps (in_next old.sessions) found.list.items s) (λ i. sessions_by (sym seats i).items (sym live i).items (sym reaches i))
-      (subst (λ (s : Sessions). Keeps s found.list.items (sessions_by found.seats.items found.live.items found.live.items)) so.next (so.gathered.keeps refl)));
-  filled = λ f none. filled f (sym is ∙ none);
-}
+  pub given : (there : List Session) (frozen : Bool) (old : View) (found now : Served I O R) (list : List Entry)
+      → HasFound there old found.roll found.silent true → list ≡ found.roll.list.items → (frozen ≡ true → found.roll.list.items ≢ [])
+      → (found.roll.seats.items ≡ [] → found.roll.list.items ≡ [] → found.silent ≡ true)
+      → AreQuick found.roll.seats.items (filter (is_live found.roll.seats.items) found.roll.live.items)
+      → now.roll.seats ≡ found.roll.seats → now.roll.live ≡ found.roll.live → now.reached.items ≡ found.roll.live.items → now.silent ≡ found.silent
+      → HasGiven there frozen old (view_of now) list
+  given there frozen old found now list so is filled answered quick seats live reaches same = record {
+    mid = so.mid;
+    looks = so.looks;
+    lives = record {
+      each = λ k. let one = so.gathered.lives k in
+          subst (λ (l : List Entry). Lives (k + 1) there (side so.mid.seats k) (side now.roll.seats.items k) l) (one.2 refl ∙ ap (own (k + 1)) (sym is))
+          (subst (λ v. Lives (k + 1) there (side so.mid.seats k) (side v.items k) one.0) (sym seats) one.1);
+    };
+    rules = subst (λ (l : List Entry). Keeps (in_next old.sessions) l (view_of now).sessions) (sym is)
+        (subst (λ (s : Sessions). Keeps (in_next old.sessions) found.roll.list.items s) (λ i. sessions_by (sym seats i).items (sym live i).items (sym reaches i))
+        (subst (λ (s : Sessions). Keeps s found.roll.list.items (sessions_by found.roll.seats.items found.roll.live.items found.roll.live.items)) so.next
+        (so.gathered.keeps refl)));
+    filled = λ f none. filled f (sym is ∙ none);
+    silent = λ yes. same ∙ so.stays yes;
+    answered = λ nobody_sits none. same ∙ answered (ap (λ v. v.items) (sym seats) ∙ nobody_sits) (sym is ∙ none);
+    quick = subst (λ v. AreQuick now.roll.seats.items (filter (is_live now.roll.seats.items) v.items)) (sym live)
+        (subst (λ v. AreQuick v.items (filter (is_live v.items) found.roll.live.items)) (sym seats) quick);
+  }
 
--- memory was wanting
-pub lost : (there : List Session) (old : View) (found now : Roll) (reached : List ℕ) (over broke done : Bool)
-    → HasFound there old found done → now.seats ≡ found.seats → HasLost there old (view now reached over broke)
-lost there old found now reached over broke done so seats = record {
-  mid = so.mid;
-  looks = so.looks;
-  lost = λ k. let one = so.gathered.lives k in
-      (one.0, subst (λ v. Lives (k + 1) there (side so.mid.seats k) (side v.items k) one.0) (sym seats) one.1);
-}
+  -- memory was wanting
+  pub lost : (there : List Session) (old : View) (found now : Served I O R) (done : Bool) → HasFound there old found.roll found.silent done
+      → now.roll.seats ≡ found.roll.seats → now.silent ≡ found.silent → HasLost there old (view_of now)
+  lost there old found now done so seats same = record {
+    mid = so.mid;
+    looks = so.looks;
+    lost = λ k. let one = so.gathered.lives k in
+        (one.0, subst (λ v. Lives (k + 1) there (side so.mid.seats k) (side v.items k) one.0) (sym seats) one.1);
+    silent = λ yes. same ∙ so.stays yes;
+  }
 
 -- ---- the answers
 
@@ -140,6 +152,9 @@ went_given there turn mode old new list whole kept so =
         rules = subst (λ (s : Sessions). Keeps (in_next s) list new.sessions) (sym so.looks.same) so.rules;
         frozen = so.filled;
         whole = kept ∙ sym so.looks.whole;
+        silent = so.silent;
+        answered = so.answered;
+        quick = so.quick;
       },
       so.looks.whole ∙ whole,
     ))
@@ -151,19 +166,20 @@ went_over there turn mode old new so =
     (went_one (Answers (record { turn = turn; mode = mode; sessions = there; list = None })) new new
     (record {
       frozen = so.frozen_is;
-      quiet = record { lives = record { each = λ k. inr (record { happened = []; happens = refl; entries = refl }) }; sessions = refl; whole = refl; over = λ is. is };
+      quiet = record { lives = record { each = λ k. inr (record { happened = []; happens = refl; entries = refl }) }; sessions = refl; whole = refl; over = λ is. is; silent = λ is. is };
       over = so.over;
       ended = so.ended;
     }))
 
 pub went_lost : (there : List Session) (old new broken : View) → HasLost there old new → broken.seats ≡ new.seats → broken.broke ≡ true
-    → Went old broken [] []
-went_lost there old new broken so seats broke =
+    → broken.silent ≡ new.silent → Went old broken [] []
+went_lost there old new broken so seats broke same =
     went_join old so.mid broken [] [] [] [] so.looks.looked
     (went_one (Breaks there) so.mid broken (record {
       lost = λ k. let one = so.lost k in
           (one.0, subst (λ (l : List Seat). Lives (k + 1) there (side so.mid.seats k) (side l k) one.0) (sym seats) one.1);
       broke = broke;
+      silent = λ yes. same ∙ so.silent yes;
     }))
 
 -- nothing is owed after a list that is given
@@ -188,18 +204,19 @@ handed_left bytes s t (inr (inl out)) = ap (λ (x : Side). x.left) out.is
 handed_left bytes s t (inr (inr over)) = ap (λ (x : Side). x.left) over.is
 
 -- a message was handed to a session
-pub went_handed : (session : ℕ) (bytes message : List ℕ) (old new : Roll) (reached : List ℕ) (over broke : Bool) → 0 < session → message ≡ bytes
+pub went_handed : (session : ℕ) (bytes message : List ℕ) (old new : Roll) (reached : List ℕ) (over broke silent : Bool) → 0 < session → message ≡ bytes
     → IsHanded message (side old.seats.items (session - 1)) (side new.seats.items (session - 1))
     → ((k : ℕ) → session ≢ k + 1 → side new.seats.items k ≡ side old.seats.items k) → length new.seats.items ≡ length old.seats.items
-    → new.live ≡ old.live → Went (view old reached over broke) (view new reached over broke) [] ((session, bytes) ∷ [])
-went_handed session bytes message old new reached over broke low is handed others count live =
-    went_one (Hands (session, bytes)) (view old reached over broke) (view new reached over broke) (record {
+    → new.live ≡ old.live → Went (view old reached over broke silent) (view new reached over broke silent) [] ((session, bytes) ∷ [])
+went_handed session bytes message old new reached over broke silent low is handed others count live =
+    went_one (Hands (session, bytes)) (view old reached over broke silent) (view new reached over broke silent) (record {
       own = λ k same. subst (λ (m : ℕ). IsHanded bytes (side old.seats.items m) (side new.seats.items m)) (place k same)
           (subst (λ (b : List ℕ). IsHanded b (side old.seats.items (session - 1)) (side new.seats.items (session - 1))) is handed);
       others = others;
       sessions = λ i. record { highest = count i; live = (ap (λ v. filter (is_live new.seats.items) v.items) live ∙ live_same old.seats.items new.seats.items old.live.items lefts) i; reached = reached };
       over = refl;
       broke = refl;
+      silent = refl;
     })
   where
     place : (k : ℕ) → session ≡ k + 1 → session - 1 ≡ k

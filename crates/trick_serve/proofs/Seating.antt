@@ -1,11 +1,11 @@
 -- Which client a seat is of, as seats change.
-use Rattle.std.proofs.Common.{◌≡◌, ◌∙◌, ⊎_elim, ℕ, ◌<◌, ◌≤◌, Bool, true, false, List, [], ◌∷◌, ◌++◌, Some, ap, append-nil, arith, length, map, refl, slice_index_or, slice_set, sym}
+use Rattle.std.proofs.Common.{◌≡◌, ◌≢◌, ◌∙◌, ⊎_elim, ℕ, ◌<◌, ◌≤◌, Bool, true, false, List, [], ◌∷◌, ◌++◌, Some, ap, append-nil, arith, length, map, refl, slice_index_or, slice_set, sym}
 use Rattle.std.proofs.lemmas.Bool.{false≢true}
-use Rattle.std.proofs.lemmas.List.{get_or-map, length-map, map-append, map-set, set-get_or}
+use Rattle.std.proofs.lemmas.List.{nil_from_length, get_or-map, length-map, map-append, map-set, set-get_or}
 use Rattle.trick_model.specs.declared.entry.Entry.{Entry}
 use Rattle.trick_model.specs.declared.session.Session.{Session}
 use Rattle.trick_serve.proofs.Living.{some≢none}
-use Rattle.trick_serve.specs.Clients.{AreOfClients, IsLast, KeepQueues, client_queues, clients_of, has_over, seat_queues}
+use Rattle.trick_serve.specs.Clients.{AreOfClients, IsLast, IsSilent, KeepQueues, client_queues, clients_of, has_lack, has_over, is_silent, seat_queues}
 use Rattle.trick_serve.specs.Gathering.{HasListed, HasLooked}
 use Rattle.trick_serve.specs.Life.{Happening, Happens, Hears, IsSeated, IsSlow, IsTold, Misses, after}
 use Rattle.trick_serve.specs.Messages.{IsHanded}
@@ -124,6 +124,67 @@ module _ {I O : Type 0} where
   -- it came just now
   pub last_over : (came now : List (Comes I O)) (seats : List Seat) → now ≡ came ++ comes.Over ∷ [] → IsLast now seats
   last_over came now seats is = λ none. absurd (false≢true (sym none ∙ ap has_over is ∙ over_comes came))
+
+  -- ---- what came first
+
+  silent_more : (came : List (Comes I O)) (item : Comes I O) → IsSilent came → IsSilent (came ++ item ∷ [])
+  silent_more [] item so = absurd (false≢true so)
+  silent_more (comes.Client arrival ∷ came) item so = absurd (false≢true so)
+  silent_more (comes.Nobody ∷ came) item so = refl
+  silent_more (comes.Over ∷ came) item so = refl
+  silent_more (comes.OutOfMemory ∷ came) item so = refl
+  silent_more (comes.Closed ∷ came) item so = refl
+
+  -- It is no client, and that stays where one thing more came, and where nothing came.
+  pub silent_took : (came now : List (Comes I O)) (item : Comes I O) → now ≡ came ++ item ∷ [] → IsSilent came → IsSilent now
+  silent_took came now item is so = ap is_silent is ∙ silent_more came item so
+
+  pub silent_same : (came now : List (Comes I O)) → now ≡ came → IsSilent came → IsSilent now
+  silent_same came now is so = ap is_silent is ∙ so
+
+  first_none : (came : List (Comes I O)) (item : Comes I O) → length (clients_of (came ++ item ∷ [])) ≡ 0 → IsSilent (came ++ item ∷ [])
+  first_none [] (comes.Client arrival) none = absurd (omega (arith, none))
+  first_none [] comes.Nobody none = refl
+  first_none [] comes.Over none = refl
+  first_none [] comes.OutOfMemory none = refl
+  first_none [] comes.Closed none = refl
+  first_none (comes.Client arrival ∷ came) item none = absurd (omega (arith, none))
+  first_none (comes.Nobody ∷ came) item none = refl
+  first_none (comes.Over ∷ came) item none = refl
+  first_none (comes.OutOfMemory ∷ came) item none = refl
+  first_none (comes.Closed ∷ came) item none = refl
+
+  -- One thing more came, and still no client has a seat.
+  pub first_took : (came now : List (Comes I O)) (item : Comes I O) (seats : List Seat) → now ≡ came ++ item ∷ [] → AreOfClients now seats → seats ≡ []
+      → IsSilent now
+  first_took came now item seats is so empty =
+      let many : length (clients_of now) ≡ 0 =
+      sym (length-map (clients_of now) client_queues) ∙ ap length (sym so) ∙ length-map seats queues_of ∙ ap length empty in
+      ap is_silent is
+      ∙ (first_none came item (ap (λ (l : List (Comes I O)). length (clients_of l)) (sym is) ∙ many))
+
+  -- ---- whether it came that there was no memory
+
+  lack_more : (came : List (Comes I O)) (item : Comes I O) → has_lack (item ∷ []) ≡ false → has_lack came ≡ false → has_lack (came ++ item ∷ []) ≡ false
+  lack_more [] item one none = one
+  lack_more (comes.Client arrival ∷ came) item one none = lack_more came item one none
+  lack_more (comes.Nobody ∷ came) item one none = lack_more came item one none
+  lack_more (comes.Over ∷ came) item one none = lack_more came item one none
+  lack_more (comes.OutOfMemory ∷ came) item one none = absurd (false≢true (sym none))
+  lack_more (comes.Closed ∷ came) item one none = lack_more came item one none
+
+  -- It did not, nor does what came now say so.
+  pub lack_took : (came now : List (Comes I O)) (item : Comes I O) → now ≡ came ++ item ∷ [] → has_lack (item ∷ []) ≡ false → has_lack came ≡ false
+      → has_lack now ≡ false
+  lack_took came now item is one none = ap has_lack is ∙ lack_more came item one none
+
+-- There are as many at least, and none now.
+pub none_before : (seats seats' : List Seat) → length seats ≤ length seats' → seats' ≡ [] → seats ≡ []
+none_before seats seats' more none = let many = ap length none in nil_from_length seats (omega (arith, more, many))
+
+-- The last number was given, so there is a seat.
+pub full_some : (seats : List Seat) → 4294967295 ≤ length seats → seats ≢ []
+full_some seats full = λ none. let many = ap length none in absurd (omega (arith, full, many))
 
 -- what holds where this is true and where it is not
 pub either_way : {P : Type 0} (b : Bool) → (b ≡ true → P) → (b ≡ false → P) → P

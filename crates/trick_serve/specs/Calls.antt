@@ -7,19 +7,24 @@ use Rattle.trick_model.specs.declared.entry.Entry.{Entry}
 use Rattle.trick_model.specs.declared.session.Session.{Session}
 use Rattle.trick_serve.specs.Life.{AllLive, Lives}
 use Rattle.trick_serve.specs.Messages.{IsHanded}
-use Rattle.trick_serve.specs.Rules.{Keeps}
+use Rattle.trick_serve.specs.Rules.{AreQuick, Keeps}
 use Rattle.trick_serve.specs.Ended.{has_end}
 use Rattle.trick_serve.specs.Sides.{side}
 use Rattle.trick_serve.specs.declared.seat.Seat.{Seat}
 use Rattle.trick_turns.specs.Turns.{Answer, Sessions, in_next}
 
--- The source of entries at one moment: its seats, its sessions, whether no client comes any more, and whether there
--- was no memory once.
+-- The source of entries at one moment: its seats, its sessions, whether no client comes any more, whether there was no
+-- memory once, and whether the door had answered, before its first client, that none had come.
 pub record View : Type 0 where
   pub seats : List Seat
   pub sessions : Sessions
   pub over : Bool
   pub broke : Bool
+  pub silent : Bool
+
+-- What was said once of the first answer of the door stays.
+abbrev pub StaysSilent : View → View → Type 0
+StaysSilent old new = old.silent ≡ true → new.silent ≡ true
 
 -- ---- one call
 
@@ -29,13 +34,18 @@ pub record IsQuiet (there : List Session) (old new : View) : Type 0 where
   pub sessions : new.sessions ≡ old.sessions
   pub whole : new.broke ≡ old.broke
   pub over : old.over ≡ true → new.over ≡ true
+  pub silent : StaysSilent old new
 
--- A list is given, which in Freeze is not empty.
+-- A list is given, which in Freeze is not empty. Where no client had come by then, the door had answered so. Of the
+-- messages to the sessions that have not left after it none was left out.
 pub record IsGiven (answer : Answer) (list : List Entry) (old new : View) : Type 0 where
   pub lives : AllLive answer.sessions old.seats new.seats list
   pub rules : Keeps (in_next old.sessions) list new.sessions
   pub frozen : IsTrue (is_frozen answer.mode) → list ≢ []
   pub whole : new.broke ≡ old.broke
+  pub silent : StaysSilent old new
+  pub answered : new.seats ≡ [] → list ≡ [] → new.silent ≡ true
+  pub quick : AreQuick new.seats new.sessions.live
 
 -- No line comes any more: no client comes, and of each session that has not left the end was heard.
 pub record IsOver (answer : Answer) (old new : View) : Type 0 where
@@ -48,6 +58,7 @@ pub record IsOver (answer : Answer) (old new : View) : Type 0 where
 pub record IsBroken (there : List Session) (old new : View) : Type 0 where
   pub lost : (k : ℕ) → (own : List Entry) × Lives (k + 1) there (side old.seats k) (side new.seats k) own
   pub broke : new.broke ≡ true
+  pub silent : StaysSilent old new
 
 -- A message is handed to its session, and no other session changes.
 pub record HandsOver (message : Message) (old new : View) : Type 0 where
@@ -56,6 +67,7 @@ pub record HandsOver (message : Message) (old new : View) : Type 0 where
   pub sessions : new.sessions ≡ old.sessions
   pub over : new.over ≡ old.over
   pub broke : new.broke ≡ old.broke
+  pub silent : new.silent ≡ old.silent
 
 -- What a call can be: a look at which nothing came, an answer, a want of memory, or a message.
 pub data Call : Type 0 where
@@ -112,7 +124,7 @@ pub record Went (old new : View) (answers : List Answer) (messages : List Messag
   pub answers_are : answers_of calls ≡ answers
   pub messages_are : messages_of calls ≡ messages
 
--- So it went, and the clients still come by the same queue.
+-- So it went, and the queues to and from the door are still the same.
 pub record WentOn {Q : Type 0} (old new : View) (before now : Q) (answers : List Answer) (messages : List Message)
     : Type 0 where
   pub went : Went old new answers messages

@@ -53,3 +53,25 @@ module _ {I O : Type 0} where
   -- No client comes any more: where it did not come that none does, the last number was given.
   abbrev pub IsLast : List (Comes I O) → List Seat → Type 0
   IsLast came seats = has_over came ≡ false → 4294967295 ≤ length seats
+
+  -- whether something came, and what came first is no client
+  abbrev pub is_silent : List (Comes I O) → Bool
+  is_silent [] = false
+  is_silent (comes.Client arrival ∷ items) = false
+  is_silent (comes.Nobody ∷ items) = true
+  is_silent (comes.Over ∷ items) = true
+  is_silent (comes.OutOfMemory ∷ items) = true
+  is_silent (comes.Closed ∷ items) = true
+
+  -- Something came, and what came first is no client.
+  abbrev pub IsSilent : List (Comes I O) → Type 0
+  IsSilent came = is_silent came ≡ true
+
+  -- whether it came that there was no memory
+  abbrev pub has_lack : List (Comes I O) → Bool
+  has_lack [] = false
+  has_lack (comes.Client arrival ∷ items) = has_lack items
+  has_lack (comes.Nobody ∷ items) = has_lack items
+  has_lack (comes.Over ∷ items) = has_lack items
+  has_lack (comes.OutOfMemory ∷ items) = true
+  has_lack (comes.Closed ∷ items) = has_lack items

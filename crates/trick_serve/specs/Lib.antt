@@ -20,3 +20,5 @@ pub mod Rolls
 pub mod Looks
 -- Laws of calls.
 pub mod CallLaws
+-- What the source of entries did whose caller asks the door.
+pub mod Here

@@ -12,7 +12,7 @@ use Rattle.trick_model.specs.declared.entry.Entry.{Entry}
 use Rattle.trick_model.specs.declared.entry.Entry.TheVariants.{Join, Said, Leave, Publish}
 use Rattle.trick_model.specs.declared.session.Session.{Session}
 use Rattle.trick_serve.specs.Ended.{has_end}
-use Rattle.trick_serve.specs.Sides.{IsHere, Queues, Side, nobody, side}
+use Rattle.trick_serve.specs.Sides.{IsHere, IsQuick, Queues, Side, nobody, side}
 use Rattle.trick_serve.specs.declared.seat.Seat.{Seat}
 use Rattle.trick_wire.specs.declared.heard.Heard.{Heard}
 use Rattle.trick_wire.specs.declared.heard.Heard.TheVariants as heard
@@ -118,12 +118,12 @@ pub record CanSit (s : Side) (refused : Bool) (old : Side) : Type 0 where
   pub client : (queues : Queues) × (s.queues ≡ Some queues) × (queues.refused ≡ refused)
 
 -- What happens to a session that was seated and has not left. It leaves for being slow only where a message to it was
--- left out.
+-- left out; and where one was, nothing else happens to it.
 abbrev pub Can : Happening → Side → Type 0
 Can (IsSeated s refused) old = CanSit s refused old
-Can (Hears item) old = IsHere old × IsRight item
-Can (Misses item) old = IsHere old
-Can (IsTold why) old = IsHere old
+Can (Hears item) old = IsQuick old × IsRight item
+Can (Misses item) old = IsQuick old
+Can (IsTold why) old = IsQuick old
 Can IsSlow old = IsHere old × (old.slow ≡ true)
 
 -- the entries of session n for all that happens

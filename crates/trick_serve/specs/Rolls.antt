@@ -1,6 +1,8 @@
 -- The roll of sessions: its list as it is gathered, and room for one session more.
 use Rattle.std.specs.Prelude.{◌≡◌, ℕ, ◌+◌, ◌-◌, ◌<◌, ◌≤◌, Bool, cond, List, [], ◌∷◌, IsTrue}
 use Rattle.std.specs.List.{All}
+use Rattle.std.specs.declared.alloc.Global.{Global}
+use Rattle.std.specs.declared.sync.Arc.{Arc}
 use Rattle.std.specs.Vec.{vec_capacity, vec_len}
 use Rattle.trick_model.specs.declared.entry.Cause.TheVariants as cause
 use Rattle.trick_model.specs.declared.entry.Entry.{Entry}
@@ -13,6 +15,10 @@ use Rattle.trick_serve.specs.Ended.{has_end}
 use Rattle.trick_serve.specs.Sides.{side}
 use Rattle.trick_serve.specs.declared.roll.Roll.{Roll}
 use Rattle.trick_serve.specs.declared.seat.Seat.{Seat}
+use Rattle.trick_serve.specs.declared.served.Served.{Served}
+use Rattle.trick_serve_door.specs.declared.arrival.Comes.{Comes}
+use Rattle.trick_serve_door.specs.declared.departure.Departure.{Departure}
+use Rattle.trick_wire.specs.declared.queue.Shared.{Shared}
 
 -- its list was gathered from these seats and sessions
 abbrev pub IsGathered : List Session → List Seat → List ℕ → Roll → Bool → Type 0
@@ -35,13 +41,22 @@ abbrev pub AreEnded : List Seat → List ℕ → Type 0
 AreEnded seats numbers = All (λ n. IsTrue (has_end (side seats (n - 1)).heard)) numbers
 
 -- the source of entries with this roll
-abbrev pub view : Roll → List ℕ → Bool → Bool → View
-view roll reached over broke = record {
+abbrev pub view : Roll → List ℕ → Bool → Bool → Bool → View
+view roll reached over broke silent = record {
   seats = roll.seats.items;
   sessions = sessions_by roll.seats.items roll.live.items reached;
   over = over;
   broke = broke;
+  silent = silent;
 }
+
+-- the source of entries at this moment
+abbrev pub view_of : {I O R : Type 0} → Served I O R → View
+view_of s = view s.roll s.reached.items s.over s.broke s.silent
+
+-- its queues: the one by which clients come, and the one by which it tells which sessions left
+abbrev pub ways_of : {I O R : Type 0} → Served I O R → Arc (Shared (Comes I O)) Global × Arc (Shared Departure) Global
+ways_of s = (s.coming.shared, s.gone.shared)
 
 -- the entries of a client that is seated, to which a thread was refused or not
 abbrev pub seated_entries : ℕ → Bool → List Entry

@@ -24,6 +24,10 @@ sessions_by seats known reached = record {
 abbrev pub AreSeated : List ℕ → List Seat → Type 0
 AreSeated numbers seats = All (λ n. (0 < n) × (n ≤ length seats)) numbers
 
+-- Of the messages to these sessions none was left out.
+abbrev pub AreQuick : List Seat → List ℕ → Type 0
+AreQuick seats numbers = All (λ n. (side seats (n - 1)).slow ≡ false) numbers
+
 -- A list goes on by the rules of entries: each entry may come after those before it, none is a publication, and these
 -- are the sessions after it.
 pub record Keeps (old : Sessions) (list : List Entry) (new : Sessions) : Type 0 where

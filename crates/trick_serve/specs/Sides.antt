@@ -60,3 +60,10 @@ pub record IsHere (s : Side) : Type 0 where
   pub queues : Queues
   pub seated : s.queues ≡ Some queues
   pub stays : s.left ≡ false
+
+-- It was seated, has not left, and no message to it was left out.
+pub record IsQuick (s : Side) : Type 0 where
+  pub queues : Queues
+  pub seated : s.queues ≡ Some queues
+  pub stays : s.left ≡ false
+  pub quick : s.slow ≡ false

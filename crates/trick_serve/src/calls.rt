@@ -1,16 +1,17 @@
 //! What is done with the roll of sessions.
 
 ghost use Rattle.std.specs.Prelude.{◌≡◌, ◌++◌, ◌<◌, ◌+◌, ◌-◌, ◌≤◌, ◌≢◌, ◌∷◌, []};
-ghost use Rattle.std.specs.Prelude.{List, OnOk, false, filter, is_ok, length, ℕ, true};
+ghost use Rattle.std.specs.Prelude.{List, OnOk, cond, false, filter, is_ok, length, not, ℕ, true};
 ghost use Rattle.std.specs.Vec.{vec_capacity, vec_len};
 ghost use Rattle.trick_model.specs.declared.session.Session.{Session};
 ghost use Rattle.trick_serve.specs.Clients.{KeepQueues, client_queues, seat_queues};
 ghost use Rattle.trick_serve.specs.Gathering.{Gathers};
 ghost use Rattle.trick_serve.specs.Messages.{IsHanded};
 ghost use Rattle.trick_serve.specs.Rolls.{AreEnded, HasRoom, IsGathered, IsSameRoll, seated_entries};
-ghost use Rattle.trick_serve.specs.Rules.{is_live};
+ghost use Rattle.trick_serve.specs.Rules.{AreQuick, is_live};
 ghost use Rattle.trick_serve.specs.Sides.{side};
-ghost use Rattle.trick_wire.specs.Ends.{IsSamePutter};
+ghost use Rattle.trick_serve_door.specs.Departures.{left_of};
+ghost use Rattle.trick_wire.specs.Ends.{IsSamePutter, put_by};
 
 use crate::hang_up::hang_up_all;
 use crate::hear::listen_all;
@@ -50,6 +51,19 @@ fn list_join(session: u32, refused: bool, list: &mut Vec<Entry>)
     }
 }
 
+// Closes the queues of a session that left, and tells its number.
+fn dismiss_one<R: Wait>(rt: &R, session: u32, seat: &Seat, gone: &mut Putter<Departure>)
+    ensures queue { IsSamePutter gone.old gone.new }
+    ensures left { left_of (put_by gone.new) + cond (not seat.now.left) 1 0 ≤ left_of (put_by gone.old) + 1 }
+{
+    if seat.left {
+        seat.inbox.close();
+        seat.outbox.close();
+        // it has room for all that live at once
+        let _told = gone.push(rt, Departure::Session(session));
+    }
+}
+
 impl Roll {
     /// No session, and an empty list.
     pub(crate) fn new(alloc: Global) -> Roll
@@ -74,16 +88,13 @@ impl Roll {
 
     /// Closes the queues of each session that left, and tells its number.
     pub(crate) fn dismiss<R: Wait>(&self, rt: &R, gone: &mut Putter<Departure>)
-        ensures { IsSamePutter gone.old gone.new }
+        ensures queue { IsSamePutter gone.old gone.new }
+        ensures left { left_of (put_by gone.new) + length (filter (is_live self.now.seats.items) self.now.live.items)
+            ≤ left_of (put_by gone.old) + length self.now.live.items }
     {
         for session in &self.live {
             let seat = &self.seats[*session as usize - 1];
-            if seat.left {
-                seat.inbox.close();
-                seat.outbox.close();
-                // it has room for all that live at once
-                let _told = gone.push(rt, Departure::Session(*session));
-            }
+            dismiss_one(rt, *session, seat, gone);
         }
     }
 
@@ -103,15 +114,19 @@ impl Roll {
         requires { self.old.list.items ≡ [] }
         ensures gathered { IsGathered there.now self.old.seats.items self.old.live.items self.new (is_ok result) }
         ensures queues { KeepQueues self.old.seats.items self.new.seats.items }
+        ensures live { self.new.live ≡ self.old.live }
     {
         hang_up_all(there, &self.live, &mut self.seats, &mut self.list)
     }
 
-    /// Lists what came of each session.
+    /// Lists what came of each session. Those to which a message was left out leave.
     pub(crate) fn listen<R: Wait>(&mut self, rt: &R, alloc: Global) -> Result<(), AllocError>
         ensures gathered { (there : List Session) (was : List Seat) (known : List ℕ)
             → IsGathered there was known self.old true → IsGathered there was known self.new (is_ok result) }
         ensures queues { KeepQueues self.old.seats.items self.new.seats.items }
+        ensures live { self.new.live ≡ self.old.live }
+        ensures quick { is_ok result ≡ true
+            → AreQuick self.new.seats.items (filter (is_live self.new.seats.items) self.new.live.items) }
     {
         listen_all(rt, alloc, &self.live, &mut self.seats, &mut self.list)
     }
@@ -144,6 +159,7 @@ impl Roll {
         ensures queues { seat_queues self.new.seats.items
             ≡ seat_queues self.old.seats.items ++ client_queues arrival ∷ [] }
         ensures count { length self.new.seats.items ≡ length self.old.seats.items + 1 }
+        ensures live { length self.new.live.items ≡ length self.old.live.items + 1 }
     {
         let session = self.seats.len() as u32 + 1;
         let seat = Seat::of(arrival);

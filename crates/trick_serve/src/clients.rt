@@ -1,8 +1,8 @@
 //! Clients that come.
 
-ghost use Rattle.std.specs.Prelude.{◌≡◌, List, Ok, ℕ, is_ok, true};
+ghost use Rattle.std.specs.Prelude.{◌≡◌, ◌≢◌, ◌≤◌, ◌+◌, [], IfOk, List, Ok, OnOk, ℕ, false, is_ok, length, true};
 ghost use Rattle.trick_model.specs.declared.session.Session.{Session};
-ghost use Rattle.trick_serve.specs.Clients.{AreOfClients, IsLast};
+ghost use Rattle.trick_serve.specs.Clients.{AreOfClients, IsLast, IsSilent, has_lack};
 ghost use Rattle.trick_serve.specs.Rolls.{IsGathered};
 ghost use Rattle.trick_serve.specs.declared.seat.Seat.{Seat};
 ghost use Rattle.trick_wire.specs.Ends.{IsSameTaker, taken_by};
@@ -39,6 +39,13 @@ fn take_client<I: Drop, O: Drop, R: Wait>(
     ensures still { IsLast (taken_by coming.old) roll.old.seats.items
         → IsLast (taken_by coming.new) roll.new.seats.items }
     ensures last { result ≡ Ok Took.Over → IsLast (taken_by coming.new) roll.new.seats.items }
+    ensures silent { IsSilent (taken_by coming.old) → IsSilent (taken_by coming.new) }
+    ensures first { AreOfClients (taken_by coming.old) roll.old.seats.items → roll.new.seats.items ≡ []
+        → IfOk result (λ took. took ≢ Took.Nothing → IsSilent (taken_by coming.new)) }
+    ensures memory { has_lack (taken_by coming.old) ≡ false → OnOk result (has_lack (taken_by coming.new) ≡ false) }
+    ensures count { length roll.old.seats.items ≤ length roll.new.seats.items }
+    ensures live { length roll.new.live.items + length roll.old.seats.items
+        ≡ length roll.old.live.items + length roll.new.seats.items }
     ensures gathers { (there : List Session) (was : List Seat) (known : List ℕ)
         → IsGathered there was known roll.old true → IsGathered there was known roll.new (is_ok result) }
 {
@@ -72,6 +79,13 @@ pub(crate) fn take_clients<I: Drop, O: Drop, R: Wait>(
     ensures still { IsLast (taken_by coming.old) roll.old.seats.items
         → IsLast (taken_by coming.new) roll.new.seats.items }
     ensures last { result ≡ Ok Took.Over → IsLast (taken_by coming.new) roll.new.seats.items }
+    ensures silent { IsSilent (taken_by coming.old) → IsSilent (taken_by coming.new) }
+    ensures first { AreOfClients (taken_by coming.old) roll.old.seats.items → roll.new.seats.items ≡ []
+        → IfOk result (λ took. took ≢ Took.Nothing → IsSilent (taken_by coming.new)) }
+    ensures memory { has_lack (taken_by coming.old) ≡ false → OnOk result (has_lack (taken_by coming.new) ≡ false) }
+    ensures count { length roll.old.seats.items ≤ length roll.new.seats.items }
+    ensures live { length roll.new.live.items + length roll.old.seats.items
+        ≡ length roll.old.live.items + length roll.new.seats.items }
     ensures gathers { (there : List Session) (was : List Seat) (known : List ℕ)
         → IsGathered there was known roll.old true → IsGathered there was known roll.new (is_ok result) }
 {

@@ -1,17 +1,25 @@
 //! What the source of entries of a run with clients gives and takes.
 
-ghost use Rattle.std.specs.Prelude.{◌≡◌, ◌≢◌, ◌++◌, ◌∷◌, [], IfOk, Ok, OnOk, false, filter, is_ok, true};
-ghost use Rattle.trick_serve.specs.Clients.{AreOfClients, IsLast, clients_of};
+ghost use Rattle.std.specs.Prelude.{◌≡◌, ◌≢◌, ◌≤◌, ◌++◌, ◌∷◌, [], ℕ, List};
+ghost use Rattle.std.specs.Prelude.{IfOk, None, Ok, OnOk, false, filter, is_ok, length, true};
+ghost use Rattle.trick_model.specs.declared.session.Session.{Session};
+ghost use Rattle.trick_serve.specs.Calls.{WentOn};
+ghost use Rattle.trick_serve.specs.Clients.{AreOfClients, IsLast, IsSilent, has_lack};
 ghost use Rattle.trick_serve.specs.Looks.{Came, HasFound, HasNoMore};
-ghost use Rattle.trick_serve.specs.Rolls.{IsGathered, view};
-ghost use Rattle.trick_serve.specs.Rules.{is_live, sessions_by};
+ghost use Rattle.trick_serve.specs.Rolls.{IsGathered, view_of, ways_of};
+ghost use Rattle.trick_serve.specs.Rules.{AreQuick, is_live, sessions_by};
+ghost use Rattle.trick_serve.specs.declared.seat.Seat.{Seat};
+ghost use Rattle.trick_serve_door.specs.Departures.{left_of};
 ghost use Rattle.trick_serve_door.specs.declared.departure.Departure.TheVariants.{Run};
-ghost use Rattle.trick_turns.specs.Turns.{no_sessions};
+ghost use Rattle.trick_turns.specs.Gap.{IfGap};
+ghost use Rattle.trick_turns.specs.Turns.{Gives, GoesOn, Pays, answered, no_sessions};
+ghost use Rattle.trick_model.specs.State.{seen};
 ghost use Rattle.trick_model.specs.Turn.{is_frozen as is_frozen_of};
 ghost use Rattle.trick_wire.specs.Ends.{IsSamePutter, IsSameTaker, put_by, taken_by};
 
+use crate::asks::{Asks, Brought};
 use crate::clients::{Took, take_clients};
-use crate::{Finished, Roll, Served};
+use crate::{Finished, Roll, Seat, Served};
 use std::alloc::{AllocError, Global};
 use std::sync::{Arc, Wait};
 use trick_base::Items;
@@ -31,9 +39,19 @@ fn is_frozen(mode: Mode) -> bool
 
 // Whether something had come of the door, after this was taken.
 fn is_asked(asked: bool, took: Took) -> bool
-    ensures { asked ≡ true → result ≡ true }
+    ensures reason { result ≡ true → asked ≡ false → took ≢ Took.Nothing }
+    ensures stays { asked ≡ true → result ≡ true }
 {
     asked || !matches!(took, Took::Nothing)
+}
+
+// Whether something had come of the door before its first client: it was known, or something has come and no client.
+fn is_silent(silent: bool, asked: bool, seats: &[Seat]) -> bool
+    ensures reason { result ≡ true → silent ≡ false → (asked ≡ true) × (seats.now ≡ []) }
+    ensures stays { silent ≡ true → result ≡ true }
+    ensures quiet { asked ≡ true → seats.now ≡ [] → result ≡ true }
+{
+    silent || asked && seats.is_empty()
 }
 
 // Whether no client comes any more, after this was taken.
@@ -60,9 +78,10 @@ fn tell_over<R: Wait>(rt: &R, gone: &mut Putter<Departure>)
 }
 
 impl<I: Drop, O: Drop, R: Wait + Copy> Served<I, O, R> {
-    /// The source of entries of a run to which no client has come yet. Clients come by `coming`, and into `gone` goes
-    /// which sessions left, and at the end that the run is over; it needs room for 65. The bell is rung after each put
-    /// into `coming`, into an inbox and into a queue of causes. Takes no memory.
+    /// The source of entries of a run to which no client has come yet. Clients come by `coming`, of which nothing was
+    /// taken. Into `gone`, into which nothing was put, goes which sessions left, and at the end that the run is over;
+    /// it needs room for 65. The bell is rung after each put into `coming`, into an inbox and into a queue of causes.
+    /// Takes no memory.
     pub fn new(
         rt: R,
         alloc: Global,
@@ -70,11 +89,13 @@ impl<I: Drop, O: Drop, R: Wait + Copy> Served<I, O, R> {
         coming: Taker<Comes<I, O>>,
         gone: Putter<Departure>,
     ) -> Self
-        requires none { clients_of (taken_by coming) ≡ [] }
+        requires none { taken_by coming ≡ [] }
+        requires untold { put_by gone ≡ [] }
         ensures seats { result.roll.seats.items ≡ [] }
         ensures sessions { sessions_by result.roll.seats.items result.roll.live.items result.reached.items
             ≡ no_sessions }
         ensures whole { result.broke ≡ false }
+        ensures silent { result.silent ≡ false }
         ensures coming { result.coming ≡ coming }
         ensures gone { result.gone ≡ gone }
     {
@@ -89,6 +110,7 @@ impl<I: Drop, O: Drop, R: Wait + Copy> Served<I, O, R> {
             asked: false,
             over: false,
             broke: false,
+            silent: false,
         }
     }
 
@@ -99,6 +121,9 @@ impl<I: Drop, O: Drop, R: Wait + Copy> Served<I, O, R> {
         ensures seats { result.seats ≡ self.roll.seats }
         ensures clients { AreOfClients (taken_by result.coming) result.seats.items }
         ensures last { self.over ≡ true → IsLast (taken_by result.coming) result.seats.items }
+        ensures silent { self.silent ≡ true → IsSilent (taken_by result.coming) }
+        ensures memory { self.broke ≡ false → has_lack (taken_by result.coming) ≡ false }
+        ensures left { left_of (put_by result.gone) ≤ length result.seats.items }
         ensures coming { result.coming ≡ self.coming }
         ensures gone { IsSamePutter self.gone result.gone }
         ensures told { put_by result.gone ≡ put_by self.gone ++ Run ∷ [] }
@@ -120,40 +145,76 @@ impl<I: Drop, O: Drop, R: Wait + Copy> Served<I, O, R> {
         }
     }
 
+    // Seats the clients that came, and keeps what is known of the door by then, also where there was no memory, or it
+    // came that there was none.
+    fn seat(&mut self) -> Result<(), AllocError>
+        ensures coming { IsSameTaker self.old.coming self.new.coming }
+        ensures gone { IsSamePutter self.old.gone self.new.gone }
+        ensures reached { self.new.reached ≡ self.old.reached }
+        ensures broke { OnOk result (self.new.broke ≡ self.old.broke) }
+        ensures over { self.old.over ≡ true → self.new.over ≡ true }
+        ensures silent { self.old.silent ≡ true → self.new.silent ≡ true }
+        ensures gathers { (there : List Session) (was : List Seat) (known : List ℕ)
+            → IsGathered there was known self.old.roll true → IsGathered there was known self.new.roll (is_ok result) }
+    {
+        let rt = self.rt;
+        let taken = take_clients(&rt, &mut self.coming, &mut self.roll);
+        let Ok(took) = taken else {
+            self.broke = true;
+            return Err(AllocError);
+        };
+        self.asked = is_asked(self.asked, took);
+        self.over = is_over(self.over, took);
+        self.silent = is_silent(self.silent, self.asked, &self.roll.seats);
+        Ok(())
+    }
+
     // Looks once at what came, and gathers a list of it.
     fn look(&mut self, there: &[Session]) -> Result<(), AllocError>
         ensures coming { IsSameTaker self.old.coming self.new.coming }
+        ensures gone { IsSamePutter self.old.gone self.new.gone }
         ensures reached { self.new.reached ≡ self.old.reached }
-        ensures broke { self.new.broke ≡ self.old.broke }
+        ensures broke { OnOk result (self.new.broke ≡ self.old.broke) }
         ensures over { self.old.over ≡ true → self.new.over ≡ true }
+        ensures silent { self.old.silent ≡ true → self.new.silent ≡ true }
         ensures gathered { IsGathered there.now self.old.roll.seats.items
             (filter (is_live self.old.roll.seats.items) self.old.roll.live.items) self.new.roll (is_ok result) }
+        ensures quick { is_ok result ≡ true → AreQuick self.new.roll.seats.items
+            (filter (is_live self.new.roll.seats.items) self.new.roll.live.items) }
     {
         let rt = self.rt;
         self.roll.dismiss(&rt, &mut self.gone);
         self.roll.begin();
         self.roll.hang_up(there)?;
-        let took = take_clients(&rt, &mut self.coming, &mut self.roll)?;
-        self.asked = is_asked(self.asked, took);
-        self.over = is_over(self.over, took);
+        self.seat()?;
         self.roll.listen(&rt, self.alloc)
     }
 
-    // Looks until a list was gathered, which in Freeze is not empty. False where no line comes any more.
-    fn find(&mut self, frozen: bool, there: &[Session]) -> Result<bool, AllocError>
+    // Asks and looks until a list was gathered, which in Freeze is not empty. False where no line comes any more.
+    fn find<A: Asks>(
+        &mut self,
+        asks: &mut A,
+        frozen: bool,
+        there: &[Session],
+    ) -> Result<bool, AllocError>
+        ensures asked { A.keeps asks.old asks.new }
         ensures coming { IsSameTaker self.old.coming self.new.coming }
+        ensures gone { IsSamePutter self.old.gone self.new.gone }
         ensures reached { self.new.reached ≡ self.old.reached }
-        ensures broke { self.new.broke ≡ self.old.broke }
-        ensures found { result ≢ Ok false → HasFound there.now
-            (view self.old.roll self.old.reached.items self.old.over self.old.broke) self.new.roll (is_ok result) }
+        ensures broke { OnOk result (self.new.broke ≡ self.old.broke) }
+        ensures found { result ≢ Ok false
+            → HasFound there.now (view_of self.old) self.new.roll self.new.silent (is_ok result) }
         ensures filled { result ≡ Ok true → frozen ≡ true → self.new.roll.list.items ≢ [] }
-        ensures over { result ≡ Ok false → HasNoMore frozen
-            (view self.old.roll self.old.reached.items self.old.over self.old.broke)
-            (view self.new.roll self.new.reached.items self.new.over self.new.broke) }
+        ensures answered { result ≡ Ok true → self.new.roll.seats.items ≡ [] → self.new.roll.list.items ≡ []
+            → self.new.silent ≡ true }
+        ensures quick { result ≡ Ok true → AreQuick self.new.roll.seats.items
+            (filter (is_live self.new.roll.seats.items) self.new.roll.live.items) }
+        ensures over { result ≡ Ok false → HasNoMore frozen (view_of self.old) (view_of self.new) }
     {
         let rt = self.rt;
         for _ in rt.forever() {
             let mark = self.bell.mark();
+            asks.ask();
             self.look(there)?;
             if !self.roll.list.is_empty() || self.asked && !frozen {
                 return Ok(true);
@@ -161,7 +222,7 @@ impl<I: Drop, O: Drop, R: Wait + Copy> Served<I, O, R> {
             if self.over && frozen && self.roll.are_over() {
                 return Ok(false);
             }
-            self.bell.rest(&rt, mark);
+            asks.rest(&rt, &self.bell, mark);
         }
         unreachable!()
     }
@@ -170,8 +231,10 @@ impl<I: Drop, O: Drop, R: Wait + Copy> Served<I, O, R> {
     fn give(&mut self, alloc: Global) -> Result<Vec<Entry>, AllocError>
         ensures seats { self.new.roll.seats ≡ self.old.roll.seats }
         ensures coming { self.new.coming ≡ self.old.coming }
+        ensures gone { self.new.gone ≡ self.old.gone }
         ensures live { self.new.roll.live ≡ self.old.roll.live }
         ensures broke { self.new.broke ≡ self.old.broke }
+        ensures silent { self.new.silent ≡ self.old.silent }
         ensures over { self.new.over ≡ self.old.over }
         ensures list { IfOk result (λ list. list.items ≡ self.old.roll.list.items) }
         ensures reached { OnOk result (self.new.reached.items ≡ self.old.roll.live.items) }
@@ -182,36 +245,64 @@ impl<I: Drop, O: Drop, R: Wait + Copy> Served<I, O, R> {
     }
 
     // The list that is given next. None where no line comes any more.
-    fn list(
+    fn list<A: Asks>(
         &mut self,
+        asks: &mut A,
         alloc: Global,
         frozen: bool,
         there: &[Session],
     ) -> Result<Option<Vec<Entry>>, AllocError>
-        ensures came { Came there.now frozen
-            (view self.old.roll self.old.reached.items self.old.over self.old.broke)
-            (view self.new.roll self.new.reached.items self.new.over self.new.broke) result }
+        ensures asked { A.keeps asks.old asks.new }
+        ensures came { Came there.now frozen (view_of self.old) (view_of self.new) result }
         ensures coming { IsSameTaker self.old.coming self.new.coming }
-        ensures broke { self.new.broke ≡ self.old.broke }
+        ensures gone { IsSamePutter self.old.gone self.new.gone }
+        ensures broke { OnOk result (self.new.broke ≡ self.old.broke) }
     {
-        if self.find(frozen, there)? {
+        if self.find(asks, frozen, there)? {
             let list = self.give(alloc)?;
             return Ok(Some(list));
         }
         Ok(None)
     }
+
+    /// What the next turn is given, where this one brings the clients.
+    pub(crate) fn next<M: Cells, A: Asks>(
+        &mut self,
+        asks: &mut A,
+        alloc: Global,
+        state: &State<M>,
+        there: &[Session],
+    ) -> Next
+        ensures asked { A.keeps asks.old asks.new }
+        ensures went { WentOn (view_of self.old) (view_of self.new) (ways_of self.old) (ways_of self.new)
+            (answered (seen M.numbers state.now) there.now result) [] }
+        ensures pays { Pays (seen M.numbers state.now) result false false }
+        ensures gives { Gives (seen M.numbers state.now) None result None }
+        ensures rules { GoesOn false
+            (sessions_by self.old.roll.seats.items self.old.roll.live.items self.old.reached.items) result
+            (sessions_by self.new.roll.seats.items self.new.roll.live.items self.new.reached.items) }
+        ensures no_gap { IfGap result (λ turns. ⊥) }
+    {
+        if self.broke {
+            return Next::OutOfMemory;
+        }
+        match self.list(asks, alloc, is_frozen(state.mode), there) {
+            Ok(Some(list)) => Next::Entries(list),
+            Ok(None) => Next::NoMore,
+            Err(AllocError) => {
+                self.broke = true;
+                Next::OutOfMemory
+            }
+        }
+    }
 }
 
 impl<M: Cells, I: Drop, O: Drop, R: Wait + Copy> Turns<M> for Served<I, O, R> {
-    ghost use Rattle.std.specs.Prelude.{◌≤◌, ◌<◌, None, false, length};
-    ghost use Rattle.trick_serve.specs.Calls.{WentOn};
-    ghost use Rattle.trick_serve.specs.Rolls.{view};
-    ghost use Rattle.trick_serve.specs.Rules.{sessions_by};
+    ghost use Rattle.std.specs.Prelude.{◌<◌};
     ghost use Rattle.trick_serve.specs.CallLaws.{seated_among, went_on_join, went_on_none};
 
-    ghost went = { λ old answers messages new. WentOn
-        (view old.roll old.reached.items old.over old.broke) (view new.roll new.reached.items new.over new.broke)
-        old.coming.shared new.coming.shared answers messages };
+    ghost went = { λ old answers messages new. WentOn (view_of old) (view_of new) (ways_of old) (ways_of new)
+        answers messages };
 
     ghost owes = { λ turns. false };
 
@@ -224,17 +315,7 @@ impl<M: Cells, I: Drop, O: Drop, R: Wait + Copy> Turns<M> for Served<I, O, R> {
     ghost takes = { λ turns session. (0 < session) × (session ≤ length turns.roll.seats.items) };
 
     fn entries(&mut self, alloc: Global, state: &State<M>, there: &[Session]) -> Next {
-        if self.broke {
-            return Next::OutOfMemory;
-        }
-        match self.list(alloc, is_frozen(state.mode), there) {
-            Ok(Some(list)) => Next::Entries(list),
-            Ok(None) => Next::NoMore,
-            Err(AllocError) => {
-                self.broke = true;
-                Next::OutOfMemory
-            }
-        }
+        self.next(&mut Brought, alloc, state, there)
     }
 
     fn ends(&mut self, _turn: u64) -> Option<(u64, u64)> {

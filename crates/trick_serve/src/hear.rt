@@ -2,7 +2,7 @@
 
 ghost use Rattle.std.specs.List.{slice_index_or};
 ghost use Rattle.std.specs.Prelude.{◌≡◌, ◌++◌, ◌∷◌, ◌<◌, ◌+◌, ◌≤◌, [], IfOk, IsTrue, List, ℕ};
-ghost use Rattle.std.specs.Prelude.{false, is_ok, length, true};
+ghost use Rattle.std.specs.Prelude.{false, filter, is_ok, length, true};
 ghost use Rattle.std.specs.Vec.{vec_capacity, vec_len};
 ghost use Rattle.trick_model.specs.Journal.{is_line};
 ghost use Rattle.trick_model.specs.declared.entry.Entry.TheVariants.{Leave};
@@ -10,7 +10,7 @@ ghost use Rattle.trick_model.specs.declared.session.Session.{Session};
 ghost use Rattle.trick_serve.specs.Clients.{KeepQueues};
 ghost use Rattle.trick_serve.specs.Gathering.{Gathers, HasListed, IsListed};
 ghost use Rattle.trick_serve.specs.Life.{is_exit};
-ghost use Rattle.trick_serve.specs.Rules.{AreSeated};
+ghost use Rattle.trick_serve.specs.Rules.{AreQuick, AreSeated, is_live};
 ghost use Rattle.trick_serve.specs.Sides.{side_of};
 ghost use Rattle.trick_serve.specs.declared.seat.Seat.{Seat};
 
@@ -63,7 +63,8 @@ fn list_line(alloc: Global, session: u32, line: Line, seat: &mut Seat, list: &mu
     }
 }
 
-// Takes one thing out of the inbox of a session that has not left, and lists it. False where nothing waits there.
+// Takes one thing out of the inbox of a session that has not left and is not slow, and lists it. False where nothing
+// waits there.
 fn hear_one<R: Wait>(
     rt: &R,
     alloc: Global,
@@ -72,6 +73,7 @@ fn hear_one<R: Wait>(
     list: &mut Vec<Entry>,
 ) -> Result<bool, AllocError>
     requires stays { seat.old.left ≡ false }
+    requires quick { seat.old.slow ≡ false }
     ensures { HasListed session (side_of seat.old) (side_of seat.new) list.old.items list.new.items (is_ok result) }
 {
     list.reserve(2)?;
@@ -88,16 +90,20 @@ fn hear_one<R: Wait>(
     Ok(true)
 }
 
-// Lists the leave of a session to which a message was left out, or whose writer stopped.
+// Lists the leave of a session to which a message was left out, or whose writer stopped, where it has not left.
 fn look_at_writer<R: Wait>(
     rt: &R,
     session: u32,
     seat: &mut Seat,
     list: &mut Vec<Entry>,
 ) -> Result<(), AllocError>
-    requires stays { seat.old.left ≡ false }
-    ensures { HasListed session (side_of seat.old) (side_of seat.new) list.old.items list.new.items (is_ok result) }
+    ensures listed { HasListed session (side_of seat.old) (side_of seat.new)
+        list.old.items list.new.items (is_ok result) }
+    ensures quick { is_ok result ≡ true → seat.new.left ≡ false → seat.new.slow ≡ false }
 {
+    if seat.left {
+        return Ok(());
+    }
     list.reserve(1)?;
     if seat.slow {
         leave(session, Cause::Slow, seat, list);
@@ -123,11 +129,11 @@ fn listen<R: Wait>(
     seat: &mut Seat,
     list: &mut Vec<Entry>,
 ) -> Result<(), AllocError>
-    ensures { HasListed session (side_of seat.old) (side_of seat.new) list.old.items list.new.items (is_ok result) }
+    ensures listed { HasListed session (side_of seat.old) (side_of seat.new)
+        list.old.items list.new.items (is_ok result) }
+    ensures quick { is_ok result ≡ true → seat.new.left ≡ false → seat.new.slow ≡ false }
 {
-    if !seat.left {
-        look_at_writer(rt, session, seat, list)?;
-    }
+    look_at_writer(rt, session, seat, list)?;
     for _ in 0..MOST {
         if seat.left || seat.ended {
             return Ok(());
@@ -140,7 +146,7 @@ fn listen<R: Wait>(
     Ok(())
 }
 
-/// Lists what came of each of these sessions.
+/// Lists what came of each of these sessions. Those to which a message was left out leave.
 pub(crate) fn listen_all<R: Wait>(
     rt: &R,
     alloc: Global,
@@ -154,6 +160,8 @@ pub(crate) fn listen_all<R: Wait>(
     ensures gathers { (there : List Session) (was : List Seat) (known : List ℕ)
         → Gathers there was known seats.old.items live.now list.old.items true
         → Gathers there was known seats.new.items live.now list.new.items (is_ok result) }
+    ensures quick { is_ok result ≡ true
+        → AreQuick seats.new.items (filter (is_live seats.new.items) live.now) }
 {
     for session in live {
         let at = *session as usize - 1;

@@ -1,9 +1,10 @@
 //! The source of entries of a run with clients.
 
-ghost use Rattle.std.specs.Prelude.{◌≡◌, length, not, true};
-ghost use Rattle.trick_serve.specs.Clients.{AreOfClients, IsLast};
+ghost use Rattle.std.specs.Prelude.{◌≡◌, ◌+◌, ◌≤◌, [], false, length, not, true};
+ghost use Rattle.trick_serve.specs.Clients.{AreOfClients, IsLast, IsSilent, has_lack};
 ghost use Rattle.trick_serve.specs.Rules.{AreSeated};
-ghost use Rattle.trick_wire.specs.Ends.{taken_by};
+ghost use Rattle.trick_serve_door.specs.Departures.{left_of};
+ghost use Rattle.trick_wire.specs.Ends.{put_by, taken_by};
 
 use crate::{Roll, Seat};
 use std::alloc::Global;
@@ -32,11 +33,21 @@ pub struct Served<I, O, R> {
     pub(crate) over: bool,
     // There was no memory once.
     pub(crate) broke: bool,
+    // Something had come of the door before its first client.
+    pub(crate) silent: bool,
     // Session n is of the n-th client that was taken of those that come.
     ghost clients: { AreOfClients (taken_by coming) roll.seats.items },
     // That no client comes any more has its reason.
     ghost last: { over ≡ true → IsLast (taken_by coming) roll.seats.items },
     ghost reach: { AreSeated reached.items roll.seats.items },
+    // What came first was no client.
+    ghost first: { silent ≡ true → IsSilent (taken_by coming) },
+    // Where the door was heard and gave no client, something else had come of it.
+    ghost quiet: { asked ≡ true → roll.seats.items ≡ [] → silent ≡ true },
+    // Nor did it come that there was no memory.
+    ghost memory: { broke ≡ false → has_lack (taken_by coming) ≡ false },
+    // Those of which it was told that they left are live no more.
+    ghost departed: { left_of (put_by gone) + length roll.live.items ≤ length roll.seats.items },
 }
 
 /// What a source of entries hands out at the end of a run.

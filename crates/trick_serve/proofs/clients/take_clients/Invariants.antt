@@ -1,7 +1,7 @@
-use Rattle.std.proofs.Common.{◌≢◌, ℕ, List, true}
+use Rattle.std.proofs.Common.{◌≡◌, ◌≢◌, ◌≤◌, ◌+◌, [], ℕ, List, false, length, true}
 use Rattle.trick_model.specs.declared.session.Session.{Session}
 use Rattle.trick_serve.proofs.clients.take_clients.Given as goal
-use Rattle.trick_serve.specs.Clients.{AreOfClients, IsLast}
+use Rattle.trick_serve.specs.Clients.{AreOfClients, IsLast, IsSilent, has_lack}
 use Rattle.trick_serve.specs.Rolls.{IsGathered}
 use Rattle.trick_serve.specs.declared.clients.Took.TheVariants as kind
 use Rattle.trick_serve.specs.declared.seat.Seat.{Seat}
@@ -13,5 +13,10 @@ invariant-loop g l = record {
   clients : AreOfClients (taken_by l.fn.coming) l.fn.roll.seats.items → AreOfClients (taken_by l.coming) l.roll.seats.items;
   still : IsLast (taken_by l.fn.coming) l.fn.roll.seats.items → IsLast (taken_by l.coming) l.roll.seats.items;
   took : l.took ≢ kind.Over;
+  silent : IsSilent (taken_by l.fn.coming) → IsSilent (taken_by l.coming);
+  first : AreOfClients (taken_by l.fn.coming) l.fn.roll.seats.items → l.roll.seats.items ≡ [] → l.took ≢ kind.Nothing → IsSilent (taken_by l.coming);
+  memory : has_lack (taken_by l.fn.coming) ≡ false → has_lack (taken_by l.coming) ≡ false;
+  count : length l.fn.roll.seats.items ≤ length l.roll.seats.items;
+  live : length l.roll.live.items + length l.fn.roll.seats.items ≡ length l.fn.roll.live.items + length l.roll.seats.items;
   gathers : (there : List Session) (was : List Seat) (known : List ℕ) → IsGathered there was known l.fn.roll true → IsGathered there was known l.roll true;
 }

@@ -22,7 +22,7 @@ returns-in-Line g c =
     let right : IsTrue (is_line line) = subst (λ (l : List ℕ). IsTrue (is_line l)) (sym c.into_line.ensures.line) c.into_line.ensures.right in
     ⊎_elim
     (λ e. listed_one c.args.session (Hears (heard.Line line)) (side_of c.args.seat.now) (side_of c.list_line.new.seat) c.args.list.now.items c.list_line.new.list.items
-    ((record { queues = queues_of c.args.seat.now; seated = refl; stays = c.requires.stays }), right)
+    ((record { queues = queues_of c.args.seat.now; seated = refl; stays = c.requires.stays; quick = c.requires.quick }), right)
     (e.0 ∙ (λ i. record {
       queues = Some (record { inbox = arc_value (c.pop.ensures.queue i); outbox = arc_value c.args.seat.now.outbox.shared; causes = arc_value c.args.seat.now.causes.shared; room = room_of c.args.seat.now.outbox; refused = c.args.seat.now.refused });
       heard = taken i;
@@ -33,7 +33,7 @@ returns-in-Line g c =
     }))
     (e.1 ∙ ap (λ (l : List Entry). l ++ entries_of c.args.session (Hears (heard.Line line))) c.reserve.ensures.items))
     (λ e. listed_one c.args.session (Misses (heard.Line line)) (side_of c.args.seat.now) (side_of c.list_line.new.seat) c.args.list.now.items c.list_line.new.list.items
-    (record { queues = queues_of c.args.seat.now; seated = refl; stays = c.requires.stays })
+    (record { queues = queues_of c.args.seat.now; seated = refl; stays = c.requires.stays; quick = c.requires.quick })
     (e.0 ∙ (λ i. record {
       queues = Some (record { inbox = arc_value (c.pop.ensures.queue i); outbox = arc_value c.args.seat.now.outbox.shared; causes = arc_value c.args.seat.now.causes.shared; room = room_of c.args.seat.now.outbox; refused = c.args.seat.now.refused });
       heard = taken i;
@@ -50,7 +50,7 @@ returns-in-End g c =
     let taken : taken_by c.pop.new.self ≡ taken_by c.args.seat.now.inbox ++ heard.End ∷ [] =
     c.in-Some.ensures.taken ∙ ap (λ (h : Heard). taken_by c.args.seat.now.inbox ++ h ∷ []) c.in-End.is in
     listed_one c.args.session (Hears heard.End) (side_of c.args.seat.now) _ c.args.list.now.items c.reserve.new.self.items
-    ((record { queues = queues_of c.args.seat.now; seated = refl; stays = c.requires.stays }), tt)
+    ((record { queues = queues_of c.args.seat.now; seated = refl; stays = c.requires.stays; quick = c.requires.quick }), tt)
     (λ i. record {
       queues = Some (record { inbox = arc_value (c.pop.ensures.queue i); outbox = arc_value c.args.seat.now.outbox.shared; causes = arc_value c.args.seat.now.causes.shared; room = room_of c.args.seat.now.outbox; refused = c.args.seat.now.refused });
       heard = taken i;
@@ -66,7 +66,7 @@ returns-in-LongLine g c =
     let taken : taken_by c.pop.new.self ≡ taken_by c.args.seat.now.inbox ++ heard.LongLine ∷ [] =
     c.in-Some.ensures.taken ∙ ap (λ (h : Heard). taken_by c.args.seat.now.inbox ++ h ∷ []) c.in-LongLine.is in
     listed_one c.args.session (Hears heard.LongLine) (side_of c.args.seat.now) (side_of c.leave.new.seat) c.args.list.now.items c.leave.new.list.items
-    ((record { queues = queues_of c.args.seat.now; seated = refl; stays = c.requires.stays }), tt)
+    ((record { queues = queues_of c.args.seat.now; seated = refl; stays = c.requires.stays; quick = c.requires.quick }), tt)
     (c.leave.ensures.side ∙ (λ i. record {
       queues = Some (record { inbox = arc_value (c.pop.ensures.queue i); outbox = arc_value c.args.seat.now.outbox.shared; causes = arc_value c.args.seat.now.causes.shared; room = room_of c.args.seat.now.outbox; refused = c.args.seat.now.refused });
       heard = taken i;
@@ -82,7 +82,7 @@ returns-in-LinkFault g c =
     let taken : taken_by c.pop.new.self ≡ taken_by c.args.seat.now.inbox ++ heard.LinkFault ∷ [] =
     c.in-Some.ensures.taken ∙ ap (λ (h : Heard). taken_by c.args.seat.now.inbox ++ h ∷ []) c.in-LinkFault.is in
     listed_one c.args.session (Hears heard.LinkFault) (side_of c.args.seat.now) (side_of c.leave-in-LinkFault.new.seat) c.args.list.now.items c.leave-in-LinkFault.new.list.items
-    ((record { queues = queues_of c.args.seat.now; seated = refl; stays = c.requires.stays }), tt)
+    ((record { queues = queues_of c.args.seat.now; seated = refl; stays = c.requires.stays; quick = c.requires.quick }), tt)
     (c.leave-in-LinkFault.ensures.side ∙ (λ i. record {
       queues = Some (record { inbox = arc_value (c.pop.ensures.queue i); outbox = arc_value c.args.seat.now.outbox.shared; causes = arc_value c.args.seat.now.causes.shared; room = room_of c.args.seat.now.outbox; refused = c.args.seat.now.refused });
       heard = taken i;
@@ -98,7 +98,7 @@ returns-in-OutOfMemory g c =
     let taken : taken_by c.pop.new.self ≡ taken_by c.args.seat.now.inbox ++ heard.OutOfMemory ∷ [] =
     c.in-Some.ensures.taken ∙ ap (λ (h : Heard). taken_by c.args.seat.now.inbox ++ h ∷ []) c.in-OutOfMemory.is in
     listed_one c.args.session (Hears heard.OutOfMemory) (side_of c.args.seat.now) (side_of c.leave-in-OutOfMemory.new.seat) c.args.list.now.items c.leave-in-OutOfMemory.new.list.items
-    ((record { queues = queues_of c.args.seat.now; seated = refl; stays = c.requires.stays }), tt)
+    ((record { queues = queues_of c.args.seat.now; seated = refl; stays = c.requires.stays; quick = c.requires.quick }), tt)
     (c.leave-in-OutOfMemory.ensures.side ∙ (λ i. record {
       queues = Some (record { inbox = arc_value (c.pop.ensures.queue i); outbox = arc_value c.args.seat.now.outbox.shared; causes = arc_value c.args.seat.now.causes.shared; room = room_of c.args.seat.now.outbox; refused = c.args.seat.now.refused });
       heard = taken i;

@@ -4,6 +4,7 @@ use Rattle.trick_serve.specs.declared.seat.Seat.{Seat}
 use Rattle.trick_serve.proofs.hear.listen_all.Goals as goal
 use Rattle.trick_serve.proofs.Gathering.{among_at, gathers_listed}
 use Rattle.trick_serve.proofs.Placing.{seated_more}
+use Rattle.trick_serve.proofs.Quick.{quick_all, quick_more}
 use Rattle.trick_serve.proofs.Seating.{listed_keeps, queues_set}
 use Rattle.std.proofs.lemmas.List.{length-set}
 use Rattle.trick_serve.specs.Gathering.{Gathers, HasListed}
@@ -21,7 +22,7 @@ returns-in_err-listen-clause-gathers g c =
     let seated : AreSeated c.args.live.now c.loop-session.seats.items =
     seated_more c.args.live.now c.args.seats.now.items c.loop-session.seats.items (omega (arith, c.loop-session.invariant.count)) c.requires in
     let did : HasListed n (side_of (slice_index_or c.loop-session.seats.items (n - 1) c.index_mut.result.now)) (side_of c.listen.new.seat) c.loop-session.list.items c.listen.new.list.items (is_ok c.listen.result) =
-    subst (λ (s : Seat). HasListed n (side_of s) (side_of c.listen.new.seat) c.loop-session.list.items c.listen.new.list.items (is_ok c.listen.result)) c.index_mut.ensures.value c.listen.ensures in
+    subst (λ (s : Seat). HasListed n (side_of s) (side_of c.listen.new.seat) c.loop-session.list.items c.listen.new.list.items (is_ok c.listen.result)) c.index_mut.ensures.value c.listen.ensures.listed in
     let one : is_ok c.listen.result ≡ false = search rules in
     let two : is_ok c.from_residual.result ≡ false = search rules in
     let same : is_ok c.listen.result ≡ is_ok c.from_residual.result = one ∙ sym two in
@@ -38,7 +39,7 @@ returns-in_err-listen-clause-queues g c =
     let positive : 0 < n = in_range.0 in
     let within : n ≤ length c.loop-session.seats.items = subst (λ (m : ℕ). n ≤ m) (sym c.loop-session.invariant.count) in_range.1 in
     let did : HasListed n (side_of (slice_index_or c.loop-session.seats.items (n - 1) c.index_mut.result.now)) (side_of c.listen.new.seat) c.loop-session.list.items c.listen.new.list.items (is_ok c.listen.result) =
-    subst (λ (s : Seat). HasListed n (side_of s) (side_of c.listen.new.seat) c.loop-session.list.items c.listen.new.list.items (is_ok c.listen.result)) c.index_mut.ensures.value c.listen.ensures in
+    subst (λ (s : Seat). HasListed n (side_of s) (side_of c.listen.new.seat) c.loop-session.list.items c.listen.new.list.items (is_ok c.listen.result)) c.index_mut.ensures.value c.listen.ensures.listed in
     queues_set c.loop-session.seats.items (n - 1) c.index_mut.result.now c.listen.new.seat (omega (arith, positive, within))
     (listed_keeps n (slice_index_or c.loop-session.seats.items (n - 1) c.index_mut.result.now) c.listen.new.seat c.loop-session.list.items c.listen.new.list.items (is_ok c.listen.result) did)
     ∙ c.loop-session.invariant.queues
@@ -54,7 +55,7 @@ loop-session-preserved g c =
     let seated : AreSeated c.args.live.now c.loop-session.seats.items =
     seated_more c.args.live.now c.args.seats.now.items c.loop-session.seats.items (omega (arith, c.loop-session.invariant.count)) c.requires in
     let did : HasListed n (side_of (slice_index_or c.loop-session.seats.items (n - 1) c.index_mut.result.now)) (side_of c.listen.new.seat) c.loop-session.list.items c.listen.new.list.items (is_ok c.listen.result) =
-    subst (λ (s : Seat). HasListed n (side_of s) (side_of c.listen.new.seat) c.loop-session.list.items c.listen.new.list.items (is_ok c.listen.result)) c.index_mut.ensures.value c.listen.ensures in
+    subst (λ (s : Seat). HasListed n (side_of s) (side_of c.listen.new.seat) c.loop-session.list.items c.listen.new.list.items (is_ok c.listen.result)) c.index_mut.ensures.value c.listen.ensures.listed in
     let same : is_ok c.listen.result ≡ true = search rules in
     record {
       count = length-set c.loop-session.seats.items (n - 1) c.listen.new.seat ∙ c.loop-session.invariant.count;
@@ -65,4 +66,11 @@ loop-session-preserved g c =
           (gathers_listed there was known c.loop-session.seats.items c.args.live.now c.loop-session.list.items c.listen.new.list.items n (n - 1) c.index_mut.result.now c.listen.new.seat (is_ok c.listen.result)
           (c.loop-session.invariant.gathers there was known so) (omega (arith, positive)) (omega (arith, positive, within)) seated (omega (arith, fits))
           (among_at n c.args.live.now c.loop-session.session-index here refl) did);
+      quick = quick_more c.loop-session.seats.items c.args.live.now c.loop-session.session-index (n - 1) c.listen.new.seat (omega (arith, positive, within)) refl
+          (c.listen.ensures.quick same) c.loop-session.invariant.quick;
     }
+
+pub returns-clause-quick : goal.returns-clause-quick
+returns-clause-quick g c =
+    let past : length c.args.live.now ≤ c.loop-session.session-index = search rules in
+    λ ok. quick_all c.loop-session.seats.items c.args.live.now c.loop-session.session-index past c.loop-session.invariant.quick

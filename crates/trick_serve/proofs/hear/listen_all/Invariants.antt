@@ -1,6 +1,7 @@
 use Rattle.std.proofs.Common.{◌≡◌, ℕ, List, length, true}
 use Rattle.trick_model.specs.declared.session.Session.{Session}
 use Rattle.trick_serve.proofs.hear.listen_all.Given as goal
+use Rattle.trick_serve.proofs.Quick.{AreQuickTo}
 use Rattle.trick_serve.specs.Clients.{KeepQueues}
 use Rattle.trick_serve.specs.Gathering.{Gathers}
 use Rattle.trick_serve.specs.declared.seat.Seat.{Seat}
@@ -11,4 +12,5 @@ invariant-loop-session g l = record {
   queues : KeepQueues l.fn.seats.items l.seats.items;
   gathers : (there : List Session) (was : List Seat) (known : List ℕ) → Gathers there was known l.fn.seats.items l.live l.fn.list.items true
       → Gathers there was known l.seats.items l.live l.list.items true;
+  quick : AreQuickTo l.seats.items l.live l.session-index;
 }

@@ -2,7 +2,7 @@ use Rattle.std.proofs.Common.{rules, ◌≡◌, ◌∙◌, [], ℕ, true, false,
 use Rattle.std.specs.Prelude.{is_ok}
 use Rattle.trick_serve.proofs.Looking.{empty_from, found_more, looked_more}
 use Rattle.trick_serve.proofs.served.Served.find.Goals as goal
-use Rattle.trick_serve.specs.Rolls.{IsGathered, view}
+use Rattle.trick_serve.specs.Rolls.{IsGathered, view_of}
 use Rattle.trick_serve.specs.Rules.{is_live}
 use Rattle.std.specs.List.{filter}
 
@@ -11,27 +11,27 @@ returns-in_err-look-clause-found g c = λ no.
     let one : is_ok c.look.result ≡ false = search rules in
     let two : is_ok c.from_residual.result ≡ false = search rules in
     let same : is_ok c.look.result ≡ is_ok c.from_residual.result = one ∙ sym two in
-    found_more c.args.there.now (view c.args.self.now.roll c.args.self.now.reached.items c.args.self.now.over c.args.self.now.broke)
-    c.loop.self.roll c.look.new.self.roll c.loop.self.reached.items c.loop.self.over c.loop.self.broke (is_ok c.from_residual.result) c.loop.self.roll.seated c.loop.invariant.looks
+    found_more c.args.there.now (view_of c.args.self.now)
+    c.loop.self c.look.new.self (is_ok c.from_residual.result) c.loop.invariant.looks c.look.ensures.silent
     (subst (λ (b : Bool). IsGathered c.args.there.now c.loop.self.roll.seats.items (filter (is_live c.loop.self.roll.seats.items) c.loop.self.roll.live.items) c.look.new.self.roll b) same c.look.ensures.gathered)
 
 pub returns-then-not-is_empty-clause-found : goal.returns-then-not-is_empty-clause-found
 returns-then-not-is_empty-clause-found g c = λ no.
     let same : is_ok c.look.result ≡ true = search rules in
-    found_more c.args.there.now (view c.args.self.now.roll c.args.self.now.reached.items c.args.self.now.over c.args.self.now.broke)
-    c.loop.self.roll c.look.new.self.roll c.loop.self.reached.items c.loop.self.over c.loop.self.broke true c.loop.self.roll.seated c.loop.invariant.looks
+    found_more c.args.there.now (view_of c.args.self.now)
+    c.loop.self c.look.new.self true c.loop.invariant.looks c.look.ensures.silent
     (subst (λ (b : Bool). IsGathered c.args.there.now c.loop.self.roll.seats.items (filter (is_live c.loop.self.roll.seats.items) c.loop.self.roll.live.items) c.look.new.self.roll b) same c.look.ensures.gathered)
 
 pub returns-then-are_over-clause-over : goal.returns-then-are_over-clause-over
 returns-then-are_over-clause-over g c = λ yes.
     let same : is_ok c.look.result ≡ true = search rules in
     let none : c.is_empty.result ≡ true = search rules in
+    let kept : c.look.new.self.broke ≡ c.loop.self.broke = search rules in
     let empty : c.look.new.self.roll.list.items ≡ [] =
     empty_from c.look.new.self.roll.list.items c.look.new.self.roll.list.len c.is_empty.result c.look.new.self.roll.list.ok.0 c.is_empty.ensures none in
     record {
-      looks = looked_more c.args.there.now (view c.args.self.now.roll c.args.self.now.reached.items c.args.self.now.over c.args.self.now.broke)
-          c.loop.self.roll c.look.new.self.roll c.loop.self.reached.items c.look.new.self.reached.items c.loop.self.over c.look.new.self.over c.loop.self.broke c.look.new.self.broke
-          (ap (λ (v : Vec ℕ Global). v.items) c.look.ensures.reached) c.look.ensures.broke c.look.ensures.over c.loop.self.roll.seated c.loop.invariant.looks
+      looks = looked_more c.args.there.now (view_of c.args.self.now)
+          c.loop.self c.look.new.self (ap (λ (v : Vec ℕ Global). v.items) c.look.ensures.reached) kept c.look.ensures.over c.look.ensures.silent c.loop.invariant.looks
           (subst (λ (b : Bool). IsGathered c.args.there.now c.loop.self.roll.seats.items (filter (is_live c.loop.self.roll.seats.items) c.loop.self.roll.live.items) c.look.new.self.roll b) same c.look.ensures.gathered)
           empty;
       frozen_is = search rules;
@@ -43,15 +43,22 @@ pub loop-preserved : goal.loop-preserved
 loop-preserved g c =
     let same : is_ok c.look.result ≡ true = search rules in
     let none : c.is_empty.result ≡ true = search rules in
+    let kept : c.look.new.self.broke ≡ c.loop.self.broke = search rules in
     let empty : c.look.new.self.roll.list.items ≡ [] =
     empty_from c.look.new.self.roll.list.items c.look.new.self.roll.list.len c.is_empty.result c.look.new.self.roll.list.ok.0 c.is_empty.ensures none in
     record {
-      looks = looked_more c.args.there.now (view c.args.self.now.roll c.args.self.now.reached.items c.args.self.now.over c.args.self.now.broke)
-          c.loop.self.roll c.look.new.self.roll c.loop.self.reached.items c.look.new.self.reached.items c.loop.self.over c.look.new.self.over c.loop.self.broke c.look.new.self.broke
-          (ap (λ (v : Vec ℕ Global). v.items) c.look.ensures.reached) c.look.ensures.broke c.look.ensures.over c.loop.self.roll.seated c.loop.invariant.looks
+      asked = g.met.A.Asks.keeps_join c.args.asks.now c.loop.asks c.ask.new.self c.loop.invariant.asked c.ask.ensures;
+      looks = looked_more c.args.there.now (view_of c.args.self.now)
+          c.loop.self c.look.new.self (ap (λ (v : Vec ℕ Global). v.items) c.look.ensures.reached) kept c.look.ensures.over c.look.ensures.silent c.loop.invariant.looks
           (subst (λ (b : Bool). IsGathered c.args.there.now c.loop.self.roll.seats.items (filter (is_live c.loop.self.roll.seats.items) c.loop.self.roll.live.items) c.look.new.self.roll b) same c.look.ensures.gathered)
           empty;
       coming = c.look.ensures.coming ∙ c.loop.invariant.coming;
+      gone = c.look.ensures.gone ∙ c.loop.invariant.gone;
       reached = c.look.ensures.reached ∙ c.loop.invariant.reached;
-      broke = c.look.ensures.broke ∙ c.loop.invariant.broke;
+      broke = kept ∙ c.loop.invariant.broke;
     }
+
+pub returns-then-not-is_empty-clause-quick : goal.returns-then-not-is_empty-clause-quick
+returns-then-not-is_empty-clause-quick g c = λ up.
+    let same : is_ok c.look.result ≡ true = search rules in
+    c.look.ensures.quick same
