@@ -4,7 +4,7 @@ use Rattle.std.proofs.lemmas.Bool.{and_from, and_parts, eqb-true, or_parts}
 use Rattle.std.proofs.lemmas.List.Elements.{All-head, All-tail}
 use Rattle.std.specs.Prelude.{◌||◌, All, cond, map}
 use Rattle.trick_line_facts.proofs.Numbers.{leave_numbers, not_again, numbers_push, rises_above, rises_front, rises_later, said_number, said_numbers, turns_rise}
-use Rattle.trick_line_facts.specs.Silence.{AbsentAreSilent, IsSilent, LeavingIsSilent, StrangersAreSilent, entries_of, is_of, is_there, newcomers, numbers_of}
+use Rattle.trick_line_facts.specs.Silence.{AbsentAreSilent, IsSilent, LeavingIsSilent, LeftAreGone, StrangersAreSilent, entries_of, is_of, is_there, newcomers, numbers_of}
 use Rattle.trick_model.specs.Files.{messages_to, turns_said}
 use Rattle.trick_model.specs.Plan.{Plan}
 use Rattle.trick_model.specs.Run.{after_turns, opened}
@@ -169,23 +169,37 @@ samples_silent number from s (session ∷ sessions) all =
         ∙ more
     by false sampled more pass = more
 
--- and is not there after the turn
-gone_then : (number : ℕ) (sessions : List Session) → all_pass on_leave number sessions ≡ true → is_there number (staying sessions) ≡ false
+-- the session is leaving
+abbrev goes : Session → Bool
+goes session = session.leaving
+
+on_leave_goes : (number : ℕ) (sessions : List Session) → all_pass on_leave number sessions ≡ true → all_pass goes number sessions ≡ true
+on_leave_goes number [] all = refl
+on_leave_goes number (session ∷ sessions) all =
+    let parts = and_parts (passes on_leave number session) (all_pass on_leave number sessions) all in
+    and_from (passes goes number session) (all_pass goes number sessions) (one (session.number == number) parts.0) (on_leave_goes number sessions parts.1)
+  where
+    one : (b : Bool) → (not b || on_leave session) ≡ true → (not b || goes session) ≡ true
+    one true pass = (and_parts (not session.send) session.leaving pass).1
+    one false pass = refl
+
+-- who is leaving is not there after the turn
+gone_then : (number : ℕ) (sessions : List Session) → all_pass goes number sessions ≡ true → is_there number (staying sessions) ≡ false
 gone_then number [] all = refl
 gone_then number (session ∷ sessions) all =
-    let parts = and_parts (passes on_leave number session) (all_pass on_leave number sessions) all in
+    let parts = and_parts (passes goes number session) (all_pass goes number sessions) all in
     by session.leaving refl (gone_then number sessions parts.1) parts.0
   where
     clash : (a : Bool) → a ≡ true → a ≡ false → ⊥
     clash true e f = cc f
     clash false e f = cc e
 
-    other : (b : Bool) → (session.number == number) ≡ b → (not b || on_leave session) ≡ true → session.leaving ≡ false
+    other : (b : Bool) → (session.number == number) ≡ b → (not b || goes session) ≡ true → session.leaving ≡ false
         → (session.number == number) ≡ false
-    other true is pass stays = absurd (clash session.leaving (and_parts (not session.send) session.leaving pass).1 stays)
+    other true is pass stays = absurd (clash session.leaving pass stays)
     other false is pass stays = is
 
-    by : (b : Bool) → session.leaving ≡ b → is_there number (staying sessions) ≡ false → passes on_leave number session ≡ true
+    by : (b : Bool) → session.leaving ≡ b → is_there number (staying sessions) ≡ false → passes goes number session ≡ true
         → (let all : List Session = elim b [ true ↦ staying sessions | false ↦ (let s : Session = record session { send = false } in s) ∷ staying sessions ] in
         is_there number all ≡ false)
     by true leaves more pass = more
@@ -221,7 +235,7 @@ silent_turn number p w entries left =
     record {
       unsent = none_of_both number (replies p entries (begun w)) (samples w.state.tic t.world.state sessions) left.unsent
           (samples_silent number w.state.tic t.world.state sessions left.all);
-      gone = gone_then number sessions left.all;
+      gone = gone_then number sessions (on_leave_goes number sessions left.all);
     }
 
 pub absent : AbsentAreSilent
@@ -349,3 +363,68 @@ leaving p s early entries number cause rise only =
     (left_alone p number cause entries (begun w) only
     (rises_above 0 (numbers_of w.sessions ++ newcomers entries) (turns_rise p (opened s) early entries rise))
     (turns_unasked number p (opened s) early refl))
+
+-- ---- a leave after other entries
+
+or_true : (b : Bool) → (b || true) ≡ true
+or_true true = refl
+or_true false = refl
+
+-- where only one session has the number, it is leaving after its leave
+marked_goes : (number : ℕ) (sessions : List Session) → rises (numbers_of sessions) ≡ true
+    → all_pass goes number (changed (λ (s : Session). let t : Session = record s { leaving = true } in t) number sessions) ≡ true
+marked_goes number [] rise = refl
+marked_goes number (session ∷ sessions) rise =
+    by (session.number == number) refl (λ (other : (session.number == number) ≡ false). marked_goes number sessions (rises_later session sessions rise))
+  where
+    by : (b : Bool) → (session.number == number) ≡ b
+        → ((session.number == number) ≡ false → all_pass goes number (changed (λ (s : Session). let t : Session = record s { leaving = true } in t) number sessions) ≡ true)
+        → (let now : List Session = elim b [
+          | true ↦ (let t : Session = record session { leaving = true } in t) ∷ sessions
+          | false ↦ session ∷ changed (λ (s : Session). let t : Session = record s { leaving = true } in t) number sessions
+        ] in all_pass goes number now ≡ true)
+    by true same rest =
+        let marked : Session = record session { leaving = true } in
+        and_from (passes goes number marked) (all_pass goes number sessions) (or_true (not (session.number == number)))
+        (absent_pass goes number sessions (not_again session.number number (numbers_of sessions) same rise))
+    by false other rest =
+        and_from (passes goes number session)
+        (all_pass goes number (changed (λ (s : Session). let t : Session = record s { leaving = true } in t) number sessions))
+        (other_passes goes number session other) (rest other)
+
+none_last : (some : List Entry) (e : Entry) → [] ≡ some ++ e ∷ [] → ⊥
+none_last [] e is = cc
+none_last (first ∷ some) e is = cc
+
+same_rest : (a b : Entry) (xs ys : List Entry) → a ∷ xs ≡ b ∷ ys → xs ≡ ys
+same_rest a b xs ys is = cc
+
+left_last : (p : Plan) (number : ℕ) (cause : Cause) (before entries : List Entry) (h : Hearing) → entries_of number entries ≡ before ++ Leave number cause ∷ []
+    → rises (numbers_of h.sessions ++ newcomers entries) ≡ true → all_pass goes number (heard p entries h).sessions ≡ true
+left_last p number cause before [] h are rise = absurd (none_last before (Leave number cause) are)
+left_last p number cause before (entry ∷ entries) h are rise =
+    by (is_of number entry) before are
+    (λ (some : List Entry) (rest : entries_of number entries ≡ some ++ Leave number cause ∷ []).
+    left_last p number cause some entries (hear p entry h) rest (hear_rises p entry entries h rise))
+  where
+    at_leave : (e : Entry) → e ≡ Leave number cause → entries_of number entries ≡ [] → all_pass goes number (heard p entries (hear p e h)).sessions ≡ true
+    at_leave e is none =
+        subst (λ (x : Entry). all_pass goes number (heard p entries (hear p x h)).sessions ≡ true) (sym is)
+        (others_leave goes number p entries (hear p (Leave number cause) h) none
+        (marked_goes number h.sessions (rises_front (numbers_of h.sessions) (newcomers (entry ∷ entries)) rise))).all
+
+    by : (b : Bool) (some : List Entry) → cond b (entry ∷ entries_of number entries) (entries_of number entries) ≡ some ++ Leave number cause ∷ []
+        → ((more : List Entry) → entries_of number entries ≡ more ++ Leave number cause ∷ [] → all_pass goes number (heard p entries (hear p entry h)).sessions ≡ true)
+        → all_pass goes number (heard p entries (hear p entry h)).sessions ≡ true
+    by true [] mine later =
+        let parts = leave_of entry (entries_of number entries) number cause mine in at_leave entry parts.0 parts.1
+    by true (first ∷ some) mine later =
+        later some (same_rest entry first (entries_of number entries) (some ++ Leave number cause ∷ []) mine)
+    by false some rest later = later some rest
+
+pub left_gone : LeftAreGone
+left_gone p s early entries before number cause rise are =
+    let w = after_turns p (opened s) early in
+    gone_then number (heard p entries (begun w)).sessions
+    (left_last p number cause before entries (begun w) are
+    (rises_above 0 (numbers_of w.sessions ++ newcomers entries) (turns_rise p (opened s) early entries rise)))

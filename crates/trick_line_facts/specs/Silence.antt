@@ -67,3 +67,11 @@ LeavingIsSilent =
     (p : Plan) (s : State) (early : List (List Entry)) (entries : List Entry) (number : ℕ) (cause : Cause)
     → IsTrue (rises (0 ∷ all_newcomers (early ++ entries ∷ []))) → entries_of number entries ≡ Leave number cause ∷ []
     → let w = after_turns p (opened s) early in IsSilent p w entries number
+
+-- Where sessions join by rising numbers from 1 on, a session whose last entry of a turn is its leave is not there after
+-- it.
+abbrev pub LeftAreGone : Type 0
+LeftAreGone =
+    (p : Plan) (s : State) (early : List (List Entry)) (entries before : List Entry) (number : ℕ) (cause : Cause)
+    → IsTrue (rises (0 ∷ all_newcomers (early ++ entries ∷ []))) → entries_of number entries ≡ before ++ Leave number cause ∷ []
+    → let w = after_turns p (opened s) early in is_there number (turn p w entries).world.sessions ≡ false

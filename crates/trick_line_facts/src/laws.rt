@@ -1,7 +1,7 @@
 //! The laws. A function that calls one of these may rest on what it says; the call itself does nothing.
 
 ghost use Rattle.trick_line_facts.specs.Lines.{SameLinesDoTheSame, SameLinesWriteTheSame};
-ghost use Rattle.trick_line_facts.specs.Silence.{AbsentAreSilent, LeavingIsSilent, StrangersAreSilent};
+ghost use Rattle.trick_line_facts.specs.Silence.{AbsentAreSilent, LeavingIsSilent, LeftAreGone, StrangersAreSilent};
 
 /// Turns with the same lines and publications go on from one state to one state, and write the same rows and
 /// checkpoints: who said a line, who joined and who left makes no difference.
@@ -28,4 +28,9 @@ pub fn strangers_are_silent()
 /// A session whose only entry of a turn is its leave is sent nothing in it, and is not there after it.
 pub fn leaving_is_silent()
     ensures { LeavingIsSilent }
+{}
+
+/// A session whose last entry of a turn is its leave is not there after it.
+pub fn left_are_gone()
+    ensures { LeftAreGone }
 {}

@@ -1,6 +1,6 @@
--- What the session of one client came to.
+-- What holds of a session at the end of a run, and what was heard of it.
 use Rattle.std.proofs.Common.{IsTrue, ◌≡◌, ◌≢◌, ◌∙◌, ◌⊎◌, inl, inr, ⊎_elim, ℕ, ◌+◌, Bool, true, false, List, [], ◌∷◌, ◌++◌, Option, Some, None, ap, append_assoc, append-nil, refl, subst, sym}
-use Rattle.std.proofs.lemmas.Bool.{cases_Bool, false≢true}
+use Rattle.std.proofs.lemmas.Bool.{false≢true}
 use Rattle.std.proofs.lemmas.List.Folds.{list_any-append}
 use Rattle.std.specs.List.{list_any}
 use Rattle.std.specs.Prelude.{◌||◌}
@@ -19,16 +19,15 @@ use Rattle.trick_serve.specs.Ended.{has_end, is_end}
 use Rattle.trick_serve.specs.Life.{own}
 use Rattle.trick_serve.specs.Sides.{Queues, Side, nobody, side}
 use Rattle.trick_serve.specs.declared.seat.Seat.{Seat}
-use Rattle.trick_serve_facts.proofs.HangUps.{HasHungUp, hung_up_along, hung_up_by, hung_up_none}
+use Rattle.trick_serve_facts.proofs.HangUps.{HasHungUp, hung_up_along, hung_up_none}
 use Rattle.trick_serve_facts.proofs.Keeping.{AllShown, HoldsAlong, IsKept, IsShown, ShownIn, run_keeps}
 use Rattle.trick_serve_facts.proofs.Lives.{entries_kept, lines_join}
 use Rattle.trick_serve_facts.proofs.Messages.{messages_kept, messages_none}
-use Rattle.trick_serve_facts.specs.Clients.{ClientsAreServed, EndSays, HasServed, IsUnsaid, LinkTale, OthersAreAbsent}
-use Rattle.trick_serve_facts.specs.Life.{HasEntries, HasLived, HasReason, WasRefused, is_fault, is_long_line, lines_in}
+use Rattle.trick_serve_facts.specs.Clients.{EndSays, IsUnsaid, LinkTale, OthersAreAbsent}
+use Rattle.trick_serve_facts.specs.Life.{HasEntries, HasLived, HasReason, is_fault, is_long_line, lines_in}
 use Rattle.trick_serve_facts.specs.Messages.{HasMessages}
 use Rattle.trick_serve_facts.specs.Serves.{GiveNothing, IsServedRun, all_entries, given_by, given_in}
 use Rattle.trick_turns.specs.Turns.{Answer}
-use Rattle.trick_wire.specs.Ends.{HasWaiting}
 use Rattle.trick_wire.specs.HasHeard.{IsMissing}
 use Rattle.trick_wire.specs.Puts.{IsTooLong, last_of, said}
 use Rattle.trick_wire.specs.declared.heard.Heard.{Heard}
@@ -49,7 +48,7 @@ nothing_given (answer ∷ answers) none =
     ap (λ (o : Option (List Entry)). given_in o ++ given_by answers) none.0 ∙ nothing_given answers none.1
 
 -- A fact of a session that holds along a run holds at its end.
-at_end : {P : List (List Entry) → Side → List Entry → List (List ℕ) → Type 0} → (p : Plan) (s : State) (lists : List (List Entry)) (old new : View)
+pub at_end : {P : List (List Entry) → Side → List Entry → List (List ℕ) → Type 0} → (p : Plan) (s : State) (lists : List (List Entry)) (old new : View)
     (k : ℕ) → HoldsAlong k p (opened s) P → IsServedRun p s lists old new → P [] nobody [] []
     → P lists (side new.seats k) (own (k + 1) (all_entries lists)) (messages_to (k + 1) (turns_said p (opened s) lists))
 at_end {P} p s lists old new k holds run start =
@@ -63,7 +62,7 @@ at_end {P} p s lists old new k holds run start =
     (subst (λ (l : List Seat). P [] (side l k) [] []) (sym run.none) start)))
 
 -- a fact that does not speak of the lists
-always : (k : ℕ) (p : Plan) (s : State) (P : Side → List Entry → List (List ℕ) → Type 0)
+pub always : (k : ℕ) (p : Plan) (s : State) (P : Side → List Entry → List (List ℕ) → Type 0)
     → ((Shown : List Session → List Entry → Type 0) → IsKept (k + 1) Shown P) → HoldsAlong k p (opened s) (λ lists here mine messages. P here mine messages)
 always k p s P kept = record {
   turn_keeps = λ lists entries. kept (IsShown p (opened s) lists entries);
@@ -83,7 +82,7 @@ messages_at_end p s lists old new k run =
     at_end {P = λ lists here mine messages. HasMessages here messages} p s lists old new k
     (always k p s (λ here mine messages. HasMessages here messages) (λ Shown. messages_kept (k + 1) Shown)) run messages_none
 
-hung_up_at_end : (p : Plan) (s : State) (lists : List (List Entry)) (old new : View) (k : ℕ) → IsServedRun p s lists old new
+pub hung_up_at_end : (p : Plan) (s : State) (lists : List (List Entry)) (old new : View) (k : ℕ) → IsServedRun p s lists old new
     → HasHungUp p (opened s) (k + 1) lists (side new.seats k) (own (k + 1) (all_entries lists)) (messages_to (k + 1) (turns_said p (opened s) lists))
 hung_up_at_end p s lists old new k run =
     at_end {P = λ more here mine messages. HasHungUp p (opened s) (k + 1) more here mine messages} p s lists old new k (hung_up_along p (opened s) k) run
@@ -154,7 +153,7 @@ unsaid (Some cause.Slow) s some mark missed rest bytes are reason missing so = t
 unsaid (Some cause.NoThread) s some mark missed rest bytes are reason missing so = tt
 unsaid (Some cause.OutOfMemory) s some mark missed rest bytes are reason missing so = tt
 
-heard_is : (n : ℕ) (s : Side) (mine : List Entry) (tale : LinkTale) (was : HasLived n s mine) → (says : EndSays tale s)
+pub heard_is : (n : ℕ) (s : Side) (mine : List Entry) (tale : LinkTale) (was : HasLived n s mine) → (says : EndSays tale s)
     → (bytes : List ℕ) → tale.told ≡ Some bytes
     → (rest : List (List ℕ)) × (lines_of bytes ≡ was.lines ++ rest) × IsUnsaid was.leave bytes rest
 heard_is n s mine tale was says bytes told =
@@ -183,7 +182,7 @@ heard_to_end n s mine tale was says ended stays bytes told =
     (λ never. was.missing (λ other. none_some cause.OutOfMemory (sym stays ∙ other))) fed.2 in
     so.1 ∙ ap (λ (l : List (List ℕ)). was.lines ++ l) rest ∙ append-nil was.lines
 
-fault_is : (leave : Option Cause) (s : Side) (tale : LinkTale) → EndSays tale s → HasReason leave s → leave ≡ Some cause.LinkFault
+pub fault_is : (leave : Option Cause) (s : Side) (tale : LinkTale) → EndSays tale s → HasReason leave s → leave ≡ Some cause.LinkFault
     → Rose tale.read_before tale.read_now ⊎ Rose tale.write_before tale.write_now
 fault_is leave s tale says reason is = ⊎_elim
     (λ told. inl (says.heard.fault (fault_marked says.heard.mark
@@ -191,51 +190,10 @@ fault_is leave s tale says reason is = ⊎_elim
     (λ told. inr (says.told told))
     (subst (λ (o : Option Cause). HasReason o s) is reason)
 
--- ---- the laws
-
-some_same : (p q : Queues) → Some p ≡ Some q → p ≡ q
-some_same p q is = cc
+-- ---- who has no seat
 
 some_none : (q : Queues) → Some q ≡ None → ⊥
 some_none q is = cc
-
-served_by : (p : Plan) (s : State) (lists : List (List Entry)) (n : ℕ) (here : Side) (queues : Queues) (tale : LinkTale)
-    → here.queues ≡ Some queues → EndSays tale here → HasLived n here (own n (all_entries lists))
-    → HasMessages here (messages_to n (turns_said p (opened s) lists))
-    → HasHungUp p (opened s) n lists here (own n (all_entries lists)) (messages_to n (turns_said p (opened s) lists))
-    → HasServed p s lists n queues tale
-served_by p s lists n here queues tale seated says lived messages hung =
-    record {
-      lines = lived.lines;
-      leave = lived.leave;
-      entries_are = lived.entries_are;
-      asks = lived.asks;
-      heard = heard_is n here (own n (all_entries lists)) tale lived says;
-      kept = here.put;
-      dropped = messages.dropped;
-      text_is = messages.messages_are;
-      sent = says.sent;
-      link_fault = fault_is lived.leave here tale says lived.reason;
-      slow = λ is. (messages.full (subst (λ (o : Option Cause). HasReason o here) is lived.reason)).some;
-      full = λ some. ⊎_elim
-          (λ slow.
-          let full = messages.full slow in
-          subst (λ (q : Queues). HasWaiting here.put q.room) (some_same full.queues queues (sym full.seated ∙ seated)) full.waiting)
-          (λ quick. absurd (some (messages.all quick)))
-          (cases_Bool here.slow);
-      no_thread = λ is.
-          let was : WasRefused here = subst (λ (o : Option Cause). HasReason o here) is lived.reason in
-          ap (λ (q : Queues). q.refused) (sym (some_same was.queues queues (sym was.seated ∙ seated))) ∙ was.refused;
-      hung_up = hung_up_by p (opened s) n lists here (own n (all_entries lists)) (messages_to n (turns_said p (opened s) lists)) lived.lines
-          lived.leave hung lived.entries_are;
-    }
-
-pub clients_served : ClientsAreServed
-clients_served p s lists old new k queues tale run seated says = ⊎_elim
-    (λ none. absurd (some_none queues (sym seated ∙ ap (λ (t : Side). t.queues) none.0)))
-    (λ lived. served_by p s lists (k + 1) (side new.seats k) queues tale seated says lived (messages_at_end p s lists old new k run)
-    (hung_up_at_end p s lists old new k run))
-    (lives_at_end p s lists old new k run)
 
 pub others_absent : OthersAreAbsent
 others_absent p s lists old new k run unseated = ⊎_elim

@@ -12,8 +12,9 @@ use Rattle.trick_runs.specs.Answers.{list_answer}
 use Rattle.trick_serve.proofs.Placing.{side_past}
 use Rattle.trick_serve.specs.Calls.{Answers, Breaks, Call, DoAll, Hands, IsAnswered, Looks, View, Went, answers_of}
 use Rattle.trick_serve.specs.Sides.{Side}
-use Rattle.trick_serve_facts.proofs.Clients.{clients_served, others_absent}
+use Rattle.trick_serve_facts.proofs.Clients.{others_absent}
 use Rattle.trick_serve_facts.proofs.Joins.{joins_in_order}
+use Rattle.trick_serve_facts.proofs.Outcomes.{clients_served}
 use Rattle.trick_serve_facts.specs.IsServed.{FreezeHasEntries, RunsAreServed}
 use Rattle.trick_serve_facts.specs.Serves.{Serves, no_turn, one_more}
 use Rattle.trick_turns.specs.Turns.{Answer}

@@ -56,11 +56,11 @@ life_joins n lines leave = ap (λ (l : List ℕ). n ∷ l) (said_joins n lines l
 -- ---- numbers that rise
 
 -- These numbers rise, and are above a first one.
-abbrev RiseAbove : ℕ → List ℕ → Type 0
+abbrev pub RiseAbove : ℕ → List ℕ → Type 0
 RiseAbove a [] = Unit {0}
 RiseAbove a (n ∷ ns) = (a < n) × RiseAbove n ns
 
-rise_lower : (a b : ℕ) (ns : List ℕ) → a ≤ b → RiseAbove b ns → RiseAbove a ns
+pub rise_lower : (a b : ℕ) (ns : List ℕ) → a ≤ b → RiseAbove b ns → RiseAbove a ns
 rise_lower a b [] low rise = tt
 rise_lower a b (n ∷ ns) low rise = (omega (arith, low, rise.0), rise.1)
 
@@ -116,7 +116,7 @@ one_rises (Said session line) s rest comes rise = rise
 one_rises (Leave session why) s rest comes rise = rise
 one_rises (Publish thread) s rest comes rise = rise
 
-joins_rise : (entries : List Entry) (s : Sessions) (rest : List ℕ) → may_all_come entries s ≡ true
+pub joins_rise : (entries : List Entry) (s : Sessions) (rest : List ℕ) → may_all_come entries s ≡ true
     → RiseAbove (after_entries entries s).highest rest → RiseAbove s.highest (newcomers entries ++ rest)
 joins_rise [] s rest come rise = rise
 joins_rise (entry ∷ []) s rest come rise = one_rises entry s rest (and_parts (is_entry entry) (may_come entry s) come).1 rise
@@ -129,7 +129,7 @@ joins_rise (entry ∷ other ∷ entries) s rest come rise =
     ∙ ap (λ (l : List ℕ). l ++ rest) (sym (joins_join (entry ∷ []) (other ∷ entries))))
     (one_rises entry s (newcomers (other ∷ entries) ++ rest) two.0 (joins_rise (other ∷ entries) (after_entry entry s) rest three.1 rise))
 
-given_joins : (entries : List Entry) → newcomers (given false entries) ≡ newcomers entries
+pub given_joins : (entries : List Entry) → newcomers (given false entries) ≡ newcomers entries
 given_joins [] = refl
 given_joins (Join session ∷ entries) = ap (λ (l : List ℕ). session ∷ l) (given_joins entries)
 given_joins (Said session line ∷ entries) = given_joins entries
@@ -161,7 +161,7 @@ one_joined n s seat entries is (inl so) =
 one_joined n s seat entries is (inr lived) = ap newcomers lived.entries_are ∙ life_joins n lived.lines lived.leave
 
 -- a number above 0 as one more than a place
-place_of : (n : ℕ) → 0 < n → (k : ℕ) × (k + 1 ≡ n)
+pub place_of : (n : ℕ) → 0 < n → (k : ℕ) × (k + 1 ≡ n)
 place_of zero above = (zero, omega (arith, above))
 place_of (suc k) above = (k, omega arith)
 

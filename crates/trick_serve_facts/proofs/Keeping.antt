@@ -56,7 +56,7 @@ one_to n m b is = ap (λ (b : Bool). let all : List (List ℕ) = elim b [ true �
 -- ---- sides
 
 -- a place has nobody, or a seat
-side_cases : (seats : List Seat) (k : ℕ) → (side seats k ≡ nobody) ⊎ ((seat : Seat) × (side seats k ≡ side_of seat))
+pub side_cases : (seats : List Seat) (k : ℕ) → (side seats k ≡ nobody) ⊎ ((seat : Seat) × (side seats k ≡ side_of seat))
 side_cases [] k = inl refl
 side_cases (seat ∷ seats) zero = inr (seat, refl)
 side_cases (seat ∷ seats) (suc k) = side_cases seats k
@@ -76,7 +76,7 @@ put_seated bytes a b none (inr seat) (inl put) =
 put_seated bytes a b none new (inr (inl out)) = some_none out.queues (sym out.seated ∙ ap (λ (s : Side). s.queues) none)
 put_seated bytes a b none new (inr (inr past)) = false≢true (ap (λ (s : Side). s.slow) (sym none) ∙ past.before)
 
-handed_seated : (bytes : List ℕ) (old new : List Seat) (k : ℕ) → IsHanded bytes (side old k) (side new k)
+pub handed_seated : (bytes : List ℕ) (old new : List Seat) (k : ℕ) → IsHanded bytes (side old k) (side new k)
     → (q : Queues) × ((side old k).queues ≡ Some q)
 handed_seated bytes old new k did = ⊎_elim
     (λ none. absurd (put_seated bytes (side old k) (side new k) none (side_cases new k) did))
@@ -233,7 +233,7 @@ module _ {Shown : List Session → List Entry → Type 0} {P : Side → List Ent
       ∙ ap (λ (l : List Entry). entries ++ own n l) (sym (flat_map-append (λ (answer : Answer). given_in answer.list) (answer_of call) (answers_of calls))))
       rest)
 
-  went_keep : (k : ℕ) → IsKept (k + 1) Shown P → (old new : View) (answers : List Answer) (said : List Message)
+  pub went_keep : (k : ℕ) → IsKept (k + 1) Shown P → (old new : View) (answers : List Answer) (said : List Message)
       (entries : List Entry) (messages : List (List ℕ)) → Went old new answers said → new.broke ≡ false → AllShown Shown answers
       → P (side old.seats k) entries messages
       → P (side new.seats k) (entries ++ own (k + 1) (given_by answers)) (messages ++ messages_to (k + 1) said)

@@ -6,10 +6,14 @@ pub mod Lives
 pub mod Messages
 -- Where a session hangs up.
 pub mod HangUps
--- What the session of one client came to.
+-- What holds of a session at the end of a run, and what was heard of it.
 pub mod Clients
 -- Which sessions join in a run.
 pub mod Joins
+-- Of which turn the messages are that were left out.
+pub mod LastTurns
+-- What the session of one client came to.
+pub mod Outcomes
 -- What a run with clients came to.
 pub mod IsServed
 -- The turns of a run as its source was handed them, and the ends of its sessions.
@@ -20,3 +24,11 @@ pub mod Texts
 pub mod Sent
 -- How a run ends that waits in Freeze.
 pub mod Waits
+-- Why a session left, by its entries, and want of memory that its writer told.
+pub mod Wants
+-- How many sessions left since a thread was refused to their clients.
+pub mod NoThreads
+-- Calls of which one is an answer.
+pub mod Answering
+-- Who joins in the first turn.
+pub mod Firsts

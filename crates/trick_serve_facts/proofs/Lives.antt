@@ -14,7 +14,7 @@ use Rattle.trick_model.specs.declared.session.Session.{Session}
 use Rattle.trick_serve.specs.Ended.{has_end}
 use Rattle.trick_serve.specs.Life.{Can, CanSit, Happening, Hears, HangsUp, IsSeated, IsSlow, IsTold, Misses, after, entries_of, is_exit, leave_by, leave_of, leaves, own, said_of}
 use Rattle.trick_serve.specs.Messages.{IsHanded}
-use Rattle.trick_serve.specs.Sides.{IsHere, Queues, Side, nobody}
+use Rattle.trick_serve.specs.Sides.{Queues, Side, nobody}
 use Rattle.trick_serve_facts.proofs.Keeping.{IsKept}
 use Rattle.trick_serve_facts.specs.Life.{AskBy, AskNothing, HasEntries, HasLived, HasReason, is_fault, is_long_line, is_write_fault, life, lines_in}
 use Rattle.trick_wire.specs.declared.heard.Heard.{Heard}
@@ -37,7 +37,7 @@ or_true : (b : Bool) → (b || true) ≡ true
 or_true true = refl
 or_true false = refl
 
-last_passes : {X : Type 0} → (test : X → Bool) (items : List X) (item : X) → test item ≡ true → list_any test (items ++ item ∷ []) ≡ true
+pub last_passes : {X : Type 0} → (test : X → Bool) (items : List X) (item : X) → test item ≡ true → list_any test (items ++ item ∷ []) ≡ true
 last_passes test items item passes =
     list_any-append test items (item ∷ []) ∙ ap (λ (b : Bool). list_any test items || (b || false)) passes ∙ or_true (list_any test items)
 
@@ -249,18 +249,18 @@ lived_happens n IsSlow a mine can was =
     (still n a (after IsSlow a) was.lines (Some cause.Slow) refl refl refl (λ none. none) can.1)
 
 -- to one that is nobody nothing happens but that its client is seated
-here_none : (a : Side) → a ≡ nobody → IsHere a → ⊥
-here_none a none here = some_none here.queues (sym here.seated ∙ ap (λ (t : Side). t.queues) none)
+here_none : (a : Side) (q : Queues) → a ≡ nobody → a.queues ≡ Some q → ⊥
+here_none a q none seated = some_none q (sym seated ∙ ap (λ (t : Side). t.queues) none)
 
 entries_happen : (n : ℕ) (h : Happening) (a : Side) (mine : List Entry) → Can h a → HasEntries n a mine
     → HasEntries n (after h a) (mine ++ entries_of n h)
 entries_happen n h a mine can (inr was) = inr (lived_happens n h a mine can was)
 entries_happen n (IsSeated s refused) a mine can (inl none) =
     inr (subst (λ (l : List Entry). HasLived n s (l ++ entries_of n (IsSeated s refused))) (sym none.1) (sits n s refused a can))
-entries_happen n (Hears item) a mine can (inl none) = absurd (here_none a none.0 can.0)
-entries_happen n (Misses item) a mine can (inl none) = absurd (here_none a none.0 can)
-entries_happen n (IsTold why) a mine can (inl none) = absurd (here_none a none.0 can)
-entries_happen n IsSlow a mine can (inl none) = absurd (here_none a none.0 can.0)
+entries_happen n (Hears item) a mine can (inl none) = absurd (here_none a can.0.queues none.0 can.0.seated)
+entries_happen n (Misses item) a mine can (inl none) = absurd (here_none a can.queues none.0 can.seated)
+entries_happen n (IsTold why) a mine can (inl none) = absurd (here_none a can.queues none.0 can.seated)
+entries_happen n IsSlow a mine can (inl none) = absurd (here_none a can.0.queues none.0 can.0.seated)
 
 lived_hangs_up : (n : ℕ) (there : List Session) (a b : Side) (extra mine : List Entry) → HangsUp n there a b extra → HasLived n a mine
     → HasLived n b (mine ++ extra)
@@ -302,7 +302,7 @@ pub entries_kept : (n : ℕ) (Shown : List Session → List Entry → Type 0) �
 entries_kept n Shown = record {
   happens = λ h a mine messages can so. entries_happen n h a mine can so;
   hangs_up = λ there list a b mine messages shown up so. ⊎_elim
-      (λ none. absurd (here_none a none.0 up.here))
+      (λ none. absurd (here_none a up.here.queues none.0 up.here.seated))
       (λ was. inr (lived_hangs_up n there a b (own n list) mine up was))
       so;
   handed = λ bytes a b mine messages q seated did so. ⊎_elim

@@ -1,11 +1,8 @@
 -- What a client was sent, also in a run that stopped.
-use Rattle.std.proofs.Common.{◌≡◌, ◌∙◌, inl, inr, ⊎_elim, ℕ, ◌+◌, true, false, List, [], ◌∷◌, ◌++◌, Option, Some, None, ap, append_assoc, append-nil, refl, subst, sym}
+use Rattle.std.proofs.Common.{◌≡◌, ◌∙◌, inl, inr, ⊎_elim, ℕ, ◌+◌, true, false, List, [], ◌∷◌, ◌++◌, Option, Some, None, ap, append_assoc, append-nil, subst, sym}
 use Rattle.std.proofs.lemmas.Bool.Decides.{eqb_tells}
-use Rattle.trick_model.specs.Files.{messages_to, session_text, turns_said}
-use Rattle.trick_model.specs.Plan.{Plan}
-use Rattle.trick_model.specs.Run.{opened}
+use Rattle.trick_model.specs.Files.{messages_to}
 use Rattle.trick_model.specs.Session.{Message}
-use Rattle.trick_model.specs.State.{State}
 use Rattle.trick_model.specs.declared.entry.Entry.{Entry}
 use Rattle.trick_model.specs.declared.session.Session.{Session}
 use Rattle.trick_serve.specs.Calls.{Answers, Breaks, Call, DoAll, Does, Hands, IsAnswered, Looks, View, Went, message_of, messages_of}
@@ -15,7 +12,7 @@ use Rattle.trick_serve.specs.declared.seat.Seat.{Seat}
 use Rattle.trick_serve_facts.proofs.Keeping.{messages_join, one_to}
 use Rattle.trick_serve_facts.proofs.Messages.{messages_handed, messages_happen, messages_none, same_messages}
 use Rattle.trick_serve_facts.specs.Messages.{HasMessages}
-use Rattle.trick_serve_facts.specs.Sent.{ClientsAreSent, HasBeenSent, SentAreFronts}
+use Rattle.trick_serve_facts.specs.Sent.{ClientsAreSent, SentAreFronts}
 use Rattle.trick_turns.specs.Turns.{Answer}
 use Rattle.trick_wire.proofs.Writing.{text_of-append}
 use Rattle.trick_wire.specs.HasWritten.{text_of}

@@ -1,5 +1,5 @@
 -- What a session is sent, turn by turn.
-use Rattle.std.proofs.Common.{◌≡◌, ◌∙◌, List, [], ◌∷◌, ◌++◌, ℕ, ap, append-nil}
+use Rattle.std.proofs.Common.{◌∙◌, List, [], ◌∷◌, ◌++◌, ℕ, ap, append-nil}
 use Rattle.trick_model.proofs.Runs.{runs_join}
 use Rattle.trick_model.specs.Files.{messages_to, turns_said}
 use Rattle.trick_model.specs.Run.{after_turns, opened}

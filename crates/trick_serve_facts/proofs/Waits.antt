@@ -1,13 +1,11 @@
 -- How a run ends that waits in Freeze.
-use Rattle.std.proofs.Common.{◌≡◌, ◌≢◌, ◌∙◌, ◌⊎◌, inl, inr, ⊎_elim, ℕ, ◌+◌, ◌-◌, Bool, true, false, cond, eqb, not, List, [], ◌∷◌, ◌++◌, Option, Some, None, ap, append-nil, arith, refl, subst, sym}
+use Rattle.std.proofs.Common.{◌≡◌, ◌∙◌, inl, inr, ⊎_elim, ℕ, ◌+◌, ◌-◌, Bool, true, false, cond, eqb, not, List, [], ◌∷◌, ◌++◌, Option, Some, None, ap, arith, refl, subst, sym}
 use Rattle.std.proofs.lemmas.Bool.{eqb-true, false≢true}
 use Rattle.std.proofs.lemmas.Bool.Decides.{eqb_tells}
 use Rattle.std.proofs.lemmas.List.Elements.{All-head, All-tail}
 use Rattle.std.proofs.lemmas.List.Folds.{list_any-append}
 use Rattle.std.specs.List.{All, filter, list_any}
-use Rattle.std.specs.Prelude.{◌||◌, ◌&&◌, IsTrue, nat_lt}
-use Rattle.trick_model.specs.Commands.{lines as lines_of}
-use Rattle.trick_model.specs.Journal.{is_of_session}
+use Rattle.std.specs.Prelude.{◌||◌, IsTrue}
 use Rattle.trick_model.specs.Plan.{Plan}
 use Rattle.trick_model.specs.Run.{after_turns, opened}
 use Rattle.trick_model.specs.Session.{Message}
@@ -20,9 +18,9 @@ use Rattle.trick_model.specs.declared.entry.Entry.TheVariants.{Join, Said, Leave
 use Rattle.trick_model.specs.declared.session.Session.{Session}
 use Rattle.trick_runs.specs.Answers.{list_answer, no_more}
 use Rattle.trick_runs.specs.Ran.{last_answer}
-use Rattle.trick_serve.specs.Calls.{Answers, Breaks, Call, DoAll, Does, Hands, IsAnswered, IsOver, Looks, View, Went, answers_of}
+use Rattle.trick_serve.specs.Calls.{Answers, Breaks, Call, DoAll, Does, Hands, IsAnswered, Looks, View, Went, answers_of}
 use Rattle.trick_serve.specs.Ended.{has_end, is_end}
-use Rattle.trick_serve.specs.Life.{Can, Goes, Happening, Happens, Hears, IsSeated, IsSlow, IsTold, Lives, Misses, after, entries_of, entries_of_all, is_of, leave_after, leave_by, leave_of, leaves, own, said_of}
+use Rattle.trick_serve.specs.Life.{Can, Happening, Happens, Hears, IsSeated, IsSlow, IsTold, Lives, Misses, after, entries_of, entries_of_all, leave_after, leave_by, leave_of, leaves, own, said_of}
 use Rattle.trick_serve.specs.Messages.{IsHanded}
 use Rattle.trick_serve.specs.Sides.{Queues, Side, nobody, side}
 use Rattle.trick_serve.specs.declared.seat.Seat.{Seat}
@@ -35,8 +33,6 @@ use Rattle.trick_serve_facts.specs.Waits.{ClientsAreHeardOut, IsHeardOut, Waitin
 use Rattle.trick_turns.specs.Turns.{Answer, Sessions, after_entries, after_entry, in_next, is_among}
 use Rattle.trick_wire.specs.declared.heard.Heard.{Heard}
 use Rattle.trick_wire.specs.declared.heard.Heard.TheVariants as heard
-use Rattle.trick_wire.specs.declared.heard.WriteStop.{WriteStop}
-use Rattle.trick_wire.specs.declared.heard.WriteStop.TheVariants as stop
 
 -- ---- who is live after entries
 
@@ -64,7 +60,7 @@ or_true true = refl
 or_true false = refl
 
 -- one more that is live
-among_push : (n : ℕ) (live : List ℕ) (m : ℕ) → is_among n (live ++ m ∷ []) ≡ (is_among n live || eqb m n)
+pub among_push : (n : ℕ) (live : List ℕ) (m : ℕ) → is_among n (live ++ m ∷ []) ≡ (is_among n live || eqb m n)
 among_push n live m = list_any-append (λ s. eqb s n) live (m ∷ []) ∙ ap (λ (b : Bool). is_among n live || b) (or_false (eqb m n))
 
 -- one that is live no more
@@ -78,7 +74,7 @@ among_gone n (first ∷ live) = by (eqb first n) refl (among_gone n live)
     by false is more = (λ i. is i || more i)
 
 -- another one that is live no more
-among_other : (n m : ℕ) (live : List ℕ) → eqb m n ≡ false → is_among n (filter (λ other. not (eqb other m)) live) ≡ is_among n live
+pub among_other : (n m : ℕ) (live : List ℕ) → eqb m n ≡ false → is_among n (filter (λ other. not (eqb other m)) live) ≡ is_among n live
 among_other n m [] apart = refl
 among_other n m (first ∷ live) apart = by (eqb first m) refl (among_other n m live apart)
   where
@@ -126,10 +122,10 @@ among_after n (Publish thread ∷ list) s = among_after n list s
 -- ---- who is seated and has not left
 
 -- It was seated, and has not left.
-record Stays (s : Side) : Type 0 where
-  queues : Queues
-  seated : s.queues ≡ Some queues
-  left : s.left ≡ false
+pub record Stays (s : Side) : Type 0 where
+  pub queues : Queues
+  pub seated : s.queues ≡ Some queues
+  pub left : s.left ≡ false
 
 true_not : (b : Bool) → b ≡ true → b ≡ false → ⊥
 true_not b is other = false≢true (sym other ∙ is)
@@ -254,7 +250,7 @@ message_before k message old new did stays = ⊎_elim
 -- ---- who stays is live
 
 -- The session of a place that was seated and has not left is live.
-abbrev Live : ℕ → View → Type 0
+abbrev pub Live : ℕ → View → Type 0
 Live k v = Stays (side v.seats k) → IsTrue (is_among (k + 1) v.sessions.live)
 
 live_same : (k : ℕ) (old new : View) → (Stays (side new.seats k) → WasBefore (side old.seats k) (side new.seats k)) → new.sessions ≡ old.sessions
@@ -262,7 +258,7 @@ live_same : (k : ℕ) (old new : View) → (Stays (side new.seats k) → WasBefo
 live_same k old new before same live stays =
     ap (λ (s : Sessions). is_among (k + 1) s.live) same ∙ live (before stays).stays
 
-live_given : (k : ℕ) (there : List Session) (list : List Entry) (old new : View) → Lives (k + 1) there (side old.seats k) (side new.seats k) (own (k + 1) list)
+pub live_given : (k : ℕ) (there : List Session) (list : List Entry) (old new : View) → Lives (k + 1) there (side old.seats k) (side new.seats k) (own (k + 1) list)
     → new.sessions ≡ after_entries list (in_next old.sessions) → Live k old → Live k new
 live_given k there list old new (inl up) now live stays =
     absurd (true_not (side new.seats k).left (ap (λ (s : Side). s.left) up.is) stays.left)
@@ -286,7 +282,7 @@ live_call k (Breaks there) old new did whole live = absurd (true_not new.broke d
 live_call k (Hands message) old new did whole live =
     live_same k old new (message_before k message old new did) did.sessions live
 
-live_calls : (k : ℕ) (calls : List Call) (old new : View) → DoAll calls old new → new.broke ≡ false → Live k old → Live k new
+pub live_calls : (k : ℕ) (calls : List Call) (old new : View) → DoAll calls old new → new.broke ≡ false → Live k old → Live k new
 live_calls k [] old new did whole live = subst (λ (v : View). Live k v) (sym did) live
 live_calls k (call ∷ calls) old new did whole live =
     let so = whole_calls calls did.0 new did.2 whole in
@@ -295,7 +291,7 @@ live_calls k (call ∷ calls) old new did whole live =
 live_went : (k : ℕ) (old new : View) (answers : List Answer) (said : List Message) → Went old new answers said → new.broke ≡ false → Live k old → Live k new
 live_went k old new answers said went whole live = live_calls k went.calls old new went.did whole live
 
-live_serves : (k : ℕ) (p : Plan) (w : World) (lists : List (List Entry)) (old new : View) → Serves p w lists old new → new.broke ≡ false
+pub live_serves : (k : ℕ) (p : Plan) (w : World) (lists : List (List Entry)) (old new : View) → Serves p w lists old new → new.broke ≡ false
     → Live k old → Live k new
 live_serves k p w all old new (no_turn v) whole live = live
 live_serves k p w all old new (one_more lists entries one before gave now early gives said) whole live =
@@ -308,7 +304,7 @@ live_serves k p w all old new (one_more lists entries one before gave now early 
 -- ---- the last answer
 
 -- each of these numbers is so
-one_of_all : (P : ℕ → Type 0) (n : ℕ) (numbers : List ℕ) → All P numbers → IsTrue (is_among n numbers) → P n
+pub one_of_all : (P : ℕ → Type 0) (n : ℕ) (numbers : List ℕ) → All P numbers → IsTrue (is_among n numbers) → P n
 one_of_all P n [] all among = absurd (false≢true among)
 one_of_all P n (m ∷ numbers) all among = ⊎_elim
     (λ yes. subst (λ (x : ℕ). P x) yes.1 (All-head P m numbers all))
@@ -342,7 +338,7 @@ first_same a b early late is = cc
 rest_same : (a b : Answer) (early late : List Answer) → a ∷ early ≡ b ∷ late → early ≡ late
 rest_same a b early late is = cc
 
-last_before : (n : ℕ) → (n + 1) - 1 ≡ n
+pub last_before : (n : ℕ) → (n + 1) - 1 ≡ n
 last_before n = omega arith
 
 -- where it was answered that no line comes any more, who stays to the end had told the end of its bytes
@@ -412,7 +408,7 @@ one_answer w is = ap (λ (b : Bool). let answer : List Answer = elim b [ true �
 none_seated : (q : Queues) → None ≡ Some q → ⊥
 none_seated q is = cc
 
-nobody_stays : Stays nobody → ⊥
+pub nobody_stays : Stays nobody → ⊥
 nobody_stays stays = none_seated stays.queues stays.seated
 
 stays_heard : (p : Plan) (s : State) (lists : List (List Entry)) (old new : View) (k : ℕ) (run : IsServedRun p s lists old new)

@@ -14,6 +14,7 @@ use Rattle.trick_serve.specs.Calls.{View}
 use Rattle.trick_serve.specs.Life.{own}
 use Rattle.trick_serve.specs.Sides.{Queues, Side, side}
 use Rattle.trick_serve_facts.specs.HangUps.{HangsUpIn}
+use Rattle.trick_serve_facts.specs.LastTurns.{AreOfLastTurn}
 use Rattle.trick_serve_facts.specs.Life.{AskBy, is_write_fault, life}
 use Rattle.trick_serve_facts.specs.Serves.{IsServedRun, all_entries}
 use Rattle.trick_wire.specs.Ends.{HasWaiting}
@@ -60,8 +61,9 @@ IsUnsaid (Some cause.OutOfMemory) bytes rest = Unit {0}
 -- A client with these queues was served as session n: its entries are its join, its lines and its leave; its lines are
 -- the first lines of its bytes; and it was sent a first part of its session text, which is, turn after turn, the replies
 -- to its lines and then a sample of the state at the end of the turn where one is due. What was kept for it is all of
--- that text, unless its outbox was full once; and all that was kept was written, unless its link failed or had no
--- memory. It left by NoThread only where a thread was refused to it.
+-- that text, unless its outbox was full once; what was left out then is of one turn, after which nothing was said to
+-- it. All that was kept was written, unless its link failed or had no memory. It left by NoThread only where a thread
+-- was refused to it.
 pub record HasServed (p : Plan) (s : State) (lists : List (List Entry)) (n : ℕ) (queues : Queues) (tale : LinkTale)
     : Type 0 where
   pub lines : List (List ℕ)
@@ -78,6 +80,7 @@ pub record HasServed (p : Plan) (s : State) (lists : List (List Entry)) (n : ℕ
       → Rose tale.read_before tale.read_now ⊎ Rose tale.write_before tale.write_now
   pub slow : leave ≡ Some cause.Slow → dropped ≢ []
   pub full : dropped ≢ [] → HasWaiting kept queues.room
+  pub last_turn : dropped ≢ [] → AreOfLastTurn p s lists n dropped
   pub no_thread : leave ≡ Some cause.NoThread → queues.refused ≡ true
   pub hung_up : leave ≡ Some cause.HungUp → HangsUpIn p (opened s) lists n
 

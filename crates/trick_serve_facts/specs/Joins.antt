@@ -19,3 +19,14 @@ JoinsAreInOrder =
     (p : Plan) (s : State) (lists : List (List Entry)) (old new : View)
     → IsServedRun p s lists old new → IsSuccession false lists
     → newcomers (all_entries lists) ≡ numbers_from 1 (length new.seats)
+
+-- The first turn, if there is one, has the join of client 1 as its first.
+abbrev pub JoinsFirst : List (List Entry) → Type 0
+JoinsFirst [] = Unit {0}
+JoinsFirst (entries ∷ lists) = (others : List ℕ) × (newcomers entries ≡ 1 ∷ others)
+
+-- So it is in a run that was served, unless its door had answered, before its first client, that none had come.
+abbrev pub FirstClientsJoin : Type 0
+FirstClientsJoin =
+    (p : Plan) (s : State) (lists : List (List Entry)) (old new : View)
+    → IsServedRun p s lists old new → IsSuccession false lists → new.silent ≡ false → JoinsFirst lists

@@ -6,6 +6,8 @@ pub mod Life
 pub mod Messages
 -- Where a session hangs up.
 pub mod HangUps
+-- Of which turn the messages are that were left out.
+pub mod LastTurns
 -- What the session of one client came to.
 pub mod Clients
 -- Which sessions join in a run.
@@ -20,3 +22,7 @@ pub mod Texts
 pub mod Sent
 -- How a run ends that waits in Freeze.
 pub mod Waits
+-- Why a session left, by its entries, and want of memory that its writer told.
+pub mod Wants
+-- How many sessions left since a thread was refused to their clients.
+pub mod NoThreads

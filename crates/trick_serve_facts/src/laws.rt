@@ -2,10 +2,12 @@
 
 ghost use Rattle.trick_serve_facts.specs.Clients.{ClientsAreServed, OthersAreAbsent};
 ghost use Rattle.trick_serve_facts.specs.IsServed.{RunsAreServed};
-ghost use Rattle.trick_serve_facts.specs.Joins.{JoinsAreInOrder};
+ghost use Rattle.trick_serve_facts.specs.Joins.{FirstClientsJoin, JoinsAreInOrder};
+ghost use Rattle.trick_serve_facts.specs.NoThreads.{FewNoThreads};
 ghost use Rattle.trick_serve_facts.specs.Sent.{ClientsAreSent, SentAreFronts};
 ghost use Rattle.trick_serve_facts.specs.Texts.{TextsAreByTurns};
 ghost use Rattle.trick_serve_facts.specs.Waits.{ClientsAreHeardOut, WaitingIsOver};
+ghost use Rattle.trick_serve_facts.specs.Wants.{LeavesAreTold, WantsAreSaid};
 
 /// Each client that was seated in a run was served: its entries are its join, its lines and its leave, its lines are
 /// the first lines of its bytes, and it was sent a first part of its session text, turn after turn.
@@ -21,6 +23,12 @@ pub fn others_are_absent()
 /// Clients join under the numbers 1, 2 and so on, in order, as many as have seats.
 pub fn joins_are_in_order()
     ensures { JoinsAreInOrder }
+{}
+
+/// The first turn begins with the join of client 1, unless the door had answered, before its first client, that none had
+/// come.
+pub fn first_clients_join()
+    ensures { FirstClientsJoin }
 {}
 
 /// A run whose turns were served, and whose lists keep the rules of entries, is a served run.
@@ -54,4 +62,19 @@ pub fn clients_are_heard_out()
 /// No client comes any more to a run that is over as it waits in Freeze, below its limit.
 pub fn waiting_is_over()
     ensures { WaitingIsOver }
+{}
+
+/// The entries of a session tell whether it left, and why.
+pub fn leaves_are_told()
+    ensures { LeavesAreTold }
+{}
+
+/// A session whose writer told that it had no memory, and nothing else, left for that.
+pub fn wants_are_said()
+    ensures { WantsAreSaid }
+{}
+
+/// At most as many sessions left for want of a thread as there are clients with a seat to which one was refused.
+pub fn few_no_threads()
+    ensures { FewNoThreads }
 {}

@@ -1,4 +1,4 @@
-use Rattle.trick_serve_facts.proofs.Clients.{clients_served}
+use Rattle.trick_serve_facts.proofs.Outcomes.{clients_served}
 use Rattle.trick_serve_facts.proofs.laws.clients_are_served.Goals as goal
 
 pub returns : goal.returns
