@@ -8,7 +8,5 @@ pub mod Telling
 pub mod Tending
 -- What is known once all threads of the clients are taken in.
 pub mod Closings
--- What a run with clients came to.
-pub mod Serving
 -- How the clients of a run are opened.
 pub mod Openings

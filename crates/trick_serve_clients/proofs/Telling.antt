@@ -1,12 +1,17 @@
 -- What was told of the clients, and taken.
-use Rattle.std.proofs.Common.{◌≡◌, ◌∙◌, Bool, true, false, List, [], ◌∷◌, ◌++◌, ap, append_assoc, append-nil, refl, subst, sym}
+use Rattle.std.proofs.Common.{◌≡◌, ◌∙◌, ⊎_elim, true, false, List, [], ◌∷◌, ◌++◌, ap, append-nil, arith, length, refl, subst, sym}
 use Rattle.std.proofs.lemmas.Bool.{false≢true}
-use Rattle.trick_outside.specs.Visits.{Back, Ended, Failed, Gave, NotYet, OutOfMemory, Visit}
-use Rattle.trick_serve.specs.Clients.{clients_of, has_over}
-use Rattle.trick_serve_door.specs.Told.{told_clients, told_first}
+use Rattle.std.proofs.lemmas.List.Elements.{All-head}
+use Rattle.std.specs.Prelude.{All}
+use Rattle.trick_outside.specs.Visits.{Back, Ended, Failed, Gave, NotYet, OutOfMemory, Visit, clients}
+use Rattle.trick_serve.specs.Clients.{IsSilent, clients_of, has_lack, has_over}
+use Rattle.trick_serve_door.specs.Taking.{IsEnd}
+use Rattle.trick_serve_door.specs.Told.{GivesFirst, IsOpen, links_of, told_clients, told_end, told_first}
 use Rattle.trick_serve_door.specs.declared.arrival.Arrival.{Arrival}
 use Rattle.trick_serve_door.specs.declared.arrival.Comes.{Comes}
 use Rattle.trick_serve_door.specs.declared.arrival.Comes.TheVariants as comes
+use Rattle.trick_serve_door.specs.declared.ask.End.{End}
+use Rattle.trick_serve_door.specs.declared.ask.End.TheVariants as end
 
 module _ {I O : Type 0} where
   -- None of this tells that the acceptor is closed.
@@ -171,3 +176,49 @@ module _ {I O : Type 0} where
       → has_over early ≡ true → late ≡ []
   over_all visits arrivals end early late is last heard =
       late_empty (told_first visits ++ told_clients arrivals) early late (is ∙ ap (λ (e : List (Comes I O)). told visits arrivals e) last) heard (open_front visits arrivals)
+
+  -- ---- the first thing that was told
+
+  no_item : (x : Comes I O) (xs : List (Comes I O)) → x ∷ xs ≡ [] → ⊥
+  no_item x xs is = cc
+
+  no_link : (x : I × O) (xs : List (I × O)) → x ∷ xs ≡ [] → ⊥
+  no_link x xs is = cc
+
+  -- what was taken first is no client, where the first thing that was told is one
+  client_first : (before some rest : List (Comes I O)) (arrival : Arrival I O) → before ++ some ≡ comes.Client arrival ∷ rest → IsSilent before → ⊥
+  client_first [] some rest arrival is silent = false≢true silent
+  client_first (first ∷ before) some rest arrival is silent =
+      false≢true (subst (λ (x : Comes I O). IsSilent (x ∷ before)) (same_head first (comes.Client arrival) (before ++ some) rest is) silent)
+
+  none_first_taken : (before some : List (Comes I O)) → before ++ some ≡ [] → IsSilent before → ⊥
+  none_first_taken [] some is silent = false≢true silent
+  none_first_taken (first ∷ before) some is silent = no_item first (before ++ some) is
+
+  lack_first : (before some rest : List (Comes I O)) → before ++ some ≡ comes.OutOfMemory ∷ rest → has_lack before ≡ false → IsSilent before → ⊥
+  lack_first [] some rest is none silent = false≢true silent
+  lack_first (first ∷ before) some rest is none silent =
+      false≢true (sym (subst (λ (x : Comes I O). has_lack (x ∷ before) ≡ false) (same_head first comes.OutOfMemory (before ++ some) rest is) none))
+
+  -- No call gave a client, and the last one is none: it had ended, had failed, or there was no memory.
+  silent_end : (last : List (Visit I O)) (why : End) (before some : List (Comes I O)) → before ++ some ≡ told_end why → IsEnd why last 0 → GivesFirst last → has_lack before ≡ false → IsSilent before → ⊥
+  silent_end last end.Over before some is ended gives none silent = ⊎_elim
+      (λ over. subst GivesFirst over gives)
+      (λ more. ⊎_elim (λ failed. subst GivesFirst failed gives) (λ full. (let many = full.1 in omega arith)) more)
+      ended
+  silent_end last end.OutOfMemory before some is ended gives none silent = lack_first before some [] is none silent
+  silent_end last end.Closed before some is ended gives none silent = none_first_taken before some is silent
+
+  -- Where the door told that it has a client, and there was memory, nothing else is the first thing that was taken.
+  pub silent_not : (visits last : List (Visit I O)) (arrivals : List (Arrival I O)) (why : End) (before some : List (Comes I O)) → before ++ some ≡ told visits arrivals (told_end why)
+      → links_of arrivals ≡ clients visits → All IsOpen visits → IsEnd why last (length arrivals) → GivesFirst (visits ++ last) → has_lack before ≡ false → IsSilent before → ⊥
+  silent_not [] last [] why before some is joins asks ended gives none silent = silent_end last why before some is ended gives none silent
+  silent_not [] last (arrival ∷ arrivals) why before some is joins asks ended gives none silent = no_link (arrival.input.value, arrival.output.value) (links_of arrivals) joins
+  silent_not (Gave input output ∷ visits) last [] why before some is joins asks ended gives none silent = no_link (input, output) (clients visits) (sym joins)
+  silent_not (Gave input output ∷ visits) last (arrival ∷ arrivals) why before some is joins asks ended gives none silent =
+      client_first before some (told_clients arrivals ++ told_end why) arrival is silent
+  silent_not (NotYet ∷ visits) last arrivals why before some is joins asks ended gives none silent = gives
+  silent_not (Ended ∷ visits) last arrivals why before some is joins asks ended gives none silent = gives
+  silent_not (Failed ∷ visits) last arrivals why before some is joins asks ended gives none silent = gives
+  silent_not (OutOfMemory ∷ visits) last arrivals why before some is joins asks ended gives none silent = All-head IsOpen OutOfMemory visits asks
+  silent_not (Back number input output ∷ visits) last arrivals why before some is joins asks ended gives none silent = gives

@@ -1,6 +1,7 @@
 -- What became of the clients of a run.
-use Rattle.std.proofs.Common.{◌≡◌, ◌∙◌, ◌⊎◌, inl, inr, ⊎_elim, ℕ, zero, suc, ◌+◌, ◌<◌, ◌≤◌, Bool, true, false, List, [], ◌∷◌, ◌++◌, Option, Some, None, ap, append_assoc, append-nil, arith, length, length-append, map, refl, subst, sym}
-use Rattle.std.proofs.lemmas.Bool.{false≢true}
+use Rattle.std.proofs.Common.{◌≡◌, ◌∙◌, ⊎_elim, ℕ, zero, suc, ◌+◌, ◌<◌, ◌≤◌, false, List, [], ◌∷◌, ◌++◌, Some, None, ap, arith, length, length-append, map, refl, subst, sym}
+use Rattle.std.proofs.lemmas.Bool.{cases_lt}
+use Rattle.std.proofs.lemmas.List.Elements.{All-head, All-tail}
 use Rattle.std.proofs.lemmas.List.{length-map}
 use Rattle.std.specs.Arc.{arc_value}
 use Rattle.std.specs.List.{slice_get}
@@ -9,7 +10,8 @@ use Rattle.trick_outside.specs.declared.link_out.LinkOut.{Ghosts as OutGhosts}
 use Rattle.trick_serve.specs.Clients.{client_queues, seat_queues}
 use Rattle.trick_serve.specs.Sides.{Queues, Side, nobody, queues_of, side, side_of}
 use Rattle.trick_serve.specs.declared.seat.Seat.{Seat}
-use Rattle.trick_serve_clients.specs.Ending.{AreEnded, HaveTheirEnds}
+use Rattle.trick_serve_clients.proofs.Endings.{NoneLacks}
+use Rattle.trick_serve_clients.specs.Ending.{AreEnded}
 use Rattle.trick_serve_clients.specs.Ends.{AreItsEnds, ends_of, seat_ends}
 use Rattle.trick_serve_clients.specs.Tended.{IsTended, IsTendedSeat}
 use Rattle.trick_serve_door.specs.Pairs.{AllFit}
@@ -22,6 +24,7 @@ use Rattle.trick_wire.specs.Ends.{put_by, taken_by}
 use Rattle.trick_wire.specs.HasHeard.{HasHeard}
 use Rattle.trick_wire.specs.HasWritten.{HasWritten, IsCauseOf}
 use Rattle.trick_wire.specs.declared.heard.Heard.{Heard}
+use Rattle.trick_wire.specs.declared.heard.WriteStop.TheVariants as stop
 use Rattle.trick_wire.specs.declared.heard.WriteStop.{WriteStop}
 use Rattle.trick_outside.specs.Causes.{Rose}
 
@@ -64,22 +67,23 @@ none_some : (x : Ends) → None ≡ Some x → ⊥
 none_some x is = cc
 
 module _ {I O : Type 0} (input : InGhosts I) (output : OutGhosts O) where
-  late_have : (kept others : List (Arrival I O)) (pasts : List (Past I O)) → AllFit (IsPast input output) (kept ++ others) pasts → HaveTheirEnds (map ends_of kept) pasts
-  late_have [] others pasts fit = tt
-  late_have (arrival ∷ kept) others [] fit = absurd fit
-  late_have (arrival ∷ kept) others (past ∷ pasts) fit =
-      (its_ends input output (ends_of arrival) arrival past (record { inbox = refl; outbox = refl; causes = refl }) fit.0, late_have kept others pasts fit.1)
+  late_have : (kept : List (Arrival I O)) (pasts : List (Past I O)) → AllFit (IsPast input output) kept pasts → AllFit AreItsEnds (map ends_of kept) pasts
+  late_have [] [] fit = tt
+  late_have [] (past ∷ pasts) fit = absurd fit
+  late_have (arrival ∷ kept) [] fit = absurd fit
+  late_have (arrival ∷ kept) (past ∷ pasts) fit =
+      (its_ends input output (ends_of arrival) arrival past (record { inbox = refl; outbox = refl; causes = refl }) fit.0, late_have kept pasts fit.1)
 
-  -- the ends of the seats, and those that were kept
-  pub all_have : (seats : List Seat) (first kept others : List (Arrival I O)) (pasts : List (Past I O)) → seat_queues seats ≡ map client_queues first
-      → AllFit (IsPast input output) (first ++ (kept ++ others)) pasts → HaveTheirEnds (map seat_ends seats ++ map ends_of kept) pasts
-  all_have [] [] kept others pasts same fit = late_have kept others pasts fit
-  all_have [] (arrival ∷ first) kept others pasts same fit = absurd (no_queues (client_queues arrival) (map client_queues first) (sym same))
-  all_have (seat ∷ seats) [] kept others pasts same fit = absurd (no_queues (queues_of seat) (seat_queues seats) same)
-  all_have (seat ∷ seats) (arrival ∷ first) kept others [] same fit = absurd fit
-  all_have (seat ∷ seats) (arrival ∷ first) kept others (past ∷ pasts) same fit = (
+  -- the ends of the seats, and those of clients that came late
+  pub all_have : (seats : List Seat) (first kept : List (Arrival I O)) (pasts : List (Past I O)) → seat_queues seats ≡ map client_queues first
+      → AllFit (IsPast input output) (first ++ kept) pasts → AllFit AreItsEnds (map seat_ends seats ++ map ends_of kept) pasts
+  all_have [] [] kept pasts same fit = late_have kept pasts fit
+  all_have [] (arrival ∷ first) kept pasts same fit = absurd (no_queues (client_queues arrival) (map client_queues first) (sym same))
+  all_have (seat ∷ seats) [] kept pasts same fit = absurd (no_queues (queues_of seat) (seat_queues seats) same)
+  all_have (seat ∷ seats) (arrival ∷ first) kept [] same fit = absurd fit
+  all_have (seat ∷ seats) (arrival ∷ first) kept (past ∷ pasts) same fit = (
     its_ends input output (seat_ends seat) arrival past (seat_of seat arrival (first_queues (queues_of seat) (client_queues arrival) (seat_queues seats) (map client_queues first) same)) fit.0,
-    all_have seats first kept others pasts (other_queues (queues_of seat) (client_queues arrival) (seat_queues seats) (map client_queues first) same) fit.1,
+    all_have seats first kept pasts (other_queues (queues_of seat) (client_queues arrival) (seat_queues seats) (map client_queues first) same) fit.1,
   )
 
   -- ---- the client at one place
@@ -184,7 +188,67 @@ module _ {I O : Type 0} (input : InGhosts I) (output : OutGhosts O) where
   sessions_count [] [] [] (session ∷ sessions) fit ended = absurd ended
   sessions_count all (arrival ∷ arrivals) [] sessions fit ended = absurd fit
   sessions_count all [] (past ∷ pasts) sessions fit ended = absurd fit
-  sessions_count [] (arrival ∷ arrivals) (past ∷ pasts) [] fit ended = absurd ended
+  sessions_count [] (arrival ∷ arrivals) (past ∷ pasts) sessions fit ended = absurd ended
   sessions_count (ends ∷ all) (arrival ∷ arrivals) (past ∷ pasts) [] fit ended = absurd ended
-  sessions_count [] (arrival ∷ arrivals) (past ∷ pasts) (session ∷ sessions) fit ended = ap suc (sessions_count [] arrivals pasts sessions fit.1 ended.1)
   sessions_count (ends ∷ all) (arrival ∷ arrivals) (past ∷ pasts) (session ∷ sessions) fit ended = ap suc (sessions_count all arrivals pasts sessions fit.1 ended.1)
+
+  -- ---- where there was no memory for the messages to a client
+
+  some_session : (x y : Ended I O) → Some x ≡ Some y → x ≡ y
+  some_session x y is = cc
+
+  none_session : (x : Ended I O) → None ≡ Some x → ⊥
+  none_session x is = cc
+
+  -- the ends of a session, of whose causes this was taken
+  record ToldAt (all : List Ends) (k : ℕ) : Type 0 where
+    ends : Ends
+    there : slice_get all k ≡ Some ends
+    told : taken_by ends.causes ≡ stop.OutOfMemory ∷ []
+
+  told_at : (all : List Ends) (arrivals : List (Arrival I O)) (pasts : List (Past I O)) (sessions : List (Ended I O)) (k : ℕ) (session : Ended I O) → AllFit (IsPast input output) arrivals pasts
+      → AreEnded input output all pasts sessions → NoneLacks sessions → slice_get sessions k ≡ Some session → session.wrote ≡ stop.OutOfMemory → ToldAt all k
+  told_at all arrivals pasts [] k session fit ended none there wrote = absurd (none_session session there)
+  told_at [] arrivals [] (one ∷ sessions) k session fit ended none there wrote = absurd ended
+  told_at [] arrivals (past ∷ pasts) (one ∷ sessions) k session fit ended none there wrote = absurd ended
+  told_at (ends ∷ all) arrivals [] (one ∷ sessions) k session fit ended none there wrote = absurd ended
+  told_at (ends ∷ all) [] (past ∷ pasts) (one ∷ sessions) k session fit ended none there wrote = absurd fit
+  told_at (ends ∷ all) (arrival ∷ arrivals) (past ∷ pasts) (one ∷ sessions) zero session fit ended none there wrote =
+      let same = some_session one session there in record {
+        ends = ends;
+        there = refl;
+        told = ended.0.told (All-head (λ (s : Ended I O). s.lacked ≡ false) one sessions none) (ap (λ (s : Ended I O). s.wrote) same ∙ wrote) arrival fit.0;
+      }
+  told_at (ends ∷ all) (arrival ∷ arrivals) (past ∷ pasts) (one ∷ sessions) (suc k) session fit ended none there wrote =
+      let rest = told_at all arrivals pasts sessions k session fit.1 ended.1 (All-tail (λ (s : Ended I O). s.lacked ≡ false) one sessions none) there wrote in
+      record { ends = rest.ends; there = rest.there; told = rest.told }
+
+  no_stop : (x : WriteStop) → [] ≡ x ∷ [] → ⊥
+  no_stop x is = cc
+
+  session_within : (sessions : List (Ended I O)) (k : ℕ) (session : Ended I O) → slice_get sessions k ≡ Some session → k < length sessions
+  session_within [] k session is = absurd (none_session session is)
+  session_within (one ∷ sessions) zero session is = omega arith
+  session_within (one ∷ sessions) (suc k) session is = let rest = session_within sessions k session is in omega (arith, rest)
+
+  -- Where it is not so of any session that it was not told, it was told to the seat of each.
+  pub told_seat : (seats : List Seat) (first kept : List (Arrival I O)) (pasts : List (Past I O)) (sessions : List (Ended I O)) → seat_queues seats ≡ map client_queues first
+      → AllFit (IsPast input output) (first ++ kept) pasts → AreEnded input output (map seat_ends seats ++ map ends_of kept) pasts sessions → NoneLacks sessions
+      → (k : ℕ) (session : Ended I O) → slice_get sessions k ≡ Some session → session.wrote ≡ stop.OutOfMemory → (side seats k).told ≡ stop.OutOfMemory ∷ []
+  told_seat seats first kept pasts sessions same fit ended none k session there wrote =
+      let at = told_at (map seat_ends seats ++ map ends_of kept) (first ++ kept) pasts sessions k session fit ended none there wrote in
+      let within = session_within sessions k session there in
+      let count = sessions_count (map seat_ends seats ++ map ends_of kept) (first ++ kept) pasts sessions fit ended in
+      let many = length-append first kept in
+      let seated = sym (length-map seats queues_of) ∙ ap length same ∙ length-map first client_queues in
+      let front = length-map seats seat_ends in
+      ⊎_elim
+      (λ before.
+      let place = seat_place seats (map ends_of kept) first kept k same before in
+      let mine = some_ends (seat_ends place.seat) at.ends (sym place.there ∙ at.there) in
+      ap (λ (s : Side). s.told) place.side_is ∙ ap (λ (e : Ends). taken_by e.causes) mine ∙ at.told)
+      (λ past.
+      let place = late_place (map seat_ends seats) kept k (omega arith) (omega arith) in
+      let mine = some_ends (ends_of place.arrival) at.ends (sym place.there ∙ at.there) in
+      absurd (no_stop stop.OutOfMemory (sym place.arrival.no_cause ∙ ap (λ (e : Ends). taken_by e.causes) mine ∙ at.told)))
+      (cases_lt k (length seats))

@@ -1,10 +1,9 @@
 -- How sessions are ended, one after another.
-use Rattle.std.specs.Prelude.{◌≡◌, ◌≤◌, List, [], ◌∷◌}
+use Rattle.std.specs.Prelude.{◌≡◌, ◌≤◌, Bool, false, List, [], ◌∷◌, All}
 use Rattle.trick_outside.specs.Causes.{Rose}
 use Rattle.trick_outside.specs.Visits.{Visit}
 use Rattle.trick_outside.specs.declared.link_in.LinkIn.{Ghosts as InGhosts}
 use Rattle.trick_outside.specs.declared.link_out.LinkOut.{Ghosts as OutGhosts}
-use Rattle.trick_serve_clients.specs.Ends.{AreItsEnds}
 use Rattle.trick_serve_door.specs.Returns.{backs_of}
 use Rattle.trick_serve_door.specs.Seats.{IsPast}
 use Rattle.trick_serve_door.specs.declared.arrival.Arrival.{Arrival}
@@ -14,22 +13,7 @@ use Rattle.trick_serve_door.specs.declared.past.Past.{Past}
 use Rattle.trick_wire.specs.Ends.{put_by, taken_by}
 use Rattle.trick_wire.specs.HasHeard.{HasHeard}
 use Rattle.trick_wire.specs.HasWritten.{HasWritten, IsCauseOf}
-
-module _ {I O : Type 0} where
-  -- a session as its threads left it
-  abbrev pub as_it_was : Past I O → Ended I O
-  as_it_was past = record {
-    input = past.reader.link;
-    output = past.writer.link;
-    read = past.reader.stop;
-    wrote = past.writer.stop;
-  }
-
-  -- Each of these ends has its threads at its place; there may be fewer ends.
-  abbrev pub HaveTheirEnds : List Ends → List (Past I O) → Type 0
-  HaveTheirEnds [] pasts = Unit {0}
-  HaveTheirEnds (ends ∷ all) [] = ⊥
-  HaveTheirEnds (ends ∷ all) (past ∷ pasts) = AreItsEnds ends past × HaveTheirEnds all pasts
+use Rattle.trick_wire.specs.declared.heard.WriteStop.TheVariants as stop
 
 module _ {I O : Type 0} (input : InGhosts I) (output : OutGhosts O) where
   -- A session was ended with these ends, whosever its threads were.
@@ -42,21 +26,24 @@ module _ {I O : Type 0} (input : InGhosts I) (output : OutGhosts O) where
         (output.failures arrival.output.value) (output.failures ended.output) ended.wrote (put_by ends.outbox)
     pub cause : (arrival : Arrival I O) → IsPast input output arrival past
         → IsCauseOf (taken_by ends.causes) past.writer.stop
+    pub told : ended.lacked ≡ false → ended.wrote ≡ stop.OutOfMemory → (arrival : Arrival I O)
+        → IsPast input output arrival past → taken_by ends.causes ≡ stop.OutOfMemory ∷ []
     pub later : output.failures past.writer.link ≤ output.failures ended.output
 
-  -- Each session was ended with its ends, or is as its threads left it where it has none.
+  -- Each session was ended with its ends.
   abbrev pub AreEnded : List Ends → List (Past I O) → List (Ended I O) → Type 0
   AreEnded [] [] [] = Unit {0}
-  AreEnded [] (past ∷ pasts) (ended ∷ sessions) = (ended ≡ as_it_was past) × AreEnded [] pasts sessions
   AreEnded (ends ∷ all) (past ∷ pasts) (ended ∷ sessions) = IsEndedBy ends past ended × AreEnded all pasts sessions
   AreEnded [] [] (ended ∷ sessions) = ⊥
-  AreEnded [] (past ∷ pasts) [] = ⊥
+  AreEnded [] (past ∷ pasts) sessions = ⊥
   AreEnded (ends ∷ all) [] sessions = ⊥
   AreEnded (ends ∷ all) (past ∷ pasts) [] = ⊥
 
--- All sessions were ended, and their links went back to the door under the numbers 1, 2 and so on.
+-- All sessions were ended, and their links went back to the door under the numbers 1, 2 and so on. Where nothing lacked,
+-- nothing did for any of them.
 pub record EndsAll {D I O : Type 0} (visited : D → List (Visit I O) → D → Type 0) (input : InGhosts I)
-    (output : OutGhosts O) (old new : D) (ends : List Ends) (pasts : List (Past I O)) : Type 0 where
+    (output : OutGhosts O) (old new : D) (ends : List Ends) (pasts : List (Past I O)) (lacked : Bool) : Type 0 where
   pub sessions : List (Ended I O)
   pub ended : AreEnded input output ends pasts sessions
   pub back : visited old (backs_of 1 sessions) new
+  pub memory : lacked ≡ false → All (λ session. session.lacked ≡ false) sessions

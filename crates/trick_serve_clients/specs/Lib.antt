@@ -6,7 +6,7 @@ pub mod Opened
 pub mod Late
 -- How sessions are ended, one after another.
 pub mod Ending
+-- What is known once the source of entries and its acceptor are over.
+pub mod Over
 -- What became of the clients of a run, from first to last.
 pub mod Tended
--- What a run with clients came to, for its door and its spawner.
-pub mod Serving

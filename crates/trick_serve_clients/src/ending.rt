@@ -1,8 +1,9 @@
 //! How the sessions are ended, one after another, and the links go back to their door.
 
-ghost use Rattle.std.specs.Prelude.{◌≡◌, ◌≤◌, ◌∷◌, ◌++◌, [], IfSome, MatchOption, None, map, vec_len};
+ghost use Rattle.std.specs.Prelude.{◌≡◌, ◌≢◌, ◌≤◌, ◌∷◌, ◌++◌, [], List, MatchOption, map, vec_len};
 ghost use Rattle.trick_serve_clients.specs.Ends.{AreItsEnds, ends_left, seat_ends};
-ghost use Rattle.trick_serve_clients.specs.Ending.{EndsAll, HaveTheirEnds, IsEndedBy, as_it_was};
+ghost use Rattle.trick_serve_clients.specs.Ending.{EndsAll, IsEndedBy};
+ghost use Rattle.trick_serve_door.specs.Pairs.{AllFit};
 
 use std::sync::Wait;
 use trick_outside::{Door, LinkIn, LinkOut};
@@ -29,7 +30,7 @@ impl EndsLeft {
         EndsLeft { seats, late }
     }
 
-    // The ends of the next session, where they were kept.
+    // The ends of the next session.
     fn next(&mut self) -> Option<Ends>
         ensures { MatchOption result ((ends_left self.old ≡ []) × (ends_left self.new ≡ []))
             (λ ends. ends_left self.old ≡ ends ∷ ends_left self.new) }
@@ -41,44 +42,38 @@ impl EndsLeft {
     }
 }
 
-// Ends one session. Where its ends were not kept, its links are as its threads left them.
-fn end_one<I: LinkIn + Drop, O: LinkOut + Drop, R: Wait>(
+// Ends the next session, whose threads handed this back.
+fn end_next<I: LinkIn + Drop, O: LinkOut + Drop, R: Wait>(
     rt: &R,
-    ends: Option<Ends>,
+    ends: &mut EndsLeft,
     past: Past<I, O>,
 ) -> Ended<I, O>
-    requires { IfSome ends (λ ends. AreItsEnds ends past) }
-    ensures ended { IfSome ends (λ ends. IsEndedBy I.LinkIn O.LinkOut ends past result) }
-    ensures left { ends ≡ None → result ≡ as_it_was past }
+    requires { (pasts : List (Past I O)) × AllFit AreItsEnds (ends_left ends.old) (past ∷ pasts) }
+    ensures { (mine : Ends) × (ends_left ends.old ≡ mine ∷ ends_left ends.new)
+        × IsEndedBy I.LinkIn O.LinkOut mine past result }
 {
-    match ends {
-        Some(ends) => end_session(rt, ends, past),
-        None => {
-            let Past { reader, writer } = past;
-            Ended {
-                input: reader.link,
-                output: writer.link,
-                read: reader.stop,
-                wrote: writer.stop,
-            }
-        }
-    }
+    let Some(mine) = ends.next() else {
+        unreachable!()
+    };
+    end_session(rt, mine, past)
 }
 
 /// Ends the sessions of all clients in the order of their numbers, which begin with 1, and gives the links of each back
-/// to their door at once. Place n - 1 has what the threads of client n handed back. Takes no memory.
+/// to their door at once. Place n - 1 has what the threads of client n handed back. Answers whether there was no memory
+/// for the messages to one, of which its caller was not told. Takes no memory.
 pub(crate) fn end_all<D: Door, R: Wait>(
     rt: &R,
     door: &mut D,
     ends: EndsLeft,
     pasts: Vec<Past<D::In, D::Out>>,
-)
+) -> bool
 where
     D::In: Drop,
     D::Out: Drop,
     requires numbers { vec_len pasts ≤ 4294967295 }
-    requires fit { HaveTheirEnds (ends_left ends) pasts.items }
-    ensures ended { EndsAll D.visited D.In.LinkIn D.Out.LinkOut door.old door.new (ends_left ends) pasts.items }
+    requires fit { AllFit AreItsEnds (ends_left ends) pasts.items }
+    ensures ended { EndsAll D.visited D.In.LinkIn D.Out.LinkOut door.old door.new (ends_left ends) pasts.items
+        result }
     ensures failures { D.failures door.new ≡ D.failures door.old }
     ensures idle { D.idleness door.new ≡ D.idleness door.old }
 {
@@ -86,9 +81,17 @@ where
     let mut left = pasts;
     left.reverse();
     let mut number: u32 = 0;
+    let mut has_lacked = false;
     while let Some(past) = left.pop() {
         number += 1;
-        let Ended { input, output, .. } = end_one(rt, ends.next(), past);
+        let Ended {
+            input,
+            output,
+            lacked,
+            ..
+        } = end_next(rt, &mut ends, past);
+        has_lacked = has_lacked || lacked;
         door.back(number, input, output);
     }
+    has_lacked
 }

@@ -5,8 +5,7 @@
 mod closing;
 mod ending;
 mod late;
-pub mod laws;
 mod opening;
 
-pub use closing::{Closed, close_clients};
-pub use opening::{Clients, Opened, Refused, open_clients};
+pub use closing::{Closed, close_clients, close_here};
+pub use opening::{Clients, ClientsHere, Opened, open_clients};

@@ -1,16 +1,18 @@
 //! How the clients of a run are opened.
 
-ghost use Rattle.std.specs.Prelude.{IfOk};
-ghost use Rattle.trick_serve_clients.specs.Opened.{AreUnused, IsOpenedBy};
+ghost use Rattle.std.specs.Prelude.{◌≡◌, IfOk};
+ghost use Rattle.trick_serve_clients.specs.Opened.{AreUnused, IsOpenedBy, start_with};
+ghost use Rattle.trick_serve_door.specs.Asking.{IsAsking};
 ghost use Rattle.trick_serve_door.specs.Taking.{hosts};
 
+use crate::late::Room;
 use std::alloc::{AllocError, Global};
 use std::snapshot::Snapshot;
 use std::sync::{Arc, Wait};
 use std::thread::Threads;
 use trick_outside::{Door, Spawner};
-use trick_serve::Served;
-use trick_serve_door::{Accepting, Comes, Departure, Taken};
+use trick_serve::{Served, ServedHere};
+use trick_serve_door::{Accepting, Asking, Comes, Departure, Taken};
 use trick_serve_start::{AcceptorThread, RunningAcceptor, start_accepting};
 use trick_turn::Bell;
 use trick_wire::{Putter, Taker, channel};
@@ -65,19 +67,23 @@ where
     pub acceptor: RunningAcceptor<AcceptorThread<D, S, R>, Taken<D, S>>,
     /// With what the acceptor began, but that its spawner had not been asked yet.
     pub begun: Snapshot<Accepting<D, S, R>>,
+    // For clients that come as the run ends.
+    pub(crate) room: Room,
 }
 
-/// The clients of a run whose acceptor was refused a thread: no client was taken yet.
+/// The clients of a run while it goes on, whose acceptor was refused a thread. They are to be closed by `close_here`.
 #[derive(Drop)]
-pub struct Refused<D: Door + Drop, S: Drop, R: Drop>
+pub struct ClientsHere<D: Door + Drop, S: Spawner + Drop, R: Drop>
 where
     D::In: Drop,
     D::Out: Drop,
 {
-    /// The source of entries. Its clients come from the work.
-    pub served: Served<D::In, D::Out, R>,
-    /// The work of the acceptor. The count of its spawner rose.
-    pub work: Accepting<D, S, R>,
+    /// The source of entries, which is lent to the run, and asks the door for clients.
+    pub served: ServedHere<D, S, R>,
+    /// With what the door is asked, as it was before it was asked the first time. The count of the spawner had risen.
+    pub begun: Snapshot<Accepting<D, S, R>>,
+    // For clients that come as the run ends.
+    pub(crate) room: Room,
 }
 
 /// How the clients of a run were opened.
@@ -87,17 +93,40 @@ where
     D::In: Drop,
     D::Out: Drop,
 {
-    /// Clients may come.
+    /// Clients may come, and an acceptor takes them.
     Open(Clients<D, S, R>),
-    /// The acceptor was refused a thread.
-    Refused(Refused<D, S, R>),
+    /// The acceptor was refused a thread. Clients may come, as the source of entries asks for them.
+    Here(ClientsHere<D, S, R>),
     /// There was no memory. The door and the spawner are as they were.
     OutOfMemory(D, S),
 }
 
+// Has the door asked by the source of entries, which has no client yet.
+fn ask_here<D: Door + Drop, S: Spawner + Drop, R: Wait + Copy + Drop>(
+    served: Served<D::In, D::Out, R>,
+    work: Accepting<D, S, R>,
+    room: Room,
+) -> ClientsHere<D, S, R>
+where
+    D::In: Drop,
+    D::Out: Drop,
+    ensures served { result.served.served ≡ served }
+    ensures begun { result.begun.value ≡ work }
+    ensures asking { IsAsking (hosts D.visited D.In.LinkIn D.Out.LinkOut S.failures D.has_client)
+        (start_with work) result.served.asking }
+{
+    let begun = Snapshot::of(&work);
+    let asking = Asking::begin(work);
+    ClientsHere {
+        served: ServedHere { served, asking },
+        begun,
+        room,
+    }
+}
+
 /// Opens the clients of a run: from then on an acceptor in a thread of its own takes those that come to the door, and
-/// its spawner admits their threads. Where there is no memory nothing was done, and where the acceptor was refused a
-/// thread nothing but that.
+/// its spawner admits their threads. Where it was refused a thread, the source of entries asks the door itself, and no
+/// thread is started for a client. Where there is no memory nothing was done.
 pub fn open_clients<
     D: Door + Send + Drop + 'static,
     S: Spawner + Send + Drop + 'static,
@@ -109,6 +138,9 @@ where
     ensures { IsOpenedBy (hosts D.visited D.In.LinkIn D.Out.LinkOut S.failures D.has_client) door spawner result }
 {
     let Ok(ways) = Ways::new(alloc) else {
+        return Opened::OutOfMemory(door, spawner);
+    };
+    let Ok(room) = Room::new(alloc) else {
         return Opened::OutOfMemory(door, spawner);
     };
     let Ways {
@@ -135,7 +167,8 @@ where
             served,
             acceptor,
             begun,
+            room,
         }),
-        Err(work) => Opened::Refused(Refused { served, work }),
+        Err(work) => Opened::Here(ask_here(served, work, room)),
     }
 }

@@ -12,16 +12,16 @@ loop-past-init g c = record {
   idle = refl;
 }
 
-pub end_one-input-requires : goal.end_one-input-requires
-end_one-input-requires g c =
-    ending_fits g.D.Door.visited g.D.In.LinkIn g.D.Out.LinkOut c.args.door.now (ends_left c.args.ends) c.args.pasts.items c.loop-past.door (ends_left c.loop-past.ends) (ends_left c.next.new.self)
-    c.loop-past.left.items _ c.in-Some.past c.loop-past.number c.next.result c.in-Some.ensures.items c.next.ensures c.loop-past.invariant.ending
+pub end_next-input-requires : goal.end_next-input-requires
+end_next-input-requires g c =
+    ending_fits g.D.Door.visited g.D.In.LinkIn g.D.Out.LinkOut c.args.door.now (ends_left c.args.ends) c.args.pasts.items c.loop-past.door (ends_left c.loop-past.ends)
+    c.loop-past.left.items _ c.in-Some.past c.loop-past.number c.loop-past.has_lacked c.in-Some.ensures.items c.loop-past.invariant.ending
 
 pub loop-past-preserved : goal.loop-past-preserved
 loop-past-preserved g c = record {
-  ending = ending_more g.D.Door.visited g.D.In.LinkIn g.D.Out.LinkOut c.args.door.now (ends_left c.args.ends) c.args.pasts.items c.loop-past.door c.back.new.self (ends_left c.loop-past.ends) (ends_left c.next.new.self)
-      c.loop-past.left.items _ c.in-Some.past c.end_one-input.result c.loop-past.number _ c.next.result g.met.D.Door.visited_join c.in-Some.ensures.items refl c.back.ensures.visited c.next.ensures
-      c.end_one-input.ensures.ended c.end_one-input.ensures.left c.loop-past.invariant.ending;
+  ending = ending_more g.D.Door.visited g.D.In.LinkIn g.D.Out.LinkOut c.args.door.now (ends_left c.args.ends) c.args.pasts.items c.loop-past.door c.back.new.self (ends_left c.loop-past.ends) (ends_left c.end_next-input.new.ends)
+      c.end_next-input.ensures.0 c.loop-past.left.items _ c.in-Some.past c.end_next-input.result c.loop-past.number _ c.loop-past.has_lacked _ g.met.D.Door.visited_join c.in-Some.ensures.items refl c.back.ensures.visited
+      c.end_next-input.ensures.1 c.end_next-input.ensures.2 (search rules) c.loop-past.invariant.ending;
   numbers = omega (arith, c.loop-past.invariant.numbers, c.in-Some.ensures.len);
   failures = c.back.ensures.failures ∙ c.loop-past.invariant.failures;
   idle = c.back.ensures.idle ∙ c.loop-past.invariant.idle;
@@ -29,5 +29,5 @@ loop-past-preserved g c = record {
 
 pub returns-clause-ended : goal.returns-clause-ended
 returns-clause-ended g c =
-    ending_all g.D.Door.visited g.D.In.LinkIn g.D.Out.LinkOut c.args.door.now (ends_left c.args.ends) c.args.pasts.items _ _ _ _ (no_items _ (omega (arith, c.loop-past.left.ok.0, c.in_default.ensures.cases.0)))
+    ending_all g.D.Door.visited g.D.In.LinkIn g.D.Out.LinkOut c.args.door.now (ends_left c.args.ends) c.args.pasts.items _ _ _ _ _ (no_items _ (omega (arith, c.loop-past.left.ok.0, c.in_default.ensures.cases.0)))
     c.loop-past.invariant.ending
