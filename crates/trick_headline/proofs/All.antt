@@ -1,14 +1,13 @@
 -- All clients of a run, under its journal.
-use Rattle.std.proofs.Common.{◌≡◌, ◌∙◌, ℕ, ◌+◌, List, [], ◌∷◌, ◌++◌, Bool, ap, append-nil, refl, subst, sym}
+use Rattle.std.proofs.Common.{◌≡◌, ◌∙◌, ℕ, ◌+◌, List, [], ◌∷◌, Bool, ap, refl, subst, sym}
 use Rattle.std.specs.Prelude.{◌&&◌, nat_lt}
-use Rattle.trick_headline.proofs.Clients.{noted_append, served_as_noted}
+use Rattle.trick_headline.proofs.Clients.{served_as_noted}
 use Rattle.trick_headline.proofs.Entries.{joins_of_turn, refused_in, refused_join, refused_of_turn}
 use Rattle.trick_headline.proofs.Same.{the_same}
-use Rattle.trick_headline.specs.Clients.{AreOfLastTurn, IsClientServed, JoinsFirst, ServesClients, has_waited, no_thread_leaves, tale_between}
+use Rattle.trick_headline.specs.Clients.{IsClientServed, ServesClients, has_waited, tale_between}
 use Rattle.trick_headline.specs.Noted.{noted_of}
-use Rattle.trick_model.specs.Files.{messages_to, session_text}
 use Rattle.trick_model.specs.Plan.{Plan}
-use Rattle.trick_model.specs.Run.{after_turns, opened}
+use Rattle.trick_model.specs.Run.{opened}
 use Rattle.trick_model.specs.State.{State, World}
 use Rattle.trick_model.specs.Turn.{is_frozen, turn}
 use Rattle.trick_model.specs.declared.entry.Entry.{Entry}
@@ -17,34 +16,9 @@ use Rattle.trick_run_facts.specs.Left.{in_note_order, journal_lists}
 use Rattle.trick_run_facts.specs.Noting.{NotedDoSame}
 use Rattle.trick_serve_door.specs.Taking.{Hosts}
 use Rattle.trick_serve_facts.specs.Clients.{LinkTale}
+use Rattle.trick_serve_facts.specs.Joins.{JoinsFirst}
+use Rattle.trick_serve_facts.specs.NoThreads.{no_thread_leaves}
 use Rattle.trick_serve_facts.specs.Serves.{all_entries}
-
--- ---- what was left out
-
-said_same : NotedDoSame → (p : Plan) (w : World) (entries : List Entry) → (turn p w (in_note_order (turn p w entries).noted)).said ≡ (turn p w entries).said
-said_same law p w entries =
-    sym (append-nil (turn p w (in_note_order (turn p w entries).noted)).said) ∙ (law p w (entries ∷ [])).said ∙ append-nil (turn p w entries).said
-
-text_same : NotedDoSame → (p : Plan) (s : State) (lists : List (List Entry)) (n : ℕ) → session_text p s (noted_of p s lists) n ≡ session_text p s lists n
-text_same law p s lists n = ap (messages_to n) (law p (opened s) lists).said
-
-last_same : NotedDoSame → (p : Plan) (s : State) (lists : List (List Entry)) (n : ℕ) (dropped : List (List ℕ)) → AreOfLastTurn p s lists n dropped
-    → AreOfLastTurn p s (noted_of p s lists) n dropped
-last_same law p s lists n dropped last =
-    let there = after_turns p (opened s) last.early in
-    let noted = in_note_order (turn p there last.entries).noted in record {
-      early = noted_of p s last.early;
-      entries = noted;
-      late = journal_lists p (turn p there last.entries).world last.late;
-      lists_are = ap (noted_of p s) last.lists_are ∙ noted_append p (opened s) last.early (last.entries ∷ last.late);
-      kept = last.kept;
-      of_turn =
-          ap (λ (w : World). messages_to n (turn p w noted).said) (law p (opened s) last.early).worlds
-          ∙ ap (messages_to n) (said_same law p there last.entries) ∙ last.of_turn;
-      none_later =
-          text_same law p s lists n ∙ last.none_later ∙ sym (text_same law p s (last.early ++ last.entries ∷ []) n)
-          ∙ ap (λ (ls : List (List Entry)). session_text p s ls n) (noted_append p (opened s) last.early (last.entries ∷ []));
-    }
 
 -- ---- one client
 
@@ -55,9 +29,6 @@ client_same law p s lists waited n tale client =
       queues = client.queues;
       room = client.room;
       served = same.served;
-      last_turn = λ some.
-          subst (AreOfLastTurn p s (noted_of p s lists) n) (sym same.dropped)
-          (last_same law p s lists n client.served.dropped (client.last_turn (λ none. some (same.dropped ∙ none))));
       memory = λ wrote. same.leave ∙ client.memory wrote;
       ended = λ was stays bytes told. client.ended was (sym same.leave ∙ stays) bytes told ∙ sym same.lines;
     }

@@ -3,7 +3,6 @@ use Rattle.std.proofs.Common.{◌≡◌, ◌∙◌, ℕ, ◌+◌, List, [], ◌�
 use Rattle.std.proofs.lemmas.List.Elements.{filter-append}
 use Rattle.std.proofs.lemmas.List.Sums.{sum_by-append, sum_by-cons}
 use Rattle.std.specs.Prelude.{count_by}
-use Rattle.trick_headline.specs.Clients.{is_no_thread}
 use Rattle.trick_line_facts.specs.Silence.{newcomers}
 use Rattle.trick_model.specs.Journal.{is_of_session}
 use Rattle.trick_model.specs.Plan.{Plan}
@@ -15,6 +14,7 @@ use Rattle.trick_run_facts.proofs.Notes.{lines_in, lines_noted, others_in}
 use Rattle.trick_run_facts.specs.Left.{in_note_order}
 use Rattle.trick_serve.specs.Life.{own}
 use Rattle.trick_serve_facts.proofs.Keeping.{own_given}
+use Rattle.trick_serve_facts.specs.NoThreads.{is_no_thread}
 
 -- ---- publications are of no session
 

@@ -1,8 +1,8 @@
 -- Doors, clients and lists, worked; and what is none.
-use Rattle.std.proofs.Common.{◌≡◌, ◌∙◌, ℕ, List, [], ◌∷◌, ◌++◌, true, Some, None, ap, arith, inl, length, refl}
+use Rattle.std.proofs.Common.{◌≡◌, ◌∙◌, ℕ, List, [], ◌∷◌, ◌++◌, true, false, Some, None, ap, arith, inl, inr, length, refl}
 use Rattle.std.proofs.lemmas.List.Elements.{All-cons, All-nil}
 use Rattle.std.specs.Prelude.{codes}
-use Rattle.trick_headline.specs.Clients.{EndsOver, IsAsk, IsSentOf, JoinsFirst, ServesClients, Visits, has_waited, no_thread_leaves}
+use Rattle.trick_headline.specs.Clients.{EndsOver, IsAsk, IsSentOf, ServesClients, Visits, has_waited}
 use Rattle.trick_model.specs.Plan.{Plan}
 use Rattle.trick_model.specs.State.{State}
 use Rattle.trick_model.specs.declared.entry.Cause.TheVariants as cause
@@ -10,8 +10,13 @@ use Rattle.trick_model.specs.declared.entry.Entry.TheVariants.{Join, Said, Leave
 use Rattle.trick_model.specs.declared.entry.Entry.{Entry}
 use Rattle.trick_model.specs.declared.mode.Mode.TheVariants as mode
 use Rattle.trick_outside.specs.Visits.{Ended as HasEnded, Gave, NotYet, Visit, clients}
+use Rattle.trick_serve_clients.specs.Tended.{HasTended}
 use Rattle.trick_serve_door.specs.Taking.{Hosts}
+use Rattle.trick_serve_door.specs.Told.{IsOpen}
 use Rattle.trick_serve_facts.specs.Clients.{LinkTale}
+use Rattle.trick_serve_facts.specs.Joins.{JoinsFirst}
+use Rattle.trick_serve_facts.specs.NoThreads.{no_thread_leaves}
+use Rattle.trick_turns.specs.Turns.{no_sessions}
 use Rattle.trick_wire.specs.declared.heard.WriteStop.TheVariants as stop
 
 -- ---- doors
@@ -101,4 +106,29 @@ nobody h p s door now spawner visited = record {
   first = λ has. tt;
   all = λ waited. refl;
   over = λ waited. inl refl;
+}
+
+-- so were the clients of such a run tended, where the door told of none: there were none
+none_tended : {D I O S : Type 0} (h : Hosts D I O S) (door now : D) (spawner : S) → h.visited door (HasEnded ∷ []) now → (h.has_client door → ⊥)
+    → HasTended h door spawner (record { seats = []; sessions = no_sessions; over = true; broke = false; silent = true })
+    (record { door = now; spawner = spawner; lacked = false })
+none_tended h door now spawner visited none = record {
+  visits = [];
+  last = HasEnded ∷ [];
+  arrivals = [];
+  sessions = [];
+  visited = visited;
+  asks = All-nil IsOpen;
+  ended = inr (inl refl);
+  joins = refl;
+  count = refl;
+  numbers = omega arith;
+  some = omega arith;
+  seated = λ k less. absurd (omega (arith, less));
+  late = λ k past less. absurd (omega (arith, less));
+  no_thread = omega arith;
+  first = λ has. absurd (none has);
+  silent = λ has whole. absurd (none has);
+  over = λ ended. (refl, inl refl);
+  memory = λ all k ended there. absurd (let no : None ≡ Some ended = there in cc);
 }

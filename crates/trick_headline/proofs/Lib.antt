@@ -12,6 +12,16 @@ pub mod All
 pub mod Headline
 -- What clients of a run that stopped were sent.
 pub mod Sent
+-- What a door was asked, and what it gave.
+pub mod Doors
+-- The clients of a run that were tended, and what they were sent.
+pub mod Tended
+-- The entries of a session tell its lines.
+pub mod Lives
+-- Clients to which a thread was refused.
+pub mod Refused
+-- The clients of a whole run were served.
+pub mod Served
 -- A run to which no client came.
 pub mod Alone
 -- Doors, clients and lists, worked.

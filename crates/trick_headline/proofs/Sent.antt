@@ -13,7 +13,7 @@ text_join [] late = refl
 text_join (message ∷ early) late = ap (λ (bytes : List ℕ). message ++ bytes) (text_join early late) ∙ sym (append_assoc message (text_of early) (text_of late))
 
 -- a first part of first messages is one of all
-sent_more : (early late all : List (List ℕ)) (tale : LinkTale) → all ≡ early ++ late → IsSentOf early tale → IsSentOf all tale
+pub sent_more : (early late all : List (List ℕ)) (tale : LinkTale) → all ≡ early ++ late → IsSentOf early tale → IsSentOf all tale
 sent_more early late all tale is sent = record {
   part = sent.part;
   rest = sent.rest ++ text_of late;

@@ -1,15 +1,13 @@
 -- What the clients of a run came to, as its door has them.
 use Rattle.std.specs.List.{slice_get}
-use Rattle.std.specs.Prelude.{◌≡◌, ◌≢◌, ◌⊎◌, ◌<◌, ◌≤◌, ◌+◌, ℕ, Bool, true, false, ◌&&◌, nat_lt, All, List, [], ◌∷◌, ◌++◌, Some, None, count_by, length}
+use Rattle.std.specs.Prelude.{◌≡◌, ◌⊎◌, ◌<◌, ◌≤◌, ◌+◌, ℕ, Bool, true, ◌&&◌, nat_lt, All, List, [], ◌∷◌, ◌++◌, Some, None, length}
 use Rattle.trick_line_facts.specs.Silence.{newcomers}
 use Rattle.trick_model.specs.Commands.{lines as lines_of}
-use Rattle.trick_model.specs.Files.{messages_to, session_text}
 use Rattle.trick_model.specs.Plan.{Plan}
 use Rattle.trick_model.specs.Run.{after_turns, opened}
 use Rattle.trick_model.specs.State.{State}
-use Rattle.trick_model.specs.Turn.{is_frozen, turn}
+use Rattle.trick_model.specs.Turn.{is_frozen}
 use Rattle.trick_model.specs.declared.entry.Cause.TheVariants as cause
-use Rattle.trick_model.specs.declared.entry.Entry.TheVariants.{Join, Said, Leave, Publish}
 use Rattle.trick_model.specs.declared.entry.Entry.{Entry}
 use Rattle.trick_outside.specs.Causes.{RoseBy}
 use Rattle.trick_outside.specs.Links.{Took}
@@ -22,7 +20,8 @@ use Rattle.trick_serve_door.specs.Taking.{Hosts}
 use Rattle.trick_serve_door.specs.declared.ending.Ended.{Ended}
 use Rattle.trick_serve_facts.specs.Clients.{HasServed, IsAbsent, LinkTale}
 use Rattle.trick_serve_facts.specs.IsServed.{FreezeHasEntries}
-use Rattle.trick_serve_facts.specs.Joins.{numbers_from}
+use Rattle.trick_serve_facts.specs.Joins.{JoinsFirst, numbers_from}
+use Rattle.trick_serve_facts.specs.NoThreads.{no_thread_leaves}
 use Rattle.trick_serve_facts.specs.Serves.{all_entries}
 use Rattle.trick_wire.specs.HasWritten.{text_of}
 use Rattle.trick_wire.specs.declared.heard.WriteStop.TheVariants as stop
@@ -93,25 +92,14 @@ pub record WereSent {D I O S : Type 0} (h : Hosts D I O S) (texts : ℕ → List
 
 -- ---- a whole run
 
--- What was left out of the text of a session are the last messages of one turn, after which nothing was said to it.
-pub record AreOfLastTurn (p : Plan) (s : State) (lists : List (List Entry)) (n : ℕ) (dropped : List (List ℕ)) : Type 0 where
-  pub early : List (List Entry)
-  pub entries : List Entry
-  pub late : List (List Entry)
-  pub lists_are : lists ≡ early ++ entries ∷ late
-  pub kept : List (List ℕ)
-  pub of_turn : messages_to n (turn p (after_turns p (opened s) early) entries).said ≡ kept ++ dropped
-  pub none_later : session_text p s lists n ≡ session_text p s (early ++ entries ∷ []) n
-
--- A client that joined in a run was served. Its outbox has room for 1,024 messages, and what was left out of its text,
--- where that was full, is of one turn. Its writer had no memory only where it left for that. Where the run waited until
--- no line could come any more, and it has not left, all lines of its bytes were said.
+-- A client that joined in a run was served, and its outbox has room for 1,024 messages. Its writer had no memory only
+-- where it left for that. Where the run waited until no line could come any more, and it has not left, all lines of its
+-- bytes were said.
 pub record IsClientServed (p : Plan) (s : State) (lists : List (List Entry)) (waited : Bool) (n : ℕ) (tale : LinkTale)
     : Type 0 where
   pub queues : Queues
   pub room : queues.room ≡ 1024
   pub served : HasServed p s lists n queues tale
-  pub last_turn : served.dropped ≢ [] → AreOfLastTurn p s lists n served.dropped
   pub memory : tale.wrote ≡ stop.OutOfMemory → served.leave ≡ Some cause.OutOfMemory
   pub ended : waited ≡ true → served.leave ≡ None → (bytes : List ℕ) → tale.told ≡ Some bytes
       → lines_of bytes ≡ served.lines
@@ -120,28 +108,6 @@ pub record IsClientServed (p : Plan) (s : State) (lists : List (List Entry)) (wa
 abbrev pub has_waited : Plan → State → List (List Entry) → Bool
 has_waited p s lists =
     let end = (after_turns p (opened s) lists).state in is_frozen end.mode && nat_lt end.tic end.limit
-
--- The first turn, if there is one, has the join of client 1 as its first.
-abbrev pub JoinsFirst : List (List Entry) → Type 0
-JoinsFirst [] = Unit {0}
-JoinsFirst (entries ∷ lists) = (others : List ℕ) × (newcomers entries ≡ 1 ∷ others)
-
--- whether a session left since a thread was refused to it
-abbrev pub is_no_thread : Entry → Bool
-is_no_thread (Join session) = false
-is_no_thread (Said session line) = false
-is_no_thread (Leave session cause.Exit) = false
-is_no_thread (Leave session cause.HungUp) = false
-is_no_thread (Leave session cause.LinkFault) = false
-is_no_thread (Leave session cause.LongLine) = false
-is_no_thread (Leave session cause.Slow) = false
-is_no_thread (Leave session cause.NoThread) = true
-is_no_thread (Leave session cause.OutOfMemory) = false
-is_no_thread (Publish thread) = false
-
--- how many did
-abbrev pub no_thread_leaves : List (List Entry) → ℕ
-no_thread_leaves lists = count_by is_no_thread (all_entries lists)
 
 -- So many clients joined in a run, under the numbers 1, 2 and so on, in the order in which the door gave them. Each of
 -- them was served; one that came too late to join was sent nothing; and no other session has an entry or a message. A

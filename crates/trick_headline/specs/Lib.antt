@@ -10,3 +10,5 @@ pub mod Alone
 pub mod Headline
 -- What a run that stopped leaves, and what its clients were sent.
 pub mod Stopped
+-- From what became of the clients of a run to what its door has of them.
+pub mod Tended

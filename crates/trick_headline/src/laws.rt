@@ -5,6 +5,7 @@ ghost use Rattle.trick_headline.specs.Continued.{RunsWriteRemainders};
 ghost use Rattle.trick_headline.specs.Headline.{RunsKeepHeadline};
 ghost use Rattle.trick_headline.specs.Noted.{ClientsAreServedAsNoted, RunsAreTheSameAsNoted};
 ghost use Rattle.trick_headline.specs.Stopped.{FrontsAreSent};
+ghost use Rattle.trick_headline.specs.Tended.{SentToClients, ServesTended};
 ghost use Rattle.trick_serve_door.specs.Taking.{hosts};
 
 use trick_outside::{Door, Shelf, Spawner};
@@ -56,3 +57,25 @@ pub fn served_runs_keep_the_headline<F: Shelf, D: Door, S: Spawner>()
 pub fn fronts_are_sent<D: Door, S: Spawner>()
     ensures { FrontsAreSent (hosts D.visited D.In.LinkIn D.Out.LinkOut S.failures D.has_client) }
 {}
+
+/// The clients of a whole run were served, as its door has them, where its turns were served and its clients tended, and
+/// each client whose writer had no memory was told so.
+pub fn tended_clients_are_served<D: Door, S: Spawner>()
+    ensures { ServesTended (hosts D.visited D.In.LinkIn D.Out.LinkOut S.failures D.has_client) }
+{
+    trick_serve_facts::laws::runs_are_served();
+    trick_serve_facts::laws::clients_are_heard_out();
+    trick_serve_facts::laws::waiting_is_over();
+    trick_serve_facts::laws::leaves_are_told();
+    trick_serve_facts::laws::wants_are_said();
+    trick_serve_facts::laws::few_no_threads();
+    trick_serve_facts::laws::first_clients_join();
+}
+
+/// The clients of any run that were tended, also of one that stopped, were sent a first part of the messages to them
+/// that were handed over.
+pub fn tended_clients_are_sent<D: Door, S: Spawner>()
+    ensures { SentToClients (hosts D.visited D.In.LinkIn D.Out.LinkOut S.failures D.has_client) }
+{
+    trick_serve_facts::laws::clients_are_sent();
+}
