@@ -1,5 +1,6 @@
 -- What a run says, of a source of entries that is seen as its clients.
-use Rattle.std.proofs.Common.{◌≡◌, ℕ, Bool, true, false, List, [], ◌++◌, refl, subst}
+use Rattle.std.proofs.Common.{◌≡◌, ◌∙◌, ℕ, Bool, true, false, List, [], ◌++◌, Ok, Err, ap, refl, subst, sym}
+use Rattle.std.specs.Arc.{arc_value}
 use Rattle.std.specs.Prelude.{◌&&◌, nat_lt, Result}
 use Rattle.trick_model.specs.Plan.{Plan}
 use Rattle.trick_model.specs.Run.{after_turns, opened}
@@ -14,10 +15,19 @@ use Rattle.trick_runs.specs.Hosts.{Hosts, Place}
 use Rattle.trick_runs.specs.Ran.{Handed, Ran, Stopped, last_answer}
 use Rattle.trick_runs.specs.Rounds.{AreChosen}
 use Rattle.trick_runs.specs.Turned.{Asks}
+use Rattle.trick_serial.specs.declared.ended.Ended.{Ended}
 use Rattle.trick_serve.specs.Calls.{View, Went}
+use Rattle.trick_serve.specs.Rolls.{ways_of}
+use Rattle.trick_serve.specs.declared.served.Served.{Served}
+use Rattle.trick_serve_door.specs.declared.arrival.Comes.{Comes}
+use Rattle.trick_serve_door.specs.declared.departure.Departure.{Departure}
 use Rattle.trick_serve_facts.proofs.Tales.{handed_serves}
 use Rattle.trick_serve_facts.specs.Serves.{GiveNothing, IsServedRun}
+use Rattle.trick_serve_run.specs.Ran.{HasRun}
 use Rattle.trick_turns.specs.Turns.{Answer}
+use Rattle.trick_wire.specs.Ends.{AreEnds}
+use Rattle.trick_wire.specs.declared.queue.Putter.{Putter}
+use Rattle.trick_wire.specs.declared.queue.Taker.{Taker}
 
 -- The last answer of a run gives no list.
 nothing_last : (w : World) → GiveNothing (last_answer w)
@@ -26,6 +36,20 @@ nothing_last w = by (is_frozen w.state.mode && nat_lt w.state.tic w.state.limit)
     by : (b : Bool) → (let l : List Answer = elim b [ true ↦ no_more w | false ↦ [] ] in GiveNothing l)
     by true = (refl, tt)
     by false = tt
+
+-- What was given and handed over, until it came to its end or stopped.
+pub run_went : {S U M Q : Type 0} (D : Type 0) (h : Hosts S U M Q) (p : Plan) (s : State) (old new : Place S U Q) (result : Result Ended Stop)
+    → HasRun D h p s old new result → (given : List Answer) × (said : List Message) × h.turns.went old.turns given said new.turns
+run_went D h p s old new (Ok ended) (lists, ran, last) = (_, _, ran.done.step)
+run_went D h p s old new (Err e) (lists, stopped) = (_, _, stopped.step)
+
+-- The clients came by the same queue, and of those that left it was told by the same one.
+module _ {I O R : Type 0} (old new : Served I O R) (same : ways_of new ≡ ways_of old) where
+  pub same_way : (tells : Putter (Comes I O)) → AreEnds tells old.coming → AreEnds tells new.coming
+  same_way tells ends = ends ∙ sym (ap (λ ways. arc_value ways.0) same)
+
+  pub same_back : (hears : Taker Departure) → AreEnds old.gone hears → AreEnds new.gone hears
+  same_back hears ends = ap (λ ways. arc_value ways.1) same ∙ ends
 
 module _ {S U M Q : Type 0} {h : Hosts S U M Q} {old new : Place S U Q} (view : U → View)
     (steps : (before now : U) (given : List Answer) (said : List Message) → h.turns.went before given said now → Went (view before) (view now) given said)

@@ -6,6 +6,7 @@
 mod by_source;
 mod served;
 mod serving;
+mod tally;
 mod workers;
 
 pub use served::serve;

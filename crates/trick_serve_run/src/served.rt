@@ -9,19 +9,20 @@ ghost use Rattle.trick_model.specs.State.{seen};
 ghost use Rattle.trick_model.specs.ValidState.{IsStateOf};
 ghost use Rattle.trick_outside.specs.declared.stop.Stop.TheVariants.{Memory as WantOfMemory};
 ghost use Rattle.trick_serve_door.specs.Taking.{hosts};
-ghost use Rattle.trick_serve_run.specs.Ending.{concluded as concluded_of};
 ghost use Rattle.trick_serve_run.specs.Served.{HasServedRun};
 ghost use Rattle.trick_serve_run.specs.Serving.{moment, outside};
 
 use crate::by_source::run_by;
 use crate::serving::{Reception, Service, Serving};
-use crate::workers::crew_of;
+use crate::tally::{service_of, tally_of};
+use crate::workers::{crew_of, has_children};
 use std::alloc::Global;
 use std::marker::Brand;
 use std::sync::{Arc, Wait};
 use std::thread::Threads;
-use trick_crew::Crew;
+use trick_crew_whole::WholeCrew;
 use trick_exec::Start;
+use trick_headline::laws::{tended_clients_are_sent, tended_clients_are_served};
 use trick_lang::Cells;
 use trick_memory::Memory;
 use trick_model::{Accepted, Planned, State};
@@ -29,24 +30,11 @@ use trick_outside::{Door, Gate, Shelf, Spawner, Stop};
 use trick_phase::Phases;
 use trick_post::Posts;
 use trick_run_facts::laws::{rounds_are_bounded, stopped_runs_leave_fronts};
-use trick_serial::{Ended, one_thread};
-use trick_serve::Served;
-use trick_serve_clients::laws::all_are_served;
-use trick_serve_clients::{Closed, Opened, Refused, close_clients, open_clients};
-use trick_serve_door::Accepting;
-use trick_serve_facts::laws::{clients_are_heard_out, clients_are_sent, waiting_is_over};
+use trick_serial::one_thread;
+use trick_serve::{Served, ServedHere};
+use trick_serve_clients::{Opened, close_clients, close_here, open_clients};
+use trick_serve_facts::laws::joins_are_in_order;
 use trick_tic::Workers;
-use trick_top_threads::has_children;
-
-// How a run ended once its clients are closed: where there was no memory for them it has stopped for that.
-fn concluded(ended: Result<Ended, Stop>, whole: bool) -> Result<Ended, Stop>
-    ensures { result ≡ concluded_of ended whole }
-{
-    match ended {
-        Ok(_) if !whole => Err(Stop::Memory),
-        ended => ended,
-    }
-}
 
 // A run that could not begin, for want of memory.
 fn not_begun<D, S>(door: D, spawner: S) -> Service<D, S>
@@ -61,7 +49,8 @@ fn not_begun<D, S>(door: D, spawner: S) -> Service<D, S>
 }
 
 // Serves the run of an accepted plan from a state by these workers, who have nothing in flight: opens its clients, runs
-// it, and closes the clients, also after an error.
+// it, and closes the clients, also after an error. Where the acceptor was refused a thread, the source of entries asks
+// the door.
 fn serve_by<M: Cells + Drop, F: Shelf, D, S, R, H: Phases<M>, P: Posts>(
     reception: Reception<D, S, R>,
     accepted: &Accepted,
@@ -87,36 +76,25 @@ where
         (moment shelf.old reception.door reception.spawner) (moment shelf.new result.door result.spawner)
         result.sessions result.ended }
 {
-    all_are_served::<D, S>();
-    clients_are_heard_out();
-    clients_are_sent();
-    waiting_is_over();
+    tended_clients_are_served::<D, S>();
+    tended_clients_are_sent::<D, S>();
+    joins_are_in_order();
     rounds_are_bounded();
     stopped_runs_leave_fronts::<M, F, P, Served<D::In, D::Out, R>>();
+    stopped_runs_leave_fronts::<M, F, P, ServedHere<D, S, R>>();
     let Reception { rt, door, spawner } = reception;
-    let alloc = start.alloc;
-    match open_clients(rt, alloc, door, spawner) {
+    match open_clients(rt, start.alloc, door, spawner) {
         Opened::Open(clients) => {
             let mut clients = clients;
             let ended = run_by(accepted, start, shelf, workers, &mut clients.served);
-            let sessions = clients.served.count() as u64;
-            let whole = clients.served.is_whole();
-            let Closed {
-                door,
-                spawner,
-                complete,
-            } = close_clients(&rt, alloc, clients);
-            Service {
-                ended: concluded(ended, whole && complete),
-                sessions,
-                door,
-                spawner,
-            }
+            let tally = tally_of(&clients.served);
+            service_of(ended, tally, close_clients(&rt, clients))
         }
-        Opened::Refused(refused) => {
-            let Refused { work, .. } = refused;
-            let Accepting { door, spawner, .. } = work;
-            not_begun(door, spawner)
+        Opened::Here(clients) => {
+            let mut clients = clients;
+            let ended = run_by(accepted, start, shelf, workers, &mut clients.served);
+            let tally = tally_of(&clients.served.served);
+            service_of(ended, tally, close_here(&rt, clients))
         }
         Opened::OutOfMemory(door, spawner) => not_begun(door, spawner),
     }
@@ -163,8 +141,8 @@ where
         shelf,
         &mut workers,
     );
-    let Workers { phases, .. } = workers;
-    Crew { phases }.finish();
+    let Workers { phases, posts } = workers;
+    WholeCrew { phases, posts }.finish();
     service
 }
 
@@ -205,9 +183,11 @@ where
 
 /// Runs an accepted plan, which it shares with its workers, from a state by threads, and serves the clients that the
 /// door gives, until the run is over. Each scheduled child thread that has a job is started in a thread of its own, as
-/// far as the spawner admits it, and so are the acceptor, and a reader and a writer for each client; the caller does
-/// all other jobs. It writes the files of the run, and where it stops a part of them. At the end each client's links are
-/// back at the door, and no thread is left, also after an error.
+/// far as the spawner admits it, and so is each must-finish and asynchronous thread; where no child thread has a job the
+/// caller does all jobs. Threads of their own have the acceptor, and a reader and a writer for each client; where the
+/// acceptor was refused one the caller asks the door, and each client leaves at once. It writes the files of the run,
+/// and where it stops a part of them. At the end each client's links are back at the door, and no thread is left, also
+/// after an error.
 pub fn serve<F: Shelf, D, S, G, R>(
     serving: Serving<D, S, G, R>,
     alloc: Global,

@@ -1,4 +1,3 @@
-use Rattle.std.proofs.Common.{arith}
 use Rattle.std.specs.Arc.{arc_value}
 use Rattle.trick_model.specs.PlanOf.{plan_of}
 use Rattle.trick_model.specs.State.{State, seen}
@@ -14,4 +13,4 @@ returns-in_default g c =
     let door = g.met.D.Door g.world.𝓛 g.world.𝓜 g.world.𝓡 ((λ s x. x), (λ x. x), (λ x. x), λ x. x) in
     let start = c.args.reception in
     rw c.not_begun.ensures
-    (record { served = not_begun g.F.Shelf h p s c.args.shelf.now start.door start.spawner start.spawner (g.met.F.Shelf.called_none c.args.shelf.now) (door.visited_none start.door) (omega arith) })
+    (record { served = not_begun g.F.Shelf h p s c.args.shelf.now start.door start.spawner start.spawner (g.met.F.Shelf.called_none c.args.shelf.now) (door.visited_none start.door) })

@@ -14,7 +14,7 @@ returns-in_default g c =
     let p = plan_of (arc_value c.args.accepted.now).plan in
     let s : State = seen (λ memory. memory.numbers) c.args.state in
     rw c.not_begun.ensures
-    (record { served = not_begun g.F.Shelf h p s c.args.shelf.now c.args.serving.door c.args.serving.spawner c.crew_of.new.spawner (g.met.F.Shelf.called_none c.args.shelf.now) (door.visited_none c.args.serving.door) c.crew_of.ensures.later })
+    (record { served = not_begun g.F.Shelf h p s c.args.shelf.now c.args.serving.door c.args.serving.spawner c.crew_of.new.spawner (g.met.F.Shelf.called_none c.args.shelf.now) (door.visited_none c.args.serving.door) })
 
 pub serve_by-service-requires-clause-free : goal.serve_by-service-requires-clause-free
 serve_by-service-requires-clause-free g c κs within = λ place there. c.in-Ok.ensures.free _
