@@ -53,6 +53,52 @@ impl Gate for Meeting {
     }
 }
 
+/// How many frames the clerk of thread 1 is held.
+pub(crate) const HELD_FRAMES: u64 = 50;
+
+/// A gate at which the clerk of thread 1 waits until thread 2 has gone on for many frames.
+#[derive(Drop)]
+pub(crate) struct Holding {
+    frames: AtomicU64,
+    was_held: AtomicBool,
+}
+
+impl Holding {
+    /// A gate at which nobody was yet.
+    pub(crate) fn new() -> Holding {
+        Holding {
+            frames: AtomicU64::new(0),
+            was_held: AtomicBool::new(false),
+        }
+    }
+
+    /// Whether the clerk was held while the run went on.
+    pub(crate) fn was_held(&self) -> bool {
+        self.was_held.load(SeqCst)
+    }
+
+    // Looks until the run has gone on.
+    fn hold(&self) {
+        for _ in 0..LOOKS {
+            if self.frames.load(SeqCst) >= HELD_FRAMES {
+                self.was_held.store(true, SeqCst);
+                return;
+            }
+            yield_now();
+        }
+    }
+}
+
+impl Gate for Holding {
+    fn between(&self, thread: u8, _tic: u64, _job: u32) {
+        if thread == 1 {
+            self.hold();
+        } else if thread == 2 {
+            self.frames.fetch_add(1, SeqCst);
+        }
+    }
+}
+
 /// A gate at which workers are held up by chance: not at all, by a yield, or by a sleep of some microseconds.
 #[derive(Drop)]
 pub(crate) struct Shaking<C: Clock> {

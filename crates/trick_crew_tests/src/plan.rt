@@ -63,6 +63,101 @@ trick.stop(0.000012)
 ",
 };
 
+/// A plan whose asynchronous thread 1 copies what thread 0 counts, while a job of the scheduled thread 2 runs at each tic.
+/// Each of a hundred tics is a software frame.
+pub(crate) const HELD: Texts = Texts {
+    s_define: "class W : public Trick::SimObject {
+  public:
+    long x;
+    void step() { x += 1; }
+    W() { (0.000001, \"scheduled\") step(); }
+};
+class P : public Trick::SimObject {
+  public:
+    long seen;
+    void look() { seen = w.x; }
+    P() { C1 (0.000001, \"scheduled\") look(); }
+};
+class V : public Trick::SimObject {
+  public:
+    long y;
+    void step() { y += 1; }
+    V() { C2 (0.000001, \"scheduled\") step(); }
+};
+W w;
+P p;
+V v;
+",
+    input: "trick.exec_set_thread_process_type(1, trick.PROCESS_TYPE_ASYNC_CHILD)
+trick.exec_set_software_frame(0.000001)
+trick.stop(0.000099)
+",
+};
+
+/// A plan with two must-finish and three asynchronous threads, all of which read what thread 0 counts. A checkpoint is
+/// written while they are at work.
+pub(crate) const ROUNDS: Texts = Texts {
+    s_define: "class W : public Trick::SimObject {
+  public:
+    long x;
+    void step() { x = (x * 3 + 1) % 1009; }
+    W() { (0.000001, \"scheduled\") step(); }
+};
+class M : public Trick::SimObject {
+  public:
+    long sum;
+    void add() { sum = sum + w.x; }
+    M() { C1 (0.000001, \"scheduled\") add(); }
+};
+class N : public Trick::SimObject {
+  public:
+    long sum;
+    void add() { sum = sum + w.x; }
+    N() { C2 (0.000001, \"scheduled\") add(); }
+};
+class P : public Trick::SimObject {
+  public:
+    long sum;
+    void add() { sum = sum + w.x; }
+    P() { C3 (0.000001, \"scheduled\") add(); }
+};
+class Q : public Trick::SimObject {
+  public:
+    long sum;
+    void add() { sum = sum + w.x; }
+    Q() { C4 (0.000001, \"scheduled\") add(); }
+};
+class R : public Trick::SimObject {
+  public:
+    long sum;
+    void add() { sum = sum + w.x; }
+    R() { C5 (0.000001, \"scheduled\") add(); }
+};
+W w;
+M m;
+N n;
+P p;
+Q q;
+R r;
+",
+    input: "trick.exec_set_thread_process_type(1, trick.PROCESS_TYPE_AMF_CHILD)
+trick.exec_set_thread_process_type(2, trick.PROCESS_TYPE_AMF_CHILD)
+trick.exec_set_thread_amf_cycle_time(1, 0.000002)
+trick.exec_set_thread_amf_cycle_time(2, 0.000003)
+trick.exec_set_thread_process_type(3, trick.PROCESS_TYPE_ASYNC_CHILD)
+trick.exec_set_thread_process_type(4, trick.PROCESS_TYPE_ASYNC_CHILD)
+trick.exec_set_thread_process_type(5, trick.PROCESS_TYPE_ASYNC_CHILD)
+trick.exec_set_software_frame(0.000001)
+g = trick.DRAscii('g')
+g.set_cycle(0.000001)
+g.add_variable('m.sum')
+g.add_variable('n.sum')
+trick.add_data_record_group(g)
+trick.add_read(0.000007, 'trick.checkpoint()')
+trick.stop(0.000040)
+",
+};
+
 /// An object on each of eight threads, thread 0 first. Job `three` of each but the first reads what that of the one
 /// before it writes, and job `five` of the first reads what `three` of the last one writes. Where `y` is even, `four`
 /// of all but the first divides by zero.

@@ -6,7 +6,8 @@ use std::sync::{Arc, Wait};
 use std::thread::Threads;
 use trick_base::Word;
 use trick_outside::{EndedDoor, Gate, MemoryOut, MemoryShelf, MemorySink, ScriptIn, Spawner};
-use trick_top::{tricks, tricks_alone};
+use trick_top::tricks_alone;
+use trick_top_serve::tricks;
 
 /// What a run came to.
 #[derive(Drop)]
@@ -57,18 +58,32 @@ fn shelf(alloc: Global, texts: Texts) -> Result<MemoryShelf, AllocError> {
         .with_file(b"i", texts.input.as_bytes())
 }
 
-/// The run on one thread.
-pub(crate) fn by_one_thread(alloc: Global, texts: Texts) -> Result<Came, AllocError> {
-    let words = words(alloc, b"serial")?;
-    let mut shelf = shelf(alloc, texts)?;
+// What one thread comes to that does what these words ask for.
+fn alone(alloc: Global, words: &[Word], shelf: MemoryShelf) -> Result<Came, AllocError> {
+    let mut shelf = shelf;
     let mut sink = MemorySink::new(alloc);
-    let status = tricks_alone(alloc, &words, &mut shelf, &mut sink);
+    let status = tricks_alone(alloc, words, &mut shelf, &mut sink);
     let printed = Vec::from_slice(alloc, sink.bytes())?;
     Ok(Came {
         status,
         printed,
         shelf,
     })
+}
+
+/// The run on one thread.
+pub(crate) fn by_one_thread(alloc: Global, texts: Texts) -> Result<Came, AllocError> {
+    let words = words(alloc, b"serial")?;
+    alone(alloc, &words, shelf(alloc, texts)?)
+}
+
+/// Whether the journal that a run wrote, replayed on one thread, gives its status and its files.
+pub(crate) fn is_replayed(alloc: Global, texts: Texts, came: &Came) -> Result<bool, AllocError> {
+    let mut words = words(alloc, b"replay")?;
+    words.push(Word::from_bytes(alloc, b"j")?)?;
+    let shelf = shelf(alloc, texts)?.with_file(b"j", came.file(b"journal.txt"))?;
+    let other = alone(alloc, &words, shelf)?;
+    Ok(other.status == came.status && other.has_files_of(came)?)
 }
 
 /// A gate that is kept after the run that passes it.
@@ -83,15 +98,16 @@ impl<G: Gate> Gate for Kept<G> {
     }
 }
 
-/// The run by threads.
-pub(crate) fn by_threads<S: Spawner, G, R>(
+/// The run by threads, and its spawner after it.
+pub(crate) fn by_threads<S, G, R>(
     rt: R,
     alloc: Global,
     texts: Texts,
-    spawner: &mut S,
+    spawner: S,
     gate: &Arc<G, Global>,
-) -> Result<Came, AllocError>
+) -> Result<(Came, S), AllocError>
 where
+    S: Spawner + Send + Drop + 'static,
     G: Gate + Send + Sync + Drop + 'static,
     R: Threads + Wait + Copy + Send + Drop + 'static,
 {
@@ -106,9 +122,10 @@ where
         rt, alloc, &words, &mut shelf, &mut sink, door, spawner, gate,
     );
     let printed = Vec::from_slice(alloc, sink.bytes())?;
-    Ok(Came {
+    let came = Came {
         status: finished.status,
         printed,
         shelf,
-    })
+    };
+    Ok((came, finished.spawner))
 }

@@ -29,14 +29,14 @@ const SECONDS: u64 = 50;
 
 /// What is seen of a run.
 #[derive(Drop)]
-struct Seen {
-    came: Came,
+pub(crate) struct Seen {
+    pub(crate) came: Came,
     /// How many starts were refused.
-    refused: u64,
+    pub(crate) refused: u64,
     /// Two workers were between take and commit at one moment.
     have_met: bool,
     /// No worker is left that has the gate.
-    is_over: bool,
+    pub(crate) is_over: bool,
 }
 
 // A run whose workers wait for one another between take and commit. Starts of these numbers are refused.
@@ -45,8 +45,8 @@ where
     R: Threads + Wait + Copy + Send + Drop + 'static,
 {
     let mut gate = Arc::new(alloc, Meeting::new())?;
-    let mut spawner = ListSpawner::refusing(refused);
-    let came = by_threads(rt, alloc, texts, &mut spawner, &gate)?;
+    let spawner = ListSpawner::refusing(refused);
+    let (came, spawner) = by_threads(rt, alloc, texts, spawner, &gate)?;
     let have_met = gate.have_met();
     Ok(Seen {
         came,
@@ -56,14 +56,14 @@ where
     })
 }
 
-// A run under a gate that shakes, beginning with this number.
-fn shake<R>(rt: R, alloc: Global, texts: Texts, first: u64) -> Result<Seen, AllocError>
+/// A run under a gate that shakes, beginning with this number.
+pub(crate) fn shake<R>(rt: R, alloc: Global, texts: Texts, first: u64) -> Result<Seen, AllocError>
 where
     R: Threads + Wait + Clock + Copy + Send + Sync + Drop + 'static,
 {
     let mut gate = Arc::new(alloc, Shaking::new(rt, first))?;
-    let mut spawner = ThreadSpawner::new();
-    let came = by_threads(rt, alloc, texts, &mut spawner, &gate)?;
+    let spawner = ThreadSpawner::new();
+    let (came, spawner) = by_threads(rt, alloc, texts, spawner, &gate)?;
     Ok(Seen {
         came,
         refused: spawner.faults(),
@@ -83,9 +83,10 @@ fn workers_meet_where_threads_start(rt: HostRuntime) -> Result<(), Fail> {
     );
     let is_same = all.came.is(&wanted)?;
     assert!(rt; is_same, "with all threads");
-    let none = meet(rt, alloc, EIGHT, vec![in alloc; 0, 1, 2, 3, 4, 5, 6]?)?;
+    // Seven workers, and who takes the clients.
+    let none = meet(rt, alloc, EIGHT, vec![in alloc; 0, 1, 2, 3, 4, 5, 6, 7]?)?;
     assert!(rt;
-        none.refused == 7 && !none.have_met && none.is_over,
+        none.refused == 8 && !none.have_met && none.is_over,
         "no worker"
     );
     let is_same = none.came.is(&wanted)?;
@@ -148,9 +149,10 @@ fn clerks_meet_where_threads_start(rt: HostRuntime) -> Result<(), Fail> {
     );
     let is_same = all.came.is(&wanted)?;
     assert!(rt; is_same, "with all threads");
-    let none = meet(rt, alloc, CLERKS, vec![in alloc; 0, 1, 2]?)?;
+    // A worker, two clerks, and who takes the clients.
+    let none = meet(rt, alloc, CLERKS, vec![in alloc; 0, 1, 2, 3]?)?;
     assert!(rt;
-        none.refused == 3 && !none.have_met && none.is_over,
+        none.refused == 4 && !none.have_met && none.is_over,
         "no clerk and no worker"
     );
     let is_same = none.came.is(&wanted)?;

@@ -22,7 +22,7 @@ use Rattle.trick_top.specs.Outcome.{not_read, not_understood, plan_refused, text
 use Rattle.trick_top.specs.Runs.{IsFitting, IsJournalFor, IsWholeRun, IsWholeUnder}
 use Rattle.trick_top.specs.Sources.{Sources, generated_sources}
 use Rattle.trick_top.specs.Status.{AreAccepted, AreRefusedTexts, IsFittingIn, IsMisfitIn, for_checkpoint, for_journal, for_text}
-use Rattle.trick_top.specs.Verdict.{Accepted, Ended, Generated as GeneratedBy, JournalLength, Listed, NoFile, OutOfMemory, PlanRefused, ShelfFault, TextRefused}
+use Rattle.trick_top.specs.Verdict.{Accepted, Ended, Generated as GeneratedBy, JournalLength, Listed, NoFile, OutOfMemory, PlanRefused, Served, ShelfFault, TextRefused}
 use Rattle.trick_top.specs.Verdict.{Usage, Verdict, ended_status, status_of, with_objects}
 use Rattle.trick_top.specs.Words.{AreRefused, Asked, Asks, IsWanted, Nothing, Unknown, Wanted, Words, names_of, request_of}
 use Rattle.trick_top.specs.declared.words.Command.{Command}
@@ -100,7 +100,7 @@ not_check is = cc
 pub not_list : task.List ≡ task.Run → ⊥
 not_list is = cc
 
-ended_is_end : (faults : ℕ) → IsEnd task.Run (ended_status faults)
+pub ended_is_end : (faults : ℕ) → IsEnd task.Run (ended_status faults)
 ended_is_end zero = inl refl
 ended_is_end (suc faults) = inr (inl (refl, refl))
 
@@ -109,7 +109,7 @@ whole_under : (plan : Plan) (journal : Option (List ℕ)) (first : State) (lists
 whole_under plan journal first lists text is whole = subst (λ (j : Option (List ℕ)). IsWholeRun plan j first lists) is whole
 
 -- a run goes on from a text that is the checkpoint of no state
-not_run : (plan : Plan) (from : Option (List ℕ)) (first : State) (text : List ℕ) → from ≡ Some text → ((s : State) → IsCheckpointOf plan text s → ⊥) → IsFirst plan from first → ⊥
+pub not_run : (plan : Plan) (from : Option (List ℕ)) (first : State) (text : List ℕ) → from ≡ Some text → ((s : State) → IsCheckpointOf plan text s → ⊥) → IsFirst plan from first → ⊥
 not_run plan from first text is none starts = none first (let loaded : IsLoadedFrom plan text first = subst (λ f. IsFirst plan f first) is starts in loaded.is)
 
 -- one text of a journal
@@ -244,6 +244,7 @@ same_status objects (Accepted cells jobs threads) = refl
 same_status objects (Listed line) = refl
 same_status objects (Ended ended sessions) = refl
 same_status objects (GeneratedBy others ended sessions) = refl
+same_status objects (Served ended sessions door_failed) = refl
 same_status objects (JournalLength kept given) = refl
 same_status objects ShelfFault = refl
 same_status objects OutOfMemory = refl

@@ -13,16 +13,11 @@ use Rattle.trick_top.specs.declared.words.Request.TheVariants.{Texts}
 use Rattle.trick_top.specs.declared.words.Task.TheVariants as task
 use Rattle.trick_words.specs.declared.command.Command.TheVariants.{Run}
 
--- `run` with no port asks for the run of its texts without a journal, from its checkpoint where it names one
-run_asks : (s_define input : List ℕ) (from : Option (List ℕ))
-    → request_of true (Run s_define input from None)
+-- `run`, with a port or not, asks for the run of its texts without a journal, from its checkpoint where it names one
+run_asks : (s_define input : List ℕ) (from : Option (List ℕ)) (port : Option ℕ)
+    → request_of true (Run s_define input from port)
     ≡ Some (Texts (record { task = task.Run; s_define = s_define; input = input; from = from; journal = None }))
-run_asks s_define input from = refl
-
--- with a port it asks for nothing that the program has today
-run_with_port : (s_define input : List ℕ) (from : Option (List ℕ)) (port : ℕ)
-    → request_of true (Run s_define input from (Some port)) ≡ None
-run_with_port s_define input from port = refl
+run_asks s_define input from port = refl
 
 -- and the call that waits for nobody has no `run`
 run_alone : (s_define input : List ℕ) (from : Option (List ℕ)) (port : Option ℕ)

@@ -13,7 +13,7 @@ use Rattle.trick_top.specs.Outcome.{Generates, Outcome, Performed, Unread, acted
 use Rattle.trick_top.specs.Generated.{text_steps, text_writes}
 use Rattle.trick_top.specs.Runs.{short_steps, short_writes}
 use Rattle.trick_top.specs.Sources.{Sources}
-use Rattle.trick_top.specs.Verdict.{Accepted, Ended, Generated as GeneratedBy, JournalLength, Listed, NoFile, OutOfMemory, PlanRefused, ShelfFault, TextRefused, Usage, Verdict, with_objects}
+use Rattle.trick_top.specs.Verdict.{Accepted, Ended, Generated as GeneratedBy, JournalLength, Listed, NoFile, OutOfMemory, PlanRefused, Served, ShelfFault, TextRefused, Usage, Verdict, with_objects}
 use Rattle.trick_top.specs.Words.{Asked, Nothing, Unknown, Wanted}
 use Rattle.trick_top.specs.declared.words.Request.TheVariants.{Generated, Texts}
 use Rattle.trick_top.specs.declared.words.Task.{Task}
@@ -77,7 +77,7 @@ performed_faults (plan_refused is) = quiet _ _ refl tt (λ e. cc)
 performed_faults not_understood = quiet _ _ refl tt (λ e. cc)
 performed_faults (acted ready acts) = acted_faults acts
 
-unread_faults : {wanted : List (List ℕ)} {calls : List Call} {verdict : Verdict} → Unread wanted calls verdict → Faults calls verdict
+pub unread_faults : {wanted : List (List ℕ)} {calls : List Call} {verdict : Verdict} → Unread wanted calls verdict → Faults calls verdict
 unread_faults (missing files name others named) = later (reads files) _ _ (reads_quiet files) (one _ _ (λ e. cc) (λ e. cc))
 unread_faults (not_read files name others named) = later (reads files) _ _ (reads_quiet files) (one _ _ (λ e. refl) (λ e. refl))
 unread_faults (no_memory_to_read files name others named) = later (reads files) _ _ (reads_quiet files) (one _ _ (λ e. cc) (λ e. cc))
@@ -97,6 +97,7 @@ same_fault objects (Accepted cells jobs threads) is = cc
 same_fault objects (Listed line) is = cc
 same_fault objects (Ended ended sessions) is = cc
 same_fault objects (GeneratedBy others ended sessions) is = cc
+same_fault objects (Served ended sessions door_failed) is = cc
 same_fault objects (JournalLength kept given) is = cc
 same_fault objects ShelfFault is = refl
 same_fault objects OutOfMemory is = cc

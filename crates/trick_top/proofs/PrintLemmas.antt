@@ -6,7 +6,7 @@ use Rattle.trick_outside.specs.Puts.{ArePiecesOf}
 use Rattle.trick_outside.specs.declared.sink.Sink.{Ghosts}
 use Rattle.trick_top.specs.Printed.{Prints, cut_off, no_line, not_printed, printed}
 use Rattle.trick_top.specs.Status.{EndsWith, TookLine}
-use Rattle.trick_top.specs.Verdict.{Accepted, Ended, Generated, JournalLength, Listed, NoFile, OutOfMemory, PlanRefused, ShelfFault, TextRefused, Usage, Verdict, ended_status, is_made, line_of, status_of}
+use Rattle.trick_top.specs.Verdict.{Accepted, Ended, Generated, JournalLength, Listed, NoFile, OutOfMemory, PlanRefused, Served, ShelfFault, TextRefused, Usage, Verdict, ended_status, is_made, line_of, status_of}
 
 -- a run that came to its end has status 0 or 4
 pub not_ended : (faults due : ℕ) → due ≢ 0 → due ≢ 4 → ended_status faults ≡ due → ⊥
@@ -23,6 +23,7 @@ no_eight (Accepted cells jobs threads) e = omega arith
 no_eight (Listed line) e = omega arith
 no_eight (Ended ended sessions) e = not_ended ended.faults 8 (λ e. omega (arith, e)) (λ e. omega (arith, e)) e
 no_eight (Generated objects ended sessions) e = not_ended ended.faults 8 (λ e. omega (arith, e)) (λ e. omega (arith, e)) e
+no_eight (Served ended sessions door_failed) e = not_ended ended.faults 8 (λ e. omega (arith, e)) (λ e. omega (arith, e)) e
 no_eight (JournalLength kept given) e = omega arith
 no_eight ShelfFault e = omega arith
 no_eight OutOfMemory e = omega arith

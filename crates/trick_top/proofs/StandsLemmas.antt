@@ -35,7 +35,7 @@ use Rattle.trick_top.specs.declared.words.Task.TheVariants.{Run}
 use Rattle.trick_top.specs.declared.words.Task.{Task}
 
 -- a file that was not read leaves all as it was
-unread_same : {wanted : List (List ℕ)} {calls : List Call} {verdict : Verdict} (held now : Files) → Unread wanted calls verdict → AllLeave calls held now → now ≡ held
+pub unread_same : {wanted : List (List ℕ)} {calls : List Call} {verdict : Verdict} (held now : Files) → Unread wanted calls verdict → AllLeave calls held now → now ≡ held
 unread_same held now (missing files name others named) left = let after = (leave_reads files _ held now left).1 in after.2 ∙ after.1.1
 unread_same held now (not_read files name others named) left = let after = (leave_reads files _ held now left).1 in after.2 ∙ after.1
 unread_same held now (no_memory_to_read files name others named) left = let after = (leave_reads files _ held now left).1 in after.2 ∙ after.1

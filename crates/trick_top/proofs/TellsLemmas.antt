@@ -16,7 +16,7 @@ use Rattle.trick_words.specs.declared.command.Command as declared
 use Rattle.trick_words.specs.declared.command.Command.TheVariants as said
 
 -- a line that asks to run something asks for it where there is such a command
-known_run : (line : declared.Command) (command : Command) → run_of line ≡ Some command
+pub known_run : (line : declared.Command) (command : Command) → run_of line ≡ Some command
     → request_of true line ≡ Some (Texts command)
 known_run (said.Serial s_define input from) command is = let none : None ≡ Some command = is in cc
 known_run (said.Run s_define input from port) command is = ap (option_map Texts) is
@@ -39,8 +39,7 @@ known_still (said.Gen objects) request is = is
 run_or_not : (line : declared.Command) (request : Request) → request_of true line ≡ Some request
     → ((command : Command) × (run_of line ≡ Some command)) ⊎ (request_of false line ≡ Some request)
 run_or_not (said.Serial s_define input from) request is = inr is
-run_or_not (said.Run s_define input from None) request is = inl (_, refl)
-run_or_not (said.Run s_define input from (Some port)) request is = let none : None ≡ Some request = is in cc
+run_or_not (said.Run s_define input from port) request is = inl (_, refl)
 run_or_not (said.Replay s_define input journal from) request is = inr is
 run_or_not (said.Check s_define input) request is = inr is
 run_or_not (said.List s_define input) request is = inr is

@@ -25,7 +25,7 @@ use Rattle.trick_top.specs.Outcome.{GoesOn, Outcome, Performed}
 use Rattle.trick_top.specs.Sources.{AreNamed, Sources, texts_of}
 use Rattle.trick_top.specs.Status.{AreAccepted, AreRefusedTexts, EndsWith, Finds, Gives, HoldsSame, HoldsTexts, IsDone, IsFittingIn, IsMisfitIn, IsRefusal, Misfits, MissesFile, RefusesPlan}
 use Rattle.trick_top.specs.Status.{RefusesText, RunsToEnd, Says, Stands, TellsEnd, TookLine, accepted, end_verdict, files_held, listed, ran, texts_generated}
-use Rattle.trick_top.specs.Verdict.{Accepted, Ended, Generated, JournalLength, Listed, NoFile, OutOfMemory, PlanRefused, ShelfFault, TextRefused, Usage, Verdict, ended_status, line_of, status_of}
+use Rattle.trick_top.specs.Verdict.{Accepted, Ended, Generated, JournalLength, Listed, NoFile, OutOfMemory, PlanRefused, Served, ShelfFault, TextRefused, Usage, Verdict, ended_status, line_of, status_of}
 use Rattle.trick_top.specs.Words.{AreRefused, Asked, Asks, Words, task_of}
 use Rattle.trick_top.specs.declared.words.Command.{Command}
 use Rattle.trick_top.specs.declared.words.Request.TheVariants.{Generated as Generating, Texts}
@@ -43,6 +43,7 @@ is_usage (Accepted cells jobs threads) e = absurd (omega (arith, e))
 is_usage (Listed line) e = absurd (omega (arith, e))
 is_usage (Ended ended sessions) e = absurd (not_ended ended.faults 1 (λ e. omega (arith, e)) (λ e. omega (arith, e)) e)
 is_usage (Generated objects ended sessions) e = absurd (not_ended ended.faults 1 (λ e. omega (arith, e)) (λ e. omega (arith, e)) e)
+is_usage (Served ended sessions door_failed) e = absurd (not_ended ended.faults 1 (λ e. omega (arith, e)) (λ e. omega (arith, e)) e)
 is_usage (JournalLength kept given) e = absurd (omega (arith, e))
 is_usage ShelfFault e = absurd (omega (arith, e))
 is_usage OutOfMemory e = absurd (omega (arith, e))
@@ -56,6 +57,7 @@ is_no_file (Accepted cells jobs threads) e = absurd (omega (arith, e))
 is_no_file (Listed line) e = absurd (omega (arith, e))
 is_no_file (Ended ended sessions) e = absurd (not_ended ended.faults 9 (λ e. omega (arith, e)) (λ e. omega (arith, e)) e)
 is_no_file (Generated objects ended sessions) e = absurd (not_ended ended.faults 9 (λ e. omega (arith, e)) (λ e. omega (arith, e)) e)
+is_no_file (Served ended sessions door_failed) e = absurd (not_ended ended.faults 9 (λ e. omega (arith, e)) (λ e. omega (arith, e)) e)
 is_no_file (JournalLength kept given) e = absurd (omega (arith, e))
 is_no_file ShelfFault e = absurd (omega (arith, e))
 is_no_file OutOfMemory e = absurd (omega (arith, e))
@@ -69,6 +71,7 @@ is_text_refused (Accepted cells jobs threads) e = absurd (omega (arith, e))
 is_text_refused (Listed line) e = absurd (omega (arith, e))
 is_text_refused (Ended ended sessions) e = absurd (not_ended ended.faults 2 (λ e. omega (arith, e)) (λ e. omega (arith, e)) e)
 is_text_refused (Generated objects ended sessions) e = absurd (not_ended ended.faults 2 (λ e. omega (arith, e)) (λ e. omega (arith, e)) e)
+is_text_refused (Served ended sessions door_failed) e = absurd (not_ended ended.faults 2 (λ e. omega (arith, e)) (λ e. omega (arith, e)) e)
 is_text_refused (JournalLength kept given) e = absurd (omega (arith, e))
 is_text_refused ShelfFault e = absurd (omega (arith, e))
 is_text_refused OutOfMemory e = absurd (omega (arith, e))
@@ -82,6 +85,7 @@ is_plan_refused (Accepted cells jobs threads) e = absurd (omega (arith, e))
 is_plan_refused (Listed line) e = absurd (omega (arith, e))
 is_plan_refused (Ended ended sessions) e = absurd (not_ended ended.faults 3 (λ e. omega (arith, e)) (λ e. omega (arith, e)) e)
 is_plan_refused (Generated objects ended sessions) e = absurd (not_ended ended.faults 3 (λ e. omega (arith, e)) (λ e. omega (arith, e)) e)
+is_plan_refused (Served ended sessions door_failed) e = absurd (not_ended ended.faults 3 (λ e. omega (arith, e)) (λ e. omega (arith, e)) e)
 is_plan_refused (JournalLength kept given) e = absurd (omega (arith, e))
 is_plan_refused ShelfFault e = absurd (omega (arith, e))
 is_plan_refused OutOfMemory e = absurd (omega (arith, e))
@@ -95,6 +99,7 @@ is_shelf_fault (Accepted cells jobs threads) e = absurd (omega (arith, e))
 is_shelf_fault (Listed line) e = absurd (omega (arith, e))
 is_shelf_fault (Ended ended sessions) e = absurd (not_ended ended.faults 5 (λ e. omega (arith, e)) (λ e. omega (arith, e)) e)
 is_shelf_fault (Generated objects ended sessions) e = absurd (not_ended ended.faults 5 (λ e. omega (arith, e)) (λ e. omega (arith, e)) e)
+is_shelf_fault (Served ended sessions door_failed) e = absurd (not_ended ended.faults 5 (λ e. omega (arith, e)) (λ e. omega (arith, e)) e)
 is_shelf_fault (JournalLength kept given) e = absurd (omega (arith, e))
 is_shelf_fault ShelfFault e = refl
 is_shelf_fault OutOfMemory e = absurd (omega (arith, e))
@@ -108,6 +113,7 @@ is_journal_length (Accepted cells jobs threads) e = absurd (omega (arith, e))
 is_journal_length (Listed line) e = absurd (omega (arith, e))
 is_journal_length (Ended ended sessions) e = absurd (not_ended ended.faults 7 (λ e. omega (arith, e)) (λ e. omega (arith, e)) e)
 is_journal_length (Generated objects ended sessions) e = absurd (not_ended ended.faults 7 (λ e. omega (arith, e)) (λ e. omega (arith, e)) e)
+is_journal_length (Served ended sessions door_failed) e = absurd (not_ended ended.faults 7 (λ e. omega (arith, e)) (λ e. omega (arith, e)) e)
 is_journal_length (JournalLength kept given) e = (kept, given, refl)
 is_journal_length ShelfFault e = absurd (omega (arith, e))
 is_journal_length OutOfMemory e = absurd (omega (arith, e))
@@ -130,7 +136,7 @@ same_options (Some x) b (Some y) d kind is =
     (ap Some first, same_option b d rest)
 
 -- texts that a command names are those of one list
-same_sources : (command : Command) (one other : Sources) → AreNamed command one → AreNamed command other → texts_of one ≡ texts_of other → one ≡ other
+pub same_sources : (command : Command) (one other : Sources) → AreNamed command one → AreNamed command other → texts_of one ≡ texts_of other → one ≡ other
 same_sources command one other named also is =
     let first : one.s_define ≡ other.s_define = cc in
     let second : one.input ≡ other.input = cc in
@@ -156,6 +162,7 @@ faults_of (Accepted cells jobs threads) = 0
 faults_of (Listed line) = 0
 faults_of (Ended ended sessions) = ended.faults
 faults_of (Generated objects ended sessions) = ended.faults
+faults_of (Served ended sessions door_failed) = ended.faults
 faults_of (JournalLength kept given) = 0
 faults_of ShelfFault = 0
 faults_of OutOfMemory = 0
@@ -197,6 +204,7 @@ done_says {shelf = shelf} {old = old} {new = new} {words = words} (Listed line) 
 done_says (Ended ended sessions) e says = ran_done (Ended ended sessions) (tells (Ended ended sessions) (λ count. count ≡ 0) says (no_faults ended.faults e))
 done_says (Generated objects ended sessions) e says =
     ran_done (Generated objects ended sessions) (tells (Generated objects ended sessions) (λ count. count ≡ 0) says (no_faults ended.faults e))
+done_says (Served ended sessions door_failed) e says = absurd says
 done_says (JournalLength kept given) e says = absurd (omega (arith, e))
 done_says ShelfFault e says = absurd (omega (arith, e))
 done_says OutOfMemory e says = absurd (omega (arith, e))
@@ -211,6 +219,7 @@ faults_say (Accepted cells jobs threads) e says = absurd (omega (arith, e))
 faults_say (Listed line) e says = absurd (omega (arith, e))
 faults_say (Ended ended sessions) e says = tells (Ended ended sessions) (λ count. count ≢ 0) says (some_faults ended.faults e)
 faults_say (Generated objects ended sessions) e says = tells (Generated objects ended sessions) (λ count. count ≢ 0) says (some_faults ended.faults e)
+faults_say (Served ended sessions door_failed) e says = absurd says
 faults_say (JournalLength kept given) e says = absurd (omega (arith, e))
 faults_say ShelfFault e says = absurd (omega (arith, e))
 faults_say OutOfMemory e says = absurd (omega (arith, e))

@@ -1,5 +1,5 @@
 -- The words that are read.
-use Rattle.std.proofs.Common.{◌≡◌, List, None, Some, false, sym, ◌∙◌, ap}
+use Rattle.std.proofs.Common.{◌≡◌, ℕ, List, None, Some, false, sym, ◌∙◌, ap}
 use Rattle.std.specs.Prelude.{MatchOption, Option}
 use Rattle.trick_top.proofs.CompleteLemmas.{AreOneLine}
 use Rattle.trick_top.specs.Words.{AreRefused, Asks, AsksNoRun, AsksToRun, request_of, run_of, without_run}
@@ -43,14 +43,25 @@ says_run once words line asked (Some command) is = record { line = line; asked =
 pub runs_none : (words : List Text) → lines.AreRefused words → AsksNoRun words
 runs_none words refused = λ command asks. refused asks.line asks.asked
 
--- what words ask to run by threads is a run
+-- what words ask to run by threads has no journal
+pub run_alone : (words : List (List ℕ)) (command : Command) → AsksToRun words command → command.journal ≡ None
+run_alone words command asks = by asks.line asks.is_run
+  where
+    by : (line : declared.Command) → run_of line ≡ Some command → command.journal ≡ None
+    by (said.Serial s_define input from) is = let none : None ≡ Some command = is in cc
+    by (said.Run s_define input from port) is = ap (λ (c : Command). c.journal) (sym (some_same is))
+    by (said.Replay s_define input journal from) is = let none : None ≡ Some command = is in cc
+    by (said.Check s_define input) is = let none : None ≡ Some command = is in cc
+    by (said.List s_define input) is = let none : None ≡ Some command = is in cc
+    by (said.Gen objects) is = let none : None ≡ Some command = is in cc
+
+-- and is a run
 pub run_task : (words : List Text) (command : Command) → AsksToRun words command → command.task ≡ task.Run
 run_task words command asks = by asks.line asks.is_run
   where
     by : (line : declared.Command) → run_of line ≡ Some command → command.task ≡ task.Run
     by (said.Serial s_define input from) is = let none : None ≡ Some command = is in cc
-    by (said.Run s_define input from None) is = ap (λ (c : Command). c.task) (sym (some_same is))
-    by (said.Run s_define input from (Some port)) is = let none : None ≡ Some command = is in cc
+    by (said.Run s_define input from port) is = ap (λ (c : Command). c.task) (sym (some_same is))
     by (said.Replay s_define input journal from) is = let none : None ≡ Some command = is in cc
     by (said.Check s_define input) is = let none : None ≡ Some command = is in cc
     by (said.List s_define input) is = let none : None ≡ Some command = is in cc

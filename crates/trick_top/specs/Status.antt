@@ -31,7 +31,7 @@ use Rattle.trick_top.specs.Runs.{IsFitting, IsJournalFor, IsMisfit, IsUnderWay, 
 use Rattle.trick_top.specs.Runs.{short_writes}
 use Rattle.trick_top.specs.Sources.{AreNamed, Sources, generated_sources, texts_of}
 use Rattle.trick_top.specs.Verdict.{Verdict, Accepted, Ended, Generated as GeneratedBy, JournalLength, Listed, NoFile}
-use Rattle.trick_top.specs.Verdict.{OutOfMemory, PlanRefused, ShelfFault, TextRefused, Usage, with_objects}
+use Rattle.trick_top.specs.Verdict.{OutOfMemory, PlanRefused, Served, ShelfFault, TextRefused, Usage, with_objects}
 use Rattle.trick_top.specs.Words.{AreRefused, Asks, Words, names_of, task_of}
 use Rattle.trick_top.specs.declared.words.Command.{Command}
 use Rattle.trick_top.specs.declared.words.Request.TheVariants.{Generated, Texts}
@@ -180,7 +180,7 @@ TellsEnd shelf old new words verdict =
     × RunsToEnd shelf old new words request plan first lists
     × (verdict ≡ end_verdict request plan first lists)
 
--- What a verdict says of the words and of the shelf.
+-- What a verdict says of the words and of the shelf. No run with clients is told so.
 abbrev pub Says : {S : Type 0} (shelf : Ghosts S) (old new : S) (words : Words) → Verdict → Type 0
 Says shelf old new words Usage = AreRefused words × Went shelf old new []
 Says shelf old new words (NoFile name) = MissesFile shelf old new words name
@@ -193,6 +193,7 @@ Says shelf old new words (Listed line) =
 Says shelf old new words (Ended ended sessions) = TellsEnd shelf old new words (Ended ended sessions)
 Says shelf old new words (GeneratedBy objects ended sessions) =
     TellsEnd shelf old new words (GeneratedBy objects ended sessions)
+Says shelf old new words (Served ended sessions door_failed) = ⊥
 Says shelf old new words (JournalLength kept given) =
     (plan : Plan) × (first : State) × (journal : Journal) × Misfits shelf old new words plan first journal
     × (JournalLength kept given ≡ length_verdict plan first journal)

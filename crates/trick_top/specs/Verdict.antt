@@ -34,6 +34,8 @@ pub data Verdict : Type 0 where
   Ended : (ended : serial.Ended) (sessions : ℕ) → Verdict
   -- the run of a generated simulation of so many objects came to its end
   Generated : (objects : ℕ) (ended : serial.Ended) (sessions : ℕ) → Verdict
+  -- the run with clients came to its end, of which this is said, and had so many sessions; and whether its door failed
+  Served : (ended : serial.Ended) (sessions : ℕ) (door_failed : Bool) → Verdict
   -- the journal does not fit: it ends at one turn, and its run at another
   JournalLength : (kept given : ℕ) → Verdict
   -- the shelf failed
@@ -55,15 +57,24 @@ status_of (Accepted cells jobs threads) = 0
 status_of (Listed line) = 0
 status_of (Ended ended sessions) = ended_status ended.faults
 status_of (Generated objects ended sessions) = ended_status ended.faults
+status_of (Served ended sessions door_failed) = ended_status ended.faults
 status_of (JournalLength kept given) = 7
 status_of ShelfFault = 5
 status_of OutOfMemory = 6
 
--- what a run says: its turns, the first tic that was not run, its faults and its sessions
-abbrev pub ended_line : serial.Ended → ℕ → List ℕ
-ended_line ended sessions =
+-- what a run says, up to the end of its line: its turns, the first tic that was not run, its faults and its sessions
+abbrev pub ended_facts : serial.Ended → ℕ → List ℕ
+ended_facts ended sessions =
     codes "ended turns=" ++ decimal ended.turns ++ codes " tic=" ++ decimal ended.tic ++ codes " faults="
-    ++ decimal ended.faults ++ codes " sessions=" ++ decimal sessions ++ codes "\n"
+    ++ decimal ended.faults ++ codes " sessions=" ++ decimal sessions
+
+abbrev pub ended_line : serial.Ended → ℕ → List ℕ
+ended_line ended sessions = ended_facts ended sessions ++ codes "\n"
+
+-- what a run with clients says: the same, and that its door failed, where it did
+abbrev pub served_line : serial.Ended → ℕ → Bool → List ℕ
+served_line ended sessions true = ended_facts ended sessions ++ codes " door=failed\n"
+served_line ended sessions false = ended_line ended sessions
 
 -- what is said of a generated simulation, which has three jobs for each object, with the sum of its cells
 abbrev pub generated_line : ℕ → ℤ → List ℕ
@@ -82,6 +93,7 @@ line_of (Accepted cells jobs threads) =
 line_of (Listed line) = line
 line_of (Ended ended sessions) = ended_line ended sessions
 line_of (Generated objects ended sessions) = generated_line objects ended.sum ++ ended_line ended sessions
+line_of (Served ended sessions door_failed) = served_line ended sessions door_failed
 line_of (JournalLength kept given) = length_line kept given
 line_of ShelfFault = codes "refused ShelfFault\n"
 line_of OutOfMemory = codes "refused OutOfMemory\n"
@@ -96,6 +108,7 @@ is_made (Accepted cells jobs threads) = true
 is_made (Listed line) = false
 is_made (Ended ended sessions) = true
 is_made (Generated objects ended sessions) = true
+is_made (Served ended sessions door_failed) = true
 is_made (JournalLength kept given) = true
 is_made ShelfFault = false
 is_made OutOfMemory = false
@@ -110,6 +123,7 @@ verdict_of (declared_verdict.Accepted cells jobs threads) = Accepted cells jobs 
 verdict_of (declared_verdict.Listed line) = Listed line.items
 verdict_of (declared_verdict.Ended ended sessions) = Ended ended sessions
 verdict_of (declared_verdict.Generated objects ended sessions) = Generated objects ended sessions
+verdict_of (declared_verdict.Served ended sessions door_failed) = Served ended sessions door_failed
 verdict_of (declared_verdict.JournalLength kept given) = JournalLength kept given
 verdict_of declared_verdict.ShelfFault = ShelfFault
 verdict_of declared_verdict.OutOfMemory = OutOfMemory
@@ -162,6 +176,7 @@ with_objects objects (Accepted cells jobs threads) = Accepted cells jobs threads
 with_objects objects (Listed line) = Listed line
 with_objects objects (Ended ended sessions) = Generated objects ended sessions
 with_objects objects (Generated others ended sessions) = Generated others ended sessions
+with_objects objects (Served ended sessions door_failed) = Served ended sessions door_failed
 with_objects objects (JournalLength kept given) = JournalLength kept given
 with_objects objects ShelfFault = ShelfFault
 with_objects objects OutOfMemory = OutOfMemory

@@ -27,11 +27,11 @@ abbrev pub run_command : (s_define input : List ℕ) → Option (List ℕ) → C
 run_command s_define input from =
     record { task = task.Run; s_define = s_define; input = input; from = from; journal = None }
 
--- The command that a line asks to run by threads. One with a port asks for clients, whom the program does not take yet.
+-- The command that a line asks to run by threads, with the clients that come. At which port they come is not looked at
+-- here: whoever makes the door asks for it.
 abbrev pub run_of : declared.Command → Option Command
 run_of (declared_line.Serial s_define input from) = None
-run_of (declared_line.Run s_define input from None) = Some (run_command s_define input from)
-run_of (declared_line.Run s_define input from (Some port)) = None
+run_of (declared_line.Run s_define input from port) = Some (run_command s_define input from)
 run_of (declared_line.Replay s_define input journal from) = None
 run_of (declared_line.Check s_define input) = None
 run_of (declared_line.List s_define input) = None

@@ -81,7 +81,7 @@ fn print_line<O: Sink>(verdict: &Verdict, line: &[u8], out: &mut O) -> u8
 }
 
 /// Prints a verdict, or want of memory where there is none for its line. The status of the program.
-pub(crate) fn print<O: Sink>(alloc: Global, verdict: &Verdict, out: &mut O) -> u8
+pub fn print<O: Sink>(alloc: Global, verdict: &Verdict, out: &mut O) -> u8
     ensures { Prints O.Sink out.old out.new (verdict_of verdict.now) result }
 {
     if let Some(line) = verdict.held_line() {

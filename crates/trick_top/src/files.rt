@@ -11,7 +11,7 @@ use trick_outside::{Got, Shelf, get};
 
 /// The texts of the files that a command names, in this order: the S_define, the input, the checkpoint and
 /// the journal, the last two where they are named.
-pub(crate) fn read_named<'a, F: Shelf>(
+pub fn read_named<'a, F: Shelf>(
     alloc: Global,
     command: &'a Command,
     shelf: &mut F,

@@ -1,8 +1,8 @@
-//! The top call: all that the program does, over any shelf of files and any sink of printed lines.
+//! The top call of all commands that wait for nobody, over any shelf of files and any sink of printed lines; and the steps
+//! that the command `run` shares with them.
 #![tactic(auto)]
 
 mod alone;
-mod crews;
 mod files;
 mod generated;
 mod plans;
@@ -10,9 +10,13 @@ mod replays;
 mod runs;
 mod sources;
 mod texts;
-mod threads;
 mod verdict;
 mod words;
 
-pub use alone::{print_out_of_memory, tricks_alone};
-pub use threads::{Finished, tricks};
+pub use alone::{print, print_out_of_memory, tricks_alone};
+pub use files::read_named;
+pub use runs::unloaded;
+pub use sources::{Sources, as_sources};
+pub use texts::refused;
+pub use verdict::Verdict;
+pub use words::{Command, Request, Task, read_run};

@@ -28,7 +28,7 @@ pub(crate) fn ended(run: Result<Ended, Stop>) -> Verdict<'static>
 }
 
 /// The verdict on a text that is no checkpoint.
-pub(crate) fn unloaded(alloc: Global, fault: LoadFault) -> Verdict<'static>
+pub fn unloaded(alloc: Global, fault: LoadFault) -> Verdict<'static>
     ensures { (verdict_of result ≡ unloaded_verdict fault) ⊎ (verdict_of result ≡ OutOfMemory) }
 {
     if fault == LoadFault::OutOfMemory {

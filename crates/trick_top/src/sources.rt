@@ -10,15 +10,15 @@ use trick_base::Items;
 /// The two texts of a simulation, that of the checkpoint from which a run goes on, and that of the journal
 /// under which it runs, each of these two where there is one.
 #[derive(Clone, Copy)]
-pub(crate) struct Sources<'a> {
-    pub(crate) s_define: &'a [u8],
-    pub(crate) input: &'a [u8],
-    pub(crate) from: Option<&'a [u8]>,
-    pub(crate) journal: Option<&'a [u8]>,
+pub struct Sources<'a> {
+    pub s_define: &'a [u8],
+    pub input: &'a [u8],
+    pub from: Option<&'a [u8]>,
+    pub journal: Option<&'a [u8]>,
 }
 
 /// The texts of the files that a command names, in the order in which they are read.
-pub(crate) fn as_sources<'a>(command: &Command, texts: &'a [Items<u8>]) -> Sources<'a>
+pub fn as_sources<'a>(command: &Command, texts: &'a [Items<u8>]) -> Sources<'a>
     requires { length texts.now ≡ length (names_of command.now) }
     ensures are { texts.now ≡ texts_of (sources_of result) }
     ensures named { AreNamed command.now (sources_of result) }

@@ -14,7 +14,7 @@ use trick_outside::Shelf;
 use trick_ready::{Unready, ready};
 
 /// The verdict on two texts that have no plan to go on with.
-pub(crate) fn refused(unready: Unready) -> Verdict<'static>
+pub fn refused(unready: Unready) -> Verdict<'static>
     ensures { verdict_of result ≡ unready_verdict unready }
 {
     match unready {

@@ -1,5 +1,6 @@
 ghost use Rattle.std.specs.Prelude.{◌≡◌, ◌++◌, IfNone, IfOk, IfSome, OnOk, decimal, true};
 ghost use Rattle.trick_top.specs.Verdict.{Accepted, Ended as EndedBy, Generated as GeneratedBy, is_made, line_of};
+ghost use Rattle.trick_top.specs.Verdict.{Served as ServedBy, ended_facts as ended_facts_of};
 ghost use Rattle.trick_top.specs.Verdict.{ended_status as ended_status_of, generated_line as generated_line_of};
 ghost use Rattle.trick_top.specs.Verdict.{status_of, verdict_of};
 
@@ -17,7 +18,7 @@ const OUT_OF_MEMORY: &[u8] = b"refused OutOfMemory\n";
 
 /// How a command ends. Lines have their line feed.
 #[derive(Debug, Drop)]
-pub(crate) enum Verdict<'a> {
+pub enum Verdict<'a> {
     /// The words ask for no command.
     Usage,
     /// There is no file of this name.
@@ -44,6 +45,12 @@ pub(crate) enum Verdict<'a> {
         objects: u32,
         ended: Ended,
         sessions: u64,
+    },
+    /// The run with clients came to its end, and so many sessions joined in it.
+    Served {
+        ended: Ended,
+        sessions: u64,
+        door_failed: bool,
     },
     /// The journal does not fit: it ends at one turn, and its run at another.
     JournalLength {
@@ -85,16 +92,44 @@ fn accepted_line(alloc: Global, cells: u64, jobs: u64, threads: u64) -> Result<V
     Ok(line)
 }
 
-fn ended_line(alloc: Global, ended: Ended, sessions: u64) -> Result<Vec<u8>, AllocError>
-    ensures { IfOk result (λ line. line.items ≡ line_of (EndedBy ended sessions)) }
+// What a run says, with this end of its line.
+fn ended_facts(
+    alloc: Global,
+    ended: Ended,
+    sessions: u64,
+    end: &[u8],
+) -> Result<Vec<u8>, AllocError>
+    ensures { IfOk result (λ line. line.items ≡ ended_facts_of ended sessions ++ end.now) }
 {
     let mut line = Vec::new(alloc);
     push_number(&mut line, b"ended turns=", ended.turns)?;
     push_number(&mut line, b" tic=", ended.tic)?;
     push_number(&mut line, b" faults=", ended.faults)?;
     push_number(&mut line, b" sessions=", sessions)?;
-    line.extend_from_slice(b"\n")?;
+    line.extend_from_slice(end)?;
     Ok(line)
+}
+
+fn ended_line(alloc: Global, ended: Ended, sessions: u64) -> Result<Vec<u8>, AllocError>
+    ensures { IfOk result (λ line. line.items ≡ line_of (EndedBy ended sessions)) }
+{
+    ended_facts(alloc, ended, sessions, b"\n")
+}
+
+// What a run with clients says. That its door failed stands before the line feed.
+fn served_line(
+    alloc: Global,
+    ended: Ended,
+    sessions: u64,
+    door_failed: bool,
+) -> Result<Vec<u8>, AllocError>
+    ensures { IfOk result (λ line. line.items ≡ line_of (ServedBy ended sessions door_failed)) }
+{
+    if door_failed {
+        ended_facts(alloc, ended, sessions, b" door=failed\n")
+    } else {
+        ended_line(alloc, ended, sessions)
+    }
 }
 
 // What is said of a generated simulation before its run's line.
@@ -148,6 +183,7 @@ impl Verdict<'_> {
             Verdict::Accepted { .. } | Verdict::Listed(_) => 0,
             Verdict::Ended { ended, .. } => ended_status(ended.faults),
             Verdict::Generated { ended, .. } => ended_status(ended.faults),
+            Verdict::Served { ended, .. } => ended_status(ended.faults),
             Verdict::JournalLength { .. } => 7,
             Verdict::ShelfFault => 5,
             Verdict::OutOfMemory => 6,
@@ -163,7 +199,7 @@ impl Verdict<'_> {
             Verdict::Usage => Some(USAGE),
             Verdict::NoFile(_) | Verdict::Accepted { .. } => None,
             Verdict::Ended { .. } | Verdict::Generated { .. } => None,
-            Verdict::JournalLength { .. } => None,
+            Verdict::Served { .. } | Verdict::JournalLength { .. } => None,
             Verdict::TextRefused(line) => Some(line),
             Verdict::PlanRefused(line) => Some(line),
             Verdict::Listed(line) => Some(line),
@@ -193,6 +229,11 @@ impl Verdict<'_> {
                 ended,
                 sessions,
             } => generated_lines(alloc, *objects, *ended, *sessions),
+            Verdict::Served {
+                ended,
+                sessions,
+                door_failed,
+            } => served_line(alloc, *ended, *sessions, *door_failed),
             Verdict::JournalLength { kept, given } => length_line(alloc, *kept, *given),
             Verdict::ShelfFault => Vec::from_slice(alloc, SHELF_FAULT),
             Verdict::OutOfMemory => Vec::from_slice(alloc, OUT_OF_MEMORY),

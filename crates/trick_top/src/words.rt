@@ -7,7 +7,7 @@ use trick_words::{laws, read_command};
 
 /// What is done with the texts of a simulation.
 #[derive(Clone, Copy, Debug, PartialEq, Eq)]
-pub(crate) enum Task {
+pub enum Task {
     /// The run on one thread: under the journal, where one is named, and else without clients.
     Run,
     /// Accepts or refuses the plan, and runs nothing.
@@ -18,19 +18,19 @@ pub(crate) enum Task {
 
 /// A command about the texts in named files.
 #[derive(Debug, Drop)]
-pub(crate) struct Command {
-    pub(crate) task: Task,
-    pub(crate) s_define: Word,
-    pub(crate) input: Word,
+pub struct Command {
+    pub task: Task,
+    pub s_define: Word,
+    pub input: Word,
     /// The checkpoint from which a run goes on; none is read by `check` and `list`.
-    pub(crate) from: Option<Word>,
+    pub from: Option<Word>,
     /// The journal under which a run is replayed; none is read by `check` and `list`.
-    pub(crate) journal: Option<Word>,
+    pub journal: Option<Word>,
 }
 
 /// What the words of a command line ask for, of what the program has today.
 #[derive(Debug, Drop)]
-pub(crate) enum Request {
+pub enum Request {
     /// Something about the texts in named files.
     Texts(Command),
     /// The run of a generated simulation with so many objects.
@@ -93,7 +93,7 @@ fn run_of(line: trick_words::Command) -> Option<Command>
             s_define,
             input,
             from,
-            port: None,
+            ..
         } => Some(Command {
             task: Task::Run,
             s_define,
@@ -106,7 +106,7 @@ fn run_of(line: trick_words::Command) -> Option<Command>
 }
 
 /// The command that the words ask to run by threads, the program's name left out.
-pub(crate) fn read_run(alloc: Global, words: &[Word]) -> Result<Option<Command>, AllocError>
+pub fn read_run(alloc: Global, words: &[Word]) -> Result<Option<Command>, AllocError>
     ensures { IfOk result (λ asked. MatchOption asked (AsksNoRun words.now) (AsksToRun words.now)) }
 {
     laws::one_command();

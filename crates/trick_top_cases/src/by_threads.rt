@@ -1,7 +1,7 @@
 //! Whether a command comes to the same where its run is by threads, and how many threads it asks for.
 
-use crate::outcome::{Outcome, Setting, in_threads_of};
-use crate::text::Text;
+use crate::outcome::{Outcome, Setting, in_threads_of, replay_of};
+use crate::text::{Text, find};
 use std::alloc::{AllocError, Global};
 use std::sync::Wait;
 use std::thread::Threads;
@@ -15,26 +15,107 @@ const REFUSED: [&[u64]; 3] = [
     &[0, 1, 2, 3, 4, 5, 6, 7, 8, 9, 10, 11, 12, 13, 14],
 ];
 
-/// The words of `run` for what these ask `serial`, where they do.
-fn run_words(alloc: Global, words: &[Word]) -> Result<Option<Vec<Word>>, AllocError> {
-    let Some((first, others)) = words.split_first() else {
-        return Ok(None);
-    };
-    if !first.is(b"serial") {
-        return Ok(None);
-    }
-    let mut run = Vec::new(alloc);
-    run.push(Word::from_bytes(alloc, b"run")?)?;
+/// What an input says of an asynchronous thread.
+const ASYNCHRONOUS: &str = "PROCESS_TYPE_ASYNC_CHILD";
+
+/// The file in which a run writes its journal.
+const JOURNAL: &[u8] = b"journal.txt";
+
+/// A command with these words after it.
+fn words_for(alloc: Global, command: &[u8], others: &[Word]) -> Result<Vec<Word>, AllocError> {
+    let mut words = Vec::new(alloc);
+    words.push(Word::from_bytes(alloc, command)?)?;
     for word in others {
-        run.push(word.try_clone()?)?;
+        words.push(word.try_clone()?)?;
     }
-    Ok(Some(run))
+    Ok(words)
+}
+
+/// The words after `serial`, where this is the command.
+fn serial_words(words: &[Word]) -> Option<&[Word]> {
+    match words.split_first() {
+        Some((first, others)) if first.is(b"serial") => Some(others),
+        _ => None,
+    }
+}
+
+/// Whether a text speaks of an asynchronous thread.
+fn has_round(bytes: &[u8]) -> bool {
+    match str::from_utf8(bytes) {
+        Ok(text) => text.contains(ASYNCHRONOUS),
+        Err(_) => false,
+    }
+}
+
+/// Whether some file does.
+fn has_rounds(files: &[Text]) -> bool {
+    for file in files {
+        if has_round(&file.bytes) {
+            return true;
+        }
+    }
+    false
+}
+
+/// Whether this file is among others, with its bytes.
+fn is_file_of(file: &Text, others: &[Text]) -> bool {
+    match find(others, &file.name) {
+        Some(twin) => twin.bytes == file.bytes,
+        None => false,
+    }
+}
+
+/// Whether a run has written the logs that another one has.
+fn has_logs_of(run: &Outcome, other: &Outcome) -> bool {
+    for file in &other.written {
+        if file.name.starts_with(b"log_") && !is_file_of(file, &run.written) {
+            return false;
+        }
+    }
+    true
+}
+
+/// Whether a run came to what its own journal comes to on one thread.
+fn is_replayed(
+    alloc: Global,
+    others: &[Word],
+    given: (&Setting, &[Text]),
+    run: &Outcome,
+    journal: &Text,
+) -> Result<bool, AllocError> {
+    let mut words = words_for(alloc, b"replay", others)?;
+    words.push(Word::from_bytes(alloc, JOURNAL)?)?;
+    let replay = replay_of(alloc, &words, given, journal)?;
+    Ok(replay.is_same(run))
+}
+
+/// Whether a run by threads came to what it is to: to the same as on one thread. With an asynchronous thread, whose
+/// rounds are published when they are done, it has the status and the logs of that run, and all else as its own journal
+/// says.
+fn is_right(
+    alloc: Global,
+    others: &[Word],
+    done: (&Setting, &[Text], &Outcome),
+    run: &Outcome,
+) -> Result<bool, AllocError> {
+    let (setting, before, outcome) = done;
+    // A journal that was there already, and was written as it is, is not among the files that are new.
+    let journal = find(&run.written, JOURNAL).or(find(before, JOURNAL));
+    match journal {
+        Some(journal) if has_rounds(before) => {
+            let is_alike = run.status == outcome.status
+                && has_logs_of(run, outcome)
+                && has_logs_of(outcome, run);
+            Ok(is_alike && is_replayed(alloc, others, (setting, before), run, journal)?)
+        }
+        _ => Ok(outcome.is_same(run)),
+    }
 }
 
 /// What a command comes to by threads.
 #[derive(Clone, Copy, Drop)]
 pub(crate) struct ByThreads {
-    /// It comes to the same, whichever starts are refused.
+    /// It comes to what it is to, whichever starts are refused.
     pub(crate) is_same: bool,
     /// How many threads it asks to start.
     pub(crate) starts: u64,
@@ -48,18 +129,19 @@ pub(crate) fn by_threads<R: Threads + Wait + Copy + Send + Drop + 'static>(
     words: &[Word],
     done: (&Setting, &[Text], &Outcome),
 ) -> Result<ByThreads, AllocError> {
-    let (setting, before, outcome) = done;
+    let (setting, before, _outcome) = done;
     let mut seen = ByThreads {
         is_same: true,
         starts: 0,
     };
-    let Some(words) = run_words(alloc, words)? else {
+    let Some(others) = serial_words(words) else {
         return Ok(seen);
     };
+    let words = words_for(alloc, b"run", others)?;
     for refused in REFUSED {
-        let mut spawner = ListSpawner::refusing(Vec::from_slice(alloc, refused)?);
-        let other = in_threads_of(rt, alloc, &words, (setting, before), &mut spawner)?;
-        seen.is_same = seen.is_same && outcome.is_same(&other);
+        let spawner = ListSpawner::refusing(Vec::from_slice(alloc, refused)?);
+        let (run, spawner) = in_threads_of(rt, alloc, &words, (setting, before), spawner)?;
+        seen.is_same = seen.is_same && is_right(alloc, others, done, &run)?;
         // Where all starts are refused, the last time, each that was asked for is counted.
         seen.starts = spawner.faults();
     }

@@ -8,7 +8,8 @@ use trick_base::Word;
 use trick_outside::{
     EndedDoor, MemoryOut, MemoryShelf, MemorySink, NoGate, ScriptIn, Shelf, Sink, Spawner,
 };
-use trick_top::{tricks, tricks_alone};
+use trick_top::tricks_alone;
+use trick_top_serve::tricks;
 
 /// What the next command is done with.
 #[derive(Drop)]
@@ -189,14 +190,33 @@ pub(crate) fn outcome_of(
     told(alloc, (setting, before), &shelf, &sink, status)
 }
 
-/// What a command comes to where there are these files and what it runs is run by threads.
-pub(crate) fn in_threads_of<S: Spawner, R: Threads + Wait + Copy + Send + Drop + 'static>(
+/// What a replay under this journal comes to where there are these files beside it.
+pub(crate) fn replay_of(
+    alloc: Global,
+    words: &[Word],
+    given: (&Setting, &[Text]),
+    journal: &Text,
+) -> Result<Outcome, AllocError> {
+    let (setting, before) = given;
+    let shelf = shelf_of(alloc, setting, before)?;
+    let mut shelf = shelf.with_file(&journal.name, &journal.bytes)?;
+    let mut sink = sink_of(alloc, setting)?;
+    let status = tricks_alone(alloc, words, &mut shelf, &mut sink);
+    told(alloc, given, &shelf, &sink, status)
+}
+
+/// What a command comes to where there are these files and what it runs is run by threads; and the spawner after it.
+pub(crate) fn in_threads_of<S, R>(
     rt: R,
     alloc: Global,
     words: &[Word],
     given: (&Setting, &[Text]),
-    spawner: &mut S,
-) -> Result<Outcome, AllocError> {
+    spawner: S,
+) -> Result<(Outcome, S), AllocError>
+where
+    S: Spawner + Send + Drop + 'static,
+    R: Threads + Wait + Copy + Send + Drop + 'static,
+{
     let (setting, before) = given;
     let mut shelf = shelf_of(alloc, setting, before)?;
     let mut sink = sink_of(alloc, setting)?;
@@ -204,5 +224,6 @@ pub(crate) fn in_threads_of<S: Spawner, R: Threads + Wait + Copy + Send + Drop +
     let finished = tricks(
         rt, alloc, words, &mut shelf, &mut sink, door, spawner, NoGate,
     );
-    told(alloc, given, &shelf, &sink, finished.status)
+    let outcome = told(alloc, given, &shelf, &sink, finished.status)?;
+    Ok((outcome, finished.spawner))
 }

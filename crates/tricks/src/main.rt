@@ -1,5 +1,5 @@
-//! The program `tricks`: the words of the command line, the folder that it is run in and standard
-//! output, handed to the top call. All that matters is decided there.
+//! The program `tricks`: the words of the command line, the folder that it is run in, standard output, and a door at the
+//! port that the words name, handed to the top call. All that matters is decided there.
 #![tactic(auto)]
 
 #[cfg(test)]
@@ -13,10 +13,14 @@ use crate::standard_output::StandardOutput;
 use std::alloc::Global;
 use std::process::ExitCode;
 use std::rt::{Env, Files};
+use std::sync::Wait;
+use std::thread::Threads;
 use std::{env, fs, io};
 use trick_base::Word;
-use trick_outside::{EndedDoor, MemoryOut, NoGate, ScriptIn, ThreadSpawner};
-use trick_top::{print_out_of_memory, tricks};
+use trick_outside::{Door, EndedDoor, MemoryOut, NoGate, ScriptIn, Shelf, Sink, ThreadSpawner};
+use trick_tcp::TcpDoor;
+use trick_top::print_out_of_memory;
+use trick_top_serve::{port_wanted, tricks};
 
 /// The status where standard output cannot be written.
 const NO_OUTPUT: u8 = 8;
@@ -36,6 +40,25 @@ fn read_words<R: Env + AllocGlobal>(rt: &R, alloc: Global) -> io::Result<Vec<Wor
     Ok(words)
 }
 
+/// Does what the words ask for, with the clients that this door gives. The status of the program.
+fn status_of<F: Shelf, O: Sink, D, R>(
+    rt: R,
+    alloc: Global,
+    words: &[Word],
+    shelf: &mut F,
+    out: &mut O,
+    door: D,
+) -> u8
+where
+    D: Door + Send + Drop + 'static,
+    D::In: Send + Drop + 'static,
+    D::Out: Send + Drop + 'static,
+    R: Threads + Wait + Copy + Send + Drop + 'static,
+{
+    let spawner = ThreadSpawner::new();
+    tricks(rt, alloc, words, shelf, out, door, spawner, NoGate).status
+}
+
 fn main(rt: HostRuntime) -> ExitCode {
     let alloc = rt.alloc();
     let Ok(_streams) = hold_streams(&rt) else {
@@ -51,18 +74,17 @@ fn main(rt: HostRuntime) -> ExitCode {
         Err(_) => Vec::new(alloc),
     };
     let mut shelf = Folder::new(&rt, alloc);
-    // No client is taken yet.
-    let door: EndedDoor<ScriptIn, MemoryOut> = EndedDoor::new();
-    let mut spawner = ThreadSpawner::new();
-    let finished = tricks(
-        rt,
-        alloc,
-        &words,
-        &mut shelf,
-        &mut out,
-        door,
-        &mut spawner,
-        NoGate,
-    );
-    ExitCode::from(finished.status)
+    let status = match port_wanted(alloc, &words) {
+        Ok(Some(port)) => {
+            let door = TcpDoor::open(rt, port);
+            status_of(rt, alloc, &words, &mut shelf, &mut out, door)
+        }
+        // No client comes.
+        Ok(None) => {
+            let door: EndedDoor<ScriptIn, MemoryOut> = EndedDoor::new();
+            status_of(rt, alloc, &words, &mut shelf, &mut out, door)
+        }
+        Err(_) => print_out_of_memory(&mut out),
+    };
+    ExitCode::from(status)
 }

@@ -1,0 +1,300 @@
+//! What clients are sent, and what their runs write.
+
+use crate::meeting::{Signals, WaitingGate, WaitingIn};
+use crate::plan::{BESIDE, FROZEN, RECORDED, Texts};
+use crate::runs::{RIGHT, Wants, door_of, judged, serve, words};
+use std::alloc::{AllocError, Global};
+use std::collections::VecDeque;
+use std::process::Abort;
+use std::sync::{Arc, Wait};
+use std::test::Fail;
+use std::thread::Threads;
+use trick_outside::{MemoryOut, NoGate, ScriptDoor, ScriptIn};
+use trick_top_serve::port_wanted;
+
+/// What a client says that watches the counter and lets it run.
+const WATCHES: &[u8] = b"trick.var_add(\"counter.n\")
+trick.var_add(\"counter.zz\")
+trick.var_cycle(1.0)
+trick.exec_run()
+";
+
+/// What it is sent.
+const WATCHED: &[u8] = b"0\t1\tBAD_REF\n0\t2\tBAD_REF\n0\t3\tBAD_REF\n";
+
+/// What a client says that lets the counter run.
+const RUNS: &[u8] = b"trick.exec_run()\n";
+
+/// What a line of no form is answered.
+const BAD: &[u8] = b"4\tbad command\n";
+
+/// The log of a counter that nobody changes.
+const COUNTED: &[u8] = b"tic,counter.n\n0,1\n1000000,2\n2000000,3\n3000000,4\n";
+
+// A link with these bytes, of which a read gives so many at most.
+fn link(alloc: Global, bytes: &[u8], most: usize) -> Result<ScriptIn, AllocError> {
+    let script = ScriptIn::new(alloc, Vec::from_slice(alloc, bytes)?);
+    Ok(script.with_most(most.max(1)))
+}
+
+/// A run of a plan with one client, of whose lines a read gives so many bytes at most.
+#[derive(Clone, Copy)]
+struct Talk<'a> {
+    texts: Texts,
+    said: &'a [u8],
+    most: usize,
+}
+
+// What is wrong with a run with one client, or that nothing is. Starts of these numbers are refused.
+fn talked<R: Threads + Wait + AllocGlobal + Copy + Send + Drop + 'static>(
+    rt: R,
+    talk: Talk<'_>,
+    refused: Vec<u64>,
+    wants: &Wants<'_>,
+) -> Result<&'static str, AllocError> {
+    let alloc = rt.alloc();
+    let door = door_of(alloc, link(alloc, talk.said, talk.most)?)?;
+    let came = serve(rt, talk.texts, door, refused, NoGate)?;
+    judged(alloc, talk.texts, &came, wants)
+}
+
+#[test]
+fn a_client_watches_a_run(rt: HostRuntime) -> Result<(), Fail> {
+    let wants = Wants {
+        sent: WATCHED,
+        in_journal: b"\n0 join 1\n",
+        in_state: b"\ncounter.n = 4;\n",
+        log: b"",
+        printed: b"ended ",
+    };
+    for most in [1000, 1] {
+        let talk = Talk {
+            texts: FROZEN,
+            said: WATCHES,
+            most,
+        };
+        let wrong = talked(rt, talk, Vec::new(rt.alloc()), &wants)?;
+        assert!(rt; wrong == RIGHT, "{most} bytes a read: {wrong}");
+    }
+    Ok(())
+}
+
+#[test]
+fn refused_threads_serve_nobody(rt: HostRuntime) -> Result<(), Fail> {
+    let alloc = rt.alloc();
+    let wants = Wants {
+        sent: b"",
+        in_journal: b"\n0 join 1\n0 leave 1 NoThread\nend ",
+        in_state: b"\ncounter.n = 0;\n",
+        log: b"",
+        printed: b"ended ",
+    };
+    let talk = Talk {
+        texts: FROZEN,
+        said: WATCHES,
+        most: 100,
+    };
+    let all = vec![in alloc; 0, 1, 2, 3, 4, 5, 6, 7]?;
+    for starts in [
+        vec![in alloc; 0]?,
+        vec![in alloc; 1]?,
+        vec![in alloc; 2]?,
+        all,
+    ] {
+        let wrong = talked(rt, talk, starts, &wants)?;
+        assert!(rt; wrong == RIGHT, "{wrong}");
+    }
+    Ok(())
+}
+
+// What is wrong with a run whose client's link fails at its second read.
+fn failed<R: Threads + Wait + AllocGlobal + Copy + Send + Drop + 'static>(
+    rt: R,
+    wants: &Wants<'_>,
+) -> Result<&'static str, AllocError> {
+    let alloc = rt.alloc();
+    let said = Vec::from_slice(alloc, b"trick.var_add(\"counter.n\")\ntrick.exec_run()\n")?;
+    let door = door_of(alloc, ScriptIn::failing(said, vec![in alloc; 1]?))?;
+    let came = serve(rt, FROZEN, door, Vec::new(alloc), NoGate)?;
+    if came.has_other_leave(b"LinkFault") {
+        return Ok("another leave than by the link");
+    }
+    judged(alloc, FROZEN, &came, wants)
+}
+
+#[test]
+fn a_link_that_fails_ends_its_session_alone(rt: HostRuntime) -> Result<(), Fail> {
+    let wants = Wants {
+        sent: b"",
+        in_journal: b" cmd 1 trick.exec_run()\n",
+        in_state: b"\ncounter.n = 4;\n",
+        log: b"",
+        printed: b"ended ",
+    };
+    let wrong = failed(rt, &wants)?;
+    assert!(rt; wrong == RIGHT, "{wrong}");
+    Ok(())
+}
+
+// A line of so many letters, and then that the run may go on.
+fn long_line(alloc: Global, length: usize) -> Result<Vec<u8>, AllocError> {
+    let mut said = Vec::new(alloc);
+    for _ in 0..length {
+        said.push(b'x')?;
+    }
+    said.push(b'\n')?;
+    said.extend_from_slice(RUNS)?;
+    Ok(said)
+}
+
+#[test]
+fn lines_are_as_long_as_they_may_be(rt: HostRuntime) -> Result<(), Fail> {
+    let alloc = rt.alloc();
+    let heard = Wants {
+        sent: BAD,
+        in_journal: b" cmd 1 trick.exec_run()\n",
+        in_state: b"\ncounter.n = 4;\n",
+        log: b"",
+        printed: b"ended ",
+    };
+    let too_long = Wants {
+        sent: b"",
+        in_journal: b" leave 1 LongLine\n",
+        in_state: b"\ncounter.n = 0;\n",
+        log: b"",
+        printed: b"ended ",
+    };
+    for length in 4094..4099 {
+        let said = long_line(alloc, length)?;
+        let wants = if length <= 4096 { heard } else { too_long };
+        let talk = Talk {
+            texts: FROZEN,
+            said: &said,
+            most: 1000,
+        };
+        let wrong = talked(rt, talk, Vec::new(alloc), &wants)?;
+        assert!(rt; wrong == RIGHT, "a line of {length}: {wrong}");
+    }
+    Ok(())
+}
+
+// A thousand empty lines, bytes that are no text, and that the run may go on.
+fn odd_lines(alloc: Global) -> Result<Vec<u8>, AllocError> {
+    let mut said = Vec::new(alloc);
+    for _ in 0..1000 {
+        said.push(b'\n')?;
+    }
+    said.extend_from_slice(b"\x00\xff\n")?;
+    said.extend_from_slice(RUNS)?;
+    Ok(said)
+}
+
+#[test]
+fn odd_lines_do_nothing(rt: HostRuntime) -> Result<(), Fail> {
+    let alloc = rt.alloc();
+    let said = odd_lines(alloc)?;
+    let wants = Wants {
+        sent: BAD,
+        in_journal: b" cmd 1 trick.exec_run()\n",
+        in_state: b"\ncounter.n = 4;\n",
+        log: b"",
+        printed: b"ended ",
+    };
+    let talk = Talk {
+        texts: FROZEN,
+        said: &said,
+        most: 1000,
+    };
+    let wrong = talked(rt, talk, Vec::new(alloc), &wants)?;
+    assert!(rt; wrong == RIGHT, "{wrong}");
+    Ok(())
+}
+
+#[test]
+fn a_client_of_the_first_call_joins_in_turn_0(rt: HostRuntime) -> Result<(), Fail> {
+    let wants = Wants {
+        sent: b"",
+        in_journal: b"\n0 join 1\n",
+        in_state: b"\ncounter.n = 4;\n",
+        log: COUNTED,
+        printed: b"ended turns=4 tic=3000001 faults=0 sessions=1\n",
+    };
+    let talk = Talk {
+        texts: RECORDED,
+        said: b"",
+        most: 1,
+    };
+    let wrong = talked(rt, talk, Vec::new(rt.alloc()), &wants)?;
+    assert!(rt; wrong == RIGHT, "{wrong}");
+    Ok(())
+}
+
+// Whether the line of a run whose door fails at its first call says so.
+fn tells_of_its_door<R: Threads + Wait + AllocGlobal + Copy + Send + Drop + 'static>(
+    rt: R,
+) -> Result<bool, AllocError> {
+    let alloc = rt.alloc();
+    let door: ScriptDoor<ScriptIn, MemoryOut> = ScriptDoor::failing(
+        alloc,
+        VecDeque::new(alloc),
+        vec![in alloc; 0]?,
+    );
+    let came = serve(rt, RECORDED, door, Vec::new(alloc), NoGate)?;
+    Ok(came.has_printed(b"ended turns=4 tic=3000001 faults=0 sessions=0 door=failed\n"))
+}
+
+#[test]
+fn a_door_that_fails_is_told(rt: HostRuntime) -> Result<(), Fail> {
+    let is_told = tells_of_its_door(rt)?;
+    assert!(rt; is_told, "its line");
+    Ok(())
+}
+
+#[test]
+fn a_port_is_wanted_where_words_name_one(rt: HostRuntime) -> Result<(), Fail> {
+    let alloc = rt.alloc();
+    let named = words(alloc, &[b"run", b"s", b"i", b"--port", b"7000"])?;
+    let wanted = port_wanted(alloc, &named)?;
+    assert!(rt; wanted == Some(7000), "the port that is named");
+    let wrong = words(alloc, &[b"run", b"s", b"i", b"--port", b"0"])?;
+    let wanted = port_wanted(alloc, &wrong)?;
+    assert!(rt; wanted.is_none(), "0 is no port");
+    Ok(())
+}
+
+// What is wrong with a run whose client's lines come while the job of tic 0 is at work.
+fn met<R: Threads + Wait + AllocGlobal + Copy + Send + Drop + 'static>(
+    rt: R,
+    wants: &Wants<'_>,
+) -> Result<&'static str, AllocError> {
+    let alloc = rt.alloc();
+    let signals = Arc::new(alloc, Signals::new())?;
+    let said = b"counter.n = 100\ntrick.var_exists(\"counter.n\")\n";
+    let input = WaitingIn {
+        script: link(alloc, said, 1000)?,
+        signals: Arc::try_clone(&signals)?,
+        is_first: true,
+    };
+    let gate = WaitingGate {
+        signals: Arc::try_clone(&signals)?,
+    };
+    let came = serve(rt, BESIDE, door_of(alloc, input)?, Vec::new(alloc), gate)?;
+    if !signals.have_met() {
+        return Ok("the job and the link do not meet");
+    }
+    judged(alloc, BESIDE, &came, wants)
+}
+
+#[test]
+fn lines_come_while_a_job_is_at_work(rt: HostRuntime) -> Result<(), Fail> {
+    let wants = Wants {
+        sent: b"1\t1\n",
+        in_journal: b"\n0 join 1\n1 cmd 1 counter.n = 100\n1 cmd 1 trick.var_exists(\"counter.n\")\n",
+        in_state: b"\ncounter.n = 103;\n",
+        log: b"",
+        printed: b"ended turns=4 tic=3000001 faults=0 sessions=1\n",
+    };
+    let wrong = met(rt, &wants)?;
+    assert!(rt; wrong == RIGHT, "{wrong}");
+    Ok(())
+}

@@ -1,0 +1,21 @@
+-- What words say that ask for a port.
+use Rattle.std.proofs.Common.{◌≡◌, ◌∙◌, ℕ, List, None, Some, ap, sym}
+use Rattle.std.specs.Prelude.{MatchOption, Option}
+use Rattle.trick_top.proofs.CompleteLemmas.{AreOneLine}
+use Rattle.trick_top_serve.specs.Ports.{AsksForNoPort, AsksForPort, port_of}
+use Rattle.trick_words.specs.Command.{AreRefused, Asks}
+use Rattle.trick_words.specs.declared.command.Command.{Command}
+
+-- a line that was read names a port, or none
+pub says_port : AreOneLine → (words : List (List ℕ)) (line : Command) → Asks words line → (port : Option ℕ) → port ≡ port_of line
+    → MatchOption port (AsksForNoPort words) (AsksForPort words)
+says_port once words line asked None is =
+    λ port asks.
+    (let same : asks.line ≡ line = once words asks.line line asks.asked asked in
+    let none : None ≡ Some port = is ∙ ap port_of (sym same) ∙ asks.known in
+    cc)
+says_port once words line asked (Some port) is = record { line = line; asked = asked; known = sym is }
+
+-- words that are no line name none
+pub no_port : (words : List (List ℕ)) → AreRefused words → AsksForNoPort words
+no_port words refused = λ port asks. refused asks.line asks.asked
