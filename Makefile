@@ -27,6 +27,7 @@ test:
 	rt ci
 	examples/check
 	.ci/hostile
+	.ci/served
 
 edits:
 	.ci/edits
@@ -36,6 +37,7 @@ starve:
 
 bench:
 	bench/run
+	bench/clients
 
 tricks:
 	.ci/program build/tricks

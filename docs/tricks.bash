@@ -4,7 +4,9 @@ _tricks() {
     COMPREPLY=()
     if ((COMP_CWORD == 1)); then
         mapfile -t COMPREPLY < <(compgen -W 'serial run replay check list gen' -- "$word")
-    elif [[ $word == -* && $command =~ ^(serial|run|replay)$ ]]; then
+    elif [[ $word == -* && $command == run ]]; then
+        mapfile -t COMPREPLY < <(compgen -W '--from --port' -- "$word")
+    elif [[ $word == -* && $command =~ ^(serial|replay)$ ]]; then
         mapfile -t COMPREPLY < <(compgen -W '--from' -- "$word")
     elif [[ $command != gen ]]; then
         local among='*'
