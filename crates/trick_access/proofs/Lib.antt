@@ -1,5 +1,6 @@
 pub mod Ends
 pub mod Loops
+pub mod Marks
 pub mod Reached
 pub mod Spans
 pub mod There

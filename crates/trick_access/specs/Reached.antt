@@ -1,6 +1,6 @@
 -- The cells of a block, by the blocks that it reaches, each of them once; and how cells become ranges.
 use Rattle.std.specs.List.{slice_index_or}
-use Rattle.std.specs.Prelude.{◌<◌, ℕ, zero, suc, ◌+◌, ◌-◌, if◌then◌else◌, Bool, true, false, ◌&&◌, ◌||◌, nat_lt, List, [], ◌∷◌, ◌++◌, take, slice_set, Option, Some, None}
+use Rattle.std.specs.Prelude.{◌≡◌, ◌<◌, ◌≤◌, ℕ, zero, suc, ◌+◌, ◌-◌, ◌/◌, if◌then◌else◌, Bool, true, false, ◌&&◌, ◌||◌, nat_lt, List, [], ◌∷◌, ◌++◌, take, slice_set, length, Option, Some, None}
 use Rattle.trick_lang.specs.Access.{is_in, code_reads, all_reads, block_reads, code_writes, all_writes, block_writes}
 use Rattle.trick_lang.specs.Tree.{Code, Empty, Declare, SetLocal, Assign, If, For, Run, Branches, NoElse, Else, Test}
 use Rattle.trick_lang.specs.declared.range.CellRange.{CellRange}
@@ -59,6 +59,30 @@ with_marks (k ∷ ks) marks = with_marks ks (slice_set marks k true)
 abbrev pub marked_in : ℕ → List Bool → (ℕ → List CellRange) → ℕ → Bool
 marked_in zero marks f c = false
 marked_in (suc k) marks f c = (slice_index_or marks k false && is_in (f k) c) || marked_in k marks f c
+
+-- no block from one on and below another is marked
+abbrev pub AreUnmarked : List Bool → ℕ → ℕ → Type 0
+AreUnmarked marks from end = (k : ℕ) → from ≤ k → k < end → slice_index_or marks k false ≡ false
+
+-- The last block below another that is marked.
+pub record IsLast (marks : List Bool) (end block : ℕ) : Type 0 where
+  pub below : block < end
+  pub here : slice_index_or marks block false ≡ true
+  pub after : AreUnmarked marks (block + 1) end
+
+-- The last block below another that is marked, where there is one.
+abbrev pub FindsLast : List Bool → ℕ → Option ℕ → Type 0
+FindsLast marks end None = AreUnmarked marks 0 end
+FindsLast marks end (Some block) = IsLast marks end block
+
+-- the page of a block: each has 1,024 blocks
+abbrev pub page_of : ℕ → ℕ
+page_of block = block / 1024
+
+-- There is a flag for each page, and where it does not stand no block of the page is marked.
+pub record HasPages (marks pages : List Bool) : Type 0 where
+  pub enough : page_of (length marks) < length pages
+  pub unmarked : (k : ℕ) → slice_index_or pages (page_of k) false ≡ false → slice_index_or marks k false ≡ false
 
 -- ---- cells
 

@@ -1,6 +1,6 @@
 // The cells of a job, of one way, as ranges in order. One pass over the
 // blocks, from the job's down, finds each block that the job reaches once; what these read or write
-// themselves is noted by cell.
+// themselves is noted by cell. Pages of blocks that the job does not reach are passed in one step each.
 
 ghost use Rattle.std.specs.Prelude.{◌≡◌, ◌||◌, ◌<◌, IfOk, false, length, replicate, ℕ};
 ghost use Rattle.trick_access.specs.Ranges.{AreCellsOf};
@@ -12,12 +12,14 @@ ghost use Rattle.trick_lang.specs.TreeOf.{codes_of};
 mod ends;
 mod marks;
 mod note;
+mod pages;
 pub(crate) mod way;
 
 use crate::job_body::{base, body};
 use crate::reach::ends::Ends;
 use crate::reach::marks::mark_statements;
 use crate::reach::note::note_statements;
+use crate::reach::pages::Marks;
 use crate::reach::way::Way;
 use std::alloc::{AllocError, Global};
 use trick_base::Items;
@@ -30,7 +32,7 @@ fn note_reached(
     base: u32,
     block: usize,
     ends: &mut Ends,
-    marks: &mut [bool],
+    marks: &mut Marks,
 )
     requires block { block < length program.now.blocks }
     requires marks { marks.old ≡ replicate (length program.now.blocks) false }
@@ -40,15 +42,13 @@ fn note_reached(
     ensures length { length ends.new ≡ length ends.old }
 {
     let blocks = program.blocks.as_slice();
-    marks[block] = true;
+    marks.mark(block);
     let mut left = block + 1;
-    while left > 0 {
-        left -= 1;
-        if marks[left] {
-            let statements = blocks[left].statements.as_slice();
-            note_statements(way, statements, base, ends);
-            mark_statements(statements, marks);
-        }
+    while let Some(marked) = marks.last_below(left) {
+        left = marked;
+        let statements = blocks[left].statements.as_slice();
+        note_statements(way, statements, base, ends);
+        mark_statements(statements, marks);
     }
 }
 
@@ -66,7 +66,7 @@ pub(crate) fn cells_of(
     let base = base(program, job);
     let block = body(program, job);
     let mut ends = Ends::new(alloc, program.cells.len())?;
-    let mut marks = vec![in alloc; false; program.blocks.len()]?;
+    let mut marks = Marks::new(alloc, program.blocks.len())?;
     note_reached(way, program, base, block, &mut ends, &mut marks);
     ends.into_ranges(alloc)
 }
