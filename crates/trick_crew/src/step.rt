@@ -15,8 +15,10 @@ use trick_outside::Gate;
 pub enum Stepped {
     /// A job was taken, evaluated and committed.
     Worked,
-    /// There is nothing to take now.
+    /// The thread's next due job waits for a job that is not committed.
     Waits,
+    /// The thread has nothing to do before a tic is opened.
+    Idles,
     /// The hall was shut.
     Ends,
 }
@@ -46,8 +48,8 @@ pub(crate) fn step<M: Cells + Drop, P: Planned, G: Gate, R: Wait>(
             Stepped::Worked
         }
         HandTook::NotYet { .. } => Stepped::Waits,
-        HandTook::ThreadDone => Stepped::Waits,
-        HandTook::Closed { .. } => Stepped::Waits,
+        HandTook::ThreadDone => Stepped::Idles,
+        HandTook::Closed { .. } => Stepped::Idles,
         HandTook::Busy { .. } => Stepped::Waits,
         HandTook::Shut => Stepped::Ends,
     }

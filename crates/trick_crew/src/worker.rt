@@ -77,9 +77,11 @@ fn work<M: Cells + Drop, P: Planned, G: Gate, R: Wait>(
 {
     for _ in rt.forever() {
         let mark = hand.mark();
+        let opening = hand.mark_opening();
         match step(rt, hand, bench, accepted, gate, thread) {
             Stepped::Ends => return,
             Stepped::Waits => hand.rest_since(rt, mark),
+            Stepped::Idles => hand.rest_until_opening(rt, opening),
             Stepped::Worked => {}
         }
     }

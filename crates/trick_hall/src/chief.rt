@@ -28,7 +28,7 @@ use std::sync::{Arc, Wait};
 use trick_board::Closed;
 use trick_lang::{Cells, JobId};
 use trick_model::{Accepted, Faults, Flags, Planned};
-use trick_turn::{Adds, Claim, Nothing, Pass, Turn, TurnLock};
+use trick_turn::{Adds, Claim, Nothing, Pass, Quiet, Turn, TurnLock};
 
 /// The chief of a hall, who alone opens and closes its tics, and shuts it in the end.
 #[derive(Drop)]
@@ -57,7 +57,7 @@ fn tell_open<M: Cells + Drop, P: Planned, T: Adds<Entry>>(
     turn.release::<T>();
 }
 
-// Ends a turn that closed the tic, which `T` tells, or left it open.
+// Ends a turn that closed the tic, which `T` tells, or left it open. Nobody waits for a close.
 fn tell_close<M: Cells + Drop, P: Planned, T: Adds<Entry>>(turn: Turn<'_, Kept<M, P>>, closed: bool)
     requires turn { IsTurn turn }
     requires names { IfSome T.tells (λ e. seat_of e ≡ number_of (pass_of turn)) }
@@ -66,7 +66,7 @@ fn tell_close<M: Cells + Drop, P: Planned, T: Adds<Entry>>(turn: Turn<'_, Kept<M
     ensures { Releases T.tells (pass_of turn.entry) (pass_left turn.exit) }
 {
     if closed {
-        turn.release::<T>();
+        turn.release::<Quiet<T>>();
     } else {
         turn.release::<Nothing>();
     }
@@ -201,13 +201,13 @@ impl<M: Cells + Drop, P: Planned> Chief<M, P> {
         self.lock.join(&mut self.pass, pass);
     }
 
-    /// How many releases so far may have added an entry. A mark to rest on.
+    /// How often so far a tic was opened, a job committed or the hall shut. A mark to rest on.
     pub fn mark(&self) -> u64 {
         self.lock.mark()
     }
 
-    /// Sleeps until a release after the mark may have added an entry. Take the mark first, then look by a call, and
-    /// rest where there is nothing to do yet.
+    /// Sleeps until after the mark a job was committed. Take the mark first, then look by a call, and rest where there is
+    /// nothing to do yet.
     pub fn rest_since<R: Wait>(&self, rt: &R, mark: u64) {
         self.lock.rest(rt, mark);
     }

@@ -20,7 +20,7 @@ use std::sync::{Arc, Wait};
 use trick_eval::Bench;
 use trick_lang::{Cells, JobId};
 use trick_model::{Accepted, Planned};
-use trick_turn::{Adds, Claim, Nothing, Pass, Turn, TurnLock};
+use trick_turn::{Adds, Claim, Nothing, Pass, Progress, Quiet, Turn, TurnLock};
 
 /// A hand of a hall. It may cross threads. It fills benches with due jobs and commits them, so that each due job of a
 /// tic is committed once.
@@ -35,8 +35,8 @@ pub struct Hand<M: Cells + Drop, P: Planned> {
     pub ghost rests: { Rests pass },
 }
 
-// Ends the turn of a hand that did something with this job, which `T` tells, or did nothing.
-fn end_turn<M: Cells + Drop, P: Planned, T: Adds<Entry>>(
+// Ends the turn of a hand that took this job, which `T` tells, or did nothing. Nobody waits for a take.
+fn end_take<M: Cells + Drop, P: Planned, T: Adds<Entry>>(
     turn: Turn<'_, Kept<M, P>>,
     job: Option<JobId>,
 )
@@ -47,7 +47,25 @@ fn end_turn<M: Cells + Drop, P: Planned, T: Adds<Entry>>(
     ensures { Releases T.tells (pass_of turn.entry) (pass_left turn.exit) }
 {
     match job {
-        Some(_) => turn.release::<T>(),
+        Some(_) => turn.release::<Quiet<T>>(),
+        None => turn.release::<Nothing>(),
+    }
+}
+
+// Ends the turn of a hand that committed this job, which `T` tells, or did nothing. Who waits for the next tic does not
+// wait for a commit.
+fn end_commit<M: Cells + Drop, P: Planned, T: Adds<Entry>>(
+    turn: Turn<'_, Kept<M, P>>,
+    job: Option<JobId>,
+)
+    requires turn { IsTurn turn }
+    requires names { IfSome T.tells (λ e. seat_of e ≡ number_of (pass_of turn)) }
+    requires nothing { job ≡ None → T.tells ≡ None }
+    requires stands { Stands P.plan (value_of turn) (seen (pass_of turn) ++ entries_told T.tells) }
+    ensures { Releases T.tells (pass_of turn.entry) (pass_left turn.exit) }
+{
+    match job {
+        Some(_) => turn.release::<Progress<T>>(),
         None => turn.release::<Nothing>(),
     }
 }
@@ -87,7 +105,7 @@ impl<M: Cells + Drop, P: Planned> Hand<M, P> {
         let kept = turn.value();
         let took = kept.take(accepted, thread, bench);
         let tic = kept.tic();
-        end_turn::<M, P, Brand>(turn, took.job_taken(bench.job()));
+        end_take::<M, P, Brand>(turn, took.job_taken(bench.job()));
         self.tic = tic;
         took
     }
@@ -110,7 +128,7 @@ impl<M: Cells + Drop, P: Planned> Hand<M, P> {
                 let kept = turn.value();
                 let took = kept.take(accepted, thread, bench);
                 let tic = kept.tic();
-                end_turn::<M, P, Brand>(turn, took.job_taken(bench.job()));
+                end_take::<M, P, Brand>(turn, took.job_taken(bench.job()));
                 self.tic = tic;
                 took
             }
@@ -131,7 +149,7 @@ impl<M: Cells + Drop, P: Planned> Hand<M, P> {
         let job = bench.job();
         let mut turn = self.pass.claim(rt, &self.lock);
         let committed = turn.value().commit(accepted, bench);
-        end_turn::<M, P, Brand>(turn, committed.job_committed(job));
+        end_commit::<M, P, Brand>(turn, committed.job_committed(job));
         committed
     }
 
@@ -151,7 +169,7 @@ impl<M: Cells + Drop, P: Planned> Hand<M, P> {
             Claim::Busy { found } => HandCommit::Busy { found },
             Claim::Got(mut turn) => {
                 let committed = turn.value().commit(accepted, bench);
-                end_turn::<M, P, Brand>(turn, committed.job_committed(job));
+                end_commit::<M, P, Brand>(turn, committed.job_committed(job));
                 committed
             }
         }
@@ -182,14 +200,25 @@ impl<M: Cells + Drop, P: Planned> Hand<M, P> {
         }
     }
 
-    /// How many releases so far may have added an entry. A mark to rest on.
+    /// How often so far a tic was opened, a job committed or the hall shut. A mark to rest on.
     pub fn mark(&self) -> u64 {
         self.lock.mark()
     }
 
-    /// Sleeps until a release after the mark may have added an entry. Take the mark first, then look by a call, and
-    /// rest where there is nothing to do yet.
+    /// Sleeps until after the mark a tic was opened, a job committed or the hall shut. Take the mark first, then look by
+    /// a call, and rest where there is nothing to do yet.
     pub fn rest_since<R: Wait>(&self, rt: &R, mark: u64) {
         self.lock.rest(rt, mark);
+    }
+
+    /// How often so far a tic was opened or the hall shut. A mark to rest on.
+    pub fn mark_opening(&self) -> u64 {
+        self.lock.mark_begun()
+    }
+
+    /// Sleeps until after the mark a tic was opened or the hall shut: for a thread whose due jobs are all committed, or
+    /// where no tic is open. No commit wakes it.
+    pub fn rest_until_opening<R: Wait>(&self, rt: &R, mark: u64) {
+        self.lock.rest_until_begun(rt, mark);
     }
 }

@@ -12,7 +12,7 @@ mod turn;
 mod view;
 
 pub use claim::Claim;
-pub use keeps::{Adds, Keeps, MayAdd, Nothing};
+pub use keeps::{Adds, Keeps, Nothing, Progress, Quiet, Stirs, Wakes};
 pub use lock::TurnLock;
 pub use pass::Pass;
 pub use sleep::Bell;

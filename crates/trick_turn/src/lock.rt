@@ -1,7 +1,7 @@
 //! The lock, how it is made with its passes, and the steps that a pass takes at it.
 ghost use Rattle.std.specs.Prelude.{◌≡◌};
 
-use crate::keeps::{Adds, Keeps};
+use crate::keeps::{Adds, Keeps, Wakes};
 use crate::pass::{NumberedSeat, Pass};
 use crate::rule::{ClaimStep, JoinSeat, LookStep, OneTurn, ReleaseStep, SplitSeat};
 use crate::sleep::{Bell, low_half};
@@ -28,7 +28,10 @@ pub struct TurnLock<B: Keeps> {
     pub(crate) table: Table<Option<B>, View<B::Entry>, (), OneTurn<B>, Global>,
     // the threads that sleep on the word, or are about to
     sleepers: AtomicU64,
-    bell: Bell,
+    // rung where something was added for which somebody may wait
+    added: Bell,
+    // rung where something began
+    begun: Bell,
     ghost sized: { (table.shared.table_id.words ≡ 1) × (table.shared.table_id.slots ≡ 1) },
 }
 
@@ -76,7 +79,8 @@ impl<B: Keeps> TurnLock<B> {
                 let lock = TurnLock {
                     table,
                     sleepers: AtomicU64::new(0),
-                    bell: Bell::new(),
+                    added: Bell::new(),
+                    begun: Bell::new(),
                 };
                 Ok((lock, Pass { seat }))
             }
@@ -148,19 +152,39 @@ impl<B: Keeps> TurnLock<B> {
     }
 }
 
-/// Resting until something was added.
+/// Resting until something was added, or began.
+///
+/// Take the mark first, then look at the value in a turn, and rest where there is nothing to do yet. What was added after
+/// the look then ends the rest. A release with `Nothing` does not, so those that only look wake nobody.
 impl<B: Keeps> TurnLock<B> {
-    /// How many releases so far may have added an entry. A mark to rest on.
+    /// How many releases so far woke those that rest until something was added. A mark to rest on.
     pub fn mark(&self) -> u64 {
-        self.bell.mark()
+        self.added.mark()
     }
 
-    /// Sleeps until a release after the mark may have added an entry.
-    ///
-    /// Take the mark first, then look at the value in a turn, and rest where there is nothing to do yet. What was added
-    /// after the look then ends the rest. A release with `Nothing` does not, so those that only look wake nobody.
+    /// Sleeps until after the mark a release may have added an entry for which somebody waits.
     pub fn rest<R: Wait>(&self, rt: &R, mark: u64) {
-        self.bell.rest(rt, mark);
+        self.added.rest(rt, mark);
+    }
+
+    /// How many releases so far woke everybody. A mark to rest on.
+    pub fn mark_begun(&self) -> u64 {
+        self.begun.mark()
+    }
+
+    /// Sleeps until after the mark a release woke everybody: for who has nothing to do before something begins.
+    pub fn rest_until_begun<R: Wait>(&self, rt: &R, mark: u64) {
+        self.begun.rest(rt, mark);
+    }
+
+    // Wakes those that wait for what was added.
+    fn wake(&self, wakes: Wakes) {
+        if wakes != Wakes::Nobody {
+            self.added.ring();
+        }
+        if wakes == Wakes::Everybody {
+            self.begun.ring();
+        }
     }
 }
 
@@ -230,7 +254,7 @@ impl<B: Keeps> TurnLock<B> {
         found
     }
 
-    // Puts the value back, frees the turn, and wakes one thread that waits for it and all that rest.
+    // Puts the value back, frees the turn, and wakes one thread that waits for it and those that rest, as `E` says.
     pub(crate) fn release<E: Adds<B::Entry>>(&self, pass: &mut Pass<B>, value: B)
         requires own { IsPassOf self.now pass.old }
         requires holds { Holds pass.old }
@@ -243,9 +267,7 @@ impl<B: Keeps> TurnLock<B> {
         if self.sleepers.load(SeqCst) != 0 {
             self.table.shared.wake_one(0);
         }
-        if E::MAY_ADD {
-            self.bell.ring();
-        }
+        self.wake(E::WAKES);
     }
 
     // Puts the value back into its slot, which the pass still has.

@@ -17,11 +17,11 @@ commit-committed-requires-clause-standing g c =
     let plan = c.args.accepted.now.plan in let log : List Entry = seen c.claim-turn.result.pass.now in
     (log, subst (λ (hall : HallView). StandsAt plan hall log) (sym c.value.ensures.value) (c.claim-turn.ensures.got.state plan c.requires.plan))
 
-pub end_turn-requires-clause-names : goal.end_turn-requires-clause-names
-end_turn-requires-clause-names g c = names_pass (Commit (number_of c.claim-turn.result.pass.now)) _ (λ _. refl) c.job_committed.result
+pub end_commit-requires-clause-names : goal.end_commit-requires-clause-names
+end_commit-requires-clause-names g c = names_pass (Commit (number_of c.claim-turn.result.pass.now)) _ (λ _. refl) c.job_committed.result
 
-pub end_turn-requires-clause-stands : goal.end_turn-requires-clause-stands
-end_turn-requires-clause-stands g c =
+pub end_commit-requires-clause-stands : goal.end_commit-requires-clause-stands
+end_commit-requires-clause-stands g c =
     let plan = c.args.accepted.now.plan in let log : List Entry = seen c.claim-turn.result.pass.now in let seat = number_of c.claim-turn.result.pass.now in
     let stands = subst (λ (hall : HallView). StandsAt plan hall log) (sym c.value.ensures.value) (c.claim-turn.ensures.got.state plan c.requires.plan) in
     let is : c.job_committed.result ≡ job_committed c.args.bench.now.job c.commit-committed.result = c.job_committed.ensures ∙ ap (λ (job : Option JobId). job_committed job c.commit-committed.result) c.job-job.ensures in
@@ -34,4 +34,4 @@ returns-clause-answer g c =
     let stands = subst (λ (hall : HallView). StandsAt plan hall log) (sym c.value.ensures.value) (c.claim-turn.ensures.got.state plan c.requires.plan) in
     let is : c.job_committed.result ≡ job_committed c.args.bench.now.job c.commit-committed.result = c.job_committed.ensures ∙ ap (λ (job : Option JobId). job_committed job c.commit-committed.result) c.job-job.ensures in
     commit_at _ _ _ (waits_looked _ _ _ _ _ c.claim-turn.ensures.got) plan c.args.bench.now c.commit-committed.new.bench c.commit-committed.result c.job_committed.result is
-    c.end_turn.ensures (c.commit-committed.ensures.answer log stands) c.commit-committed.new.self (c.commit-committed.ensures.stands log (number_of c.args.self.now.pass) stands)
+    c.end_commit.ensures (c.commit-committed.ensures.answer log stands) c.commit-committed.new.self (c.commit-committed.ensures.stands log (number_of c.args.self.now.pass) stands)

@@ -19,11 +19,11 @@ take-took-requires-clause-standing g c =
     let plan = c.args.accepted.now.plan in let log : List Entry = seen c.claim-turn.result.pass.now in
     (log, subst (λ (hall : HallView). StandsAt plan hall log) (sym c.value-kept.ensures.value) (c.claim-turn.ensures.got.state plan c.requires.plan))
 
-pub end_turn-requires-clause-names : goal.end_turn-requires-clause-names
-end_turn-requires-clause-names g c = names_pass (Take (number_of c.claim-turn.result.pass.now)) _ (λ _. refl) c.job_taken.result
+pub end_take-requires-clause-names : goal.end_take-requires-clause-names
+end_take-requires-clause-names g c = names_pass (Take (number_of c.claim-turn.result.pass.now)) _ (λ _. refl) c.job_taken.result
 
-pub end_turn-requires-clause-stands : goal.end_turn-requires-clause-stands
-end_turn-requires-clause-stands g c =
+pub end_take-requires-clause-stands : goal.end_take-requires-clause-stands
+end_take-requires-clause-stands g c =
     let plan = c.args.accepted.now.plan in let log : List Entry = seen c.claim-turn.result.pass.now in let seat = number_of c.claim-turn.result.pass.now in
     let stands = subst (λ (hall : HallView). StandsAt plan hall log) (sym c.value-kept.ensures.value) (c.claim-turn.ensures.got.state plan c.requires.plan) in
     let is : c.job_taken.result ≡ job_taken c.take-took.new.bench.job c.take-took.result = c.job_taken.ensures ∙ ap (λ (job : Option JobId). job_taken job c.take-took.result) c.job.ensures in
@@ -36,7 +36,7 @@ returns-clause-answer g c =
     let stands = subst (λ (hall : HallView). StandsAt plan hall log) (sym c.value-kept.ensures.value) (c.claim-turn.ensures.got.state plan c.requires.plan) in
     let is : c.job_taken.result ≡ job_taken c.take-took.new.bench.job c.take-took.result = c.job_taken.ensures ∙ ap (λ (job : Option JobId). job_taken job c.take-took.result) c.job.ensures in
     take_at _ _ _ (waits_looked _ _ _ _ _ c.claim-turn.ensures.got) plan c.args.thread c.args.bench.now c.take-took.new.bench c.take-took.result c.job_taken.result is
-    c.end_turn.ensures (c.take-took.ensures.answer log stands) c.take-took.new.self (c.take-took.ensures.stands log (number_of c.args.self.now.pass) stands)
+    c.end_take.ensures (c.take-took.ensures.answer log stands) c.take-took.new.self (c.take-took.ensures.stands log (number_of c.args.self.now.pass) stands)
 
 pub returns-clause-tic : goal.returns-clause-tic
 returns-clause-tic g c = λ took.
@@ -44,6 +44,6 @@ returns-clause-tic g c = λ took.
     let stands = subst (λ (hall : HallView). StandsAt plan hall log) (sym c.value-kept.ensures.value) (c.claim-turn.ensures.got.state plan c.requires.plan) in
     let is : c.job_taken.result ≡ job_taken c.take-took.new.bench.job c.take-took.result = c.job_taken.ensures ∙ ap (λ (job : Option JobId). job_taken job c.take-took.result) c.job.ensures in
     let after_turn = subst (λ (job : Option JobId). StandsAt plan c.take-took.new.self (log ++ entries_told (option_map (Take seat) job))) (sym is) (c.take-took.ensures.stands log seat stands) in
-    let tic = subst (λ (l : List Entry). IfSome (after l).course (λ k. c.tic-tic.result ≡ k.opening.tic)) (sym (ap (λ (v : View Entry). v.seen) c.end_turn.ensures.view))
+    let tic = subst (λ (l : List Entry). IfSome (after l).course (λ k. c.tic-tic.result ≡ k.opening.tic)) (sym (ap (λ (v : View Entry). v.seen) c.end_take.ensures.view))
     (c.tic-tic.ensures plan _ after_turn) in
     tic

@@ -3,5 +3,5 @@ use Rattle.trick_turn.specs.Passes.{number_of}
 use Rattle.trick_hall.specs.declared.entry.Entry.TheVariants.{Commit}
 use Rattle.trick_hall.proofs.hand.Hand.try_commit.Given as goal
 
-abbrev pub ghosts-end_turn : goal.ghosts-end_turn
-ghosts-end_turn g a = record { tells = option_map (Commit (number_of a.turn.pass.now)) a.job }
+abbrev pub ghosts-end_commit : goal.ghosts-end_commit
+ghosts-end_commit g a = record { tells = option_map (Commit (number_of a.turn.pass.now)) a.job }

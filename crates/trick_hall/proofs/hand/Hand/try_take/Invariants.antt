@@ -3,5 +3,5 @@ use Rattle.trick_turn.specs.Passes.{number_of}
 use Rattle.trick_hall.specs.declared.entry.Entry.TheVariants.{Take}
 use Rattle.trick_hall.proofs.hand.Hand.try_take.Given as goal
 
-abbrev pub ghosts-end_turn : goal.ghosts-end_turn
-ghosts-end_turn g a = record { tells = option_map (Take (number_of a.turn.pass.now)) a.job }
+abbrev pub ghosts-end_take : goal.ghosts-end_take
+ghosts-end_take g a = record { tells = option_map (Take (number_of a.turn.pass.now)) a.job }
