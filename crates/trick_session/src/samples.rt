@@ -31,12 +31,15 @@ fn push_field<M: Cells>(
     requires { IfSome cell (λ cell. cell.0 < length (M.numbers memory.now)) }
     ensures { OnOk result (line.new.items ≡ line.old.items ++ codes "\t" ++ shown (M.numbers memory.now) cell) }
 {
-    line.extend_from_slice(b"\t")?;
+    line.push(b'\t')?;
     match cell {
         Some(cell) => line.extend_from_slice(Buffer::new().format(memory.get(cell)).as_bytes()),
         None => line.extend_from_slice(b"BAD_REF"),
     }
 }
+
+/// Bytes that a sample line keeps room for, for each variable. A longer number grows the line.
+const FIELD: usize = 8;
 
 // The sample line of variables.
 fn line_of<M: Cells>(
@@ -47,12 +50,13 @@ fn line_of<M: Cells>(
     requires { AreThere (length (M.numbers memory.now)) variables.now }
     ensures { IfOk result (λ line. line.items ≡ codes "0" ++ sample_fields (M.numbers memory.now) variables.now) }
 {
-    let mut line = Vec::new(alloc);
-    line.extend_from_slice(b"0")?;
+    let room = variables.len().saturating_mul(FIELD).saturating_add(2);
+    let mut line = Vec::with_capacity(alloc, room)?;
+    line.push(b'0')?;
     for variable in variables {
         push_field(&mut line, memory, variable.1)?;
     }
-    line.extend_from_slice(b"\n")?;
+    line.push(b'\n')?;
     Ok(line)
 }
 

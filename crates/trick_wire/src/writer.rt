@@ -6,9 +6,15 @@ ghost use Rattle.trick_wire.specs.HasWritten.{HasWritten, cause_of, text_of};
 ghost use Rattle.trick_outside.specs.Links.{Took};
 
 use crate::{Message, Putter, Taker, WriteStop};
+use std::sync::atomic::AtomicU64;
 use std::sync::{Arc, Wait};
+use std::time::Duration;
 use trick_outside::{LinkOut, Taken1};
 use trick_turn::Bell;
+
+/// Microseconds that a writer sleeps where it has written all that waited. A message that comes meanwhile wakes nobody,
+/// so that a run whose client is sent something in each of many short turns is not held up by waking the writer in each.
+const PAUSE: u64 = 250;
 
 /// What a writer hands back once it has stopped.
 #[derive(Drop)]
@@ -35,6 +41,20 @@ pub(crate) fn write_whole<O: LinkOut>(link: &mut O, message: &[u8]) -> WriteStop
     WriteStop::Closed
 }
 
+// Sleeps for the pause of a writer, whatever comes meanwhile.
+fn pause<R: Wait>(rt: &R) {
+    AtomicU64::new(0).park_timeout(rt, 0, Duration::from_micros(PAUSE));
+}
+
+// Sleeps for a pause where something was written just now, and else until after the mark something comes.
+fn wait<R: Wait>(rt: &R, outbox: &Taker<Message>, mark: u64, has_written: bool) {
+    if has_written {
+        pause(rt);
+    } else {
+        outbox.rest(rt, mark);
+    }
+}
+
 // Writes each message whole, until the outbox was closed and is empty, or the link takes no more.
 fn write_messages<O: LinkOut, R: Wait>(
     rt: &R,
@@ -46,21 +66,22 @@ fn write_messages<O: LinkOut, R: Wait>(
         → HasWritten (O.holds link.old) (O.holds link.new) (O.failures link.old) (O.failures link.new) result
         (taken_by outbox.new) }
 {
+    let mut has_written = false;
     for _ in rt.forever() {
         let mark = outbox.mark();
         let is_closed = outbox.is_closed();
         match outbox.pop(rt) {
+            None if is_closed => return WriteStop::Closed,
             None => {
-                if is_closed {
-                    return WriteStop::Closed;
-                }
-                outbox.rest(rt, mark);
+                wait(rt, outbox, mark, has_written);
+                has_written = false;
             }
             Some(message) => {
                 let stop = write_whole(link, message.as_slice());
                 if stop != WriteStop::Closed {
                     return stop;
                 }
+                has_written = true;
             }
         }
     }
@@ -80,9 +101,9 @@ fn tell<R: Wait>(rt: &R, causes: &mut Putter<WriteStop>, bell: &Bell, stop: Writ
 }
 
 /// Writes the messages of an outbox to a link, each whole, until the outbox was closed and is empty, or the link fails
-/// or has no memory. Where the outbox is empty it rests until it is not. The cause of a stop goes into `causes`, except
-/// where the outbox was closed in order, and the bell is rung. At last it hangs up, and then closes `causes`, by which
-/// its caller can see that it is done.
+/// or has no memory. Where it has written all that waited it sleeps a moment, and then, where nothing has come, until
+/// something comes. The cause of a stop goes into `causes`, except where the outbox was closed in order, and the bell is
+/// rung. At last it hangs up, and then closes `causes`, by which its caller can see that it is done.
 pub fn write_all<O: LinkOut, R: Wait>(
     rt: &R,
     link: O,
