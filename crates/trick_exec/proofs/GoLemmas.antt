@@ -1,5 +1,5 @@
 -- The turns of a run, as the code does them.
-use Rattle.std.proofs.Common.{◌≡◌, ◌∙◌, ℕ, ℤ, ◌<◌, List, [], ◌∷◌, ◌++◌, Bool, true, false, Err, Ok, ap, arith, inl, inr, length, refl, subst, sym}
+use Rattle.std.proofs.Common.{◌≡◌, ◌∙◌, ℕ, ℤ, ◌<◌, List, [], ◌∷◌, ◌++◌, Bool, true, false, Err, None, Ok, Some, Vec, Global, ap, arith, inl, inr, length, refl, subst, sym}
 use Rattle.std.proofs.lemmas.Bool.Decides.{nat_tests}
 use Rattle.std.proofs.lemmas.List.Elements.{All-nil}
 use Rattle.std.specs.Prelude.{◌⊎◌, ◌||◌, Option, Result, nat_le}
@@ -25,7 +25,8 @@ use Rattle.trick_runs.specs.Rounds.{IsChosen, heard_state, publications, waited}
 use Rattle.trick_runs.specs.Turned.{Asks, line_notes}
 use Rattle.trick_session.specs.Kept.{IsSession}
 use Rattle.trick_tic.specs.Steps.{steps_of}
-use Rattle.trick_turns.specs.Turns.{Sessions, no_sessions}
+use Rattle.trick_turns.specs.Turns.{Gives, GoesOn, Pays, Sessions, Told, answered, no_sessions}
+use Rattle.trick_turns.specs.declared.turns.Next.TheVariants as next
 use Rattle.trick_turns.specs.declared.turns.Turns.{Ghosts as TurnsGhosts}
 
 -- So many turns were done, with the waits that the code keeps.
@@ -58,6 +59,44 @@ pub step_as : {U M : Type 0} (turns : TurnsGhosts U M) (w : World) (live : List 
     → turns.went old (record { turn = w.state.turn; mode = w.state.mode; sessions = w.sessions; list = list } ∷ []) [] now
 step_as turns w live list old now same step =
     subst (λ (there : List Session). turns.went old (record { turn = w.state.turn; mode = w.state.mode; sessions = there; list = list } ∷ []) [] now) same step
+
+-- what a source gave that answered a list, where these sessions are there
+pub gave_list : {U M : Type 0} (turns : TurnsGhosts U M) (w : World) (live : List Session) (list : Vec Entry Global) (old now : U) → live ≡ w.sessions
+    → turns.went old (answered w.state live (next.Entries list)) [] now → Pays w.state (next.Entries list) (turns.owes old) (turns.owes now)
+    → Gives w.state (turns.journal old) (next.Entries list) (turns.journal now)
+    → GoesOn (turns.decided old) (turns.sessions old) (next.Entries list) (turns.sessions now) → turns.decided now ≡ turns.decided old
+    → Gave turns w list.items old now
+gave_list turns w live list old now there step pays gives rules decides =
+    let told_of = λ (o : Option Told) (is : turns.journal old ≡ o).
+    subst (λ (x : Option Told). Gives w.state x (next.Entries list) (turns.journal now)) is gives in
+    record {
+      step = step_as turns w live (Some list.items) old now there step;
+      owes = pays;
+      told = λ told is. told_of (Some told) is;
+      untold = λ none. told_of None none;
+      decided = decides;
+      may = rules.0;
+      sessions = rules.1;
+    }
+
+-- what a source gave that answered nothing: an empty list
+pub gave_nothing : {U M : Type 0} (turns : TurnsGhosts U M) (w : World) (live : List Session) (old now : U) → live ≡ w.sessions
+    → turns.went old (answered w.state live next.Nothing) [] now → Pays w.state next.Nothing (turns.owes old) (turns.owes now)
+    → Gives w.state (turns.journal old) next.Nothing (turns.journal now)
+    → GoesOn (turns.decided old) (turns.sessions old) next.Nothing (turns.sessions now) → turns.decided now ≡ turns.decided old
+    → Gave turns w [] old now
+gave_nothing turns w live old now there step pays gives rules decides =
+    let told_of = λ (o : Option Told) (is : turns.journal old ≡ o).
+    subst (λ (x : Option Told). Gives w.state x next.Nothing (turns.journal now)) is gives in
+    record {
+      step = step_as turns w live (Some []) old now there step;
+      owes = pays;
+      told = λ told is. told_of (Some told) is;
+      untold = λ none. told_of None none;
+      decided = decides;
+      may = refl;
+      sessions = rules;
+    }
 
 -- the same turn, of the same world
 pub came_as : {S U M Q D : Type 0} {h : Hosts S U M Q} {numbers : D → List ℤ} {p : Plan} {decides : Bool} {list : List Entry} {kept now : List ℕ} {old new : Place S U Q}

@@ -92,18 +92,17 @@ idle_came h numbers p decides s waits host after called went asked alone many st
     }
 
 -- the turn of a world, where it was given no entry and has no session
-pub idle_turn : {S U M Q D : Type 0} (h : Hosts S U M Q) (numbers : D → List ℤ) (p : Plan) (decides : Bool) (before after : WorldValue D) (list : List Entry) (waits : List ℕ) (host : Place S U Q)
+pub idle_turn : {S U M Q D : Type 0} (h : Hosts S U M Q) (numbers : D → List ℤ) (p : Plan) (decides : Bool) (before after : WorldValue D) (waits : List ℕ) (host : Place S U Q)
     → h.shelf.called host.shelf [] host.shelf → h.turns.went host.turns [] [] host.turns → h.posts.asked host.posts [] host.posts
-    → list ≡ [] → before.sessions.items ≡ [] → after.sessions ≡ before.sessions → threads_beside p ≡ [] → length waits ≡ length (threads_beside p)
+    → before.sessions.items ≡ [] → after.sessions ≡ before.sessions → threads_beside p ≡ [] → length waits ≡ length (threads_beside p)
     → seen numbers after.state ≡ (passed p [] (unasked (seen numbers before.state))).state → (passed p [] (unasked (seen numbers before.state))).writes ≡ []
-    → CameTo h numbers p decides (world_of numbers before) list waits waits host host (Ok after)
-idle_turn {D = D} h numbers p decides before after list waits host called went asked empty gone kept alone many state writes =
+    → CameTo h numbers p decides (world_of numbers before) [] waits waits host host (Ok after)
+idle_turn {D = D} h numbers p decides before after waits host called went asked gone kept alone many state writes =
     let s : State = seen numbers before.state in
     let result : Result (WorldValue D) Stop = Ok after in
     let same : opened s ≡ world_of numbers before = λ i. record { state = s; sessions = sym gone i } in
-    subst (λ (es : List Entry). CameTo h numbers p decides (world_of numbers before) es waits waits host host result) (sym empty)
-    (subst (λ (w : World). CameTo h numbers p decides w [] waits waits host host result) same
-    (idle_came h numbers p decides s waits host after called went asked alone many state writes (ap (λ v. v.items) kept ∙ gone)))
+    subst (λ (w : World). CameTo h numbers p decides w [] waits waits host host result) same
+    (idle_came h numbers p decides s waits host after called went asked alone many state writes (ap (λ v. v.items) kept ∙ gone))
 
 -- its sessions are those that the source knows
 pub idle_known : (p : Plan) (known now : Sessions) (before after : List Session) → AreKnown p known before → now ≡ in_next known → after ≡ before

@@ -50,9 +50,9 @@ fn later(turn: u64, turns: u64) -> u64
 }
 
 impl<'a, F: Shelf, H, P: Posts, T> Run<'a, F, H, P, T> {
-    /// The turns of a run, until it is over. Before each its source is asked for the turn's entries. A turn in
-    /// which nothing is done costs next to nothing, and turns in Freeze without an entry pass at once. It stops as for want of memory where
-    /// entries come without an end at the last turn that is counted.
+    /// The turns of a run, until it is over. Before each its source is asked for the turn's entries. A turn that is
+    /// given none and in which nothing is done costs next to nothing, and turns in Freeze without an entry pass at
+    /// once. It stops as for want of memory where entries come without an end at the last turn that is counted.
     pub(crate) fn go<M: Cells + Drop>(
         &mut self,
         accepted: &Accepted,
@@ -89,16 +89,18 @@ impl<'a, F: Shelf, H, P: Posts, T> Run<'a, F, H, P, T> {
                         entries: &entries,
                         decides,
                     };
-                    if idles(
-                        accepted,
-                        given.entries,
-                        &mut world,
-                        self.equipment,
-                        &self.workers.posts,
-                    ) {
+                    world = self.turn(accepted, given, world)?;
+                }
+                Next::Nothing => {
+                    if idles(accepted, &mut world, self.equipment, &self.workers.posts) {
                         continue;
                     }
+                    let given = Given {
+                        entries: &[],
+                        decides,
+                    };
                     world = self.turn(accepted, given, world)?;
+                    continue;
                 }
                 Next::Gap { turns } => {
                     world.state.turn = later(world.state.turn, turns);

@@ -8,22 +8,20 @@ ghost use Rattle.trick_pass.specs.Pass.{IsEquipped, passed, unasked};
 
 use crate::World;
 use trick_lang::Cells;
-use trick_model::{Accepted, Entry};
+use trick_model::Accepted;
 use trick_pass::{Equipment, pass_idle};
 use trick_post::Posts;
 
-/// Passes a turn with these entries in place, where there are none, no session is there, and nothing is due in it;
-/// and tells whether it was such a turn. Else it changes nothing. It costs next to nothing, and takes no memory.
+/// Passes a turn without entries in place, where no session is there and nothing is due in it; and tells whether it was
+/// such a turn. Else it changes nothing. It costs next to nothing, and takes no memory.
 pub(crate) fn idles<M: Cells, P: Posts>(
     accepted: &Accepted,
-    entries: &[Entry],
     world: &mut World<M>,
     equipment: &mut Equipment,
     posts: &P,
 ) -> bool
     requires equipped { IsEquipped accepted.now.plan equipment.old (P.in_flight posts.now)
         (seen M.numbers world.old.state) (M.scalars world.old.state.memory) }
-    ensures none { result ≡ true → entries.now ≡ [] }
     ensures no_session { result ≡ true → world.old.sessions.items ≡ [] }
     ensures sessions { world.new.sessions ≡ world.old.sessions }
     ensures alone { result ≡ true → threads_beside (plan_of accepted.now.plan) ≡ [] }
@@ -35,7 +33,7 @@ pub(crate) fn idles<M: Cells, P: Posts>(
     ensures equipped { IsEquipped accepted.now.plan equipment.new (P.in_flight posts.now)
         (seen M.numbers world.new.state) (M.scalars world.new.state.memory) }
 {
-    if !entries.is_empty() || !world.sessions.is_empty() {
+    if !world.sessions.is_empty() {
         return false;
     }
     pass_idle(accepted, &mut world.state, equipment, posts)

@@ -122,6 +122,12 @@ owes_step next due frozen owed now is may one =
     go false true split may one = sym split ∙ may refl
     go false false split may one = subst (λ (b : Bool). (not owed || b) ≡ true) split one
 
+-- after a turn without an entry, where a line is left in Freeze, and one is left where one was owed
+pub owes_on : (frozen owed now some : Bool) → now ≡ cond frozen true owed → (frozen ≡ true → some ≡ true) → (not owed || some) ≡ true
+    → (not now || some) ≡ true
+owes_on true owed now some is may one = subst (λ (b : Bool). (not b || some) ≡ true) (sym is) (may refl)
+owes_on false owed now some is may one = subst (λ (b : Bool). (not b || some) ≡ true) (sym is) one
+
 pub owes_behind : (at end : ℕ) (s : Sessions) (due : List Noted) (list : List Entry) (frozen owed : Bool)
     → may_go_on at end s due ≡ true → end ≤ at → list ≡ [] → (frozen ≡ true → list_any is_line due ≡ true)
     → owed ≡ cond (list_any is_of_session list) false (cond frozen true owed)

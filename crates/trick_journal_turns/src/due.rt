@@ -2,7 +2,7 @@
 
 ghost use Rattle.std.specs.List.{list_any};
 ghost use Rattle.std.specs.Option.{option_to_list};
-ghost use Rattle.std.specs.Prelude.{◌≡◌, ◌∷◌, ◌++◌, ◌<◌, [], length, IfOk, IfSome, OnErr, IfNone, OnOk, List};
+ghost use Rattle.std.specs.Prelude.{◌≡◌, ◌∷◌, ◌++◌, ◌<◌, [], length, IfOk, IfSome, OnErr, IfNone, OnOk, List, true};
 ghost use Rattle.trick_journal_turns.specs.Due.{before, is_line, joins_in, lines_of, since};
 ghost use Rattle.trick_model.specs.Journal.{is_of_session as is_of_session_of, Noted};
 ghost use Rattle.trick_model.specs.declared.entry.Entry.TheVariants.{Join};
@@ -115,6 +115,16 @@ impl Due {
     {
         let (turn, _) = self.entries.front()?;
         Some(*turn)
+    }
+
+    /// Whether no entry of a turn below one is at the head.
+    pub fn none_before(&self, turn: u64) -> bool
+        ensures { result ≡ true → before turn self.now ≡ [] }
+    {
+        match self.entries.front() {
+            Some((at, _)) => turn <= *at,
+            None => true,
+        }
     }
 
     // Takes the first entry out.

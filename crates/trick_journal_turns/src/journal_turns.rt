@@ -20,7 +20,7 @@ use trick_turns::{Next, Turns};
 /// Entries of earlier turns are skipped. The sessions that joined and did not leave in them join first
 /// at the first turn, in rising number; but these joins are no entries of the journal, so that they do not
 /// keep a run that starts in Freeze from its end. Making it goes through the entries once; each is then
-/// moved out at its turn.
+/// moved out at its turn. A turn without entries takes no memory.
 #[derive(Drop)]
 pub struct JournalTurns {
     // What is left, and what was left at first: only proofs read that.
@@ -127,6 +127,28 @@ impl JournalTurns {
         self.owes = true;
     }
 
+    // Whether the turn that comes next is below the end and has no entry.
+    fn is_quiet(&self) -> bool
+        ensures none { result ≡ true → before (self.now.at + 1) self.now.due ≡ [] }
+        ensures below { result ≡ true → self.now.at < self.now.end }
+    {
+        self.at < self.end && self.due.none_before(self.at + 1)
+    }
+
+    // Passes the turn that comes next, which has no entry, in Freeze or not. It takes no memory.
+    fn pass_quiet(&mut self, frozen: bool)
+        requires line { frozen ≡ true → list_any is_line self.old.due ≡ true }
+        requires none { before (self.old.at + 1) self.old.due ≡ [] }
+        requires below { self.old.at < self.old.end }
+        ensures list { [] ≡ next_of (told_of self.old).lists }
+        ensures told { told_of self.new ≡ behind (told_of self.old) }
+        ensures sessions { sessions_of self.new ≡ in_next (sessions_of self.old) }
+        ensures owes { self.new.owes ≡ cond frozen true self.old.owes }
+    {
+        self.at += 1;
+        self.owes = owes_after(frozen, false, self.owes);
+    }
+
     // The entries of the turn that comes next, in Freeze or not. Where memory runs out nothing changes.
     fn next(&mut self, alloc: Global, frozen: bool) -> Result<Vec<Entry>, AllocError>
         requires { frozen ≡ true → list_any is_line self.old.due ≡ true }
@@ -182,6 +204,10 @@ impl<M: Cells> Turns<M> for JournalTurns {
         if turns > 0 {
             self.pass_gap(turns);
             return Next::Gap { turns };
+        }
+        if self.is_quiet() {
+            self.pass_quiet(frozen);
+            return Next::Nothing;
         }
         match self.next(alloc, frozen) {
             Ok(list) => Next::Entries(list),

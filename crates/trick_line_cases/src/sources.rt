@@ -108,6 +108,7 @@ fn entries_in(
 ) -> Result<String, AllocError> {
     match source.entries(alloc, state, &[]) {
         Next::Entries(entries) => list(alloc, state.turn, &entries),
+        Next::Nothing => Ok(String::new(alloc)),
         Next::Gap { turns } => format!(in alloc; "> gap {turns}\n"),
         Next::NoMore => String::from_str(alloc, "> no more\n"),
         Next::Length { kept, given } => format!(in alloc; "> length {kept} {given}\n"),

@@ -5,6 +5,7 @@ use Rattle.std.specs.Prelude.{map}
 use Rattle.trick_base.specs.Files.{Write}
 use Rattle.trick_beside.specs.Stations.{AreStations}
 use Rattle.trick_beside.specs.declared.station.Station.{Station}
+use Rattle.trick_lang.specs.declared.class.Class.{Class}
 use Rattle.trick_lang.specs.declared.class.Class.TheVariants as class
 use Rattle.trick_model.specs.Beside.{each_thread, start_round}
 use Rattle.trick_model.specs.Events.{Asking}
@@ -18,8 +19,8 @@ use Rattle.trick_model.specs.declared.thread.Thread.{Thread}
 use Rattle.trick_pass.specs.Pass.{Passed, passed, unasked}
 
 -- a class without jobs does nothing
-class_idles : (p : Plan) (s : State) → jobs_in p.jobs class.TopOfFrame ≡ [] → run_class p class.TopOfFrame s ≡ s
-class_idles p s none = ap (λ (ks : List ℕ). settled (after_jobs p (is_on s.jobs) s.tic ks s.memory) s) none
+pub class_idles : (p : Plan) (of : Class) (s : State) → jobs_in p.jobs of ≡ [] → run_class p of s ≡ s
+class_idles p of s none = ap (λ (ks : List ℕ). settled (after_jobs p (is_on s.jobs) s.tic ks s.memory) s) none
 
 -- what follows the tics of a run frame
 abbrev frame_end : Plan → Ticked → Ticked
@@ -43,7 +44,7 @@ pub idle_turn : (p : Plan) (s later bottom : State) → runs s ≡ true → jobs
     → passed p [] (unasked s) ≡ record { state = counted bottom; writes = [] }
 idle_turn p s later bottom running top none idle end =
     ap (λ (b : Bool). turn_end p b (framed p b [] (unasked s))) running
-    ∙ ap (λ (t : State). turn_end p true (frame_end p (frame p (unasked t)))) (class_idles p s top)
+    ∙ ap (λ (t : State). turn_end p true (frame_end p (frame p (unasked t)))) (class_idles p class.TopOfFrame s top)
     ∙ ap (λ (t : Ticked). turn_end p true (frame_end p t)) idle
     ∙ ap (λ (threads : List Thread). record { state = counted (each_thread (start_round p) 0 threads (run_class p class.EndOfFrame later)); writes = [] }) none
     ∙ ap (λ (t : State). record { state = counted t; writes = [] }) (sym end)

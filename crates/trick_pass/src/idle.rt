@@ -1,18 +1,36 @@
 //! Turns in which nothing is done but that time passes.
 
 ghost use Rattle.std.specs.Prelude.{◌≡◌, [], false, true};
+ghost use Rattle.trick_eval.specs.Bench.{IsFor};
+ghost use Rattle.trick_job.specs.Belongs.{IsMemoryOf};
+ghost use Rattle.trick_lang.specs.declared.class.Class.TheVariants.{EndOfFrame};
 ghost use Rattle.trick_model.specs.Plan.{threads_beside};
 ghost use Rattle.trick_model.specs.PlanOf.{plan_of};
+ghost use Rattle.trick_model.specs.Running.{run_class as class_ran};
 ghost use Rattle.trick_model.specs.State.{seen};
 ghost use Rattle.trick_pass.specs.Pass.{IsEquipped, passed, unasked};
 
 use crate::Equipment;
 use crate::rest::count;
+use trick_eval::Bench;
 use trick_lang::{Cells, Class};
-use trick_model::{Accepted, State, laws};
+use trick_model::{Accepted, Plan, State, laws};
 use trick_moments::{has_jobs, run_class};
 use trick_post::Posts;
 use trick_tic::skip;
+
+// Runs the end_of_frame jobs. It looks first whether there are some, which costs less than a call.
+fn run_end_of_frame<M: Cells>(plan: &Plan, state: &mut State<M>, bench: &mut Bench)
+    requires bench { IsFor plan.now.program bench.old.parts }
+    requires memory { IsMemoryOf plan.now.program (M.numbers state.old.memory) (M.scalars state.old.memory) }
+    ensures ran { seen M.numbers state.new ≡ class_ran (plan_of plan.now) EndOfFrame (seen M.numbers state.old) }
+    ensures memory { IsMemoryOf plan.now.program (M.numbers state.new.memory) (M.scalars state.new.memory) }
+    ensures bench { bench.new.parts ≡ bench.old.parts }
+{
+    if has_jobs(plan, Class::EndOfFrame) {
+        run_class(plan, Class::EndOfFrame, state, bench);
+    }
+}
 
 /// Passes a turn without entries in place, where nothing is due at its tics, the plan has no jobs at the top
 /// of a frame, and no thread works beside the tics; and tells whether it was such a turn. Else it changes
@@ -42,7 +60,7 @@ pub fn pass_idle<M: Cells, P: Posts>(
     if !state.runs() || !skip(plan, &equipment.course, state) {
         return false;
     }
-    run_class(plan, Class::EndOfFrame, state, &mut equipment.bench);
+    run_end_of_frame(plan, state, &mut equipment.bench);
     count(state);
     true
 }

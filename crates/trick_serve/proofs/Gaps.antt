@@ -7,6 +7,7 @@ use Rattle.trick_turns.specs.declared.turns.Next.TheVariants as next
 -- Whatever is said of a gap is so where there is none.
 pub no_gap : (r : Next) (fact : ℕ → Type 0) → IfGap r (λ turns. ⊥) → IfGap r fact
 no_gap (next.Entries list) fact none = tt
+no_gap next.Nothing fact none = tt
 no_gap (next.Gap turns) fact none = absurd none
 no_gap next.NoMore fact none = tt
 no_gap (next.Length kept given) fact none = tt

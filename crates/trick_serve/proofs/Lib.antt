@@ -14,5 +14,7 @@ pub mod Gathering
 pub mod Looking
 -- To which sessions no message was left out.
 pub mod Quick
+-- Sessions that are not to leave as long as nothing comes of them.
+pub mod Calm
 -- Answers that are no gap.
 pub mod Gaps

@@ -14,6 +14,7 @@ use Rattle.trick_model.specs.declared.session.Session.{Session}
 use Rattle.trick_serve.proofs.Gathering.{begins}
 use Rattle.std.proofs.lemmas.Bool.Decides.{eqb_tells, nat_tests}
 use Rattle.std.proofs.lemmas.List.{nil_from_length}
+use Rattle.trick_serve.proofs.Living.{lives_none}
 use Rattle.trick_serve.proofs.Placing.{filter_twice, live_same}
 use Rattle.trick_serve.specs.Messages.{IsHanded}
 use Rattle.trick_serve.specs.CallLaws.{went_join, went_none, went_one}
@@ -158,6 +159,21 @@ went_given there turn mode old new list whole kept so =
       },
       so.looks.whole ∙ whole,
     ))
+
+-- nothing is given at once, where the next list begins with the same sessions
+pub went_calm : (there : List Session) (turn : ℕ) (mode : Mode) (v : View) → v.broke ≡ false → is_frozen mode ≡ false
+    → v.sessions ≡ in_next v.sessions → (v.seats ≡ [] → v.silent ≡ true) → AreQuick v.seats v.sessions.live
+    → Went v v (record { turn = turn; mode = mode; sessions = there; list = Some [] } ∷ []) []
+went_calm there turn mode v whole runs same silent quick = went_given there turn mode v v [] whole refl (record {
+  mid = v;
+  looks = looked_none v;
+  lives = record { each = λ k. lives_none (k + 1) there (side v.seats k) };
+  rules = record { may = refl; now = same; only = refl };
+  filled = λ frozen. absurd (false≢true (sym runs ∙ frozen));
+  silent = λ is. is;
+  answered = λ none empty. silent none;
+  quick = quick;
+})
 
 pub went_over : (there : List Session) (turn : ℕ) (mode : Mode) (old new : View) → HasNoMore (is_frozen mode) old new
     → Went old new (record { turn = turn; mode = mode; sessions = there; list = None } ∷ []) []

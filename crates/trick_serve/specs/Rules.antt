@@ -28,6 +28,12 @@ AreSeated numbers seats = All (λ n. (0 < n) × (n ≤ length seats)) numbers
 abbrev pub AreQuick : List Seat → List ℕ → Type 0
 AreQuick seats numbers = All (λ n. (side seats (n - 1)).slow ≡ false) numbers
 
+-- None of these sessions has left, they are those that can be sent messages, and of the messages to them none was left
+-- out.
+pub record AreCalm (seats : List Seat) (known reached : List ℕ) : Type 0 where
+  pub same : reached ≡ filter (is_live seats) known
+  pub quick : AreQuick seats (filter (is_live seats) known)
+
 -- A list goes on by the rules of entries: each entry may come after those before it, none is a publication, and these
 -- are the sessions after it.
 pub record Keeps (old : Sessions) (list : List Entry) (new : Sessions) : Type 0 where

@@ -8,12 +8,12 @@ ghost use Rattle.trick_serve.specs.Clients.{KeepQueues, client_queues, seat_queu
 ghost use Rattle.trick_serve.specs.Gathering.{Gathers};
 ghost use Rattle.trick_serve.specs.Messages.{IsHanded};
 ghost use Rattle.trick_serve.specs.Rolls.{AreEnded, HasRoom, IsGathered, IsSameRoll, seated_entries};
-ghost use Rattle.trick_serve.specs.Rules.{AreQuick, is_live};
+ghost use Rattle.trick_serve.specs.Rules.{AreCalm, AreQuick, is_live};
 ghost use Rattle.trick_serve.specs.Sides.{side};
 ghost use Rattle.trick_serve_door.specs.Departures.{left_of};
 ghost use Rattle.trick_wire.specs.Ends.{IsSamePutter, put_by};
 
-use crate::hang_up::hang_up_all;
+use crate::hang_up::{hang_up_all, is_calm};
 use crate::hear::listen_all;
 use crate::send::hand;
 use crate::{Roll, Seat};
@@ -191,6 +191,23 @@ impl Roll {
             return Vec::new(alloc);
         }
         mem::replace(&mut self.list, Vec::new(alloc))
+    }
+
+    /// Whether these are the sessions that were live, and none of them is to leave as long as nothing comes of it.
+    pub(crate) fn is_calm(&self, reached: &[u32], there: &[Session]) -> bool
+        ensures { result ≡ true → AreCalm self.now.seats.items self.now.live.items reached.now }
+    {
+        if reached.len() != self.live.len() {
+            return false;
+        }
+        for at in 0..self.live.len() {
+            let session = self.live[at];
+            let seat = &self.seats[session as usize - 1];
+            if reached[at] != session || !is_calm(session, seat, there, at) {
+                return false;
+            }
+        }
+        true
     }
 
     /// Whether the end of its bytes was heard of each session that has not left.

@@ -7,7 +7,7 @@ ghost use Rattle.trick_serve.specs.Calls.{WentOn};
 ghost use Rattle.trick_serve.specs.Clients.{AreOfClients, IsLast, IsSilent, has_lack};
 ghost use Rattle.trick_serve.specs.Looks.{Came, HasFound, HasNoMore};
 ghost use Rattle.trick_serve.specs.Rolls.{IsGathered, view_of, ways_of};
-ghost use Rattle.trick_serve.specs.Rules.{AreQuick, is_live, sessions_by};
+ghost use Rattle.trick_serve.specs.Rules.{AreCalm, AreQuick, is_live, sessions_by};
 ghost use Rattle.trick_serve.specs.declared.seat.Seat.{Seat};
 ghost use Rattle.trick_serve_door.specs.Departures.{left_of};
 ghost use Rattle.trick_serve_door.specs.declared.departure.Departure.TheVariants.{Run};
@@ -80,8 +80,8 @@ fn tell_over<R: Wait>(rt: &R, gone: &mut Putter<Departure>)
 impl<I: Drop, O: Drop, R: Wait + Copy> Served<I, O, R> {
     /// The source of entries of a run to which no client has come yet. Clients come by `coming`, of which nothing was
     /// taken. Into `gone`, into which nothing was put, goes which sessions left, and at the end that the run is over;
-    /// it needs room for 65. The bell is rung after each put into `coming`, into an inbox and into a queue of causes.
-    /// Takes no memory.
+    /// it needs room for 65. The bell is rung after each put into `coming`, into an inbox and into a queue of causes: what
+    /// was put without a ring may stay there until the next ring. Takes no memory.
     pub fn new(
         rt: R,
         alloc: Global,
@@ -110,6 +110,8 @@ impl<I: Drop, O: Drop, R: Wait + Copy> Served<I, O, R> {
             asked: false,
             over: false,
             broke: false,
+            idle: false,
+            mark: 0,
             silent: false,
         }
     }
@@ -157,6 +159,9 @@ impl<I: Drop, O: Drop, R: Wait + Copy> Served<I, O, R> {
         ensures gathers { (there : List Session) (was : List Seat) (known : List ℕ)
             → IsGathered there was known self.old.roll true → IsGathered there was known self.new.roll (is_ok result) }
     {
+        if self.over {
+            return Ok(());
+        }
         let rt = self.rt;
         let taken = take_clients(&rt, &mut self.coming, &mut self.roll);
         let Ok(took) = taken else {
@@ -190,7 +195,8 @@ impl<I: Drop, O: Drop, R: Wait + Copy> Served<I, O, R> {
         self.roll.listen(&rt, self.alloc)
     }
 
-    // Asks and looks until a list was gathered, which in Freeze is not empty. False where no line comes any more.
+    // Looks until a list was gathered, which in Freeze is not empty, and asks before each look but the first one. False
+    // where no line comes any more.
     fn find<A: Asks>(
         &mut self,
         asks: &mut A,
@@ -214,7 +220,6 @@ impl<I: Drop, O: Drop, R: Wait + Copy> Served<I, O, R> {
         let rt = self.rt;
         for _ in rt.forever() {
             let mark = self.bell.mark();
-            asks.ask();
             self.look(there)?;
             if !self.roll.list.is_empty() || self.asked && !frozen {
                 return Ok(true);
@@ -223,6 +228,7 @@ impl<I: Drop, O: Drop, R: Wait + Copy> Served<I, O, R> {
                 return Ok(false);
             }
             asks.rest(&rt, &self.bell, mark);
+            asks.ask();
         }
         unreachable!()
     }
@@ -265,8 +271,9 @@ impl<I: Drop, O: Drop, R: Wait + Copy> Served<I, O, R> {
         Ok(None)
     }
 
-    /// What the next turn is given, where this one brings the clients.
-    pub(crate) fn next<M: Cells, A: Asks>(
+    // What the next turn is given after a look at what came. It stays apart from `next`, since mostly nothing has come.
+    #[inline(never)]
+    fn seek<M: Cells, A: Asks>(
         &mut self,
         asks: &mut A,
         alloc: Global,
@@ -287,13 +294,61 @@ impl<I: Drop, O: Drop, R: Wait + Copy> Served<I, O, R> {
             return Next::OutOfMemory;
         }
         match self.list(asks, alloc, is_frozen(state.mode), there) {
-            Ok(Some(list)) => Next::Entries(list),
+            Ok(Some(list)) => {
+                self.idle = list.is_empty();
+                if self.idle {
+                    return Next::Nothing;
+                }
+                Next::Entries(list)
+            }
             Ok(None) => Next::NoMore,
             Err(AllocError) => {
                 self.broke = true;
                 Next::OutOfMemory
             }
         }
+    }
+
+    // Whether a turn is given nothing without a look, where the bell is at this mark: nothing has come since the last
+    // look, at which nothing had come, and no session is to leave.
+    fn is_calm(&self, mark: u64, there: &[Session]) -> bool
+        ensures calm { result ≡ true
+            → AreCalm self.now.roll.seats.items self.now.roll.live.items self.now.reached.items }
+        ensures asked { result ≡ true → self.now.asked ≡ true }
+        ensures whole { result ≡ true → self.now.broke ≡ false }
+    {
+        self.idle
+            && self.mark == mark
+            && self.asked
+            && !self.broke
+            && self.roll.is_calm(&self.reached, there)
+    }
+
+    /// What the next turn is given, where this one brings the clients.
+    pub(crate) fn next<M: Cells, A: Asks>(
+        &mut self,
+        asks: &mut A,
+        alloc: Global,
+        state: &State<M>,
+        there: &[Session],
+    ) -> Next
+        ensures asked { A.keeps asks.old asks.new }
+        ensures went { WentOn (view_of self.old) (view_of self.new) (ways_of self.old) (ways_of self.new)
+            (answered (seen M.numbers state.now) there.now result) [] }
+        ensures pays { Pays (seen M.numbers state.now) result false false }
+        ensures gives { Gives (seen M.numbers state.now) None result None }
+        ensures rules { GoesOn false
+            (sessions_by self.old.roll.seats.items self.old.roll.live.items self.old.reached.items) result
+            (sessions_by self.new.roll.seats.items self.new.roll.live.items self.new.reached.items) }
+        ensures no_gap { IfGap result (λ turns. ⊥) }
+    {
+        asks.ask();
+        let mark = self.bell.mark();
+        if !is_frozen(state.mode) && self.is_calm(mark, there) {
+            return Next::Nothing;
+        }
+        self.mark = mark;
+        self.seek(asks, alloc, state, there)
     }
 }
 

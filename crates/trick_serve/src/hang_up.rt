@@ -1,6 +1,6 @@
 //! Sessions that hang up.
 
-ghost use Rattle.std.specs.Prelude.{◌≡◌, ◌||◌, ◌++◌, ◌∷◌, ◌<◌, ◌≤◌, [], List, ℕ, OnErr, OnOk, is_ok, length, true};
+ghost use Rattle.std.specs.Prelude.{◌≡◌, ◌||◌, ◌++◌, ◌∷◌, ◌<◌, ◌≤◌, [], List, ℕ, OnErr, OnOk, false, is_ok, length, true};
 ghost use Rattle.trick_model.specs.Session.{is_empty};
 ghost use Rattle.trick_model.specs.declared.session.Session.{Session};
 ghost use Rattle.trick_serve.specs.Clients.{KeepQueues};
@@ -40,6 +40,21 @@ fn look_at(
         leave(session, Cause::HungUp, seat, list);
     }
     Ok(())
+}
+
+/// Whether a session is not to leave as long as nothing comes of it: it has not left, no message to it was left out, and
+/// it does not hang up. It is shown at this place of the sessions that are shown, if at all.
+pub(crate) fn is_calm(session: u32, seat: &Seat, there: &[Session], at: usize) -> bool
+    ensures stays { result ≡ true → seat.now.left ≡ false }
+    ensures quick { result ≡ true → seat.now.slow ≡ false }
+{
+    if seat.left || seat.slow {
+        return false;
+    }
+    if !seat.ended || at >= there.len() {
+        return true;
+    }
+    there[at].number != session || !is_idle(&there[at])
 }
 
 /// Lists that each of these sessions hangs up whose client has no line left, and which is shown to be paused or to have

@@ -33,6 +33,10 @@ pub struct Served<I, O, R> {
     pub(crate) over: bool,
     // There was no memory once.
     pub(crate) broke: bool,
+    // Nothing came at the last look for a list.
+    pub(crate) idle: bool,
+    // The mark of the bell before that look.
+    pub(crate) mark: u64,
     // Something had come of the door before its first client.
     pub(crate) silent: bool,
     // Session n is of the n-th client that was taken of those that come.

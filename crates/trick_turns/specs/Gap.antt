@@ -38,6 +38,7 @@ pub data Gap {U : Type 0} (gives : State → U → U → Type 0) : State → ℕ
 -- a fact of the number of turns, where the answer is a gap
 abbrev pub IfGap : Next → (ℕ → Type 0) → Type 0
 IfGap (next.Entries list) fact = Unit {0}
+IfGap next.Nothing fact = Unit {0}
 IfGap (next.Gap turns) fact = fact turns
 IfGap next.NoMore fact = Unit {0}
 IfGap (next.Length kept given) fact = Unit {0}

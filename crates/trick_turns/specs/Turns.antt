@@ -30,10 +30,11 @@ empty_answers zero s there = []
 empty_answers (suc turns) s there =
     record { turn = s.turn; mode = s.mode; sessions = there; list = Some [] } ∷ empty_answers turns (counted s) there
 
--- The answers that one call adds: only lists and `NoMore` count.
+-- The answers that one call adds: only lists and `NoMore` count. `Nothing` is an empty list, here and everywhere.
 abbrev pub answered : State → List Session → Next → List Answer
 answered s there (next.Entries list) =
     record { turn = s.turn; mode = s.mode; sessions = there; list = Some list.items } ∷ []
+answered s there next.Nothing = record { turn = s.turn; mode = s.mode; sessions = there; list = Some [] } ∷ []
 answered s there (next.Gap turns) = empty_answers turns s there
 answered s there next.NoMore = record { turn = s.turn; mode = s.mode; sessions = there; list = None } ∷ []
 answered s there (next.Length kept given) = []
@@ -59,6 +60,7 @@ owes_after mode entries owed = cond (has_line entries) false (cond (is_frozen mo
 -- nothing is owed.
 abbrev pub Pays : State → Next → Bool → Bool → Type 0
 Pays s (next.Entries list) owed now = now ≡ owes_after s.mode list.items owed
+Pays s next.Nothing owed now = now ≡ owes_after s.mode [] owed
 Pays s (next.Gap turns) owed now = Unit {0}
 Pays s next.NoMore owed now = IsTrue (is_frozen s.mode) × (owed ≡ false) × (now ≡ false)
 Pays s (next.Length kept given) owed now = now ≡ owed
@@ -81,12 +83,16 @@ behind told = record told { lists = rest_of told.lists }
 -- told turn by turn.
 abbrev pub Gives : State → Option Told → Next → Option Told → Type 0
 Gives s None (next.Entries list) now = now ≡ None
+Gives s None next.Nothing now = now ≡ None
 Gives s None (next.Gap turns) now = ⊥
 Gives s None next.NoMore now = now ≡ None
 Gives s None (next.Length kept given) now = ⊥
 Gives s None next.OutOfMemory now = now ≡ None
 Gives s (Some told) (next.Entries list) now =
     (list.items ≡ next_of told.lists) × (s.turn < told.end)
+    × (is_frozen s.mode ≡ true → has_session_entry told.lists ≡ true) × (now ≡ Some (behind told))
+Gives s (Some told) next.Nothing now =
+    ([] ≡ next_of told.lists) × (s.turn < told.end)
     × (is_frozen s.mode ≡ true → has_session_entry told.lists ≡ true) × (now ≡ Some (behind told))
 Gives s (Some told) (next.Gap turns) now = Unit {0}
 Gives s (Some told) next.NoMore now = (has_session_entry told.lists ≡ false) × (now ≡ Some told)
@@ -169,6 +175,7 @@ abbrev pub GoesOn : Bool → Sessions → Next → Sessions → Type 0
 GoesOn decides s (next.Entries list) now =
     IsTrue (may_all_come list.items (in_next s)) × (now ≡ after_entries list.items (in_next s))
     × (decides ≡ false → list_any (λ entry. not (is_of_session entry)) list.items ≡ false)
+GoesOn decides s next.Nothing now = now ≡ in_next s
 GoesOn decides s (next.Gap turns) now = Unit {0}
 GoesOn decides s next.NoMore now = now ≡ s
 GoesOn decides s (next.Length kept given) now = now ≡ s

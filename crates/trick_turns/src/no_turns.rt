@@ -23,10 +23,10 @@ impl<M: Cells> Turns<M> for NoTurns {
 
     ghost takes = { λ turns session. Unit {0} };
 
-    fn entries(&mut self, alloc: Global, state: &State<M>, _live: &[Session]) -> Next {
+    fn entries(&mut self, _alloc: Global, state: &State<M>, _live: &[Session]) -> Next {
         match state.mode {
             Mode::Freeze => Next::NoMore,
-            Mode::Run | Mode::Shutdown => Next::Entries(Vec::new(alloc)),
+            Mode::Run | Mode::Shutdown => Next::Nothing,
         }
     }
 

@@ -11,6 +11,8 @@ use trick_model::{Entry, Session, State};
 pub enum Next {
     /// The turn's entries, in order.
     Entries(Vec<Entry>),
+    /// The turn is given no entry. It means what an empty list means, and there is no list to let go of.
+    Nothing,
     /// So many turns are given no entry, this one and those after it. It comes in Freeze alone, where such turns
     /// do nothing but to be counted, and they are one at least.
     Gap { turns: u64 },

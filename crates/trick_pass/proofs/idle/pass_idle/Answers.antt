@@ -25,7 +25,7 @@ turned g c =
     let p = plan_of plan in
     let s : State = seen g.M.Cells.numbers c.args.state.now in
     let later : State = seen g.M.Cells.numbers c.skip.new.state in
-    let bottom : State = seen g.M.Cells.numbers c.run_class.new.state in
+    let bottom : State = seen g.M.Cells.numbers c.run_end_of_frame.new.state in
     let same = c.plan-plan.ensures.plan in
     let none : threads_beside p ≡ [] = no_threads p c.args.equipment.now.course.ends.stations c.requires.equipped.under_way.ready.ends.stations
     (c.if-not-is_empty.ensures ∙ ap (λ (stations : List Station). length stations == 0) c.stations.ensures) in
@@ -34,7 +34,7 @@ turned g c =
     let idle : frame p (unasked s) ≡ idle_frame later =
     subst (λ (x : Plan). frame (plan_of x) (unasked s) ≡ idle_frame later) same (c.if-not-skip.ensures.frame refl (unasked s) refl) in
     let end : bottom ≡ run_class p class.EndOfFrame later =
-    c.run_class.ensures.ran ∙ ap (λ (x : Plan). run_class (plan_of x) class.EndOfFrame later) same in
+    c.run_end_of_frame.ensures.ran ∙ ap (λ (x : Plan). run_class (plan_of x) class.EndOfFrame later) same in
     idle_turn p s later bottom (sym c.if-not-runs.ensures) top none idle end
     ∙ ap (λ (t : State). record { state = t; writes = [] }) (sym c.count.ensures.counted)
 
@@ -51,11 +51,11 @@ returns-clause-equipped g c =
     let course = c.args.equipment.now.course in
     let posts = g.P.Posts.in_flight c.args.posts.now in
     let later = c.skip.new.state in
-    let bottom = c.run_class.new.state in
+    let bottom = c.run_end_of_frame.new.state in
     let last = c.count.new.state in
     let same = c.plan-plan.ensures.plan in
     let memory : IsMemoryOf plan.program (g.M.Cells.numbers bottom.memory) (g.M.Cells.scalars bottom.memory) =
-    subst (λ (x : Plan). IsMemoryOf x.program (g.M.Cells.numbers bottom.memory) (g.M.Cells.scalars bottom.memory)) same c.run_class.ensures.memory in
+    subst (λ (x : Plan). IsMemoryOf x.program (g.M.Cells.numbers bottom.memory) (g.M.Cells.scalars bottom.memory)) same c.run_end_of_frame.ensures.memory in
     let begin = c.args.state.now in
     let way = rw same at (c.if-not-skip.ensures.under_way posts (g.M.Cells.scalars begin.memory)) in
     record {
@@ -63,9 +63,9 @@ returns-clause-equipped g c =
           (g.M.Cells.scalars last.memory) c.count.ensures.counted (rw (sym c.count.ensures.memory) at memory)
           (class_goes plan course posts class.EndOfFrame (seen g.M.Cells.numbers later) (seen g.M.Cells.numbers bottom)
           (g.M.Cells.scalars begin.memory) (g.M.Cells.scalars bottom.memory) (c.plans_are_sound.ensures plan)
-          (c.run_class.ensures.ran ∙ ap (λ (x : Plan). run_class (plan_of x) class.EndOfFrame (seen g.M.Cells.numbers later)) same) memory
+          (c.run_end_of_frame.ensures.ran ∙ ap (λ (x : Plan). run_class (plan_of x) class.EndOfFrame (seen g.M.Cells.numbers later)) same) memory
           (way c.requires.equipped.under_way));
-      bench = subst (λ (parts : Parts). IsFor plan.program parts) (sym c.run_class.ensures.bench) c.requires.equipped.bench;
+      bench = subst (λ (parts : Parts). IsFor plan.program parts) (sym c.run_end_of_frame.ensures.bench) c.requires.equipped.bench;
     }
 
 pub returns-clause-alone : goal.returns-clause-alone

@@ -2,7 +2,7 @@ use Rattle.std.proofs.Common.{rules, ◌≡◌, ◌∙◌, List, [], Err, None, 
 use Rattle.std.proofs.lemmas.List.{length-map}
 use Rattle.std.proofs.lemmas.Result.{err_from_is_err_and}
 use Rattle.std.specs.Prelude.{Option, Result, nat_le}
-use Rattle.trick_exec.proofs.GoLemmas.{both_false, came_as, gave_as, none_known, step_as, under_more, under_stops}
+use Rattle.trick_exec.proofs.GoLemmas.{both_false, came_as, gave_as, gave_list, gave_nothing, none_known, step_as, under_more, under_stops}
 use Rattle.trick_exec.proofs.GapLemmas.{equipped_later, gap_as, gap_known, under_as, under_gap}
 use Rattle.trick_exec.proofs.IdleTurns.{idle_known, idle_turn}
 use Rattle.trick_exec.proofs.lent.Run.go.Goals as goal
@@ -25,7 +25,7 @@ use Rattle.trick_runs.proofs.Going.{Gave, IsGoing, Laws, going_starts}
 use Rattle.trick_runs.specs.Hosts.{Place, at, hosts}
 use Rattle.trick_runs.specs.Rounds.{no_waits}
 use Rattle.trick_turns.specs.Gap.{Gap}
-use Rattle.trick_turns.specs.Turns.{Gives, Sessions, Told, after_entries, in_next}
+use Rattle.trick_turns.specs.Turns.{Gives, Told}
 use Rattle.trick_turns.specs.declared.turns.Next.TheVariants as next
 
 pub turns-init : goal.turns-init
@@ -60,17 +60,9 @@ returns-then-is_over-clause-turns g c =
     let under = c.turns.invariant.under in
     (under.lists, over_unasked h laws p start (g.met.T.Turns.went_none c.turns.self.turns.now) under.going (sym c.is_over.ensures ∙ c.if-is_over.true))
 
-pub turn-requires-clause-ready : goal.turn-requires-clause-ready
-turn-requires-clause-ready g c =
-    record { own = c.turns.invariant.ready.own; posts = c.turns.invariant.ready.posts; equipped = c.idles.ensures.equipped }
-
 pub turn-requires-clause-given : goal.turn-requires-clause-given
 turn-requires-clause-given g c =
-    let plan = c.args.accepted.now.plan in
-    let p = plan_of plan in
-    let h = hosts g.F.Shelf g.T.Turns g.P.Posts in
-    let laws : Laws h = record { shelf = g.met.F.Shelf.called_join; turns = g.met.T.Turns.went_join; posts = g.met.P.Posts.asked_join; runs = c.runs_join.ensures } in
-    let start : State = seen g.M.Cells.numbers c.args.world.state in
+    let p = plan_of c.args.accepted.now.plan in
     let under = c.turns.invariant.under in
     let w : World = world_of g.M.Cells.numbers c.turns.world in
     let own : HasGiven p c.decides-decides.result w c.in-Entries.entries.items (g.T.Turns.sessions c.entries.new.self) = record {
@@ -80,9 +72,7 @@ turn-requires-clause-given g c =
       after = c.in-Entries.ensures.rules.1;
       silent = λ none. c.in-Entries.ensures.rules.2 (under.going.decided ∙ sym c.decides-decides.ensures ∙ none);
     } in
-    subst (λ (v : WorldValue g.row.M.Denot). HasGiven p c.decides-decides.result (world_of g.M.Cells.numbers v) c.deref-in-Entries.result.now (g.T.Turns.sessions c.entries.new.self))
-    (sym (c.if-idles.ensures.unchanged refl))
-    (subst (λ (l : List Entry). HasGiven p c.decides-decides.result w l (g.T.Turns.sessions c.entries.new.self)) (sym c.deref-in-Entries.ensures.value) own)
+    subst (λ (l : List Entry). HasGiven p c.decides-decides.result w l (g.T.Turns.sessions c.entries.new.self)) (sym c.deref-in-Entries.ensures.value) own
 
 pub turns-preserved : goal.turns-preserved
 turns-preserved g c =
@@ -94,30 +84,61 @@ turns-preserved g c =
     let under = c.turns.invariant.under in
     let w : World = world_of g.M.Cells.numbers c.turns.world in
     let tests = both_false (is_shut w.state.mode) (nat_le w.state.limit w.state.tic) (sym c.is_over.ensures ∙ c.if-is_over.false) in
-    let items = c.in-Entries.entries.items in
-    let told_of = λ (o : Option Told) (is : g.T.Turns.journal c.turns.self.turns.now ≡ o).
-    subst (λ (x : Option Told). Gives w.state x (next.Entries c.in-Entries.entries) (g.T.Turns.journal c.entries.new.self)) is c.in-Entries.ensures.gives in
-    let given : Gave g.T.Turns w items c.turns.self.turns.now c.entries.new.self = record {
-      step = step_as g.T.Turns w c.deref.result.now (Some items) c.turns.self.turns.now c.entries.new.self c.deref.ensures.value
-          c.in-Entries.ensures.step;
-      owes = c.in-Entries.ensures.pays;
-      told = λ told is. told_of (Some told) is;
-      untold = λ none. told_of None none;
-      decided = c.in-Entries.ensures.decides;
-      may = c.in-Entries.ensures.rules.0;
-      sessions = c.in-Entries.ensures.rules.1;
-    } in
-    let gave : Gave g.T.Turns w c.deref-in-Entries.result.now c.turns.self.turns.now c.entries.new.self = gave_as (sym c.deref-in-Entries.ensures.value) given in
+    let gave : Gave g.T.Turns w c.deref-in-Entries.result.now c.turns.self.turns.now c.entries.new.self =
+    gave_as (sym c.deref-in-Entries.ensures.value)
+    (gave_list g.T.Turns w c.deref.result.now c.in-Entries.entries c.turns.self.turns.now c.entries.new.self c.deref.ensures.value
+    c.in-Entries.ensures.step c.in-Entries.ensures.pays c.in-Entries.ensures.gives c.in-Entries.ensures.rules c.in-Entries.ensures.decides) in
     record {
       under = under_more h laws g.M.Cells.numbers p start c.in_ok-world-in-Entries.world under c.decides-decides.ensures tests.0 tests.1 gave
-          (came_as c.idles.new.world c.turns.world (c.if-idles.ensures.unchanged refl) c.in_ok-world-in-Entries.ensures.came_to);
+          c.in_ok-world-in-Entries.ensures.came_to;
       ready = c.in_ok-world-in-Entries.ensures.ready;
       same = Prim.search rules;
       waits = c.in_ok-world-in-Entries.ensures.waits;
       known = c.in_ok-world-in-Entries.ensures.known;
-      still = turn_still p (world_of g.M.Cells.numbers c.idles.new.world) c.in_ok-world-in-Entries.ensures.came_to.entries
-          c.in_ok-world-in-Entries.world.sessions.items
+      still = turn_still p w c.in_ok-world-in-Entries.ensures.came_to.entries c.in_ok-world-in-Entries.world.sessions.items
           (ap (λ (v : World). v.sessions) c.in_ok-world-in-Entries.ensures.came_to.world);
+    }
+
+pub turn-requires-in-Nothing-clause-ready : goal.turn-requires-in-Nothing-clause-ready
+turn-requires-in-Nothing-clause-ready g c =
+    record { own = c.turns.invariant.ready.own; posts = c.turns.invariant.ready.posts; equipped = c.idles.ensures.equipped }
+
+pub turn-requires-in-Nothing-clause-given : goal.turn-requires-in-Nothing-clause-given
+turn-requires-in-Nothing-clause-given g c =
+    let p = plan_of c.args.accepted.now.plan in
+    let own : HasGiven p c.decides-decides.result (world_of g.M.Cells.numbers c.turns.world) [] (g.T.Turns.sessions c.entries.new.self) = record {
+      known = g.T.Turns.sessions c.turns.self.turns.now;
+      are = c.turns.invariant.known;
+      may = refl;
+      after = c.in-Nothing.ensures.rules;
+      silent = λ none. refl;
+    } in
+    subst (λ (v : WorldValue g.row.M.Denot). HasGiven p c.decides-decides.result (world_of g.M.Cells.numbers v) [] (g.T.Turns.sessions c.entries.new.self))
+    (sym (c.if-idles.ensures.unchanged refl)) own
+
+pub turns-preserved-in-Nothing : goal.turns-preserved-in-Nothing
+turns-preserved-in-Nothing g c =
+    let plan = c.args.accepted.now.plan in
+    let p = plan_of plan in
+    let h = hosts g.F.Shelf g.T.Turns g.P.Posts in
+    let laws : Laws h = record { shelf = g.met.F.Shelf.called_join; turns = g.met.T.Turns.went_join; posts = g.met.P.Posts.asked_join; runs = c.runs_join.ensures } in
+    let start : State = seen g.M.Cells.numbers c.args.world.state in
+    let under = c.turns.invariant.under in
+    let w : World = world_of g.M.Cells.numbers c.turns.world in
+    let tests = both_false (is_shut w.state.mode) (nat_le w.state.limit w.state.tic) (sym c.is_over.ensures ∙ c.if-is_over.false) in
+    let gave : Gave g.T.Turns w [] c.turns.self.turns.now c.entries.new.self =
+    gave_nothing g.T.Turns w c.deref.result.now c.turns.self.turns.now c.entries.new.self c.deref.ensures.value
+    c.in-Nothing.ensures.step c.in-Nothing.ensures.pays c.in-Nothing.ensures.gives c.in-Nothing.ensures.rules c.in-Nothing.ensures.decides in
+    record {
+      under = under_more h laws g.M.Cells.numbers p start c.in_ok-world-in-Nothing.world under c.decides-decides.ensures tests.0 tests.1 gave
+          (came_as c.idles.new.world c.turns.world (c.if-idles.ensures.unchanged refl) c.in_ok-world-in-Nothing.ensures.came_to);
+      ready = c.in_ok-world-in-Nothing.ensures.ready;
+      same = Prim.search rules;
+      waits = c.in_ok-world-in-Nothing.ensures.waits;
+      known = c.in_ok-world-in-Nothing.ensures.known;
+      still = turn_still p (world_of g.M.Cells.numbers c.idles.new.world) c.in_ok-world-in-Nothing.ensures.came_to.entries
+          c.in_ok-world-in-Nothing.world.sessions.items
+          (ap (λ (v : World). v.sessions) c.in_ok-world-in-Nothing.ensures.came_to.world);
     }
 
 pub turns-preserved-then-idles : goal.turns-preserved-then-idles
@@ -130,34 +151,21 @@ turns-preserved-then-idles g c =
     let under = c.turns.invariant.under in
     let w : World = world_of g.M.Cells.numbers c.turns.world in
     let tests = both_false (is_shut w.state.mode) (nat_le w.state.limit w.state.tic) (sym c.is_over.ensures ∙ c.if-is_over.false) in
-    let items = c.in-Entries.entries.items in
-    let told_of = λ (o : Option Told) (is : g.T.Turns.journal c.turns.self.turns.now ≡ o).
-    subst (λ (x : Option Told). Gives w.state x (next.Entries c.in-Entries.entries) (g.T.Turns.journal c.entries.new.self)) is c.in-Entries.ensures.gives in
-    let given : Gave g.T.Turns w items c.turns.self.turns.now c.entries.new.self = record {
-      step = step_as g.T.Turns w c.deref.result.now (Some items) c.turns.self.turns.now c.entries.new.self c.deref.ensures.value
-          c.in-Entries.ensures.step;
-      owes = c.in-Entries.ensures.pays;
-      told = λ told is. told_of (Some told) is;
-      untold = λ none. told_of None none;
-      decided = c.in-Entries.ensures.decides;
-      may = c.in-Entries.ensures.rules.0;
-      sessions = c.in-Entries.ensures.rules.1;
-    } in
-    let gave : Gave g.T.Turns w c.deref-in-Entries.result.now c.turns.self.turns.now c.entries.new.self = gave_as (sym c.deref-in-Entries.ensures.value) given in
+    let gave : Gave g.T.Turns w [] c.turns.self.turns.now c.entries.new.self =
+    gave_nothing g.T.Turns w c.deref.result.now c.turns.self.turns.now c.entries.new.self c.deref.ensures.value
+    c.in-Nothing.ensures.step c.in-Nothing.ensures.pays c.in-Nothing.ensures.gives c.in-Nothing.ensures.rules c.in-Nothing.ensures.decides in
     let idle = c.if-idles.ensures in
-    let known : Sessions = g.T.Turns.sessions c.turns.self.turns.now in
     let host : Place g.row.F.Denot g.row.T.Denot g.row.P.Denot = at c.turns.self.shelf.now c.entries.new.self c.turns.self.workers.now.posts in
     record {
       under = under_more h laws g.M.Cells.numbers p start c.idles.new.world under c.decides-decides.ensures tests.0 tests.1 gave
-          (idle_turn h g.M.Cells.numbers p c.decides-decides.result c.turns.world c.idles.new.world c.deref-in-Entries.result.now c.turns.self.waits.now.items host
+          (idle_turn h g.M.Cells.numbers p c.decides-decides.result c.turns.world c.idles.new.world c.turns.self.waits.now.items host
           (g.met.F.Shelf.called_none host.shelf) (g.met.T.Turns.went_none host.turns) (g.met.P.Posts.asked_none host.posts)
-          (idle.none refl) (idle.no_session refl) idle.sessions (idle.alone refl) c.turns.invariant.waits (idle.state refl) (idle.writes refl));
+          (idle.no_session refl) idle.sessions (idle.alone refl) c.turns.invariant.waits (idle.state refl) (idle.writes refl));
       ready = record { own = c.turns.invariant.ready.own; posts = c.turns.invariant.ready.posts; equipped = c.idles.ensures.equipped };
       same = c.turns.invariant.same;
       waits = c.turns.invariant.waits;
-      known = idle_known p known (g.T.Turns.sessions c.entries.new.self) c.turns.world.sessions.items c.idles.new.world.sessions.items c.turns.invariant.known
-          (c.in-Entries.ensures.rules.1 ∙ ap (λ (l : List Entry). after_entries l (in_next known)) (sym c.deref-in-Entries.ensures.value ∙ idle.none refl))
-          (ap (λ v. v.items) c.idles.ensures.sessions);
+      known = idle_known p (g.T.Turns.sessions c.turns.self.turns.now) (g.T.Turns.sessions c.entries.new.self) c.turns.world.sessions.items
+          c.idles.new.world.sessions.items c.turns.invariant.known c.in-Nothing.ensures.rules (ap (λ v. v.items) c.idles.ensures.sessions);
       still = subst AreStill (sym (ap (λ v. v.items) c.idles.ensures.sessions)) c.turns.invariant.still;
     }
 
@@ -199,27 +207,38 @@ returns-in_err-world-in-Entries-clause-turns g c =
     let under = c.turns.invariant.under in
     let w : World = world_of g.M.Cells.numbers c.turns.world in
     let tests = both_false (is_shut w.state.mode) (nat_le w.state.limit w.state.tic) (sym c.is_over.ensures ∙ c.if-is_over.false) in
-    let items = c.in-Entries.entries.items in
-    let told_of = λ (o : Option Told) (is : g.T.Turns.journal c.turns.self.turns.now ≡ o).
-    subst (λ (x : Option Told). Gives w.state x (next.Entries c.in-Entries.entries) (g.T.Turns.journal c.entries.new.self)) is c.in-Entries.ensures.gives in
-    let given : Gave g.T.Turns w items c.turns.self.turns.now c.entries.new.self = record {
-      step = step_as g.T.Turns w c.deref.result.now (Some items) c.turns.self.turns.now c.entries.new.self c.deref.ensures.value
-          c.in-Entries.ensures.step;
-      owes = c.in-Entries.ensures.pays;
-      told = λ told is. told_of (Some told) is;
-      untold = λ none. told_of None none;
-      decided = c.in-Entries.ensures.decides;
-      may = c.in-Entries.ensures.rules.0;
-      sessions = c.in-Entries.ensures.rules.1;
-    } in
-    let gave : Gave g.T.Turns w c.deref-in-Entries.result.now c.turns.self.turns.now c.entries.new.self = gave_as (sym c.deref-in-Entries.ensures.value) given in
+    let gave : Gave g.T.Turns w c.deref-in-Entries.result.now c.turns.self.turns.now c.entries.new.self =
+    gave_as (sym c.deref-in-Entries.ensures.value)
+    (gave_list g.T.Turns w c.deref.result.now c.in-Entries.entries c.turns.self.turns.now c.entries.new.self c.deref.ensures.value
+    c.in-Entries.ensures.step c.in-Entries.ensures.pays c.in-Entries.ensures.gives c.in-Entries.ensures.rules c.in-Entries.ensures.decides) in
     let error = err_from_is_err_and c.from_residual.result c.from_residual.ensures.1 in
     let result : Result (EndedValue g.row.M.Denot) Stop = Err error.0 in
     let old : Place g.row.F.Denot g.row.T.Denot g.row.P.Denot = at c.args.self.now.shelf.now c.args.self.now.turns.now c.args.self.now.workers.now.posts in
     let new : Place g.row.F.Denot g.row.T.Denot g.row.P.Denot = at c.turn.new.self.shelf.now c.turn.new.self.turns.now c.turn.new.self.workers.now.posts in
     subst (λ (r : Result (EndedValue g.row.M.Denot) Stop). AreTurns h g.M.Cells.numbers p start old new r) (sym error.1)
     (under_stops h laws g.M.Cells.numbers p start result _ error.0 under c.decides-decides.ensures tests.0 tests.1 gave
-    (came_as c.idles.new.world c.turns.world (c.if-idles.ensures.unchanged refl) c.in_err-world-in-Entries.ensures.came_to) refl refl error.2)
+    c.in_err-world-in-Entries.ensures.came_to refl refl error.2)
+
+pub returns-in_err-world-in-Nothing-clause-turns : goal.returns-in_err-world-in-Nothing-clause-turns
+returns-in_err-world-in-Nothing-clause-turns g c =
+    let plan = c.args.accepted.now.plan in
+    let p = plan_of plan in
+    let h = hosts g.F.Shelf g.T.Turns g.P.Posts in
+    let laws : Laws h = record { shelf = g.met.F.Shelf.called_join; turns = g.met.T.Turns.went_join; posts = g.met.P.Posts.asked_join; runs = c.runs_join.ensures } in
+    let start : State = seen g.M.Cells.numbers c.args.world.state in
+    let under = c.turns.invariant.under in
+    let w : World = world_of g.M.Cells.numbers c.turns.world in
+    let tests = both_false (is_shut w.state.mode) (nat_le w.state.limit w.state.tic) (sym c.is_over.ensures ∙ c.if-is_over.false) in
+    let gave : Gave g.T.Turns w [] c.turns.self.turns.now c.entries.new.self =
+    gave_nothing g.T.Turns w c.deref.result.now c.turns.self.turns.now c.entries.new.self c.deref.ensures.value
+    c.in-Nothing.ensures.step c.in-Nothing.ensures.pays c.in-Nothing.ensures.gives c.in-Nothing.ensures.rules c.in-Nothing.ensures.decides in
+    let error = err_from_is_err_and c.from_residual-in_err-world-in-Nothing.result c.from_residual-in_err-world-in-Nothing.ensures.1 in
+    let result : Result (EndedValue g.row.M.Denot) Stop = Err error.0 in
+    let old : Place g.row.F.Denot g.row.T.Denot g.row.P.Denot = at c.args.self.now.shelf.now c.args.self.now.turns.now c.args.self.now.workers.now.posts in
+    let new : Place g.row.F.Denot g.row.T.Denot g.row.P.Denot = at c.turn-in-Nothing.new.self.shelf.now c.turn-in-Nothing.new.self.turns.now c.turn-in-Nothing.new.self.workers.now.posts in
+    subst (λ (r : Result (EndedValue g.row.M.Denot) Stop). AreTurns h g.M.Cells.numbers p start old new r) (sym error.1)
+    (under_stops h laws g.M.Cells.numbers p start result _ error.0 under c.decides-decides.ensures tests.0 tests.1 gave
+    (came_as c.idles.new.world c.turns.world (c.if-idles.ensures.unchanged refl) c.in_err-world-in-Nothing.ensures.came_to) refl refl error.2)
 
 pub returns-in-NoMore-clause-turns : goal.returns-in-NoMore-clause-turns
 returns-in-NoMore-clause-turns g c =

@@ -1,4 +1,4 @@
-use Rattle.std.proofs.Common.{◌≡◌, Some, ap, refl, rules, false, sym, ◌∙◌}
+use Rattle.std.proofs.Common.{Some, ap, refl, rules, sym, ◌∙◌}
 use Rattle.std.specs.List.{list_any}
 use Rattle.trick_journal_turns.proofs.Gaps.{answers_told, gap_of}
 use Rattle.trick_journal_turns.proofs.Replaying.{done_else, done_then, lines_left}
@@ -47,6 +47,21 @@ returns-then-turns-gt0-clause-step g c =
     (gap_of c.gap-turns.result c.args._live.now (seen g.M.Cells.numbers c.args.state.now) c.args.self.now c.pass_gap.new.self c.if-turns-gt0.true
     (sym c.is_frozen-frozen.ensures ∙ frozen) (c.gap-turns.ensures.below c.if-turns-gt0.true) line (c.gap-turns.ensures.none c.if-turns-gt0.true)
     c.pass_gap.ensures)
+
+pub pass_quiet-requires-clause-line : goal.pass_quiet-requires-clause-line
+pass_quiet-requires-clause-line g c =
+    done_else c.is_frozen-frozen.result (list_any is_line c.args.self.now.due) (sym c.is_done.ensures ∙ c.if-is_done.false)
+
+pub returns-then-is_quiet-clause-gives : goal.returns-then-is_quiet-clause-gives
+returns-then-is_quiet-clause-gives g c =
+    let s = c.args.self.now in (
+      c.pass_quiet.ensures.list,
+      c.if-self-state.false,
+      λ frozen.
+          lines_left s.at s.end (sessions_so_far s.over s.start s.at s.whole.value) s.due s.rules
+          ∙ done_else c.is_frozen-frozen.result (list_any is_line s.due) (sym c.is_done.ensures ∙ c.if-is_done.false) (c.is_frozen-frozen.ensures ∙ frozen),
+      ap (λ (told : Told). Some told) c.pass_quiet.ensures.told,
+    )
 
 pub next-requires : goal.next-requires
 next-requires g c =

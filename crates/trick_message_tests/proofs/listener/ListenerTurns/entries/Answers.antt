@@ -41,6 +41,7 @@ gap_so live l _ _ _ _ (gap.more s turns old mid new gives rest) =
 
 if_gap : (n : Next) (one other : ℕ → Type 0) → ((turns : ℕ) → one turns → other turns) → IfGap n one → IfGap n other
 if_gap (next.Entries list) one other so given = given
+if_gap next.Nothing one other so given = given
 if_gap (next.Gap turns) one other so given = so turns given
 if_gap next.NoMore one other so given = given
 if_gap (next.Length kept end) one other so given = given

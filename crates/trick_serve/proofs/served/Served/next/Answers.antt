@@ -1,48 +1,18 @@
-use Rattle.std.proofs.Common.{rules, ◌≡◌, Some, None, Ok, Err, Bool, refl, subst}
-use Rattle.std.specs.Prelude.{OnOk}
-use Rattle.trick_serve.proofs.Looking.{nothing_owed, went_given, went_lost, went_over}
-use Rattle.trick_serve.proofs.served.Served.next.Goals as goal
-use Rattle.trick_serve.specs.Looks.{Came, HasGiven, HasLost, HasNoMore}
-use Rattle.trick_serve.specs.Rolls.{view_of}
+use Rattle.std.proofs.Common.{rules, ◌≡◌, true, false, refl}
 use Rattle.trick_model.specs.Turn.{is_frozen}
+use Rattle.trick_serve.proofs.Calm.{calm_next}
+use Rattle.trick_serve.proofs.Looking.{went_calm}
+use Rattle.trick_serve.proofs.served.Served.next.Goals as goal
+use Rattle.trick_serve.specs.Rolls.{view_of}
 
-pub returns-in-Ok-Some-clause-went : goal.returns-in-Ok-Some-clause-went
-returns-in-Ok-Some-clause-went g c =
-    let frozen : c.is_frozen.result ≡ is_frozen c.args.state.now.mode = search rules in
-    let came : Came c.args.there.now (is_frozen c.args.state.now.mode) (view_of c.args.self.now) (view_of c.list.new.self) c.list.result =
-    subst (λ (b : Bool). Came c.args.there.now b (view_of c.args.self.now) (view_of c.list.new.self) c.list.result) frozen c.list.ensures.came in
-    let is : c.list.result ≡ Ok (Some c.in-Ok-Some.list) = search rules in
-    let so : HasGiven c.args.there.now (is_frozen c.args.state.now.mode) (view_of c.args.self.now) (view_of c.list.new.self) c.in-Ok-Some.list.items =
-    subst (λ r. Came c.args.there.now (is_frozen c.args.state.now.mode) (view_of c.args.self.now) (view_of c.list.new.self) r) is came in
-    let kept : c.list.new.self.broke ≡ c.args.self.now.broke = subst (λ r. OnOk r (c.list.new.self.broke ≡ c.args.self.now.broke)) is c.list.ensures.broke in
-    record { went = went_given c.args.there.now _ c.args.state.now.mode (view_of c.args.self.now) (view_of c.list.new.self) c.in-Ok-Some.list.items c.if-self.false kept so; same = λ i. (c.list.ensures.coming i, c.list.ensures.gone i) }
-
-pub returns-in-Ok-Some-clause-pays : goal.returns-in-Ok-Some-clause-pays
-returns-in-Ok-Some-clause-pays g c =
-    let frozen : c.is_frozen.result ≡ is_frozen c.args.state.now.mode = search rules in
-    let came : Came c.args.there.now (is_frozen c.args.state.now.mode) (view_of c.args.self.now) (view_of c.list.new.self) c.list.result =
-    subst (λ (b : Bool). Came c.args.there.now b (view_of c.args.self.now) (view_of c.list.new.self) c.list.result) frozen c.list.ensures.came in
-    let is : c.list.result ≡ Ok (Some c.in-Ok-Some.list) = search rules in
-    let so : HasGiven c.args.there.now (is_frozen c.args.state.now.mode) (view_of c.args.self.now) (view_of c.list.new.self) c.in-Ok-Some.list.items =
-    subst (λ r. Came c.args.there.now (is_frozen c.args.state.now.mode) (view_of c.args.self.now) (view_of c.list.new.self) r) is came in
-    nothing_owed c.args.state.now.mode c.in-Ok-Some.list.items so.rules.only so.filled
-
-pub returns-in-Ok-None-clause-went : goal.returns-in-Ok-None-clause-went
-returns-in-Ok-None-clause-went g c =
-    let frozen : c.is_frozen.result ≡ is_frozen c.args.state.now.mode = search rules in
-    let came : Came c.args.there.now (is_frozen c.args.state.now.mode) (view_of c.args.self.now) (view_of c.list.new.self) c.list.result =
-    subst (λ (b : Bool). Came c.args.there.now b (view_of c.args.self.now) (view_of c.list.new.self) c.list.result) frozen c.list.ensures.came in
-    let is : c.list.result ≡ Ok None = search rules in
-    let so : HasNoMore (is_frozen c.args.state.now.mode) (view_of c.args.self.now) (view_of c.list.new.self) =
-    subst (λ r. Came c.args.there.now (is_frozen c.args.state.now.mode) (view_of c.args.self.now) (view_of c.list.new.self) r) is came in
-    record { went = went_over c.args.there.now _ c.args.state.now.mode (view_of c.args.self.now) (view_of c.list.new.self) so; same = λ i. (c.list.ensures.coming i, c.list.ensures.gone i) }
-
-pub returns-in-Err-clause-went : goal.returns-in-Err-clause-went
-returns-in-Err-clause-went g c =
-    let frozen : c.is_frozen.result ≡ is_frozen c.args.state.now.mode = search rules in
-    let came : Came c.args.there.now (is_frozen c.args.state.now.mode) (view_of c.args.self.now) (view_of c.list.new.self) c.list.result =
-    subst (λ (b : Bool). Came c.args.there.now b (view_of c.args.self.now) (view_of c.list.new.self) c.list.result) frozen c.list.ensures.came in
-    let is : c.list.result ≡ Err _ = search rules in
-    let so : HasLost c.args.there.now (view_of c.args.self.now) (view_of c.list.new.self) =
-    subst (λ r. Came c.args.there.now (is_frozen c.args.state.now.mode) (view_of c.args.self.now) (view_of c.list.new.self) r) is came in
-    record { went = went_lost c.args.there.now (view_of c.args.self.now) (view_of c.list.new.self) _ so refl refl refl; same = λ i. (c.list.ensures.coming i, c.list.ensures.gone i) }
+pub returns-then-is_calm-clause-went : goal.returns-then-is_calm-clause-went
+returns-then-is_calm-clause-went g c =
+    let s = c.args.self.now in
+    let runs : is_frozen c.args.state.now.mode ≡ false = search rules in
+    let yes : c.is_calm.result ≡ true = search rules in
+    let calm = c.is_calm.ensures.calm yes in
+    record {
+      went = went_calm c.args.there.now _ c.args.state.now.mode (view_of s) (c.is_calm.ensures.whole yes) runs
+          (calm_next s.roll.seats.items s.roll.live.items s.reached.items calm) (s.quiet (c.is_calm.ensures.asked yes)) calm.quick;
+      same = refl;
+    }
