@@ -7,7 +7,7 @@ use Rattle.trick_board.specs.Tables.{scheduled}
 use Rattle.trick_lang.specs.declared.class.Class.TheVariants as class
 use Rattle.trick_lang.specs.declared.job.Job.{Job}
 use Rattle.trick_lang.specs.declared.job.JobId.{JobId}
-use Rattle.trick_model.specs.Laws.{AreInKeyOrder, IsBefore, KeyOrderIsOne, is_among}
+use Rattle.trick_model.specs.Laws.{AreInKeyOrder, KeyOrderIsOne, is_among}
 use Rattle.trick_model.specs.Order.{is_due, is_of_class, precedes}
 use Rattle.trick_model.specs.Plan.{job_numbers}
 use Rattle.trick_model.specs.PlanOf.{plan_of}

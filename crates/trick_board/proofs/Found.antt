@@ -1,5 +1,5 @@
 -- The jobs that are found in the tables of a board are jobs of its plan.
-use Rattle.std.proofs.Common.{◌≡◌, ℕ, ◌<◌, ◌==◌, Bool, true, false, List, [], ◌∷◌, length, cond, Option, Some, None, sym, subst}
+use Rattle.std.proofs.Common.{ℕ, ◌<◌, ◌==◌, Bool, true, false, List, [], ◌∷◌, length, cond, Option, Some, None, sym, subst}
 use Rattle.std.specs.List.{slice_index_or}
 use Rattle.std.specs.Option.{IfSome}
 use Rattle.std.specs.Prelude.{filter, if◌then◌else◌}

@@ -16,3 +16,5 @@ pub mod Calls
 pub mod Passed
 -- jobs that are found in tables
 pub mod Found
+-- counts of what due jobs wait for
+pub mod Counting

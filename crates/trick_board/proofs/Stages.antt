@@ -1,13 +1,12 @@
 -- The stages of due jobs, and how many due jobs there are.
-use Rattle.std.proofs.Common.{◌≡◌, inl, inr, ℕ, zero, suc, ◌<◌, ◌≤◌, Bool, true, false, cond, ◌&&◌, List, [], ◌∷◌, length, refl, sym, ◌∙◌, ap, subst, arith}
+use Rattle.std.proofs.Common.{◌≡◌, inl, inr, ℕ, zero, suc, ◌<◌, ◌≤◌, Bool, true, false, cond, ◌&&◌, List, length, refl, sym, ◌∙◌, ap, subst, arith}
 use Rattle.std.proofs.lemmas.Bool.{cases_eq, cases_lt}
 use Rattle.std.proofs.lemmas.List.{get_or-set_other, get_or-set_same, length-replicate, set_past}
 use Rattle.std.specs.Prelude.{filter, replicate, slice_set}
-use Rattle.trick_lang.specs.declared.job.Job.{Job}
 use Rattle.trick_lang.specs.declared.job.JobId.{JobId}
 use Rattle.trick_model.specs.Laws.{is_among}
-use Rattle.trick_model.specs.Order.{in_key_order, is_due as is_due_at_tic, jobs_at, precedes, put_in}
-use Rattle.trick_model.specs.Plan.{Plan, is_on_scheduled, job_numbers, numbers_from}
+use Rattle.trick_model.specs.Order.{is_due as is_due_at_tic, jobs_at}
+use Rattle.trick_model.specs.Plan.{Plan, is_on_scheduled, job_numbers}
 use Rattle.trick_model.specs.Valid.{ids}
 use Rattle.trick_model.specs.declared.flags.Flags.{Flags}
 use Rattle.trick_queue.proofs.Queued.{filter_few, ids_length, numbers_length, order_length}

@@ -46,11 +46,12 @@ pub record BoardView : Type 0 where
   pub jobs : ℕ
 
 -- the buffers have room for all jobs
-pub record IsRoomy (jobs flags due room : ℕ) : Type 0 where
+pub record IsRoomy (jobs flags due room counts : ℕ) : Type 0 where
   pub limit : jobs ≤ 512
   pub flags_are : flags ≡ jobs
   pub few : due ≤ jobs
   pub room_is : jobs ≤ room
+  pub counts_are : counts ≡ jobs
 
 -- each job that is due is one of these
 abbrev pub AreDueAmong : List ℕ → List Stage → Type 0

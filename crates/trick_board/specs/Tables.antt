@@ -4,6 +4,7 @@ use Rattle.std.specs.Prelude.{◌≡◌, ℕ, ◌<◌, ◌==◌, List, [], filte
 use Rattle.trick_board.specs.declared.tables.Tables.{Tables}
 use Rattle.trick_lang.specs.declared.class.Class.TheVariants as class
 use Rattle.trick_lang.specs.declared.job.JobId.{JobId}
+use Rattle.trick_model.specs.Laws.{is_among}
 use Rattle.trick_model.specs.Order.{jobs_in}
 use Rattle.trick_model.specs.Plan.{Plan, thread_of}
 use Rattle.trick_model.specs.Valid.{ids}
@@ -21,11 +22,17 @@ line_of p thread = filter (λ k. thread_of p.jobs k == thread) (scheduled p)
 abbrev pub depended_of : Plan → ℕ → List ℕ
 depended_of p k = filter (depends_on p.depends k) (scheduled p)
 
+-- those of them that depend on a job
+abbrev pub followers_of : Plan → ℕ → List ℕ
+followers_of p a = filter (λ k. is_among a (depended_of p k)) (scheduled p)
+
 -- the jobs of a list, of many lists
 abbrev pub ids_at : List (List JobId) → ℕ → List ℕ
 ids_at lists place = ids (slice_index_or lists place [])
 
--- The tables are those of the plan: the jobs of each thread, and those that each job depends on.
+-- The tables are those of the plan: the jobs of each thread, those that each job depends on, and those
+-- that depend on each job.
 pub record IsFor (p : Plan) (tables : Tables) : Type 0 where
   pub lines : (thread : ℕ) → ids_at tables.lines thread ≡ line_of p thread
   pub depended : (k : ℕ) → k < length p.jobs → ids_at tables.depended k ≡ depended_of p k
+  pub followers : (k : ℕ) → k < length p.jobs → ids_at tables.followers k ≡ followers_of p k

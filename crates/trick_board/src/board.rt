@@ -19,7 +19,9 @@ ghost use Rattle.trick_schedule.specs.declared.stage.Stage.TheVariants.{InFlight
 ghost use Rattle.trick_schedule.specs.declared.step.Step.{Step};
 ghost use Rattle.trick_schedule.specs.declared.step.Step.TheVariants.{Commit as CommitOf, Take as TakeOf};
 
-use crate::search::{Next, next_of, pass, passed_of, stage_of};
+use crate::counts::{count_all, lower};
+use crate::known::Known;
+use crate::search::{Next, next_of, pass, stage_of};
 use crate::step::{
     add_faults, copy_flags, copy_jobs, count_open, finish, is_flagged, let_wait, next_phase,
     set_stage,
@@ -50,14 +52,14 @@ pub struct Board<M: Cells> {
     // In key order.
     due: Vec<JobId>,
     tables: Tables,
-    // By thread, how many of its first jobs are known not to wait and not to be in flight.
-    passed: Vec<usize>,
+    known: Known,
 }
 
 impl<M: Cells> Model for Board<M> {
     ghost use Rattle.std.specs.Option.{option_map};
     ghost use Rattle.std.specs.Prelude.{length, vec_capacity};
     ghost use Rattle.trick_board.specs.Board.{AreDueAmong, BoardView, IsRoomy, opened_of};
+    ghost use Rattle.trick_board.specs.Counts.{AreCounted};
     ghost use Rattle.trick_board.specs.Search.{ArePassed};
     ghost use Rattle.trick_model.specs.Valid.{ids};
 
@@ -71,13 +73,15 @@ impl<M: Cells> Model for Board<M> {
     } };
 
     ghost invariant = { λ b. IsRoomy (length b.stages.items) (length b.on.items) (length b.due.items)
-        (vec_capacity b.due)
-        × ArePassed b.tables b.stages.items b.passed.items
-        × AreDueAmong (ids b.due.items) b.stages.items };
+        (vec_capacity b.due) (length b.known.counts.items)
+        × ArePassed b.tables b.stages.items b.known.passed.items
+        × AreDueAmong (ids b.due.items) b.stages.items
+        × AreCounted b.tables b.stages.items b.known.counts.items };
 }
 
 impl<M: Cells> Board<M> {
-    /// A closed board of a plan. This call alone takes memory. It costs the jobs times the depends_on pairs.
+    /// A closed board of a plan. This call alone takes memory. It costs the jobs times the jobs and
+    /// the depends_on pairs.
     pub fn new(alloc: Global, accepted: &Accepted) -> Result<Self, AllocError>
         ensures belongs { IfOk result (IsBoardOf accepted.now.plan) }
         ensures closed { IfOk result (λ b. b.opened ≡ None) }
@@ -90,6 +94,7 @@ impl<M: Cells> Board<M> {
         let due = Vec::with_capacity(alloc, jobs)?;
         let tables = Tables::new(alloc, plan)?;
         let passed = vec![in alloc; 0; THREADS as usize]?;
+        let counts = vec![in alloc; 0; jobs]?;
         Ok(Board {
             phase: 0,
             tic: 0,
@@ -98,7 +103,7 @@ impl<M: Cells> Board<M> {
             stages,
             due,
             tables,
-            passed,
+            known: Known { passed, counts },
         })
     }
 
@@ -140,7 +145,13 @@ impl<M: Cells> Board<M> {
         copy_flags(on, &mut self.on);
         let_wait(due, &self.due, &mut self.stages);
         copy_jobs(due, &mut self.due);
-        self.passed.fill(0);
+        self.known.passed.fill(0);
+        count_all(
+            &self.due,
+            &self.tables,
+            &self.stages,
+            &mut self.known.counts,
+        );
         match replace(&mut self.memory, Some(memory)) {
             None => {}
             Some(_) => unreachable!(),
@@ -148,7 +159,8 @@ impl<M: Cells> Board<M> {
     }
 
     /// Opens a tic on a closed board: its due jobs wait, and the phase is the next one, which is 1 after
-    /// the last number. It costs the due jobs of this tic and of the last one, and one copy of the flags.
+    /// the last number. It costs the due jobs of this tic, with those that they depend on, the due jobs of
+    /// the last one, and one copy of the flags.
     pub fn open(&mut self, accepted: &Accepted, memory: M, on: &Flags, due: &[JobId], tic: u64)
         requires closed { self.old.opened ≡ None }
         requires belongs { IsBoardOf accepted.now.plan self.old }
@@ -169,8 +181,7 @@ impl<M: Cells> Board<M> {
         ensures { IfSome self.now.opened (λ o. CanDo (tic_at plan.now o) o.progress.stages thread result) }
     {
         key_order_is_one();
-        let passed = passed_of(&self.passed, thread);
-        next_of(plan, &self.tables, &self.stages, thread, passed)
+        next_of(plan, &self.tables, &self.stages, &self.known, thread)
     }
 
     // Passes the first jobs of a thread that do not wait and are not in flight.
@@ -178,9 +189,9 @@ impl<M: Cells> Board<M> {
         ensures { self.new ≡ self.old }
     {
         let at = thread as usize;
-        if at < self.passed.len() {
+        if at < self.known.passed.len() {
             let line = list_at(self.tables.lines.as_slice(), at);
-            self.passed[at] = pass(&self.stages, line, self.passed[at]);
+            self.known.passed[at] = pass(&self.stages, line, self.known.passed[at]);
         }
     }
 
@@ -213,6 +224,7 @@ impl<M: Cells> Board<M> {
             o.progress.memory bench.now.inputs) }
         ensures { IfSome self.old.opened (λ o. self.new ≡ stepped plan.now self.old o (CommitOf job)) }
     {
+        key_order_is_one();
         let mut fault = None;
         if is_flagged(&self.on, job) {
             if let Some(memory) = &mut self.memory {
@@ -220,6 +232,8 @@ impl<M: Cells> Board<M> {
             }
         }
         set_stage(&mut self.stages, job, Stage::Done(fault));
+        let followers = list_at(self.tables.followers.as_slice(), job.0 as usize);
+        lower(followers, &mut self.known.counts);
     }
 
     // Commits the job of a bench, which is in flight.
@@ -301,7 +315,7 @@ impl<M: Cells> Board<M> {
     }
 
     /// Stores what the evaluated job of a bench does, where the bench is one of a take of the open phase.
-    /// It costs what the job reads and what it stores.
+    /// It costs what the job reads and what it stores, and the jobs that depend on it.
     pub fn commit(&mut self, accepted: &Accepted, bench: &mut Bench) -> Commit
         requires open { IsSome self.old.opened }
         requires belongs { IsBoardOf accepted.now.plan self.old }
@@ -402,7 +416,8 @@ impl<M: Cells> Board<M> {
     }
 
     /// Fills a bench with the thread's next due job, where all predecessors of that are committed. It
-    /// costs what the job reads, the jobs that it depends on and, over a whole tic, the jobs of the thread.
+    /// costs what the job reads and, over a whole tic, the jobs of the thread; where one that it depends on is
+    /// not committed, it also costs those that it depends on.
     pub fn take(&mut self, accepted: &Accepted, thread: u8, bench: &mut Bench) -> Took
         requires open { IsSome self.old.opened }
         requires belongs { IsBoardOf accepted.now.plan self.old }

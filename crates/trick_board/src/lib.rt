@@ -4,6 +4,8 @@
 
 mod answers;
 mod board;
+mod counts;
+mod known;
 mod search;
 mod step;
 mod tables;

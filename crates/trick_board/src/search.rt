@@ -1,15 +1,17 @@
-//! Plain searches for the next job of a thread.
+//! How the next job of a thread is found.
 
 ghost use Rattle.std.specs.List.{slice_index_or};
 ghost use Rattle.std.specs.Option.{IfSome};
 ghost use Rattle.std.specs.Prelude.{◌≡◌, ◌<◌, [], length};
-ghost use Rattle.trick_board.specs.Search.{IsPassed, find_wanted, least_of, meets, next_in, other_than};
+ghost use Rattle.trick_board.specs.Counts.{AreCounted};
+ghost use Rattle.trick_board.specs.Search.{ArePassed, IsPassed, find_wanted, least_of, meets, next_in, other_than};
 ghost use Rattle.trick_board.specs.Tables.{IsFor};
-ghost use Rattle.trick_board.specs.declared.search.Wanted.TheVariants.{Open};
 ghost use Rattle.trick_model.specs.PlanOf.{plan_of};
 ghost use Rattle.trick_schedule.specs.Play.{stage_at};
 
 use crate::Tables;
+use crate::counts::awaited;
+use crate::known::Known;
 use crate::tables::list_at;
 use trick_lang::JobId;
 use trick_model::{Plan, precedes};
@@ -44,8 +46,8 @@ pub fn stage_of(stages: &[Stage], job: JobId) -> Stage
     }
 }
 
-// Whether a stage is of the wanted kind.
-fn is_wanted(wanted: Wanted, stage: Stage) -> bool
+/// Whether a stage is of the wanted kind.
+pub fn is_wanted(wanted: Wanted, stage: Stage) -> bool
     ensures { result ≡ meets wanted stage }
 {
     match wanted {
@@ -55,8 +57,8 @@ fn is_wanted(wanted: Wanted, stage: Stage) -> bool
     }
 }
 
-// The first job of a list that is of the wanted kind.
-fn find(wanted: Wanted, stages: &[Stage], jobs: &[JobId]) -> Option<JobId>
+/// The first job of a list that is of the wanted kind.
+pub fn find(wanted: Wanted, stages: &[Stage], jobs: &[JobId]) -> Option<JobId>
     ensures { result ≡ find_wanted wanted stages.now jobs.now }
 {
     for job in jobs {
@@ -79,8 +81,8 @@ fn find_behind(wanted: Wanted, stages: &[Stage], jobs: &[JobId], passed: usize) 
     }
 }
 
-/// How many of the first jobs of a thread are known not to be open.
-pub fn passed_of(passed: &[usize], thread: u8) -> usize
+// How many of the first jobs of a thread are known not to be open.
+fn passed_of(passed: &[usize], thread: u8) -> usize
     ensures { result ≡ slice_index_or passed.now thread 0 }
 {
     match passed.get(thread as usize) {
@@ -133,34 +135,16 @@ fn least(plan: &Plan, one: Option<JobId>, other: Option<JobId>) -> Option<JobId>
     }
 }
 
-// The least predecessor of a waiting job that is not committed. `first` is the first open job of its
-// thread.
-fn missing(
-    plan: &Plan,
-    tables: &Tables,
-    stages: &[Stage],
-    first: Option<JobId>,
-    job: JobId,
-) -> Option<JobId>
+/// What a thread can do next, where none of its first jobs that are known as passed is open. It costs the
+/// jobs after them up to the next one, and those that this depends on where its count is not 0.
+pub fn next_of(plan: &Plan, tables: &Tables, stages: &[Stage], known: &Known, thread: u8) -> Next
     requires tables { IsFor (plan_of plan.now) tables.now }
-    requires first { IfSome first (λ job. job.0 < length plan.now.program.jobs) }
-    requires job { job.0 < length plan.now.program.jobs }
-    ensures { result ≡ least_of (plan_of plan.now) (other_than job first)
-        (find_wanted Open stages.now (slice_index_or tables.now.depended job.0 [])) }
-{
-    let depended = list_at(tables.depended.as_slice(), job.0 as usize);
-    let before = other(job, first);
-    least(plan, before, find(Wanted::Open, stages, depended))
-}
-
-/// What a thread can do next, where none of its first `passed` jobs is open. It costs the jobs after them
-/// up to the next one, and those that this depends on.
-pub fn next_of(plan: &Plan, tables: &Tables, stages: &[Stage], thread: u8, passed: usize) -> Next
-    requires tables { IsFor (plan_of plan.now) tables.now }
-    requires passed { IsPassed stages.now (slice_index_or tables.now.lines thread []) passed }
+    requires passed { ArePassed tables.now stages.now known.now.passed.items }
+    requires counted { AreCounted tables.now stages.now known.now.counts.items }
     ensures { result ≡ next_in (plan_of plan.now) tables.now stages.now thread }
 {
     let line = list_at(tables.lines.as_slice(), thread as usize);
+    let passed = passed_of(&known.passed, thread);
     let Some(job) = find_behind(Wanted::Waiting, stages, line, passed) else {
         return match find_behind(Wanted::InFlight, stages, line, passed) {
             Some(job) => Next::Waits(job, job),
@@ -168,7 +152,9 @@ pub fn next_of(plan: &Plan, tables: &Tables, stages: &[Stage], thread: u8, passe
         };
     };
     let first = find_behind(Wanted::Open, stages, line, passed);
-    match missing(plan, tables, stages, first, job) {
+    let before = other(job, first);
+    let depended = awaited(tables, stages, &known.counts, job);
+    match least(plan, before, depended) {
         Some(waits_for) => Next::Waits(job, waits_for),
         None => Next::Ready(job),
     }

@@ -1,6 +1,7 @@
 ghost use Rattle.std.specs.List.{slice_index_or};
 ghost use Rattle.std.specs.Prelude.{◌≡◌, ℕ, ◌==◌, ◌∷◌, ◌++◌, ◌<◌, [], IfOk, cond, filter, length};
-ghost use Rattle.trick_board.specs.Tables.{IsFor, depended_of, ids_at, line_of};
+ghost use Rattle.trick_board.specs.Tables.{IsFor, depended_of, followers_of, ids_at, line_of};
+ghost use Rattle.trick_model.specs.Laws.{is_among};
 ghost use Rattle.trick_model.specs.PlanOf.{plan_of};
 ghost use Rattle.trick_model.specs.Valid.{ids};
 ghost use Rattle.trick_model.specs.declared.depends.Depends.{Depends as Pair};
@@ -21,6 +22,8 @@ pub struct Tables {
     pub(crate) lines: Items<Items<JobId>>,
     /// By job, those that it depends on.
     pub(crate) depended: Items<Items<JobId>>,
+    /// By job, those that depend on it.
+    pub(crate) followers: Items<Items<JobId>>,
 }
 
 // Whether a job depends on another one.
@@ -104,14 +107,66 @@ fn all_depended(alloc: Global, plan: &Plan) -> Result<Items<Items<JobId>>, Alloc
     Ok(all)
 }
 
+// Whether a job is one of these.
+fn is_listed(jobs: &[JobId], job: JobId) -> bool
+    ensures { result ≡ is_among job.0 (ids jobs.now) }
+{
+    for other in jobs {
+        if other.0 == job.0 {
+            return true;
+        }
+    }
+    false
+}
+
+// The jobs that depend on a job, by those that each job depends on.
+fn followers(
+    alloc: Global,
+    plan: &Plan,
+    depended: &[Items<JobId>],
+    job: JobId,
+) -> Result<Items<JobId>, AllocError>
+    requires { (k : ℕ) → k < length plan.now.program.jobs → ids_at depended.now k ≡ depended_of (plan_of plan.now) k }
+    ensures { IfOk result (λ jobs. ids jobs ≡ followers_of (plan_of plan.now) job.0) }
+{
+    let mut jobs = Items::new(alloc);
+    let all = plan.jobs_of_class(Class::Scheduled);
+    for other in all {
+        let own = list_at(depended, other.0 as usize);
+        let wanted = is_listed(own, job);
+        add(&mut jobs, *other, wanted)?;
+    }
+    Ok(jobs)
+}
+
+// The jobs that depend on each job.
+fn all_followers(
+    alloc: Global,
+    plan: &Plan,
+    depended: &[Items<JobId>],
+) -> Result<Items<Items<JobId>>, AllocError>
+    requires { (k : ℕ) → k < length plan.now.program.jobs → ids_at depended.now k ≡ depended_of (plan_of plan.now) k }
+    ensures { IfOk result (λ all. (k : ℕ) → k < length plan.now.program.jobs
+        → ids_at all k ≡ followers_of (plan_of plan.now) k) }
+{
+    let mut all = Items::new(alloc);
+    for number in 0..plan.program.jobs.len() {
+        all.push(followers(alloc, plan, depended, JobId(number as u32))?)?;
+    }
+    Ok(all)
+}
+
 impl Tables {
-    // The tables of a plan. Their making costs the jobs times the pairs.
+    // The tables of a plan. Their making costs the jobs times the jobs and the pairs.
     pub(crate) fn new(alloc: Global, plan: &Plan) -> Result<Self, AllocError>
         ensures { IfOk result (IsFor (plan_of plan.now)) }
     {
+        let depended = all_depended(alloc, plan)?;
+        let followers = all_followers(alloc, plan, depended.as_slice())?;
         Ok(Tables {
             lines: lines(alloc, plan)?,
-            depended: all_depended(alloc, plan)?,
+            depended,
+            followers,
         })
     }
 }

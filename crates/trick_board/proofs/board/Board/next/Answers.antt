@@ -15,7 +15,7 @@ returns g c =
     subst (λ (v : BoardView). IfSome v.opened (λ o. CanDo (tic_at c.args.plan.now o) o.progress.stages c.args.thread c.next_of.result)) c.self.view_is
     (next_at g.M.Cells.numbers g.M.Cells.scalars b.tic b.on.items b.due.items b.stages.items b.memory c.args.plan.now b.tables c.args.thread
     c.next_of.result c.key_order_is_one.ensures belongs.tables
-    (c.next_of.ensures ∙ ap (λ (s : List Stage). next_in (plan_of c.args.plan.now) b.tables s c.args.thread) c.deref-2.ensures.value)
+    (c.next_of.ensures ∙ ap (λ (s : List Stage). next_in (plan_of c.args.plan.now) b.tables s c.args.thread) c.deref.ensures.value)
     belongs.opened)
 
 pub next_of-requires-clause-tables : goal.next_of-requires-clause-tables

@@ -1,15 +1,22 @@
-use Rattle.std.proofs.Common.{◌≡◌, length, ◌∙◌, ap, subst, sym, arith}
+use Rattle.std.proofs.Common.{◌≡◌, ℕ, IsTrue, List, length, ◌∙◌, ap, subst, sym, arith}
 use Rattle.std.proofs.lemmas.List.{length-replicate}
 use Rattle.trick_board.proofs.Among.{opened_among}
 use Rattle.trick_board.proofs.Calls.{opened_belongs}
+use Rattle.trick_board.proofs.Counting.{all_counted}
 use Rattle.trick_board.proofs.Passed.{none_passed}
 use Rattle.trick_board.proofs.Stages.{few_due}
 use Rattle.trick_board.specs.Board.{AreDueAmong, BoardView, IsBoardOf}
+use Rattle.trick_board.specs.Counts.{IsCounted}
 use Rattle.trick_board.specs.Search.{ArePassed}
+use Rattle.trick_lang.specs.declared.job.JobId.{JobId}
+use Rattle.trick_model.specs.Laws.{is_among}
 use Rattle.trick_model.specs.PlanOf.{plan_of}
 use Rattle.trick_model.specs.Valid.{ids}
+use Rattle.trick_schedule.proofs.Due.{due_there}
 use Rattle.trick_schedule.proofs.History.{length-waiting}
 use Rattle.trick_schedule.specs.Play.{with_waiting}
+use Rattle.trick_schedule.specs.Tics.{tic_of}
+use Rattle.trick_schedule.specs.declared.stage.Stage.{Stage}
 use Rattle.trick_schedule.specs.declared.stage.Stage.TheVariants.{Idle}
 use Rattle.std.specs.Prelude.{replicate}
 use Rattle.trick_board.proofs.board.Board.open_tic.Goals as goal
@@ -20,6 +27,16 @@ copy_jobs-requires g c =
     let few = few_due (plan_of c.args.plan.now) c.args.on.now c.args.tic c.args.due.now c.requires.due in
     let room = c.self.invariant.0.room_is in
     omega (arith, many, few, room)
+
+pub count_all-requires : goal.count_all-requires
+count_all-requires g c = record {
+  there = λ k among.
+      let many : length c.self.inside.stages.items ≡ length c.args.plan.now.program.jobs = ap (λ (v : BoardView). v.jobs) c.self.view_is ∙ c.requires.belongs.many in
+      let copied = ap ids (c.deref-2.ensures.value ∙ c.copy_jobs.ensures.items) ∙ c.requires.due in
+      let there = due_there (tic_of c.args.plan.now c.args.on.now c.args.tic) k (sym (ap (is_among k) copied) ∙ among) in
+      let counts = c.self.invariant.0.counts_are in
+      omega (arith, many, there, counts);
+}
 
 pub invariant_of-self : goal.invariant_of-self
 invariant_of-self g c =
@@ -33,17 +50,25 @@ invariant_of-self g c =
     let flags = c.self.invariant.0.flags_are in
     let room = c.self.invariant.0.room_is in
     let capacity = c.copy_jobs.ensures.room in
-    let flagged = c.copy_flags.ensures.length in (
+    let flagged = c.copy_flags.ensures.length in
+    let among : AreDueAmong (ids c.copy_jobs.new.into.items) c.let_wait.new.stages.items =
+    subst (AreDueAmong (ids c.copy_jobs.new.into.items)) (sym c.let_wait.ensures)
+    (subst (λ ks. AreDueAmong ks (with_waiting (ids c.args.due.now) (replicate (length c.self.inside.stages.items) Idle))) (sym (ap ids c.copy_jobs.ensures.items))
+    (opened_among (ids c.args.due.now) (length c.self.inside.stages.items))) in
+    let counted : (k : ℕ) → IsTrue (is_among k (ids c.copy_jobs.new.into.items))
+    → IsCounted c.self.inside.tables c.let_wait.new.stages.items c.count_all.new.counts.items k =
+    λ k listed. subst (λ (l : List Stage). IsCounted c.self.inside.tables l c.count_all.new.counts.items k) c.deref-3.ensures.value
+    (c.count_all.ensures.counted k (ap (λ (l : List JobId). is_among k (ids l)) c.deref-2.ensures.value ∙ listed)) in (
       record {
         limit = omega (arith, same, limit);
         flags_are = flagged ∙ flags ∙ sym same;
         few = omega (arith, copied, few, many, same);
         room_is = omega (arith, same, room, capacity);
+        counts_are = c.count_all.ensures.length ∙ c.self.invariant.0.counts_are ∙ sym same;
       },
       subst (ArePassed c.self.inside.tables c.let_wait.new.stages.items) (sym (c.fill.ensures.items (λ y e. e))) (none_passed c.self.inside.tables c.let_wait.new.stages.items _),
-      subst (AreDueAmong (ids c.copy_jobs.new.into.items)) (sym c.let_wait.ensures)
-          (subst (λ ks. AreDueAmong ks (with_waiting (ids c.args.due.now) (replicate (length c.self.inside.stages.items) Idle))) (sym (ap ids c.copy_jobs.ensures.items))
-          (opened_among (ids c.args.due.now) (length c.self.inside.stages.items))),
+      among,
+      all_counted c.self.inside.tables c.let_wait.new.stages.items c.count_all.new.counts.items (ids c.copy_jobs.new.into.items) among counted,
     )
 
 pub returns-clause-belongs : goal.returns-clause-belongs

@@ -1,9 +1,15 @@
-use Rattle.std.proofs.Common.{rules, ap, length, refl, subst, sym}
+use Rattle.std.proofs.Common.{rules, [], List, ap, length, refl, subst, sym, ◌∙◌}
+use Rattle.std.specs.List.{slice_index_or}
 use Rattle.std.specs.Option.{IfSome}
 use Rattle.std.specs.Prelude.{IsSome, vec_capacity, ◌≡◌}
 use Rattle.trick_board.proofs.Among.{stage_open, stepped_among}
+use Rattle.trick_board.proofs.Counting.{done_counted, open_sees}
 use Rattle.trick_board.proofs.Passed.{done_passed}
-use Rattle.trick_board.specs.Board.{BoardView, IsRoomy}
+use Rattle.trick_board.specs.Board.{BoardView, IsBoardOf, IsRoomy}
+use Rattle.trick_board.specs.Counts.{with_fewer}
+use Rattle.trick_board.specs.Search.{is_open}
+use Rattle.trick_lang.specs.declared.job.JobId.{JobId}
+use Rattle.trick_model.specs.Valid.{ids}
 use Rattle.trick_schedule.specs.Play.{is_due, stage_at}
 use Rattle.trick_schedule.specs.declared.stage.Stage.TheVariants.{InFlight}
 use Rattle.trick_board.proofs.board.Board.store.Goals.{then-is_flagged+in-Some, then-is_flagged+in_default, else-is_flagged}
@@ -16,15 +22,22 @@ invariant_of-self g c =
     let flies = stage_open g.M.Cells.numbers g.M.Cells.scalars b.tic b.on.items b.due.items b.stages.items b.memory c.args.job.0 InFlight
     (subst (λ (v : BoardView). IsSome v.opened) (sym c.self.view_is) c.requires.open)
     (subst (λ (v : BoardView). IfSome v.opened (λ o. stage_at o.progress.stages c.args.job.0 ≡ InFlight)) (sym c.self.view_is) c.requires.flies) in
-    let rooms : IsRoomy (length c.set_stage.new.stages.items) (length inside.on.items) (length inside.due.items) (vec_capacity inside.due) = search rules in (
+    let rooms : IsRoomy (length c.set_stage.new.stages.items) (length inside.on.items) (length inside.due.items) (vec_capacity inside.due) (length c.lower.new.counts.items) = search rules in
+    let sees = open_sees g.M.Cells.numbers g.M.Cells.scalars b.tic b.on.items b.due.items b.stages.items b.memory c.args.plan.now b.tables
+    c.key_order_is_one.ensures
+    (subst (λ (v : BoardView). IsBoardOf c.args.plan.now v) (sym c.self.view_is) c.requires.belongs).tables
+    (subst (λ (v : BoardView). IsSome v.opened) (sym c.self.view_is) c.requires.open)
+    (subst (λ (v : BoardView). IsBoardOf c.args.plan.now v) (sym c.self.view_is) c.requires.belongs).opened in
+    let fewer = c.lower.ensures.counts ∙ ap (λ (l : List JobId). with_fewer (ids l) inside.known.counts.items)
+    (c.list_at-followers.ensures ∙ ap (λ (lists : List (List JobId)). slice_index_or lists c.args.job.0 []) c.as_slice.ensures) in (
       rooms,
       elim c.if-is_flagged.branch [
         | then-is_flagged+in-Some w ↦ done_passed _ _ _ _ _ _ _ _ _ (ap (λ b. b.tables) w.self-inside-is) (ap (λ b. b.stages.items) w.self-inside-is)
-            (ap (λ b. b.passed.items) w.self-inside-is) c.set_stage.ensures refl c.self.invariant.1
+            (ap (λ b. b.known.passed.items) w.self-inside-is) c.set_stage.ensures refl c.self.invariant.1
         | then-is_flagged+in_default w ↦ done_passed _ _ _ _ _ _ _ _ _ (ap (λ b. b.tables) w.self-inside-is) (ap (λ b. b.stages.items) w.self-inside-is)
-            (ap (λ b. b.passed.items) w.self-inside-is) c.set_stage.ensures refl c.self.invariant.1
+            (ap (λ b. b.known.passed.items) w.self-inside-is) c.set_stage.ensures refl c.self.invariant.1
         | else-is_flagged w ↦ done_passed _ _ _ _ _ _ _ _ _ (ap (λ b. b.tables) w.self-inside-is) (ap (λ b. b.stages.items) w.self-inside-is)
-            (ap (λ b. b.passed.items) w.self-inside-is) c.set_stage.ensures refl c.self.invariant.1
+            (ap (λ b. b.known.passed.items) w.self-inside-is) c.set_stage.ensures refl c.self.invariant.1
       ],
       elim c.if-is_flagged.branch [
         | then-is_flagged+in-Some w ↦ stepped_among _ _ _ _ _ _ _ (ap (λ b. b.due.items) w.self-inside-is) (ap (λ b. b.stages.items) w.self-inside-is)
@@ -33,5 +46,16 @@ invariant_of-self g c =
             c.set_stage.ensures (ap is_due flies) c.self.invariant.2
         | else-is_flagged w ↦ stepped_among _ _ _ _ _ _ _ (ap (λ b. b.due.items) w.self-inside-is) (ap (λ b. b.stages.items) w.self-inside-is)
             c.set_stage.ensures (ap is_due flies) c.self.invariant.2
+      ],
+      elim c.if-is_flagged.branch [
+        | then-is_flagged+in-Some w ↦ done_counted c.args.plan.now (record { on = b.on.items }) b.tic _ _ _ _ _ _ _ _ _ _ (ap (λ b. b.tables) w.self-inside-is)
+            (ap (λ b. b.stages.items) w.self-inside-is) (ap (λ b. b.known.counts.items) w.self-inside-is) c.set_stage.ensures fewer
+            sees (ap is_open flies) refl c.self.invariant.3
+        | then-is_flagged+in_default w ↦ done_counted c.args.plan.now (record { on = b.on.items }) b.tic _ _ _ _ _ _ _ _ _ _ (ap (λ b. b.tables) w.self-inside-is)
+            (ap (λ b. b.stages.items) w.self-inside-is) (ap (λ b. b.known.counts.items) w.self-inside-is) c.set_stage.ensures fewer
+            sees (ap is_open flies) refl c.self.invariant.3
+        | else-is_flagged w ↦ done_counted c.args.plan.now (record { on = b.on.items }) b.tic _ _ _ _ _ _ _ _ _ _ (ap (λ b. b.tables) w.self-inside-is)
+            (ap (λ b. b.stages.items) w.self-inside-is) (ap (λ b. b.known.counts.items) w.self-inside-is) c.set_stage.ensures fewer
+            sees (ap is_open flies) refl c.self.invariant.3
       ],
     )

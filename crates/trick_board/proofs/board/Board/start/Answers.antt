@@ -1,0 +1,39 @@
+use Rattle.std.proofs.Common.{rules, ap, length, subst, sym}
+use Rattle.std.specs.Option.{IfSome}
+use Rattle.std.specs.Prelude.{IsSome, vec_capacity, ◌≡◌}
+use Rattle.trick_board.proofs.Among.{stage_open, stepped_among}
+use Rattle.trick_board.proofs.Counting.{start_counted, start_passed}
+use Rattle.trick_board.specs.Board.{BoardView, IsRoomy}
+use Rattle.trick_schedule.specs.Play.{is_due, stage_at}
+use Rattle.trick_schedule.specs.declared.stage.Stage.TheVariants.{Waiting}
+use Rattle.trick_board.proofs.board.Board.start.Goals.{in-Some, in_default}
+use Rattle.trick_board.proofs.board.Board.start.Goals as goal
+
+pub invariant_of-self : goal.invariant_of-self
+invariant_of-self g c =
+    let inside = c.match-self.self-inside in
+    let b = c.self.inside in
+    let waits = stage_open g.M.Cells.numbers g.M.Cells.scalars b.tic b.on.items b.due.items b.stages.items b.memory c.args.job.0 Waiting
+    (subst (λ (v : BoardView). IsSome v.opened) (sym c.self.view_is) c.requires.open)
+    (subst (λ (v : BoardView). IfSome v.opened (λ o. stage_at o.progress.stages c.args.job.0 ≡ Waiting)) (sym c.self.view_is) c.requires.waits) in
+    let rooms : IsRoomy (length c.set_stage.new.stages.items) (length inside.on.items) (length inside.due.items) (vec_capacity inside.due) (length inside.known.counts.items) = search rules in (
+      rooms,
+      elim c.match-self.branch [
+        | in-Some w ↦ start_passed _ _ _ _ _ _ _ _ (ap (λ b. b.tables) w.self-inside-is) (ap (λ b. b.stages.items) w.self-inside-is)
+            (ap (λ b. b.known.passed.items) w.self-inside-is) c.set_stage.ensures waits c.self.invariant.1
+        | in_default w ↦ start_passed _ _ _ _ _ _ _ _ (ap (λ b. b.tables) w.self-inside-is) (ap (λ b. b.stages.items) w.self-inside-is)
+            (ap (λ b. b.known.passed.items) w.self-inside-is) c.set_stage.ensures waits c.self.invariant.1
+      ],
+      elim c.match-self.branch [
+        | in-Some w ↦ stepped_among _ _ _ _ _ _ _ (ap (λ b. b.due.items) w.self-inside-is) (ap (λ b. b.stages.items) w.self-inside-is)
+            c.set_stage.ensures (ap is_due waits) c.self.invariant.2
+        | in_default w ↦ stepped_among _ _ _ _ _ _ _ (ap (λ b. b.due.items) w.self-inside-is) (ap (λ b. b.stages.items) w.self-inside-is)
+            c.set_stage.ensures (ap is_due waits) c.self.invariant.2
+      ],
+      elim c.match-self.branch [
+        | in-Some w ↦ start_counted _ _ _ _ _ _ _ _ (ap (λ b. b.tables) w.self-inside-is) (ap (λ b. b.stages.items) w.self-inside-is)
+            (ap (λ b. b.known.counts.items) w.self-inside-is) c.set_stage.ensures waits c.self.invariant.3
+        | in_default w ↦ start_counted _ _ _ _ _ _ _ _ (ap (λ b. b.tables) w.self-inside-is) (ap (λ b. b.stages.items) w.self-inside-is)
+            (ap (λ b. b.known.counts.items) w.self-inside-is) c.set_stage.ensures waits c.self.invariant.3
+      ],
+    )

@@ -1,0 +1,8 @@
+/// What a board knows of the stages of jobs without a search.
+#[derive(Drop)]
+pub struct Known {
+    /// By thread, how many of its first jobs are known not to wait and not to be in flight.
+    pub(crate) passed: Vec<usize>,
+    /// By job, how many of those that a due job depends on are not committed.
+    pub(crate) counts: Vec<usize>,
+}
