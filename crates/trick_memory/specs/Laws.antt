@@ -1,8 +1,11 @@
--- Laws of names.
+-- Laws of names and of bytes.
 use Rattle.std.specs.List.{list_all}
-use Rattle.std.specs.Prelude.{◌≡◌, ℕ, ◌<◌, ◌==◌, nat_le, Bool, ◌&&◌, ◌||◌, IsTrue, List, length, Some}
+use Rattle.std.specs.Prelude.{◌≡◌, ℕ, ◌<◌, ◌==◌, nat_le, ℤ, Bool, ◌&&◌, ◌||◌, IsTrue, List, length, Some}
+use Rattle.trick_lang.specs.Wrap.{AreInRange}
 use Rattle.trick_lang.specs.declared.cells.Cell.{Cell}
+use Rattle.trick_lang.specs.declared.scalar.Scalar.{Scalar}
 use Rattle.trick_memory.specs.Listing.{name_text}
+use Rattle.trick_memory.specs.Packed.{bytes_of, numbers_of}
 use Rattle.trick_memory.specs.Stored.{cell_of, name_of}
 use Rattle.trick_model.specs.Valid.{cell_names}
 use Rattle.trick_model.specs.declared.plan.Plan.{Plan as PlanValue}
@@ -28,3 +31,9 @@ is_name_byte b =
 -- A name of such bytes stands in a listing as it is.
 abbrev pub PlainNamesStand : Type 0
 PlainNamesStand = (name : List ℕ) → IsTrue (list_all is_name_byte name) → name_text name ≡ name
+
+-- the bytes of numbers, each of its type, tell the numbers
+abbrev pub BytesTellNumbers : Type 0
+BytesTellNumbers =
+    (scalars : List Scalar) (numbers : List ℤ) → length numbers ≡ length scalars → AreInRange scalars numbers
+    → numbers_of scalars (bytes_of scalars numbers) ≡ numbers

@@ -6,6 +6,7 @@ use Rattle.trick_lang.specs.Wrap.{AreInRange}
 use Rattle.trick_lang.specs.declared.cells.Cell.{Cell}
 use Rattle.trick_lang.specs.declared.scalar.Scalar.{Scalar}
 use Rattle.trick_lang.specs.declared.variable.Variable.{Variable}
+use Rattle.trick_memory.specs.Packed.{bytes_of, numbers_of, offsets_from}
 use Rattle.trick_model.specs.Names.{find_name}
 use Rattle.trick_model.specs.Valid.{cell_names}
 
@@ -21,6 +22,13 @@ pub record IsStored (names : List (List ℕ)) (scalars : List Scalar) (numbers :
   pub numbered : length numbers ≡ length scalars
   pub few : length scalars ≤ 65536
   pub in_range : AreInRange scalars numbers
+
+-- What is held as bytes is stored: the bytes are those of the numbers that they tell, and it is known
+-- where those of each cell begin.
+pub record IsHeld (names : List (List ℕ)) (scalars : List Scalar) (offsets bytes : List ℕ) : Type 0 where
+  pub stored : IsStored names scalars (numbers_of scalars bytes)
+  pub whole : bytes ≡ bytes_of scalars (numbers_of scalars bytes)
+  pub placed : offsets ≡ offsets_from 0 scalars
 
 -- the memory of these cells in which each number is 0
 abbrev pub zeros : List Variable → Stored

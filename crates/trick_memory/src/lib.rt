@@ -6,6 +6,7 @@ pub mod laws;
 mod list;
 mod memory;
 mod names;
+mod packing;
 
 pub use list::listing;
 pub use memory::Memory;

@@ -1,34 +1,40 @@
 ghost use Rattle.std.specs.Prelude.{◌≡◌, IfOk, IfSome};
+ghost use Rattle.trick_memory.specs.Packed.{bytes_of};
 ghost use Rattle.trick_memory.specs.Stored.{cell_of, name_of, zeros};
 ghost use Rattle.trick_model.specs.Valid.{cell_names};
 
 use crate::names::Names;
+use crate::packing::{pack_at, unpack_at, width};
 use std::alloc::{AllocError, Global};
 use std::marker::Model;
 use trick_lang::{Cell, Cells, Scalar};
 use trick_model::Plan;
 
 /// The memory of a simulation: for each cell a number of its type. Cells are found by their full
-/// names.
+/// names. The numbers are kept as bytes, cell after cell and without gaps.
 #[derive(Drop)]
 pub struct Memory {
     names: Names,
     scalars: Vec<Scalar>,
-    numbers: Vec<i64>,
+    // Where the bytes of each cell begin.
+    offsets: Vec<u32>,
+    bytes: Vec<u8>,
 }
 
 impl Model for Memory {
-    ghost use Rattle.trick_memory.specs.Stored.{IsStored, Stored};
+    ghost use Rattle.trick_memory.specs.Packed.{numbers_of};
+    ghost use Rattle.trick_memory.specs.Stored.{IsHeld, Stored};
 
     ghost Value = { Stored };
 
     ghost view = { λ memory. record {
       names = memory.names;
       scalars = memory.scalars.items;
-      numbers = memory.numbers.items;
+      numbers = numbers_of memory.scalars.items memory.bytes.items;
     } };
 
-    ghost invariant = { λ memory. IsStored memory.names memory.scalars.items memory.numbers.items };
+    ghost invariant = { λ memory.
+        IsHeld memory.names memory.scalars.items memory.offsets.items memory.bytes.items };
 }
 
 impl Memory {
@@ -38,17 +44,30 @@ impl Memory {
     {
         let mut names = Names::new(alloc);
         let mut scalars = Vec::new(alloc);
-        let mut numbers = Vec::new(alloc);
+        let mut offsets = Vec::new(alloc);
+        let mut bytes: Vec<u8> = Vec::new(alloc);
         for variable in plan.program.cells.as_slice() {
+            let start = bytes.len();
             names.push(&variable.name)?;
             scalars.push(variable.scalar)?;
-            numbers.push(0)?;
+            offsets.push(start as u32)?;
+            bytes.resize(start + width(variable.scalar), 0)?;
         }
         Ok(Memory {
             names,
             scalars,
-            numbers,
+            offsets,
+            bytes,
         })
+    }
+
+    /// The bytes of the numbers, cell after cell and without gaps: 1 byte for `bool`, `char` and
+    /// `unsigned char`, 2 for the types of `short`, 4 for those of `int` and 8 for `long`, the lowest
+    /// byte first, and numbers below 0 in two's complement. Takes no memory.
+    pub fn bytes(&self) -> &[u8]
+        ensures { result.now ≡ bytes_of self.now.scalars self.now.numbers }
+    {
+        self.bytes.as_slice()
     }
 
     /// The cell of a full name, byte for byte, in a plan of whose cells this is the memory. With any
@@ -86,11 +105,16 @@ impl Cells for Memory {
     ghost scalars = { λ memory. memory.scalars };
 
     fn len(&self) -> u32 {
-        self.numbers.len() as u32
+        self.scalars.len() as u32
     }
 
     fn get(&self, cell: Cell) -> i64 {
-        self.numbers[cell.0 as usize]
+        let index = cell.0 as usize;
+        unpack_at(
+            &self.bytes,
+            self.offsets[index] as usize,
+            self.scalars[index],
+        )
     }
 
     // It keeps the names, too.
@@ -101,6 +125,8 @@ impl Cells for Memory {
         ensures scalars { self.new.scalars ≡ self.old.scalars }
         ensures names { self.new.names ≡ self.old.names }
     {
-        self.numbers[cell.0 as usize] = number;
+        let index = cell.0 as usize;
+        let start = self.offsets[index] as usize;
+        pack_at(&mut self.bytes, start, self.scalars[index], number);
     }
 }

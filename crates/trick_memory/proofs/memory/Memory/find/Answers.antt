@@ -10,7 +10,7 @@ pub overflow_cast-cell : goal.overflow_cast-cell
 overflow_cast-cell c =
     let found : find_name c.args.name.now c.self.inside.names ≡ Some c.in_ok-find.field-0 = sym c.find.ensures ∙ c.in_ok-find.was in
     let there = found_there c.args.name.now c.self.inside.names c.in_ok-find.field-0 found in
-    let few : c.in_ok-find.field-0 < 2 ^ 32 = omega (arith, there, c.self.invariant.named, c.self.invariant.few) in
+    let few : c.in_ok-find.field-0 < 2 ^ 32 = omega (arith, there, c.self.invariant.stored.named, c.self.invariant.stored.few) in
     search (rules, few)
 
 pub returns-else-eq-clause-cell : goal.returns-else-eq-clause-cell
