@@ -2,7 +2,7 @@
 # make demo      proves, builds and runs the counter example, and shows its final checkpoint
 # make test      the gate: every proof, the edits in must-fail/, every test, the program, the examples
 # make edits     tries all edits that must fail, also those for which the gate has no time
-# make starve    refuses each allocation of six runs of the built program in turn
+# make starve    refuses each allocation of eleven runs of the built program in turn
 # make bench     prints what runs, readers and checkpoints cost on this machine
 # make tricks    proves and builds the program, at build/tricks, and says how far it is
 # make install   the program, at $(PREFIX)/bin/tricks, its man page, and completion for bash

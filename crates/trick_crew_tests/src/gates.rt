@@ -56,11 +56,26 @@ impl Gate for Meeting {
 /// How many frames the clerk of thread 1 is held.
 pub(crate) const HELD_FRAMES: u64 = 50;
 
-/// A gate at which the clerk of thread 1 waits until thread 2 has gone on for many frames.
+/// How often thread 2 lets others run in each frame after that.
+const YIELDS: u64 = 2000;
+
+/// A gate at which the clerk of thread 1 waits until thread 2 has gone on for many frames. Thread 2 waits for the clerk
+/// to come, and, after those frames, to go on.
 #[derive(Drop)]
 pub(crate) struct Holding {
     frames: AtomicU64,
+    has_come: AtomicBool,
     was_held: AtomicBool,
+}
+
+// Looks until a flag is raised.
+fn wait_for(flag: &AtomicBool) {
+    for _ in 0..LOOKS {
+        if flag.load(SeqCst) {
+            return;
+        }
+        yield_now();
+    }
 }
 
 impl Holding {
@@ -68,6 +83,7 @@ impl Holding {
     pub(crate) fn new() -> Holding {
         Holding {
             frames: AtomicU64::new(0),
+            has_come: AtomicBool::new(false),
             was_held: AtomicBool::new(false),
         }
     }
@@ -79,11 +95,31 @@ impl Holding {
 
     // Looks until the run has gone on.
     fn hold(&self) {
+        self.has_come.store(true, SeqCst);
         for _ in 0..LOOKS {
             if self.frames.load(SeqCst) >= HELD_FRAMES {
                 self.was_held.store(true, SeqCst);
                 return;
             }
+            yield_now();
+        }
+    }
+
+    // Counts a frame. The clerk's first round starts after the first one.
+    fn pass_frame(&self) {
+        let frame = self.frames.fetch_add(1, SeqCst);
+        if frame == 1 {
+            wait_for(&self.has_come);
+        }
+        if frame >= HELD_FRAMES {
+            wait_for(&self.was_held);
+            self.go_slowly();
+        }
+    }
+
+    // Lets others run, so that the clerk is back before the run ends.
+    fn go_slowly(&self) {
+        for _ in 0..YIELDS {
             yield_now();
         }
     }
@@ -94,7 +130,7 @@ impl Gate for Holding {
         if thread == 1 {
             self.hold();
         } else if thread == 2 {
-            self.frames.fetch_add(1, SeqCst);
+            self.pass_frame();
         }
     }
 }

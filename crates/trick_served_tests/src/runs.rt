@@ -7,7 +7,8 @@ use std::sync::Wait;
 use std::thread::Threads;
 use trick_base::Word;
 use trick_outside::{
-    Door, Gate, LinkIn, ListSpawner, MemoryOut, MemoryShelf, MemorySink, ScriptDoor,
+    Door, Gate, LinkIn, LinkOut, ListSpawner, MemoryOut, MemoryShelf, MemorySink, ScriptDoor,
+    Shelf, Sink, Spawner,
 };
 use trick_top::tricks_alone;
 use trick_top_serve::tricks;
@@ -41,11 +42,45 @@ pub(crate) struct Wants<'a> {
     pub(crate) printed: &'a [u8],
 }
 
+/// What is outside of a run: its door, and which calls of its other forms in memory fail.
+#[derive(Drop)]
+pub(crate) struct Outside<I> {
+    pub(crate) door: ScriptDoor<I, MemoryOut>,
+    /// Calls of the shelf, from 0.
+    pub(crate) shelf: Vec<u64>,
+    /// Writes of the sink, from 0.
+    pub(crate) sink: Vec<u64>,
+    /// Starts of threads, from 0.
+    pub(crate) starts: Vec<u64>,
+}
+
+impl<I> Outside<I> {
+    /// A door, and forms of which no call fails.
+    pub(crate) fn at(alloc: Global, door: ScriptDoor<I, MemoryOut>) -> Outside<I> {
+        Outside {
+            door,
+            shelf: Vec::new(alloc),
+            sink: Vec::new(alloc),
+            starts: Vec::new(alloc),
+        }
+    }
+}
+
+/// How often the forms outside of a run failed.
+#[derive(Clone, Copy)]
+pub(crate) struct Failures {
+    pub(crate) shelf: u64,
+    pub(crate) sink: u64,
+    pub(crate) door: u64,
+    pub(crate) starts: u64,
+}
+
 /// What a run came to that was served.
 #[derive(Drop)]
 pub(crate) struct Came<I> {
-    status: u8,
+    pub(crate) status: u8,
     printed: Vec<u8>,
+    pub(crate) failed: Failures,
     shelf: MemoryShelf,
     door: ScriptDoor<I, MemoryOut>,
 }
@@ -56,25 +91,66 @@ fn has(text: &[u8], part: &[u8]) -> bool {
 }
 
 impl<I: LinkIn + Drop> Came<I> {
-    // The bytes of a file, and none where it is not there.
-    fn file(&self, name: &[u8]) -> &[u8] {
+    /// The bytes of a file, and none where it is not there.
+    pub(crate) fn file(&self, name: &[u8]) -> &[u8] {
         self.shelf.file(name).unwrap_or(&[])
     }
 
-    // What the only client was sent. None where it is not back, hung up, under number 1.
-    fn sent(&self) -> Option<&[u8]> {
-        let [client] = self.door.returned() else {
-            return None;
-        };
-        if client.number != 1 || !client.output.is_hung_up() {
+    /// What the only client was sent. None where it is not back, hung up, under number 1.
+    pub(crate) fn sent(&self) -> Option<&[u8]> {
+        match self.door.returned() {
+            [_client] => self.sent_to(1),
+            _ => None,
+        }
+    }
+
+    /// What the client of this number was sent. None where it is not back, hung up.
+    pub(crate) fn sent_to(&self, number: u32) -> Option<&[u8]> {
+        let client = self
+            .door
+            .returned()
+            .iter()
+            .find(|client| client.number == number)?;
+        if !client.output.is_hung_up() {
             return None;
         }
         Some(client.output.bytes())
     }
 
+    /// The names of all files.
+    pub(crate) fn names(&self) -> Result<Vec<Word>, AllocError> {
+        self.shelf.names()
+    }
+
+    /// Whether no client was taken.
+    pub(crate) fn has_nobody(&self) -> bool {
+        self.door.returned().is_empty()
+    }
+
+    /// Whether a link of a client failed.
+    pub(crate) fn has_link_fault(&self) -> bool {
+        self.door.returned().iter().any(|client| client.input.faults() > 0
+            || client.output.faults() > 0)
+    }
+
+    /// Whether a session left by this cause.
+    pub(crate) fn has_leave(&self, cause: &[u8]) -> bool {
+        has(self.file(b"journal.txt"), cause)
+    }
+
     /// Whether this is what was printed.
     pub(crate) fn has_printed(&self, line: &[u8]) -> bool {
         self.printed.as_slice() == line
+    }
+
+    /// Whether what was printed ends so.
+    pub(crate) fn prints_at_end(&self, end: &[u8]) -> bool {
+        self.printed.ends_with(end)
+    }
+
+    /// Whether the journal has this part.
+    pub(crate) fn notes(&self, part: &[u8]) -> bool {
+        has(self.file(b"journal.txt"), part)
     }
 
     /// Whether a session left by another cause than this.
@@ -116,8 +192,8 @@ pub(crate) fn words(alloc: Global, texts: &[&[u8]]) -> Result<Vec<Word>, AllocEr
 }
 
 // A shelf with the texts of a plan.
-fn shelf(alloc: Global, texts: Texts) -> Result<MemoryShelf, AllocError> {
-    MemoryShelf::new(alloc)
+fn with_texts(shelf: MemoryShelf, texts: Texts) -> Result<MemoryShelf, AllocError> {
+    shelf
         .with_file(b"s", texts.s_define.as_bytes())?
         .with_file(b"i", texts.input.as_bytes())
 }
@@ -132,12 +208,11 @@ where
     Ok(ScriptDoor::new(alloc, clients))
 }
 
-/// Serves a run of a plan at a door. Starts of these numbers are refused.
+/// Serves a run of a plan.
 pub(crate) fn serve<I, G, R>(
     rt: R,
     texts: Texts,
-    door: ScriptDoor<I, MemoryOut>,
-    refused: Vec<u64>,
+    outside: Outside<I>,
     gate: G,
 ) -> Result<Came<I>, AllocError>
 where
@@ -146,48 +221,77 @@ where
     R: Threads + Wait + AllocGlobal + Copy + Send + Drop + 'static,
 {
     let alloc = rt.alloc();
+    let Outside {
+        door,
+        shelf,
+        sink,
+        starts,
+    } = outside;
     let words = words(alloc, &[b"run", b"s", b"i"])?;
-    let mut shelf = shelf(alloc, texts)?;
-    let mut sink = MemorySink::new(alloc);
-    let spawner = ListSpawner::refusing(refused);
+    let mut shelf = with_texts(MemoryShelf::failing(alloc, shelf), texts)?;
+    let mut sink = MemorySink::failing(alloc, sink);
+    let spawner = ListSpawner::refusing(starts);
     let finished = tricks(
         rt, alloc, &words, &mut shelf, &mut sink, door, spawner, gate,
     );
     let printed = Vec::from_slice(alloc, sink.bytes())?;
+    let failed = Failures {
+        shelf: shelf.faults(),
+        sink: sink.faults(),
+        door: finished.door.faults(),
+        starts: finished.spawner.faults(),
+    };
     Ok(Came {
         status: finished.status,
         printed,
+        failed,
         shelf,
         door: finished.door,
     })
 }
 
-// The shelf after the replay of a journal, and whether its status is 0.
-fn replayed(
-    alloc: Global,
-    texts: Texts,
-    journal: &[u8],
-) -> Result<(MemoryShelf, bool), AllocError> {
-    let words = words(alloc, &[b"replay", b"s", b"i", b"j"])?;
-    let mut shelf = shelf(alloc, texts)?.with_file(b"j", journal)?;
-    let mut sink = MemorySink::new(alloc);
-    let status = tricks_alone(alloc, &words, &mut shelf, &mut sink);
-    Ok((shelf, status == 0))
+/// What a replay came to.
+#[derive(Drop)]
+pub(crate) struct Replay {
+    pub(crate) status: u8,
+    pub(crate) printed: Vec<u8>,
+    shelf: MemoryShelf,
 }
 
-// Whether the journal that a run of a plan wrote, replayed, gives the same files.
-fn replays<I: LinkIn + Drop>(
+impl Replay {
+    /// The bytes of a file. None where it is not there.
+    pub(crate) fn file(&self, name: &[u8]) -> Option<&[u8]> {
+        self.shelf.file(name)
+    }
+}
+
+/// The replay of a journal of a plan.
+pub(crate) fn replay_of(alloc: Global, texts: Texts, journal: &[u8]) -> Result<Replay, AllocError> {
+    let words = words(alloc, &[b"replay", b"s", b"i", b"j"])?;
+    let mut shelf = with_texts(MemoryShelf::new(alloc), texts)?.with_file(b"j", journal)?;
+    let mut sink = MemorySink::new(alloc);
+    let status = tricks_alone(alloc, &words, &mut shelf, &mut sink);
+    let printed = Vec::from_slice(alloc, sink.bytes())?;
+    Ok(Replay {
+        status,
+        printed,
+        shelf,
+    })
+}
+
+/// Whether the journal that a run of a plan wrote, replayed, gives the same files.
+pub(crate) fn replays<I: LinkIn + Drop>(
     alloc: Global,
     texts: Texts,
     came: &Came<I>,
 ) -> Result<bool, AllocError> {
-    let (other, is_done) = replayed(alloc, texts, came.file(b"journal.txt"))?;
-    for name in came.shelf.names()? {
+    let other = replay_of(alloc, texts, came.file(b"journal.txt"))?;
+    for name in came.names()? {
         if other.file(name.as_slice()) != Some(came.file(name.as_slice())) {
             return Ok(false);
         }
     }
-    Ok(is_done)
+    Ok(other.status == 0)
 }
 
 /// What is wrong with a run of a plan, or that nothing is. Its journal, replayed, has to give its files.

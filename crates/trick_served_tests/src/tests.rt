@@ -1,8 +1,8 @@
 //! What clients are sent, and what their runs write.
 
 use crate::meeting::{Signals, WaitingGate, WaitingIn};
-use crate::plan::{BESIDE, FROZEN, RECORDED, Texts};
-use crate::runs::{RIGHT, Wants, door_of, judged, serve, words};
+use crate::plan::{BESIDE, COUNTED, FROZEN, RECORDED, Texts, UNCOUNTED};
+use crate::runs::{Outside, RIGHT, Wants, door_of, judged, serve, words};
 use std::alloc::{AllocError, Global};
 use std::collections::VecDeque;
 use std::process::Abort;
@@ -28,8 +28,8 @@ const RUNS: &[u8] = b"trick.exec_run()\n";
 /// What a line of no form is answered.
 const BAD: &[u8] = b"4\tbad command\n";
 
-/// The log of a counter that nobody changes.
-const COUNTED: &[u8] = b"tic,counter.n\n0,1\n1000000,2\n2000000,3\n3000000,4\n";
+/// What the odd lines are answered: three are bad, and one asks for a name.
+const ODD: &[u8] = b"4\tbad command\n4\tbad command\n4\tbad command\n1\t0\n";
 
 // A link with these bytes, of which a read gives so many at most.
 fn link(alloc: Global, bytes: &[u8], most: usize) -> Result<ScriptIn, AllocError> {
@@ -54,7 +54,9 @@ fn talked<R: Threads + Wait + AllocGlobal + Copy + Send + Drop + 'static>(
 ) -> Result<&'static str, AllocError> {
     let alloc = rt.alloc();
     let door = door_of(alloc, link(alloc, talk.said, talk.most)?)?;
-    let came = serve(rt, talk.texts, door, refused, NoGate)?;
+    let mut outside = Outside::at(alloc, door);
+    outside.starts = refused;
+    let came = serve(rt, talk.texts, outside, NoGate)?;
     judged(alloc, talk.texts, &came, wants)
 }
 
@@ -64,7 +66,7 @@ fn a_client_watches_a_run(rt: HostRuntime) -> Result<(), Fail> {
         sent: WATCHED,
         in_journal: b"\n0 join 1\n",
         in_state: b"\ncounter.n = 4;\n",
-        log: b"",
+        log: COUNTED,
         printed: b"ended ",
     };
     for most in [1000, 1] {
@@ -86,7 +88,7 @@ fn refused_threads_serve_nobody(rt: HostRuntime) -> Result<(), Fail> {
         sent: b"",
         in_journal: b"\n0 join 1\n0 leave 1 NoThread\nend ",
         in_state: b"\ncounter.n = 0;\n",
-        log: b"",
+        log: UNCOUNTED,
         printed: b"ended ",
     };
     let talk = Talk {
@@ -104,35 +106,6 @@ fn refused_threads_serve_nobody(rt: HostRuntime) -> Result<(), Fail> {
         let wrong = talked(rt, talk, starts, &wants)?;
         assert!(rt; wrong == RIGHT, "{wrong}");
     }
-    Ok(())
-}
-
-// What is wrong with a run whose client's link fails at its second read.
-fn failed<R: Threads + Wait + AllocGlobal + Copy + Send + Drop + 'static>(
-    rt: R,
-    wants: &Wants<'_>,
-) -> Result<&'static str, AllocError> {
-    let alloc = rt.alloc();
-    let said = Vec::from_slice(alloc, b"trick.var_add(\"counter.n\")\ntrick.exec_run()\n")?;
-    let door = door_of(alloc, ScriptIn::failing(said, vec![in alloc; 1]?))?;
-    let came = serve(rt, FROZEN, door, Vec::new(alloc), NoGate)?;
-    if came.has_other_leave(b"LinkFault") {
-        return Ok("another leave than by the link");
-    }
-    judged(alloc, FROZEN, &came, wants)
-}
-
-#[test]
-fn a_link_that_fails_ends_its_session_alone(rt: HostRuntime) -> Result<(), Fail> {
-    let wants = Wants {
-        sent: b"",
-        in_journal: b" cmd 1 trick.exec_run()\n",
-        in_state: b"\ncounter.n = 4;\n",
-        log: b"",
-        printed: b"ended ",
-    };
-    let wrong = failed(rt, &wants)?;
-    assert!(rt; wrong == RIGHT, "{wrong}");
     Ok(())
 }
 
@@ -154,14 +127,14 @@ fn lines_are_as_long_as_they_may_be(rt: HostRuntime) -> Result<(), Fail> {
         sent: BAD,
         in_journal: b" cmd 1 trick.exec_run()\n",
         in_state: b"\ncounter.n = 4;\n",
-        log: b"",
+        log: COUNTED,
         printed: b"ended ",
     };
     let too_long = Wants {
         sent: b"",
         in_journal: b" leave 1 LongLine\n",
         in_state: b"\ncounter.n = 0;\n",
-        log: b"",
+        log: UNCOUNTED,
         printed: b"ended ",
     };
     for length in 4094..4099 {
@@ -178,13 +151,16 @@ fn lines_are_as_long_as_they_may_be(rt: HostRuntime) -> Result<(), Fail> {
     Ok(())
 }
 
-// A thousand empty lines, bytes that are no text, and that the run may go on.
+// A thousand empty lines, bytes that are no text, alone and in lines that are right but for them, and that the run may
+// go on.
 fn odd_lines(alloc: Global) -> Result<Vec<u8>, AllocError> {
     let mut said = Vec::new(alloc);
     for _ in 0..1000 {
         said.push(b'\n')?;
     }
     said.extend_from_slice(b"\x00\xff\n")?;
+    said.extend_from_slice(b"counter.n = 9\x00\n\xffcounter.n = 9\n")?;
+    said.extend_from_slice(b"trick.var_exists(\"\x00\xff\")\n")?;
     said.extend_from_slice(RUNS)?;
     Ok(said)
 }
@@ -194,10 +170,55 @@ fn odd_lines_do_nothing(rt: HostRuntime) -> Result<(), Fail> {
     let alloc = rt.alloc();
     let said = odd_lines(alloc)?;
     let wants = Wants {
-        sent: BAD,
+        sent: ODD,
         in_journal: b" cmd 1 trick.exec_run()\n",
         in_state: b"\ncounter.n = 4;\n",
-        log: b"",
+        log: COUNTED,
+        printed: b"ended ",
+    };
+    let talk = Talk {
+        texts: FROZEN,
+        said: &said,
+        most: 1000,
+    };
+    let wrong = talked(rt, talk, Vec::new(alloc), &wants)?;
+    assert!(rt; wrong == RIGHT, "{wrong}");
+    Ok(())
+}
+
+// A line of each byte but the line feed, and then that the run may go on.
+fn byte_lines(alloc: Global) -> Result<Vec<u8>, AllocError> {
+    let mut said = Vec::new(alloc);
+    for byte in 0..=255u8 {
+        if byte != b'\n' {
+            said.push(byte)?;
+            said.push(b'\n')?;
+        }
+    }
+    said.extend_from_slice(RUNS)?;
+    Ok(said)
+}
+
+// So many answers that a line is of no form.
+fn bad_lines(alloc: Global, count: u32) -> Result<Vec<u8>, AllocError> {
+    let mut sent = Vec::new(alloc);
+    for _ in 0..count {
+        sent.extend_from_slice(BAD)?;
+    }
+    Ok(sent)
+}
+
+#[test]
+fn no_byte_is_a_line(rt: HostRuntime) -> Result<(), Fail> {
+    let alloc = rt.alloc();
+    let said = byte_lines(alloc)?;
+    // All but the space, the tab and the carriage return, which say nothing.
+    let sent = bad_lines(alloc, 252)?;
+    let wants = Wants {
+        sent: &sent,
+        in_journal: b" cmd 1 trick.exec_run()\n",
+        in_state: b"\ncounter.n = 4;\n",
+        log: COUNTED,
         printed: b"ended ",
     };
     let talk = Talk {
@@ -239,7 +260,7 @@ fn tells_of_its_door<R: Threads + Wait + AllocGlobal + Copy + Send + Drop + 'sta
         VecDeque::new(alloc),
         vec![in alloc; 0]?,
     );
-    let came = serve(rt, RECORDED, door, Vec::new(alloc), NoGate)?;
+    let came = serve(rt, RECORDED, Outside::at(alloc, door), NoGate)?;
     Ok(came.has_printed(b"ended turns=4 tic=3000001 faults=0 sessions=0 door=failed\n"))
 }
 
@@ -278,7 +299,8 @@ fn met<R: Threads + Wait + AllocGlobal + Copy + Send + Drop + 'static>(
     let gate = WaitingGate {
         signals: Arc::try_clone(&signals)?,
     };
-    let came = serve(rt, BESIDE, door_of(alloc, input)?, Vec::new(alloc), gate)?;
+    let outside = Outside::at(alloc, door_of(alloc, input)?);
+    let came = serve(rt, BESIDE, outside, gate)?;
     if !signals.have_met() {
         return Ok("the job and the link do not meet");
     }

@@ -8,12 +8,11 @@ use std::thread::Threads;
 use trick_base::Word;
 use trick_outside::{ListSpawner, Spawner};
 
-/// The starts that are refused: none, every second one, and last all that there can be.
-const REFUSED: [&[u64]; 3] = [
-    &[],
-    &[1, 3, 5, 7, 9, 11, 13],
-    &[0, 1, 2, 3, 4, 5, 6, 7, 8, 9, 10, 11, 12, 13, 14],
-];
+/// All starts that there can be.
+const ALL: &[u64] = &[0, 1, 2, 3, 4, 5, 6, 7, 8, 9, 10, 11, 12, 13, 14];
+
+/// The starts that are refused: none, every second one, and last all.
+const REFUSED: [&[u64]; 3] = [&[], &[1, 3, 5, 7, 9, 11, 13], ALL];
 
 /// What an input says of an asynchronous thread.
 const ASYNCHRONOUS: &str = "PROCESS_TYPE_ASYNC_CHILD";
@@ -91,18 +90,19 @@ fn is_replayed(
 
 /// Whether a run by threads came to what it is to: to the same as on one thread. With an asynchronous thread, whose
 /// rounds are published when they are done, it has the status and the logs of that run, and all else as its own journal
-/// says.
+/// says; but where no start is admitted each round is done when it is asked for, as on one thread.
 fn is_right(
     alloc: Global,
     others: &[Word],
     done: (&Setting, &[Text], &Outcome),
     run: &Outcome,
+    refused: &[u64],
 ) -> Result<bool, AllocError> {
     let (setting, before, outcome) = done;
     // A journal that was there already, and was written as it is, is not among the files that are new.
     let journal = find(&run.written, JOURNAL).or(find(before, JOURNAL));
     match journal {
-        Some(journal) if has_rounds(before) => {
+        Some(journal) if refused.len() < ALL.len() && has_rounds(before) => {
             let is_alike = run.status == outcome.status
                 && has_logs_of(run, outcome)
                 && has_logs_of(outcome, run);
@@ -141,7 +141,7 @@ pub(crate) fn by_threads<R: Threads + Wait + Copy + Send + Drop + 'static>(
     for refused in REFUSED {
         let spawner = ListSpawner::refusing(Vec::from_slice(alloc, refused)?);
         let (run, spawner) = in_threads_of(rt, alloc, &words, (setting, before), spawner)?;
-        seen.is_same = seen.is_same && is_right(alloc, others, done, &run)?;
+        seen.is_same = seen.is_same && is_right(alloc, others, done, &run, refused)?;
         // Where all starts are refused, the last time, each that was asked for is counted.
         seen.starts = spawner.faults();
     }
