@@ -18,3 +18,5 @@ pub mod Passed
 pub mod Merged
 -- a tic that is asked for
 pub mod Asking
+-- the late groups and the late jobs
+pub mod Late

@@ -10,5 +10,7 @@ pub mod Groups
 pub mod Passed
 -- The jobs of several groups, in key order.
 pub mod Merged
+-- Jobs that are late.
+pub mod Late
 -- Queues of the scheduled jobs, in groups that are due together.
 pub mod Queue

@@ -5,6 +5,7 @@
 mod calendar;
 mod group;
 mod jobs;
+pub mod laws;
 mod line;
 mod merge;
 mod one_tic;

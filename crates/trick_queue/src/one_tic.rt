@@ -78,14 +78,15 @@ fn pass_group(
 }
 
 /// Passes a tic, which is not above 10^15: notes the groups that are due then, and gives each group whose tic is not
-/// later its next one. It takes a step for each of these groups and one more, and no memory.
+/// later its next one. It takes a step for each of these groups and one more, tells how many these were, and takes no
+/// memory.
 pub(crate) fn pass_tic<L: Ledger>(
     groups: &[Group],
     tic: u64,
     calendar: &mut Calendar,
     due: &mut Vec<u32>,
     steps: &mut Steps<L>,
-)
+) -> u64
     requires range { AreInRange (times_by groups.now) }
     requires tic { tic ≤ tic_limit }
     requires passing { IsPassing (times_by groups.now) calendar.old tic due.old.items }
@@ -93,11 +94,15 @@ pub(crate) fn pass_tic<L: Ledger>(
     ensures passed { IsPassed (times_by groups.now) calendar.new tic due.new.items }
     ensures room { vec_capacity due.new ≡ vec_capacity due.old }
     ensures steps { steps.new ≡ steps.old + late tic calendar.old + 1 }
+    ensures counted { steps.new ≡ steps.old + result }
 {
+    let mut passed = 0;
     while let Some(entry) = calendar.first(steps) {
         if tic < entry.0 {
-            return;
+            return passed + 1;
         }
         pass_group(groups, entry, tic, calendar, due);
+        passed += 1;
     }
+    passed + 1
 }

@@ -10,6 +10,7 @@ ghost use Rattle.trick_model.specs.declared.flags.Flags.{Flags};
 ghost use Rattle.trick_model.specs.declared.plan.Plan.{Plan as PlanValue};
 ghost use Rattle.trick_queue.specs.Calendar.{AreNext};
 ghost use Rattle.trick_queue.specs.Groups.{AreGroups, times_by};
+ghost use Rattle.trick_queue.specs.Late.{late_jobs};
 ghost use Rattle.trick_queue.specs.Merged.{AreThere, HasRoom, IsMergeOf, gathered};
 ghost use Rattle.trick_queue.specs.Passed.{AreInRange, AreOnce, late};
 ghost use Rattle.trick_queue.specs.Queue.{CanAsk, IsBusy, IsFor};
@@ -129,9 +130,10 @@ impl Queues {
     }
 
     /// Asks for the due jobs of a tic, which [`due`](Self::due) then gives. The tic is not passed yet,
-    /// or is the one that was asked for last. All tics up to it are passed then. Takes no memory, and at most one step
-    /// for each group of jobs whose least due tic not passed is at most the tic, and one more.
-    pub fn ask_counted<L: Ledger>(&mut self, plan: &Plan, tic: u64, steps: &mut Steps<L>)
+    /// or is the one that was asked for last. All tics up to it are passed then. It tells how many steps it took: at
+    /// most one for each job whose least due tic not passed is at most the tic, or for each group of these, and one
+    /// more. It takes no memory.
+    pub fn ask_counted<L: Ledger>(&mut self, plan: &Plan, tic: u64, steps: &mut Steps<L>) -> u64
         requires own { IsFor plan.now self.old }
         requires tic { CanAsk self.old tic }
         requires range { tic ≤ tic_limit }
@@ -139,20 +141,23 @@ impl Queues {
         ensures from { self.new.from ≡ tic + 1 }
         ensures asked { self.new.asked ≡ Some tic }
         ensures steps { steps.new ≤ steps.old + late tic self.old.tics + 1 }
+        ensures counted { steps.new ≡ steps.old + result }
+        ensures jobs { result ≤ late_jobs (plan_of plan.now) self.old.from tic + 1 }
     {
         if self.asked == Some(tic) {
-            return;
+            return 0;
         }
         laws::due_test_is_exact();
         self.due.clear();
-        pass_tic(&self.groups, tic, &mut self.calendar, &mut self.due, steps);
+        let taken = pass_tic(&self.groups, tic, &mut self.calendar, &mut self.due, steps);
         merge_due(&self.jobs, &self.groups, &self.due, &mut self.merge);
         self.from = tic + 1;
         self.asked = Some(tic);
+        taken
     }
 
     // Asks with a counter of its own.
-    fn ask_by<L: Ledger>(&mut self, plan: &Plan, tic: u64, blank: Blank)
+    fn ask_by<L: Ledger>(&mut self, plan: &Plan, tic: u64, blank: Blank) -> u64
         requires own { IsFor plan.now self.old }
         requires tic { CanAsk self.old tic }
         requires range { tic ≤ tic_limit }
@@ -162,21 +167,25 @@ impl Queues {
         ensures own { IsFor plan.now self.new }
         ensures from { self.new.from ≡ tic + 1 }
         ensures asked { self.new.asked ≡ Some tic }
+        ensures jobs { result ≤ late_jobs (plan_of plan.now) self.old.from tic + 1 }
     {
         let mut steps = Steps::<L>::new(blank);
-        self.ask_counted(plan, tic, &mut steps);
+        self.ask_counted(plan, tic, &mut steps)
     }
 
-    /// Asks for the due jobs of a tic, as [`ask_counted`](Self::ask_counted) does.
-    pub fn ask(&mut self, plan: &Plan, tic: u64)
+    /// Asks for the due jobs of a tic, as [`ask_counted`](Self::ask_counted) does, with a counter of its own. It tells
+    /// how many steps it took: at most one for each job whose least due tic not passed is at most the tic, and one
+    /// more.
+    pub fn ask(&mut self, plan: &Plan, tic: u64) -> u64
         requires own { IsFor plan.now self.old }
         requires tic { CanAsk self.old tic }
         requires range { tic ≤ tic_limit }
         ensures own { IsFor plan.now self.new }
         ensures from { self.new.from ≡ tic + 1 }
         ensures asked { self.new.asked ≡ Some tic }
+        ensures jobs { result ≤ late_jobs (plan_of plan.now) self.old.from tic + 1 }
     {
-        self.ask_by::<Brand>(plan, tic, Blank::new(1));
+        self.ask_by::<Brand>(plan, tic, Blank::new(1))
     }
 
     /// The due jobs of scheduled threads of the tic that was asked for last, in key order.

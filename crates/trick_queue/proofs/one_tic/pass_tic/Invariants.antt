@@ -11,5 +11,6 @@ abbrev pub invariant-loop-entry : goal.invariant-loop-entry
 invariant-loop-entry g l = record {
   passing : IsPassing (times_by l.groups) l.calendar l.tic l.due.items;
   steps : l.steps + late l.tic l.calendar ≡ l.fn.steps + late l.tic l.fn.calendar;
+  counted : l.steps ≡ l.fn.steps + l.passed;
   room : vec_capacity l.due ≡ vec_capacity l.fn.due;
 }
