@@ -1,13 +1,17 @@
 -- What the calls of a board do, by its fields: the tic is open where there is a memory.
-use Rattle.std.proofs.Common.{◌≡◌, ℕ, ◌<◌, Bool, true, false, List, length, Option, Some, None, refl, sym, ◌∙◌, ap, subst}
+use Rattle.std.proofs.Common.{◌≡◌, ℕ, ◌<◌, ◌≤◌, Bool, true, false, List, length, Option, Some, None, refl, sym, ◌∙◌, ap, subst}
 use Rattle.std.specs.Option.{IfSome, option_map}
 use Rattle.std.specs.Prelude.{ℤ, IsSome, Result, Ok, Err, replicate}
 use Rattle.trick_board.proofs.Ends.{ends_serial, not_stale}
-use Rattle.trick_board.proofs.Nexts.{next_right}
+use Rattle.trick_board.proofs.Counting.{occurrences}
+use Rattle.trick_board.proofs.Firsts.{due_order}
+use Rattle.trick_board.proofs.Nexts.{first_on, next_right, none_before}
+use Rattle.trick_board.proofs.Ranks.{once}
 use Rattle.trick_board.proofs.Stages.{due_kept, first_due}
 use Rattle.trick_board.specs.Answers.{CanDo, ComesTo, Commits, Counts, IfMemory, IsLeftBy, IsStale, open_count}
 use Rattle.trick_board.specs.Board.{BoardView, IsBoardOf, IsOpenOf, Opened, opened_of, stepped, tic_at}
-use Rattle.trick_board.specs.Search.{next_in}
+use Rattle.trick_board.specs.Counts.{AreRanked, own_anew, own_at}
+use Rattle.trick_board.specs.Search.{AreFirst, next_in}
 use Rattle.trick_board.specs.Tables.{IsFor}
 use Rattle.trick_board.specs.declared.answers.Closed.{Closed}
 use Rattle.trick_board.specs.declared.answers.Closed.TheVariants.{Left, Memory}
@@ -25,7 +29,7 @@ use Rattle.trick_lang.specs.declared.job.JobId.{JobId}
 use Rattle.trick_lang.specs.declared.scalar.Scalar.{Scalar}
 use Rattle.trick_model.specs.Acceptance.{IsAccepted}
 use Rattle.trick_model.specs.FaultList.{FaultList, with_faults}
-use Rattle.trick_model.specs.Laws.{KeyOrderIsOne}
+use Rattle.trick_model.specs.Laws.{AreInKeyOrder, KeyOrderIsOne}
 use Rattle.trick_model.specs.Order.{jobs_at}
 use Rattle.trick_model.specs.Plan.{Plan, is_on}
 use Rattle.trick_model.specs.PlanOf.{plan_of}
@@ -54,6 +58,43 @@ next_at numbers scalars tic on due stages (Some m) plan tables thread r law for_
 
 none_is : false ≡ true → ⊥
 none_is e = cc
+
+-- where nothing is left before a waiting job, it is the first open one of its thread
+pub first_at : {M : Type 0} (numbers : M → List ℤ) (scalars : M → List Scalar) (tic : ℕ) (on : List Bool) (due : List JobId) (stages : List Stage)
+    (memory : Option M) (plan : PlanValue) (tables : Tables) (ranks left : List ℕ) (thread : ℕ) → KeyOrderIsOne → IsFor (plan_of plan) tables
+    → IsSome (option_map (opened_of numbers scalars tic on due stages) memory)
+    → IfSome (option_map (opened_of numbers scalars tic on due stages) memory) (IsOpenOf plan)
+    → AreRanked tables due stages ranks left → AreFirst tables stages (own_at tables ranks left) thread
+first_at numbers scalars tic on due stages None plan tables ranks left thread law for_ some open_ are = absurd (none_is some)
+first_at numbers scalars tic on due stages (Some m) plan tables ranks left thread law for_ some open_ are =
+    first_on plan (record { on = on }) tic tables stages (record { keys = law; tables_are = for_; due = open_.stages }) due open_.due
+    (subst (AreInKeyOrder plan.program.jobs) (sym open_.due) (due_order law plan (record { on = on }) tic)) (own_at tables ranks left) are thread
+
+-- nothing is left before a job that is ready
+pub ready_first : KeyOrderIsOne → (plan : PlanValue) (tables : Tables) (opened : Option Opened) (thread : ℕ) (job : JobId) → IsFor (plan_of plan) tables
+    → IfSome opened (IsOpenOf plan) → IfSome opened (λ o. CanDo (tic_at plan o) o.progress.stages thread (Ready job))
+    → IfSome opened (λ o. own_anew tables o.due o.progress.stages job.0 ≡ 0)
+ready_first law plan tables None thread job for_ open_ can = tt
+ready_first law plan tables (Some o) thread job for_ open_ can =
+    none_before plan o.on o.tic tables o.progress.stages (record { keys = law; tables_are = for_; due = open_.stages }) o.due open_.due
+    (subst (AreInKeyOrder plan.program.jobs) (sym open_.due) (due_order law plan o.on o.tic)) job.0
+    (sym (open_.stages job.0) ∙ ap is_due can.next.holds.1) can.ready
+
+-- what an open board says of what is left before a job is so of its fields
+pub own_open : {M : Type 0} (numbers : M → List ℤ) (scalars : M → List Scalar) (tic : ℕ) (on : List Bool) (due : List JobId) (stages : List Stage)
+    (memory : Option M) (tables : Tables) (k : ℕ) → IsSome (option_map (opened_of numbers scalars tic on due stages) memory)
+    → IfSome (option_map (opened_of numbers scalars tic on due stages) memory) (λ o. own_anew tables o.due o.progress.stages k ≡ 0)
+    → own_anew tables due stages k ≡ 0
+own_open numbers scalars tic on due stages None tables k some is = absurd (none_is some)
+own_open numbers scalars tic on due stages (Some m) tables k some is = is
+
+-- a due job of an open board is in its list at most once
+pub once_open : {M : Type 0} (numbers : M → List ℤ) (scalars : M → List Scalar) (tic : ℕ) (on : List Bool) (due : List JobId) (stages : List Stage)
+    (memory : Option M) (plan : PlanValue) (k : ℕ) → KeyOrderIsOne → IsSome (option_map (opened_of numbers scalars tic on due stages) memory)
+    → IfSome (option_map (opened_of numbers scalars tic on due stages) memory) (IsOpenOf plan) → occurrences k (ids due) ≤ 1
+once_open numbers scalars tic on due stages None plan k law some open_ = absurd (none_is some)
+once_open numbers scalars tic on due stages (Some m) plan k law some open_ =
+    once plan.program.jobs (ids due) (subst (AreInKeyOrder plan.program.jobs) (sym open_.due) (due_order law plan (record { on = on }) tic)) k
 
 -- a job that is ready is there
 pub ready_there : (opened : Option Opened) (plan : PlanValue) (thread : ℕ) (job : JobId) → IsSome opened → IfSome opened (IsOpenOf plan)

@@ -41,7 +41,7 @@ occurrences k [] = 0
 occurrences k (j ∷ js) = one_if (j == k) + occurrences k js
 
 -- in key order a job is there once or not at all
-occurs_once : (jobs : List Job) (ks : List ℕ) (k : ℕ) → AreInKeyOrder jobs ks → occurrences k ks ≡ one_if (is_among k ks)
+pub occurs_once : (jobs : List Job) (ks : List ℕ) (k : ℕ) → AreInKeyOrder jobs ks → occurrences k ks ≡ one_if (is_among k ks)
 occurs_once jobs [] k ordered = refl
 occurs_once jobs (j ∷ ks) k ordered = by_case (cases_eq k j) (occurs_once jobs ks k ordered.1)
   where
@@ -84,7 +84,7 @@ counts_match law plan tables right j k is_scheduled there_j there_k =
 
 -- ---- counts that are lowered
 
-one_less : (counts : List ℕ) (j : ℕ) → count_at (slice_set counts j (count_at counts j - 1)) j ≡ count_at counts j - 1
+pub one_less : (counts : List ℕ) (j : ℕ) → count_at (slice_set counts j (count_at counts j - 1)) j ≡ count_at counts j - 1
 one_less counts j = elim (cases_lt j (length counts)) [
   | inl less ↦ get_or-set_same counts j (count_at counts j - 1) 0 less
   | inr past ↦
@@ -127,7 +127,7 @@ none_open stages (job ∷ jobs) none = by_test (none_open stages jobs) (is_open 
     by_test others false none = let rest : 0 + open_among stages jobs ≡ 0 = none in others (omega (arith, rest))
 
 -- a stage that is as open as the one before leaves which jobs are open
-open_kept : (stages : List Stage) (k : ℕ) (s : Stage) → is_open s ≡ is_open (stage_at stages k) → (i : ℕ)
+pub open_kept : (stages : List Stage) (k : ℕ) (s : Stage) → is_open s ≡ is_open (stage_at stages k) → (i : ℕ)
     → is_open (stage_at (slice_set stages k s) i) ≡ is_open (stage_at stages i)
 open_kept stages k s same i = elim (cases_eq i k) [
   | inr ne ↦ ap is_open (get_or-set_other stages k i s Idle ne)
@@ -138,7 +138,7 @@ open_kept stages k s same i = elim (cases_eq i k) [
   ]
 ]
 
-same_open : (old new : List Stage) (jobs : List JobId) → ((i : ℕ) → is_open (stage_at new i) ≡ is_open (stage_at old i))
+pub same_open : (old new : List Stage) (jobs : List JobId) → ((i : ℕ) → is_open (stage_at new i) ≡ is_open (stage_at old i))
     → open_among new jobs ≡ open_among old jobs
 same_open old new [] same = refl
 same_open old new (job ∷ jobs) same =
@@ -155,7 +155,7 @@ together : (now here was a o b : ℕ) → a + o ≡ b → now + here ≡ was →
 together now here was a o b rest first = omega (arith, rest, first)
 
 -- an open job that is closed is no longer counted
-closed_one : (stages : List Stage) (j : ℕ) (s : Stage) (jobs : List JobId) → IsTrue (is_open (stage_at stages j)) → is_open s ≡ false
+pub closed_one : (stages : List Stage) (j : ℕ) (s : Stage) (jobs : List JobId) → IsTrue (is_open (stage_at stages j)) → is_open s ≡ false
     → open_among (slice_set stages j s) jobs + occurrences j (ids jobs) ≡ open_among stages jobs
 closed_one stages j s [] opens shut = refl
 closed_one stages j s (job ∷ jobs) opens shut =
@@ -259,7 +259,7 @@ open_due Waiting h = refl
 open_due InFlight h = refl
 open_due (Done fault) h = cc
 
-was_due : (stages : List Stage) (j : ℕ) (s : Stage) → IsTrue (is_open (stage_at stages j)) → (k : ℕ)
+pub was_due : (stages : List Stage) (j : ℕ) (s : Stage) → IsTrue (is_open (stage_at stages j)) → (k : ℕ)
     → IsTrue (is_due (stage_at (slice_set stages j s) k)) → IsTrue (is_due (stage_at stages k))
 was_due stages j s opens k due = elim (cases_eq k j) [
   | inl same ↦ subst (λ (n : ℕ). IsTrue (is_due (stage_at stages n))) (sym same) (open_due (stage_at stages j) opens)

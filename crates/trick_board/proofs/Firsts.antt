@@ -15,9 +15,9 @@ use Rattle.trick_model.specs.Valid.{ids}
 use Rattle.trick_model.specs.declared.flags.Flags.{Flags}
 use Rattle.trick_model.specs.declared.plan.Plan.{Plan as PlanValue}
 use Rattle.trick_queue.proofs.Orders.{order_kept}
-use Rattle.trick_schedule.proofs.Due.{among_filter, chosen, due_there, jobs_kept, numbers_among, numbers_are}
+use Rattle.trick_schedule.proofs.Due.{among_filter, chosen, due_there, is_chosen, jobs_kept, numbers_among, numbers_are}
 use Rattle.trick_schedule.proofs.Keys.{among_cases, among_first, among_rest, before_among, none_among, not_both, not_itself}
-use Rattle.trick_schedule.specs.Tics.{IsDueIn, tic_of}
+use Rattle.trick_schedule.specs.Tics.{IsDueIn, due_jobs, tic_of}
 
 -- ---- lists in key order
 
@@ -27,6 +27,13 @@ tested_order law plan test =
     let jobs = plan.program.jobs in
     order_kept jobs test (scheduled (plan_of plan)) (law.ordered plan (filter (is_of_class jobs class.Scheduled) (job_numbers jobs))
     (jobs_kept jobs (is_of_class jobs class.Scheduled) (job_numbers jobs) (numbers_are jobs 0 jobs (omega arith))))
+
+-- the due jobs are in key order
+pub due_order : KeyOrderIsOne → (plan : PlanValue) (on : Flags) (number : ℕ) → AreInKeyOrder plan.program.jobs (due_jobs (tic_of plan on number))
+due_order law plan on number =
+    let jobs = plan.program.jobs in
+    law.ordered plan (filter (is_chosen (tic_of plan on number)) (job_numbers jobs))
+    (jobs_kept jobs (is_chosen (tic_of plan on number)) (job_numbers jobs) (numbers_are jobs 0 jobs (omega arith)))
 
 -- a due job is of class scheduled
 pub due_scheduled : KeyOrderIsOne → (plan : PlanValue) (on : Flags) (number k : ℕ) → IsDueIn (tic_of plan on number) k

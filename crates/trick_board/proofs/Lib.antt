@@ -18,3 +18,9 @@ pub mod Passed
 pub mod Found
 -- counts of what due jobs wait for
 pub mod Counting
+-- the jobs before a job on its thread
+pub mod Own
+-- ranks of due jobs among those of their threads
+pub mod Ranks
+-- a job that is taken and at once committed
+pub mod Runs

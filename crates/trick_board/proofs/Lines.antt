@@ -20,7 +20,8 @@ none_pass test (k ∷ ks) none = ap (λ (b : Bool). cond b (k ∷ filter test ks
 le_of : (a b : ℕ) → nat_le a b ≡ true → a ≤ b
 le_of a b h = grind (arith, nat_tests)
 
-thread_small : (jobs : List Job) (k : ℕ) → have_right_threads jobs ≡ true → thread_of jobs k ≤ 15
+-- a thread is at most 15
+pub thread_small : (jobs : List Job) (k : ℕ) → have_right_threads jobs ≡ true → thread_of jobs k ≤ 15
 thread_small jobs k right = elim (cases_lt k (length jobs)) [
   | inl less ↦ le_of _ _ (AllPass-from_list_all (λ (job : Job). nat_le job.thread 15) jobs right k no_job less)
   | inr past ↦ subst (λ (job : Job). job.thread ≤ 15) (sym (get_or_past jobs k no_job past)) (omega arith)

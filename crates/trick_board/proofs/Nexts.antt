@@ -3,16 +3,19 @@ use Rattle.std.proofs.Common.{◌≡◌, ◌⊎◌, inl, inr, ℕ, ◌==◌, Boo
 use Rattle.std.proofs.lemmas.Bool.{both_ways}
 use Rattle.std.specs.List.{slice_index_or}
 use Rattle.std.specs.Prelude.{filter}
+use Rattle.trick_board.proofs.Own.{before_all, before_first, before_thread, before_within, none_opens, open_some}
 use Rattle.trick_board.proofs.Firsts.{Found, among_tested, due_scheduled, find_none, find_some, tested, tested_order}
 use Rattle.trick_board.specs.Answers.{CanDo, IsLeast, IsMissing, WaitsOn}
-use Rattle.trick_board.specs.Search.{find_first, find_wanted, is_in_flight, is_open, is_waiting, last_of, least_of, missing_in, next_by, next_in, other_than, ready_or}
-use Rattle.trick_board.specs.Tables.{IsFor, depended_of, line_of, scheduled}
+use Rattle.trick_board.specs.Counts.{before_on, own_anew}
+use Rattle.trick_board.specs.Search.{AreFirst, find_first, find_wanted, is_in_flight, is_open, is_waiting, last_of, least_of, missing_in, next_by, next_in, other_than, ready_or}
+use Rattle.trick_board.specs.Tables.{IsFor, depended_of, line_of, scheduled, thread_in}
+use Rattle.trick_board.specs.declared.search.Next.TheVariants.{Ready}
 use Rattle.trick_board.specs.declared.search.Wanted.TheVariants as wanted
 use Rattle.trick_board.specs.declared.tables.Tables.{Tables}
 use Rattle.trick_lang.specs.declared.job.JobId.{JobId}
 use Rattle.trick_model.specs.Laws.{AreInKeyOrder, KeyOrderIsOne, is_among}
 use Rattle.trick_model.specs.Order.{precedes}
-use Rattle.trick_model.specs.Plan.{thread_of}
+use Rattle.trick_model.specs.Plan.{Plan, thread_of}
 use Rattle.trick_model.specs.PlanOf.{plan_of}
 use Rattle.trick_model.specs.Valid.{ids}
 use Rattle.trick_model.specs.declared.flags.Flags.{Flags}
@@ -105,6 +108,16 @@ least_two t P Q (Some one) None total h g = record {
   least = λ a is first. elim is [ inl p ↦ h.least a p first | inr q ↦ g a q ];
 }
 least_two t P Q (Some one) (Some other) total h g = least_other t P Q one.0 other.0 total h g (precedes t.plan.jobs other.0 one.0) refl
+
+-- the thread's next job is ready where it is its first open one, and none that it depends on is open
+pub ready_found : (p : Plan) (tables : Tables) (stages : List Stage) (thread : ℕ) (job : JobId)
+    → find_wanted wanted.Waiting stages (slice_index_or tables.lines thread []) ≡ Some job
+    → other_than job (find_wanted wanted.Open stages (slice_index_or tables.lines thread [])) ≡ None
+    → find_wanted wanted.Open stages (slice_index_or tables.depended job.0 []) ≡ None → Ready job ≡ next_in p tables stages thread
+ready_found p tables stages thread job found first depended =
+    sym (ap (next_by p tables stages thread) found
+    ∙ ap (λ (r : Option JobId). ready_or job (least_of p r (find_wanted wanted.Open stages (slice_index_or tables.depended job.0 [])))) first
+    ∙ ap (λ (r : Option JobId). ready_or job (least_of p None r)) depended)
 
 -- ---- the tables
 
@@ -258,6 +271,55 @@ module _ (plan : PlanValue) (on : Flags) (number : ℕ) (tables : Tables) (stage
       (least_two (tic_of plan on number) (Before job.0) (Depended job.0) _ _ (due_order sees job.0)
       (before_least sees thread job among (ap is_open is))
       (depended_least sees job (open_is_due sees job.0 (ap is_due is))))
+
+  -- ---- the due jobs before a job on its thread
+
+  before_of : Sees plan on number tables stages → (due : List JobId) → ids due ≡ due_jobs (tic_of plan on number)
+      → AreInKeyOrder plan.program.jobs (ids due) → (k a : ℕ) → Before k a → IsTrue (is_among a (ids (before_on tables (thread_in tables k) k due)))
+  before_of sees due is ordered k a before =
+      before_all plan.program.jobs tables (thread_in tables k) k due a ordered
+      (ap (is_among a) is ∙ before.0)
+      (sees.tables_are.threads a ∙ before.3 ∙ sym (sees.tables_are.threads k)) before.2
+
+  -- where nothing is left before a waiting job of a thread, it is the thread's first open job
+  pub first_on : Sees plan on number tables stages → (due : List JobId) → ids due ≡ due_jobs (tic_of plan on number)
+      → AreInKeyOrder plan.program.jobs (ids due) → (own : ℕ → ℕ)
+      → ((k : ℕ) → IsTrue (is_due (stage_at stages k)) → own k ≡ own_anew tables due stages k) → (thread : ℕ)
+      → AreFirst tables stages own thread
+  first_on sees due is ordered own right thread job found none =
+      by_found (other_than job (find_wanted wanted.Open stages (on_thread tables thread)))
+      (before_least sees thread job waiting.among (ap is_open waits_now))
+    where
+      waiting : Found plan.program.jobs (λ k. is_waiting (stage_at stages k)) (line_of (plan_of plan) thread) job.0
+      waiting = found_on sees thread (λ k. is_waiting (stage_at stages k)) job found
+
+      waits_now : stage_at stages job.0 ≡ Waiting
+      waits_now = waits (stage_at stages job.0) waiting.passes
+
+      nothing : own_anew tables due stages job.0 ≡ 0
+      nothing = sym (right job.0 (ap is_due waits_now)) ∙ none
+
+      by_found : (r : Option JobId) → NoneOrLeast (tic_of plan on number) (Before job.0) r → r ≡ None
+      by_found None h = refl
+      by_found (Some o) h =
+          absurd (open_some stages (before_on tables (thread_in tables job.0) job.0 due) o.0 (before_of sees due is ordered job.0 o.0 h.holds)
+          (is_open_one sees o.0 h.holds.0 h.holds.1) nothing)
+
+  -- nothing is left before a due job of which no predecessor is missing
+  pub none_before : Sees plan on number tables stages → (due : List JobId) → ids due ≡ due_jobs (tic_of plan on number)
+      → AreInKeyOrder plan.program.jobs (ids due) → (k : ℕ) → IsDueIn (tic_of plan on number) k
+      → ((a : ℕ) → IsMissing (tic_of plan on number) stages k a → ⊥) → own_anew tables due stages k ≡ 0
+  none_before sees due is ordered k due_k none =
+      none_opens stages (before_on tables (thread_in tables k) k due) (λ a among opens. none a (
+        record {
+          due = sym (ap (is_among a) is) ∙ before_within tables (thread_in tables k) k due a among;
+          before = inl (
+            before_first plan.program.jobs tables (thread_in tables k) k due a ordered (ap (is_among k) is ∙ due_k) among,
+            sym (sees.tables_are.threads a) ∙ before_thread tables (thread_in tables k) k due a among ∙ sees.tables_are.threads k,
+          );
+        },
+        open_not_done (stage_at stages a) opens,
+      ))
 
   -- ---- what can be done
 

@@ -109,7 +109,7 @@ set_opens stages k s opens i = elim (cases_eq i k) [
   ]
 ]
 
-all_zero : (n k : ℕ) → ◌≡◌ {A = ℕ} (slice_index_or (replicate n 0) k 0) 0
+pub all_zero : (n k : ℕ) → ◌≡◌ {A = ℕ} (slice_index_or (replicate n 0) k 0) 0
 all_zero zero k = refl
 all_zero (suc n) zero = refl
 all_zero (suc n) (suc k) = all_zero n k

@@ -4,6 +4,8 @@ use Rattle.trick_board.specs.declared.answers.Closed.{Closed}
 use Rattle.trick_board.specs.declared.answers.Closed.TheVariants.{Left, Memory}
 use Rattle.trick_board.specs.declared.answers.Commit.{Commit}
 use Rattle.trick_board.specs.declared.answers.Commit.TheVariants.{Committed, Stale, Gone, NotTaken}
+use Rattle.trick_board.specs.declared.answers.Ran.{Ran}
+use Rattle.trick_board.specs.declared.answers.Ran.TheVariants as ran
 use Rattle.trick_board.specs.declared.answers.Took.{Took}
 use Rattle.trick_board.specs.declared.answers.Took.TheVariants.{Took as WasTaken, NotYet, ThreadDone}
 use Rattle.trick_board.specs.declared.search.Next.{Next}
@@ -111,6 +113,30 @@ abbrev pub HasCopy : Tic → List ℤ → List Step → BenchView → Type 0
 HasCopy t first steps bench =
     let k = (the_job bench.job).0 in AgreeOn (t.plan.reads k) bench.inputs
     (copy_of (played t (opening t first) steps) k)
+
+-- ---- take and commit at once
+
+-- What a run may answer: what the thread can do next, and the job that it is.
+abbrev pub Runs : Tic → List Stage → ℕ → Ran → Type 0
+Runs t stages thread (ran.Done job) = CanDo t stages thread (next.Ready job)
+Runs t stages thread (ran.NotYet job missing) = CanDo t stages thread (next.Waits job missing)
+Runs t stages thread ran.ThreadDone = CanDo t stages thread next.Nothing
+
+-- what holds of the job that is run
+abbrev pub IfDone : Ran → (JobId → Type 0) → Type 0
+IfDone (ran.Done job) P = P job
+IfDone (ran.NotYet job missing) P = Unit {0}
+IfDone ran.ThreadDone P = Unit {0}
+
+-- what holds where no job is run
+abbrev pub IfNotDone : Ran → Type 0 → Type 0
+IfNotDone (ran.Done job) P = Unit {0}
+IfNotDone (ran.NotYet job missing) P = P
+IfNotDone ran.ThreadDone P = P
+
+-- The bench is empty, and its buffers are as they were.
+abbrev pub IsEmptiedOf : BenchView → BenchView → Type 0
+IsEmptiedOf old new = new ≡ record old { phase = 0; job = None; outcome = None; inputs = new.inputs }
 
 -- ---- close
 

@@ -1,6 +1,6 @@
 -- What a board is, and which boards are a plan's.
 use Rattle.std.specs.Option.{IfSome}
-use Rattle.std.specs.Prelude.{◌≡◌, ℕ, ◌+◌, ◌-◌, ◌^◌, ◌<◌, ◌≤◌, ◌==◌, if◌then◌else◌, ℤ, Bool, IsTrue, List, length, Option, Some}
+use Rattle.std.specs.Prelude.{◌≡◌, ℕ, ◌+◌, ◌-◌, ◌^◌, ◌<◌, ◌≤◌, ◌==◌, if◌then◌else◌, ℤ, Bool, IsTrue, List, [], ◌∷◌, length, Option, Some}
 use Rattle.trick_board.specs.Tables.{IsFor}
 use Rattle.trick_board.specs.declared.tables.Tables.{Tables}
 use Rattle.trick_job.specs.Belongs.{IsMemoryOf}
@@ -13,10 +13,11 @@ use Rattle.trick_model.specs.Valid.{ids}
 use Rattle.trick_model.specs.declared.flags.Flags.{Flags}
 use Rattle.trick_model.specs.declared.plan.Plan.{Plan as PlanValue}
 use Rattle.trick_schedule.specs.Play.{is_due, stage_at}
-use Rattle.trick_schedule.specs.Progress.{Progress, begun, move}
+use Rattle.trick_schedule.specs.Progress.{Progress, begun, move, moved}
 use Rattle.trick_schedule.specs.Tics.{Tic, due_jobs, tic_of}
 use Rattle.trick_schedule.specs.declared.stage.Stage.{Stage}
 use Rattle.trick_schedule.specs.declared.step.Step.{Step}
+use Rattle.trick_schedule.specs.declared.step.Step.TheVariants.{Commit, Take}
 
 -- An open tic: its number, the flags of the jobs, its due jobs in key order, the types of the memory's
 -- cells, and how far it is.
@@ -45,13 +46,15 @@ pub record BoardView : Type 0 where
   pub opened : Option Opened
   pub jobs : ℕ
 
--- the buffers have room for all jobs
-pub record IsRoomy (jobs flags due room counts : ℕ) : Type 0 where
+-- the buffers have room for all jobs and threads
+pub record IsRoomy (jobs flags due room counts ranks left : ℕ) : Type 0 where
   pub limit : jobs ≤ 512
   pub flags_are : flags ≡ jobs
   pub few : due ≤ jobs
   pub room_is : jobs ≤ room
   pub counts_are : counts ≡ jobs
+  pub ranks_are : ranks ≡ jobs
+  pub left_are : left ≡ 16
 
 -- each job that is due is one of these
 abbrev pub AreDueAmong : List ℕ → List Stage → Type 0
@@ -86,3 +89,9 @@ pub record IsOpenedWith (plan : PlanValue) (numbers : List ℤ) (on : Flags) (ti
 -- The board after a step.
 abbrev pub stepped : PlanValue → BoardView → Opened → Step → BoardView
 stepped plan b o x = record b { opened = Some (record o { progress = move (tic_at plan o) o.progress x }) }
+
+-- The board after a job is taken and at once committed.
+abbrev pub with_run : PlanValue → BoardView → Opened → JobId → BoardView
+with_run plan b o job = record b {
+  opened = Some (record o { progress = moved (tic_at plan o) o.progress (Take job ∷ Commit job ∷ []) });
+}

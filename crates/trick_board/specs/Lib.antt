@@ -6,5 +6,5 @@ pub mod Board
 pub mod Answers
 -- How the next job of a thread is found.
 pub mod Search
--- How many uncommitted jobs a due job waits for.
+-- How many of its predecessors a due job waits for.
 pub mod Counts

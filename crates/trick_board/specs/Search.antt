@@ -63,6 +63,12 @@ abbrev pub other_than : JobId → Option JobId → Option JobId
 other_than job None = None
 other_than job (Some other) = if other.0 == job.0 then None else Some other
 
+-- Where nothing is left before a waiting job of a thread, it is the thread's first open job.
+abbrev pub AreFirst : Tables → List Stage → (ℕ → ℕ) → ℕ → Type 0
+AreFirst tables stages own thread =
+    (job : JobId) → find_wanted wanted.Waiting stages (slice_index_or tables.lines thread []) ≡ Some job → own job.0 ≡ 0
+    → other_than job (find_wanted wanted.Open stages (slice_index_or tables.lines thread [])) ≡ None
+
 -- the one of smaller key, if there is one
 abbrev pub least_of : Plan → Option JobId → Option JobId → Option JobId
 least_of p None other = other

@@ -30,9 +30,14 @@ followers_of p a = filter (λ k. is_among a (depended_of p k)) (scheduled p)
 abbrev pub ids_at : List (List JobId) → ℕ → List ℕ
 ids_at lists place = ids (slice_index_or lists place [])
 
--- The tables are those of the plan: the jobs of each thread, those that each job depends on, and those
--- that depend on each job.
+-- the thread of a job; 0 past the last job
+abbrev pub thread_in : Tables → ℕ → ℕ
+thread_in tables k = slice_index_or tables.threads k 0
+
+-- The tables are those of the plan: the thread of each job, the jobs of each thread, those that each job
+-- depends on, and those that depend on each job.
 pub record IsFor (p : Plan) (tables : Tables) : Type 0 where
+  pub threads : (k : ℕ) → thread_in tables k ≡ thread_of p.jobs k
   pub lines : (thread : ℕ) → ids_at tables.lines thread ≡ line_of p thread
   pub depended : (k : ℕ) → k < length p.jobs → ids_at tables.depended k ≡ depended_of p k
   pub followers : (k : ℕ) → k < length p.jobs → ids_at tables.followers k ≡ followers_of p k

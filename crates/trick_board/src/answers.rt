@@ -12,6 +12,18 @@ pub enum Took {
     ThreadDone,
 }
 
+/// What a run of a thread's next job comes to.
+#[derive(Clone, Copy, Debug, PartialEq, Eq)]
+pub enum Ran {
+    /// The thread's next due job, which is committed.
+    Done { job: JobId },
+    /// The thread's next due job, and the least of its predecessors that are not committed. Where the
+    /// thread's last due job is in flight, both are that job.
+    NotYet { job: JobId, waits_for: JobId },
+    /// All due jobs of the thread are committed.
+    ThreadDone,
+}
+
 /// What a commit comes to.
 #[derive(Clone, Copy, Debug, PartialEq, Eq)]
 pub enum Commit {

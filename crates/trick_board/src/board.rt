@@ -1,8 +1,9 @@
 ghost use Rattle.std.specs.Option.{IfSome};
 ghost use Rattle.std.specs.Prelude.{◌≡◌, ◌≢◌, ℕ, ℤ, ◌<◌, ◌≤◌, List, IfOk, IsSome, MatchOption, None, Some, is_some, length};
-ghost use Rattle.trick_board.specs.Answers.{CanDo, ComesTo, Commits, Counts, HasCopy, IfLeft, IfMemory, IsFilledBy, IsLeftBy, IsStale, Takes, open_count};
+ghost use Rattle.trick_board.specs.Answers.{CanDo, ComesTo, Commits, Counts, HasCopy, IfDone, IfLeft, IfMemory, IfNotDone, IsEmptiedOf, IsFilledBy, IsLeftBy, IsStale, Runs, Takes, open_count};
+ghost use Rattle.trick_board.specs.Counts.{own_anew};
 ghost use Rattle.trick_board.specs.Search.{is_in_flight};
-ghost use Rattle.trick_board.specs.Board.{IsBoardOf, IsOpenedWith, next_phase as next_phase_of, stepped, tic_at};
+ghost use Rattle.trick_board.specs.Board.{IsBoardOf, IsOpenedWith, next_phase as next_phase_of, stepped, tic_at, with_run};
 ghost use Rattle.trick_eval.specs.Bench.{IsEvaluated, IsFilled, IsFirstDifference, IsFor as IsBenchFor, the_job};
 ghost use Rattle.trick_job.specs.Belongs.{IsMemoryOf};
 ghost use Rattle.trick_lang.specs.Effect.{reads};
@@ -19,7 +20,7 @@ ghost use Rattle.trick_schedule.specs.declared.stage.Stage.TheVariants.{InFlight
 ghost use Rattle.trick_schedule.specs.declared.step.Step.{Step};
 ghost use Rattle.trick_schedule.specs.declared.step.Step.TheVariants.{Commit as CommitOf, Take as TakeOf};
 
-use crate::counts::{count_all, lower};
+use crate::counts::{count_all, lower, lower_thread, rank_all};
 use crate::known::Known;
 use crate::search::{Next, next_of, pass, stage_of};
 use crate::step::{
@@ -27,11 +28,11 @@ use crate::step::{
     set_stage,
 };
 use crate::tables::{THREADS, list_at};
-use crate::{Closed, Commit, Tables, Took};
+use crate::{Closed, Commit, Ran, Tables, Took};
 use std::alloc::{AllocError, Global};
 use std::marker::Model;
 use std::mem::replace;
-use trick_eval::Bench;
+use trick_eval::{Bench, eval};
 use trick_lang::laws::overwrite_law;
 use trick_lang::{Cell, Cells, JobId};
 use trick_model::laws::key_order_is_one;
@@ -59,7 +60,7 @@ impl<M: Cells> Model for Board<M> {
     ghost use Rattle.std.specs.Option.{option_map};
     ghost use Rattle.std.specs.Prelude.{length, vec_capacity};
     ghost use Rattle.trick_board.specs.Board.{AreDueAmong, BoardView, IsRoomy, opened_of};
-    ghost use Rattle.trick_board.specs.Counts.{AreCounted};
+    ghost use Rattle.trick_board.specs.Counts.{AreCounted, AreInTurn, AreRanked};
     ghost use Rattle.trick_board.specs.Search.{ArePassed};
     ghost use Rattle.trick_model.specs.Valid.{ids};
 
@@ -73,10 +74,12 @@ impl<M: Cells> Model for Board<M> {
     } };
 
     ghost invariant = { λ b. IsRoomy (length b.stages.items) (length b.on.items) (length b.due.items)
-        (vec_capacity b.due) (length b.known.counts.items)
+        (vec_capacity b.due) (length b.known.counts.items) (length b.known.ranks.items) (length b.known.left.items)
         × ArePassed b.tables b.stages.items b.known.passed.items
         × AreDueAmong (ids b.due.items) b.stages.items
-        × AreCounted b.tables b.stages.items b.known.counts.items };
+        × AreCounted b.tables b.stages.items b.known.counts.items
+        × AreRanked b.tables b.due.items b.stages.items b.known.ranks.items b.known.left.items
+        × AreInTurn b.tables b.due.items b.stages.items };
 }
 
 impl<M: Cells> Board<M> {
@@ -95,6 +98,8 @@ impl<M: Cells> Board<M> {
         let tables = Tables::new(alloc, plan)?;
         let passed = vec![in alloc; 0; THREADS as usize]?;
         let counts = vec![in alloc; 0; jobs]?;
+        let ranks = vec![in alloc; 0; jobs]?;
+        let left = vec![in alloc; 0; THREADS as usize]?;
         Ok(Board {
             phase: 0,
             tic: 0,
@@ -103,7 +108,12 @@ impl<M: Cells> Board<M> {
             stages,
             due,
             tables,
-            known: Known { passed, counts },
+            known: Known {
+                passed,
+                counts,
+                ranks,
+                left,
+            },
         })
     }
 
@@ -152,6 +162,12 @@ impl<M: Cells> Board<M> {
             &self.stages,
             &mut self.known.counts,
         );
+        rank_all(
+            &self.due,
+            &self.tables,
+            &mut self.known.ranks,
+            &mut self.known.left,
+        );
         match replace(&mut self.memory, Some(memory)) {
             None => {}
             Some(_) => unreachable!(),
@@ -177,6 +193,7 @@ impl<M: Cells> Board<M> {
 
     // What a thread can do next.
     fn next(&self, plan: &Plan, thread: u8) -> Next
+        requires open { IsSome self.now.opened }
         requires belongs { IsBoardOf plan.now self.now }
         ensures { IfSome self.now.opened (λ o. CanDo (tic_at plan.now o) o.progress.stages thread result) }
     {
@@ -202,6 +219,7 @@ impl<M: Cells> Board<M> {
         requires bench { IsBenchFor plan.now.program bench.old.parts }
         requires there { job.0 < length plan.now.program.jobs }
         requires waits { IfSome self.old.opened (λ o. stage_at o.progress.stages job.0 ≡ Waiting) }
+        requires first { IfSome self.old.opened (λ o. own_anew self.old.tables o.due o.progress.stages job.0 ≡ 0) }
         ensures taken { IfSome self.old.opened (λ o. self.new ≡ stepped plan.now self.old o (TakeOf job)) }
         ensures filled { IfSome self.old.opened (λ o. IsFilledBy self.old.phase
             (reads plan.now.program job) o.progress.memory bench.old bench.new job) }
@@ -234,6 +252,7 @@ impl<M: Cells> Board<M> {
         set_stage(&mut self.stages, job, Stage::Done(fault));
         let followers = list_at(self.tables.followers.as_slice(), job.0 as usize);
         lower(followers, &mut self.known.counts);
+        lower_thread(&self.tables, job, &mut self.known.left);
     }
 
     // Commits the job of a bench, which is in flight.
@@ -404,6 +423,7 @@ impl<M: Cells> Board<M> {
         ensures kept { result ≢ Took.Took → (self.new ≡ self.old) × (bench.new ≡ bench.old) }
         ensures belongs { IsBoardOf plan.now self.new }
     {
+        key_order_is_one();
         self.pass(thread);
         match self.next(plan, thread) {
             Next::Nothing => Took::ThreadDone,
@@ -433,5 +453,65 @@ impl<M: Cells> Board<M> {
         ensures belongs { IsBoardOf accepted.now.plan self.new }
     {
         self.take_step(accepted.plan(), thread, bench)
+    }
+
+    // Takes, evaluates and commits a job that waits. What it reads is as it was taken.
+    fn complete(&mut self, plan: &Plan, job: JobId, bench: &mut Bench)
+        requires open { IsSome self.old.opened }
+        requires belongs { IsBoardOf plan.now self.old }
+        requires bench { IsBenchFor plan.now.program bench.old.parts }
+        requires there { job.0 < length plan.now.program.jobs }
+        requires waits { IfSome self.old.opened (λ o. stage_at o.progress.stages job.0 ≡ Waiting) }
+        requires first { IfSome self.old.opened (λ o. own_anew self.old.tables o.due o.progress.stages job.0 ≡ 0) }
+        ensures run { IfSome self.old.opened (λ o. self.new ≡ with_run plan.now self.old o job) }
+        ensures emptied { IsEmptiedOf bench.old bench.new }
+        ensures belongs { IsBoardOf plan.now self.new }
+    {
+        self.start(plan, job, bench);
+        eval(&plan.program, bench);
+        self.settle(plan, job, bench);
+        bench.clear();
+    }
+
+    // Takes, evaluates and commits, by a plan.
+    fn run_step(&mut self, plan: &Plan, thread: u8, bench: &mut Bench) -> Ran
+        requires open { IsSome self.old.opened }
+        requires belongs { IsBoardOf plan.now self.old }
+        requires bench { IsBenchFor plan.now.program bench.old.parts }
+        ensures answer { IfSome self.old.opened (λ o. Runs (tic_at plan.now o) o.progress.stages thread result) }
+        ensures run { IfDone result (λ job. IfSome self.old.opened
+            (λ o. self.new ≡ with_run plan.now self.old o job)) }
+        ensures emptied { IfDone result (λ _. IsEmptiedOf bench.old bench.new) }
+        ensures kept { IfNotDone result ((self.new ≡ self.old) × (bench.new ≡ bench.old)) }
+        ensures belongs { IsBoardOf plan.now self.new }
+    {
+        key_order_is_one();
+        self.pass(thread);
+        match self.next(plan, thread) {
+            Next::Nothing => Ran::ThreadDone,
+            Next::Waits(job, waits_for) => Ran::NotYet { job, waits_for },
+            Next::Ready(job) => {
+                self.complete(plan, job, bench);
+                Ran::Done { job }
+            }
+        }
+    }
+
+    /// Takes the thread's next due job, where all predecessors of that are committed, evaluates it in a
+    /// bench and commits it. Nothing changes between, so its inputs are compared with nothing, and the
+    /// bench is empty after it. It costs what the job reads, does and stores, and else what a take costs.
+    pub fn run(&mut self, accepted: &Accepted, thread: u8, bench: &mut Bench) -> Ran
+        requires open { IsSome self.old.opened }
+        requires belongs { IsBoardOf accepted.now.plan self.old }
+        requires bench { IsBenchFor accepted.now.plan.program bench.old.parts }
+        ensures answer { IfSome self.old.opened (λ o. Runs (tic_at accepted.now.plan o)
+            o.progress.stages thread result) }
+        ensures run { IfDone result (λ job. IfSome self.old.opened
+            (λ o. self.new ≡ with_run accepted.now.plan self.old o job)) }
+        ensures emptied { IfDone result (λ _. IsEmptiedOf bench.old bench.new) }
+        ensures kept { IfNotDone result ((self.new ≡ self.old) × (bench.new ≡ bench.old)) }
+        ensures belongs { IsBoardOf accepted.now.plan self.new }
+    {
+        self.run_step(accepted.plan(), thread, bench)
     }
 }

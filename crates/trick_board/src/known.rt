@@ -5,4 +5,8 @@ pub struct Known {
     pub(crate) passed: Vec<usize>,
     /// By job, how many of those that a due job depends on are not committed.
     pub(crate) counts: Vec<usize>,
+    /// By job, the rank of a due job among those of its thread, from the last one on, which has 1.
+    pub(crate) ranks: Vec<usize>,
+    /// By thread, how many of its due jobs are not committed.
+    pub(crate) left: Vec<usize>,
 }

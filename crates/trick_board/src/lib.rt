@@ -10,6 +10,6 @@ mod search;
 mod step;
 mod tables;
 
-pub use answers::{Closed, Commit, Took};
+pub use answers::{Closed, Commit, Ran, Took};
 pub use board::Board;
 pub use tables::Tables;

@@ -3,14 +3,14 @@
 ghost use Rattle.std.specs.List.{slice_index_or};
 ghost use Rattle.std.specs.Option.{IfSome};
 ghost use Rattle.std.specs.Prelude.{◌≡◌, ◌<◌, [], length};
-ghost use Rattle.trick_board.specs.Counts.{AreCounted};
-ghost use Rattle.trick_board.specs.Search.{ArePassed, IsPassed, find_wanted, least_of, meets, next_in, other_than};
+ghost use Rattle.trick_board.specs.Counts.{AreCounted, own_at};
+ghost use Rattle.trick_board.specs.Search.{ArePassed, AreFirst, IsPassed, find_wanted, least_of, meets, next_in, other_than};
 ghost use Rattle.trick_board.specs.Tables.{IsFor};
 ghost use Rattle.trick_model.specs.PlanOf.{plan_of};
 ghost use Rattle.trick_schedule.specs.Play.{stage_at};
 
 use crate::Tables;
-use crate::counts::awaited;
+use crate::counts::{awaited, has_none_left};
 use crate::known::Known;
 use crate::tables::list_at;
 use trick_lang::JobId;
@@ -136,11 +136,12 @@ fn least(plan: &Plan, one: Option<JobId>, other: Option<JobId>) -> Option<JobId>
 }
 
 /// What a thread can do next, where none of its first jobs that are known as passed is open. It costs the
-/// jobs after them up to the next one, and those that this depends on where its count is not 0.
+/// jobs after them up to the next one, and those that this depends on where its counts are not 0.
 pub fn next_of(plan: &Plan, tables: &Tables, stages: &[Stage], known: &Known, thread: u8) -> Next
     requires tables { IsFor (plan_of plan.now) tables.now }
     requires passed { ArePassed tables.now stages.now known.now.passed.items }
     requires counted { AreCounted tables.now stages.now known.now.counts.items }
+    requires first { AreFirst tables.now stages.now (own_at tables.now known.now.ranks.items known.now.left.items) thread }
     ensures { result ≡ next_in (plan_of plan.now) tables.now stages.now thread }
 {
     let line = list_at(tables.lines.as_slice(), thread as usize);
@@ -151,6 +152,9 @@ pub fn next_of(plan: &Plan, tables: &Tables, stages: &[Stage], known: &Known, th
             None => Next::Nothing,
         };
     };
+    if has_none_left(tables, known, job) {
+        return Next::Ready(job);
+    }
     let first = find_behind(Wanted::Open, stages, line, passed);
     let before = other(job, first);
     let depended = awaited(tables, stages, &known.counts, job);

@@ -1,7 +1,8 @@
 ghost use Rattle.std.specs.List.{slice_index_or};
 ghost use Rattle.std.specs.Prelude.{◌≡◌, ℕ, ◌==◌, ◌∷◌, ◌++◌, ◌<◌, [], IfOk, cond, filter, length};
-ghost use Rattle.trick_board.specs.Tables.{IsFor, depended_of, followers_of, ids_at, line_of};
+ghost use Rattle.trick_board.specs.Tables.{IsFor, depended_of, followers_of, ids_at, line_of, thread_in};
 ghost use Rattle.trick_model.specs.Laws.{is_among};
+ghost use Rattle.trick_model.specs.Plan.{thread_of as thread_of_job};
 ghost use Rattle.trick_model.specs.PlanOf.{plan_of};
 ghost use Rattle.trick_model.specs.Valid.{ids};
 ghost use Rattle.trick_model.specs.declared.depends.Depends.{Depends as Pair};
@@ -15,9 +16,11 @@ use trick_model::{Depends, Plan};
 // Threads go from 0 to 15.
 pub(crate) const THREADS: u8 = 16;
 
-/// Lists of jobs of class scheduled that a board looks up, each in key order.
+/// What a board looks up of jobs: their threads, and lists of jobs of class scheduled, each in key order.
 #[derive(Drop)]
 pub struct Tables {
+    /// By job, its thread.
+    pub(crate) threads: Items<u8>,
     /// By thread, its jobs.
     pub(crate) lines: Items<Items<JobId>>,
     /// By job, those that it depends on.
@@ -41,6 +44,17 @@ fn add(jobs: &mut Items<JobId>, job: JobId, wanted: bool) -> Result<(), AllocErr
         jobs.push(job)?;
     }
     Ok(())
+}
+
+// The thread of each job.
+fn threads(alloc: Global, plan: &Plan) -> Result<Items<u8>, AllocError>
+    ensures { IfOk result (λ threads. (k : ℕ) → slice_index_or threads k 0 ≡ thread_of_job plan.now.program.jobs k) }
+{
+    let mut threads = Items::new(alloc);
+    for number in 0..plan.program.jobs.len() {
+        threads.push(plan.job(JobId(number as u32)).thread)?;
+    }
+    Ok(threads)
 }
 
 // The jobs of a thread.
@@ -164,10 +178,21 @@ impl Tables {
         let depended = all_depended(alloc, plan)?;
         let followers = all_followers(alloc, plan, depended.as_slice())?;
         Ok(Tables {
+            threads: threads(alloc, plan)?,
             lines: lines(alloc, plan)?,
             depended,
             followers,
         })
+    }
+}
+
+// The thread of a job, or 0 past the last one.
+pub(crate) fn thread_at(tables: &Tables, job: JobId) -> usize
+    ensures { result ≡ thread_in tables.now job.0 }
+{
+    match tables.threads.as_slice().get(job.0 as usize) {
+        Some(thread) => *thread as usize,
+        None => 0,
     }
 }
 

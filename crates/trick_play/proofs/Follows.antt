@@ -1,5 +1,5 @@
 -- How a schedule goes on at a board: by the stages that its steps have left.
-use Rattle.std.proofs.Common.{◌≡◌, ◌⊎◌, ◌∙◌, inl, inr, ℕ, ◌<◌, ℤ, Bool, true, false, IsTrue, List, [], ◌∷◌, ◌++◌, refl, sym, ap, subst}
+use Rattle.std.proofs.Common.{◌≡◌, ◌⊎◌, ◌∙◌, inl, inr, ℕ, ℤ, Bool, true, false, IsTrue, List, [], ◌∷◌, ◌++◌, refl, sym, ap, subst}
 use Rattle.std.specs.List.{Contains}
 use Rattle.trick_board.specs.Answers.{IsReadyOn}
 use Rattle.trick_lang.specs.Laws.{SameEffect, WritesOnly}
@@ -22,7 +22,7 @@ use Rattle.trick_schedule.proofs.Told.{IsHistory, not_done, not_taken}
 use Rattle.trick_schedule.specs.Play.{is_done, is_due, stage_at}
 use Rattle.trick_schedule.specs.Progress.{IsInOrder, Progress, begun, moved}
 use Rattle.trick_schedule.specs.Schedule.{CanFollow, IsBegun, job_of, one_by_one}
-use Rattle.trick_schedule.specs.Tics.{IsDueIn, IsPredecessor, Tic, due_jobs, tic_of}
+use Rattle.trick_schedule.specs.Tics.{IsDueIn, Tic, due_jobs, tic_of}
 use Rattle.trick_schedule.specs.declared.stage.Stage.{Stage}
 use Rattle.trick_schedule.specs.declared.stage.Stage.TheVariants.{InFlight, Waiting}
 use Rattle.trick_schedule.specs.declared.step.Step.{Step}

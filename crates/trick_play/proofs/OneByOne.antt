@@ -1,12 +1,11 @@
--- One thread that takes and commits the due jobs in key order.
+-- One thread that runs the due jobs in key order.
 use Rattle.std.proofs.Common.{◌≡◌, ◌∙◌, ℕ, zero, suc, ◌+◌, ◌<◌, ◌≤◌, ℤ, Bool, true, false, IsTrue, List, [], ◌∷◌, ◌++◌, length, take, drop, Option, Some, None, refl, sym, ap, subst, arith}
 use Rattle.std.proofs.lemmas.List.{drop_more, take-append-drop, take_all, take_more}
 use Rattle.std.specs.List.{slice_index_or}
 use Rattle.std.specs.Option.{IfSome, MatchOption}
-use Rattle.std.specs.Prelude.{IsSome, cond}
+use Rattle.std.specs.Prelude.{cond}
 use Rattle.trick_board.specs.Answers.{ComesTo, IsLeftBy, open_count}
 use Rattle.trick_board.specs.Board.{BoardView, IsBoardOf, IsOpenOf, IsOpenedWith, Opened, tic_at}
-use Rattle.trick_eval.specs.Bench.{BenchView}
 use Rattle.trick_lang.specs.declared.job.JobId.{JobId}
 use Rattle.trick_model.specs.Acceptance.{IsAccepted}
 use Rattle.trick_model.specs.FaultList.{FaultList}
@@ -19,7 +18,7 @@ use Rattle.trick_model.specs.Valid.{ids}
 use Rattle.trick_model.specs.declared.flags.Flags.{Flags}
 use Rattle.trick_model.specs.declared.plan.Plan.{Plan as PlanValue}
 use Rattle.trick_play.proofs.Follows.{IsTold, Laws, done_begun, follows_ready, next_follows, right_tic, told}
-use Rattle.trick_play.specs.Steps.{CanBeTaken, Commits, HasCommitted, IsAlong, IsBoardAlong, IsHeld, Takes, TakesFrom}
+use Rattle.trick_play.specs.Steps.{CanBeTaken, IsAlong, IsBoardAlong, Runs, RunsFrom}
 use Rattle.trick_schedule.proofs.Alone.{one_by_one_schedule}
 use Rattle.trick_schedule.proofs.Due.{due_there}
 use Rattle.trick_schedule.proofs.Keys.{among_first, among_rest}
@@ -37,14 +36,19 @@ pub moved_join : (t : Tic) (p : Progress) (xs ys : List Step) → moved t p (xs 
 moved_join t p [] ys = refl
 moved_join t p (x ∷ xs) ys = moved_join t (move t p x) xs ys
 
+-- an open tic, some steps further
+pub along_on : (plan : PlanValue) (on : Flags) (tic : ℕ) (first : List ℤ) (steps more : List Step) (o : Opened)
+    → IsAlong plan on tic first steps o → IsAlong plan on tic first (steps ++ more) (record o { progress = moved (tic_at plan o) o.progress more })
+along_on plan on tic first steps more o along = record {
+  flags = along.flags;
+  tic_is = along.tic_is;
+  progress = ap (λ (p : Progress). moved (tic_at plan o) p more) along.progress ∙ sym (moved_join (tic_at plan o) (begun (tic_at plan o) first) steps more);
+}
+
 -- an open tic, one step further
 pub along_more : (plan : PlanValue) (on : Flags) (tic : ℕ) (first : List ℤ) (steps : List Step) (o : Opened) (x : Step)
     → IsAlong plan on tic first steps o → IsAlong plan on tic first (steps ++ x ∷ []) (record o { progress = move (tic_at plan o) o.progress x })
-along_more plan on tic first steps o x along = record {
-  flags = along.flags;
-  tic_is = along.tic_is;
-  progress = ap (λ (p : Progress). move (tic_at plan o) p x) along.progress ∙ sym (moved_join (tic_at plan o) (begun (tic_at plan o) first) steps (x ∷ []));
-}
+along_more plan on tic first steps o x along = along_on plan on tic first steps (x ∷ []) o along
 
 pub opened_along : (plan : PlanValue) (on : Flags) (tic : ℕ) (first : List ℤ) (b : BoardView) → MatchOption b.opened ⊥ (IsOpenedWith plan first on tic)
     → IsBoardAlong plan on tic first [] b
@@ -81,65 +85,24 @@ next_can laws plan on tic first o done job rest accepted split along =
     subst (λ (p : Progress). IsTold t (one_by_one done) p.stages) (sym along.progress) (told t first (one_by_one done) right may) in
     follows_ready t right (one_by_one done) o.progress.stages at_ job (next_follows t right done job.0 rest split)
 
--- what a take that can be done leaves
-pub record IsTaken (plan : PlanValue) (on : Flags) (tic : ℕ) (first : List ℤ) (steps : List Step) (new : BoardView) (job : JobId) (bench : BenchView) (answer : Bool) : Type 0 where
-  pub answered : answer ≡ true
-  pub along : IsBoardAlong plan on tic first (steps ++ Take job ∷ []) new
-  pub holds : MatchOption new.opened ⊥ (λ o. IfSome bench.job (λ i. IsHeld plan new o i bench))
-  pub job_is : bench.job ≡ Some job
-
-pub takes : (plan : PlanValue) (on : Flags) (tic : ℕ) (first : List ℤ) (steps : List Step) (old new : BoardView) (o : Opened) (job : JobId) (bench : BenchView) (answer : Bool)
-    → old.opened ≡ Some o → IsAlong plan on tic first steps o → CanBeTaken plan o job → Takes plan old new job bench answer
-    → IsTaken plan on tic first steps new job bench answer
-takes plan on tic first steps old new o job bench answer is along can taken =
-    by_answer answer (subst (λ (opened : Option Opened). TakesFrom plan old new opened job bench answer) is taken)
+-- A job that can be taken is run.
+pub runs : (plan : PlanValue) (on : Flags) (tic : ℕ) (first : List ℤ) (steps : List Step) (old new : BoardView) (o : Opened) (job : JobId) (answer : Bool)
+    → old.opened ≡ Some o → IsAlong plan on tic first steps o → CanBeTaken plan o job → Runs plan old new job answer
+    → IsBoardAlong plan on tic first (steps ++ Take job ∷ Commit job ∷ []) new
+runs plan on tic first steps old new o job answer is along can run =
+    by_answer answer (subst (λ (opened : Option Opened). RunsFrom plan old new opened job answer) is run)
   where
-    held_of : (opened : Option Opened) → MatchOption opened ⊥ (λ now. IsHeld plan new now job bench)
-        → MatchOption opened ⊥ (λ now. IfSome bench.job (λ i. IsHeld plan new now i bench))
-    held_of None h = h
-    held_of (Some now) h = subst (λ (j : Option JobId). IfSome j (λ i. IsHeld plan new now i bench)) (sym h.job_is) h
-
-    job_of_held : (opened : Option Opened) → MatchOption opened ⊥ (λ now. IsHeld plan new now job bench) → bench.job ≡ Some job
-    job_of_held None h = absurd h
-    job_of_held (Some now) h = h.job_is
-
-    by_answer : (answer : Bool) → TakesFrom plan old new (Some o) job bench answer → IsTaken plan on tic first steps new job bench answer
-    by_answer true h = record {
-      answered = refl;
-      along = subst (λ (v : BoardView). IsBoardAlong plan on tic first (steps ++ Take job ∷ []) v) (sym h.taken)
-          (along_more plan on tic first steps o (Take job) along);
-      holds = held_of new.opened h.held;
-      job_is = job_of_held new.opened h.held;
-    }
+    by_answer : (answer : Bool) → RunsFrom plan old new (Some o) job answer → IsBoardAlong plan on tic first (steps ++ Take job ∷ Commit job ∷ []) new
+    by_answer true h =
+        subst (λ (v : BoardView). IsBoardAlong plan on tic first (steps ++ Take job ∷ Commit job ∷ []) v) (sym h.run)
+        (along_on plan on tic first steps (Take job ∷ Commit job ∷ []) o along)
     by_answer false h = absurd (h can)
-
--- what a commit of the job in the bench leaves
-pub record IsCommitted (plan : PlanValue) (on : Flags) (tic : ℕ) (first : List ℤ) (steps : List Step) (new : BoardView) (job : JobId) (answer : Bool) : Type 0 where
-  pub answered : answer ≡ true
-  pub along : IsBoardAlong plan on tic first (steps ++ Commit job ∷ []) new
-
-pub commits : (plan : PlanValue) (on : Flags) (tic : ℕ) (first : List ℤ) (steps : List Step) (old new : BoardView) (job : JobId) (bench after : BenchView) (answer : Bool)
-    → IsBoardAlong plan on tic first steps old → bench.job ≡ Some job → Commits plan old new job bench after answer
-    → IsCommitted plan on tic first steps new job answer
-commits plan on tic first steps old new job bench after true along is committed =
-    let open_ = open_along plan on tic first steps old along in
-    let h = subst (λ (opened : Option Opened). IfSome opened (λ o. HasCommitted plan old new o job bench after)) open_.is committed in
-    record {
-      answered = refl;
-      along = subst (λ (v : BoardView). IsBoardAlong plan on tic first (steps ++ Commit job ∷ []) v) (sym h.committed)
-          (along_more plan on tic first steps open_.opened (Commit job) open_.along);
-    }
-commits plan on tic first steps old new job bench after false along is committed = absurd (committed is)
 
 -- ---- the jobs one after another
 
 one_by_one_join : (ks js : List ℕ) → one_by_one (ks ++ js) ≡ one_by_one ks ++ one_by_one js
 one_by_one_join [] js = refl
 one_by_one_join (k ∷ ks) js = ap (λ (l : List Step). Take (job_of k) ∷ Commit (job_of k) ∷ l) (one_by_one_join ks js)
-
-append_two : (xs : List Step) (x y : Step) → (xs ++ x ∷ []) ++ y ∷ [] ≡ xs ++ x ∷ y ∷ []
-append_two [] x y = refl
-append_two (z ∷ xs) x y = ap (λ (l : List Step). z ∷ l) (append_two xs x y)
 
 ids_at : (due : List JobId) (i : ℕ) (d : JobId) → i < length due → slice_index_or (ids due) i 0 ≡ (slice_index_or due i d).0
 ids_at [] i d less = absurd (omega arith)
@@ -152,12 +115,11 @@ ids_length (job ∷ due) = ap suc (ids_length due)
 
 -- a job more is taken and committed
 pub steps_more : (due : List JobId) (i : ℕ) (job : JobId) → i < length due → (slice_index_or due i job) ≡ job
-    → (one_by_one (take i (ids due)) ++ Take job ∷ []) ++ Commit job ∷ [] ≡ one_by_one (take (i + 1) (ids due))
+    → one_by_one (take i (ids due)) ++ Take job ∷ Commit job ∷ [] ≡ one_by_one (take (i + 1) (ids due))
 steps_more due i job less is =
     let k = slice_index_or (ids due) i 0 in
     let same : k ≡ job.0 = ids_at due i job less ∙ ap (λ (j : JobId). j.0) is in
-    append_two (one_by_one (take i (ids due))) (Take job) (Commit job)
-    ∙ ap (λ (n : ℕ). one_by_one (take i (ids due)) ++ Take (job_of n) ∷ Commit (job_of n) ∷ []) (sym same)
+    ap (λ (n : ℕ). one_by_one (take i (ids due)) ++ Take (job_of n) ∷ Commit (job_of n) ∷ []) (sym same)
     ∙ sym (one_by_one_join (take i (ids due)) (k ∷ []))
     ∙ ap one_by_one (sym (take_more (ids due) i 0 (omega (arith, ids_length due))))
 
@@ -212,35 +174,22 @@ not_left n count none counts = let e : count ≡ n = counts.0 in let some : 0 < 
 
 -- ---- what the loop over the due jobs keeps
 
-pub board_open : (plan : PlanValue) (on : Flags) (tic : ℕ) (first : List ℤ) (steps : List Step) (b : BoardView) → IsBoardAlong plan on tic first steps b → IsSome b.opened
-board_open plan on tic first steps b along = by_open b.opened along
-  where
-    by_open : (opened : Option Opened) → MatchOption opened ⊥ (IsAlong plan on tic first steps) → IsSome opened
-    by_open None h = absurd h
-    by_open (Some o) h = refl
-
 module _ (laws : Laws) (plan : PlanValue) (accepted : ∥ IsAccepted (plan_of plan) ∥₁) (on : Flags) (tic : ℕ) (first : List ℤ) (due : List JobId)
     (right : ids due ≡ jobs_at (plan_of plan) on tic) where
   -- the due jobs of the open tic
   due_are : (o : Opened) → o.tic ≡ tic → due_jobs (tic_at plan o) ≡ ids due
   due_are o is = ap (λ (n : ℕ). jobs_at (plan_of plan) on n) is ∙ sym right
 
-  pub job_taken : (i : ℕ) (job : JobId) (old new : BoardView) (bench : BenchView) (answer : Bool) → i < length due → slice_index_or due i job ≡ job
-      → IsBoardAlong plan on tic first (one_by_one (take i (ids due))) old → Takes plan old new job bench answer
-      → IsTaken plan on tic first (one_by_one (take i (ids due))) new job bench answer
-  job_taken i job old new bench answer less is along taken =
+  pub job_run : (i : ℕ) (job : JobId) (old new : BoardView) (answer : Bool) → i < length due → slice_index_or due i job ≡ job
+      → IsBoardAlong plan on tic first (one_by_one (take i (ids due))) old → Runs plan old new job answer
+      → IsBoardAlong plan on tic first (one_by_one (take (i + 1) (ids due))) new
+  job_run i job old new answer less is along run =
       let open_ = open_along plan on tic first (one_by_one (take i (ids due))) old along in
       let o = open_.opened in
       let can = next_can laws plan on tic first o (take i (ids due)) job (drop (i + 1) (ids due)) accepted
       (due_are o open_.along.tic_is ∙ due_split due i job less is) open_.along in
-      takes plan on tic first (one_by_one (take i (ids due))) old new o job bench answer open_.is open_.along can taken
-
-  pub job_committed : (i : ℕ) (job : JobId) (old new : BoardView) (bench after : BenchView) (answer : Bool) → i < length due → slice_index_or due i job ≡ job
-      → IsBoardAlong plan on tic first (one_by_one (take i (ids due)) ++ Take job ∷ []) old → bench.job ≡ Some job → Commits plan old new job bench after answer
-      → (answer ≡ true) × IsBoardAlong plan on tic first (one_by_one (take (i + 1) (ids due))) new
-  job_committed i job old new bench after answer less is along has committed =
-      let done = commits plan on tic first (one_by_one (take i (ids due)) ++ Take job ∷ []) old new job bench after answer along has committed in
-      (done.answered, subst (λ (steps : List Step). IsBoardAlong plan on tic first steps new) (steps_more due i job less is) done.along)
+      subst (λ (steps : List Step). IsBoardAlong plan on tic first steps new) (steps_more due i job less is)
+      (runs plan on tic first (one_by_one (take i (ids due))) old new o job answer open_.is open_.along can run)
 
   -- all of them are done
   pub all_along : (i : ℕ) (b : BoardView) → length due ≤ i → IsBoardAlong plan on tic first (one_by_one (take i (ids due))) b

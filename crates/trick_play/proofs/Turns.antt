@@ -1,15 +1,17 @@
 -- What takes and commits of jobs by name answer.
-use Rattle.std.proofs.Common.{◌≡◌, ◌≢◌, ◌⊎◌, ◌∙◌, inl, inr, ℕ, ◌<◌, ◌≤◌, ◌==◌, ◌&&◌, nat_le, pos, Bool, true, false, IsTrue, List, length, Option, Some, None, refl, sym, ap, subst, arith}
+use Rattle.std.proofs.Common.{◌≡◌, ◌≢◌, ◌∙◌, inl, inr, ℕ, ◌<◌, ◌≤◌, ◌==◌, ◌&&◌, nat_le, pos, Bool, true, false, IsTrue, List, length, Option, Some, None, refl, sym, ap, subst, arith}
 use Rattle.std.proofs.lemmas.Bool.Decides.{nat_tests}
 use Rattle.std.proofs.lemmas.List.{get_or-set_same, get_or_past}
 use Rattle.std.proofs.lemmas.List.Sums.{AllPass-from_list_all}
 use Rattle.std.specs.List.{slice_index_or}
 use Rattle.std.specs.Option.{IfSome, MatchOption}
 use Rattle.std.specs.Prelude.{IsSome, filter, slice_set}
-use Rattle.trick_board.specs.Answers.{Commits as CommitsTo, IsFilledBy, IsMissing, IsReadyOn, Takes as TakesTo}
-use Rattle.trick_board.specs.Board.{BoardView, IsBoardOf, IsOpenOf, Opened, stepped, tic_at}
+use Rattle.trick_board.specs.Answers.{Commits as CommitsTo, IfDone, IfNotDone, IsEmptiedOf, IsFilledBy, IsMissing, IsReadyOn, Runs as RunsTo, Takes as TakesTo}
+use Rattle.trick_board.specs.Board.{BoardView, IsBoardOf, IsOpenOf, Opened, stepped, tic_at, with_run}
 use Rattle.trick_board.specs.declared.answers.Commit.{Commit as CommitAnswer}
 use Rattle.trick_board.specs.declared.answers.Commit.TheVariants.{Committed, Gone, NotTaken, Stale}
+use Rattle.trick_board.specs.declared.answers.Ran.{Ran}
+use Rattle.trick_board.specs.declared.answers.Ran.TheVariants as ran
 use Rattle.trick_board.specs.declared.answers.Took.{Took}
 use Rattle.trick_board.specs.declared.answers.Took.TheVariants.{NotYet, ThreadDone, Took as WasTaken}
 use Rattle.trick_eval.specs.Bench.{BenchView, IsEvaluated, IsFilled, IsFor, the_job}
@@ -24,7 +26,7 @@ use Rattle.trick_model.specs.Plan.{is_on_scheduled, job_numbers, no_job, thread_
 use Rattle.trick_model.specs.PlanOf.{plan_of}
 use Rattle.trick_model.specs.declared.flags.Flags.{Flags}
 use Rattle.trick_model.specs.declared.plan.Plan.{Plan as PlanValue}
-use Rattle.trick_play.specs.Steps.{CanBeTaken, Commits, Goes, HasCommitted, HasTaken, HoldsRight, IsCommittedFrom, IsHeld, IsTakenInto, Takes, TakesFrom, bench_at, has_job}
+use Rattle.trick_play.specs.Steps.{CanBeTaken, Commits, Goes, HasCommitted, HasTaken, HoldsRight, IsCommittedFrom, IsHeld, IsTakenInto, Runs, RunsFrom, Takes, TakesFrom, bench_at, has_job}
 use Rattle.trick_queue.proofs.Orders.{jobs_kept, numbers_are}
 use Rattle.trick_queue.proofs.Trees.{below_or}
 use Rattle.trick_schedule.proofs.Due.{due_there}
@@ -269,6 +271,51 @@ commits plan b new job bench after f committed emptied =
           ∙ ap (λ (i : JobId). stepped plan b f.opened (Commit i)) is;
       emptied = ap (λ (v : BenchView). v.job) emptied;
     })
+
+-- ---- a take and a commit at once
+
+-- A job was run; whether it is the one that was asked for.
+pub has_run : (plan : PlanValue) (old new : BoardView) (thread : ℕ) (job done : JobId) → IsSome old.opened → IsBoardOf plan old
+    → thread ≡ thread_of plan.program.jobs job.0
+    → IfSome old.opened (λ o. RunsTo (tic_at plan o) o.progress.stages thread (ran.Done done))
+    → IfSome old.opened (λ o. new ≡ with_run plan old o done) → Runs plan old new job (done.0 == job.0)
+has_run plan old new thread job done some belongs on_thread answer run = by_open old.opened some belongs.opened answer run
+  where
+    by_job : (o : Opened) → IsOpenOf plan o → IsReadyOn (tic_at plan o) o.progress.stages thread done.0 → new ≡ with_run plan old o done
+        → (b : Bool) → (done.0 == job.0) ≡ b → RunsFrom plan old new (Some o) job b
+    by_job o open_ ready run true e =
+        let is : done ≡ job = same_job done job e in
+        record {
+          could = subst (λ (i : JobId). IsReadyOn (tic_at plan o) o.progress.stages (thread_of plan.program.jobs job.0) i.0) is
+              (subst (λ (n : ℕ). IsReadyOn (tic_at plan o) o.progress.stages n done.0) on_thread ready);
+          run = run ∙ ap (λ (i : JobId). with_run plan old o i) is;
+        }
+    by_job o open_ ready run false e = λ can.
+        apart_job done job e (one_ready plan o (thread_of plan.program.jobs job.0) done.0 job.0 open_
+        (subst (λ (n : ℕ). IsReadyOn (tic_at plan o) o.progress.stages n done.0) on_thread ready) can)
+
+    by_open : (opened : Option Opened) → IsSome opened → IfSome opened (IsOpenOf plan)
+        → IfSome opened (λ o. RunsTo (tic_at plan o) o.progress.stages thread (ran.Done done))
+        → IfSome opened (λ o. new ≡ with_run plan old o done) → RunsFrom plan old new opened job (done.0 == job.0)
+    by_open None some open_ answer run = absurd (none_is some)
+    by_open (Some o) some open_ answer run = by_job o open_ answer run (done.0 == job.0) refl
+
+-- no job was run: the one that was asked for can't be taken
+pub not_run : (plan : PlanValue) (old new : BoardView) (thread : ℕ) (job : JobId) (bench : BenchView) (answer : Ran)
+    → ((done : JobId) → answer ≡ ran.Done done → ⊥) → IsSome old.opened → IsBoardOf plan old → thread ≡ thread_of plan.program.jobs job.0
+    → IfSome old.opened (λ o. RunsTo (tic_at plan o) o.progress.stages thread answer) → Runs plan old new job false
+not_run plan old new thread job bench (ran.Done done) other some belongs on_thread answer = absurd (other done refl)
+not_run plan old new thread job bench (ran.NotYet next waits) other some belongs on_thread answer =
+    not_yet plan old new thread 0 job next waits bench some belongs on_thread answer
+not_run plan old new thread job bench ran.ThreadDone other some belongs on_thread answer =
+    all_done plan old new thread 0 job bench some belongs on_thread answer
+
+-- the buffers of the bench stay
+pub run_parts : (old new : BoardView) (was bench : BenchView) (answer : Ran) → IfDone answer (λ _. IsEmptiedOf was bench)
+    → IfNotDone answer ((new ≡ old) × (bench ≡ was)) → bench.parts ≡ was.parts
+run_parts old new was bench (ran.Done done) emptied kept = ap (λ (b : BenchView). b.parts) emptied
+run_parts old new was bench (ran.NotYet next waits) emptied kept = ap (λ (b : BenchView). b.parts) kept.1
+run_parts old new was bench ran.ThreadDone emptied kept = ap (λ (b : BenchView). b.parts) kept.1
 
 -- ---- a step, with a bench for each thread
 

@@ -3,7 +3,7 @@ use Rattle.std.specs.List.{slice_index_or}
 use Rattle.std.specs.Option.{IfSome}
 use Rattle.std.specs.Prelude.{◌≡◌, ◌≢◌, ℕ, ◌<◌, ◌==◌, ℤ, Bool, true, false, List, [], length, slice_set, MatchOption, Option, Some, None}
 use Rattle.trick_board.specs.Answers.{IsReadyOn}
-use Rattle.trick_board.specs.Board.{BoardView, Opened, stepped, tic_at}
+use Rattle.trick_board.specs.Board.{BoardView, Opened, stepped, tic_at, with_run}
 use Rattle.trick_eval.specs.Bench.{BenchView, IsEvaluated, IsFor}
 use Rattle.trick_lang.specs.Effect.{reads}
 use Rattle.trick_lang.specs.Laws.{AgreeOn}
@@ -70,6 +70,18 @@ pub record HasCommitted (plan : PlanValue) (old new : BoardView) (o : Opened) (j
 abbrev pub Commits : PlanValue → BoardView → BoardView → JobId → BenchView → BenchView → Bool → Type 0
 Commits plan old new job was bench true = IfSome old.opened (λ o. HasCommitted plan old new o job was bench)
 Commits plan old new job was bench false = was.job ≢ Some job
+
+-- A run of a job: it is taken and at once committed, or it can't be taken.
+pub record HasRun (plan : PlanValue) (old new : BoardView) (o : Opened) (job : JobId) : Type 0 where
+  pub could : CanBeTaken plan o job
+  pub run : new ≡ with_run plan old o job
+
+abbrev pub RunsFrom : PlanValue → BoardView → BoardView → Option Opened → JobId → Bool → Type 0
+RunsFrom plan old new opened job true = IfSome opened (λ o. HasRun plan old new o job)
+RunsFrom plan old new opened job false = IfSome opened (λ o. CanBeTaken plan o job → ⊥)
+
+abbrev pub Runs : PlanValue → BoardView → BoardView → JobId → Bool → Type 0
+Runs plan old new job answer = RunsFrom plan old new old.opened job answer
 
 -- the bench has the job
 abbrev pub has_job : Option JobId → JobId → Bool

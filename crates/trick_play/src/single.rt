@@ -1,7 +1,7 @@
 ghost use Rattle.std.specs.Prelude.{IfOk};
 ghost use Rattle.trick_play.specs.Single.{IsSingleOf};
 
-use crate::steps::{commit_job, take_job};
+use crate::steps::run_job;
 use std::alloc::{AllocError, Global};
 use trick_board::{Board, Closed};
 use trick_eval::Bench;
@@ -50,9 +50,8 @@ impl<M: Cells> Phases<M> for Single<M> {
         write_law();
         self.board.open(accepted, memory, on, due, tic);
         for job in due {
-            // Both can be done, since it is the next of the due jobs.
-            take_job(&mut self.board, &mut self.bench, accepted, *job);
-            commit_job(&mut self.board, &mut self.bench, accepted, *job);
+            // It can be run, since it is the next of the due jobs.
+            run_job(&mut self.board, &mut self.bench, accepted, *job);
         }
         match self.board.close(faults) {
             Closed::Memory(memory) => memory,

@@ -4,9 +4,9 @@ ghost use Rattle.std.specs.Prelude.{◌≡◌, ◌≤◌, IsSome};
 ghost use Rattle.trick_board.specs.Board.{IsBoardOf};
 ghost use Rattle.trick_eval.specs.Bench.{IsFor};
 ghost use Rattle.trick_model.specs.Plan.{thread_of};
-ghost use Rattle.trick_play.specs.Steps.{Commits, HoldsRight, Takes, has_job};
+ghost use Rattle.trick_play.specs.Steps.{Commits, HoldsRight, Runs, Takes, has_job};
 
-use trick_board::{Board, Commit, Took};
+use trick_board::{Board, Commit, Ran, Took};
 use trick_eval::{Bench, eval};
 use trick_lang::{Cells, JobId};
 use trick_model::{Accepted, Plan};
@@ -79,5 +79,28 @@ pub fn commit_job<M: Cells>(
     match board.commit(accepted, bench) {
         Commit::Committed => true,
         Commit::Stale { .. } | Commit::Gone { .. } | Commit::NotTaken { .. } => unreachable!(),
+    }
+}
+
+/// Takes a job, evaluates and commits it at once, where it is the next one of its thread and all of its
+/// predecessors are committed. Otherwise the answer is false, and another job may be done.
+pub fn run_job<M: Cells>(
+    board: &mut Board<M>,
+    bench: &mut Bench,
+    accepted: &Accepted,
+    job: JobId,
+) -> bool
+    requires open { IsSome board.old.opened }
+    requires belongs { IsBoardOf accepted.now.plan board.old }
+    requires bench { IsFor accepted.now.plan.program bench.old.parts }
+    ensures runs { Runs accepted.now.plan board.old board.new job result }
+    ensures belongs { IsBoardOf accepted.now.plan board.new }
+    ensures bench { bench.new.parts ≡ bench.old.parts }
+{
+    let thread = thread_at(accepted.plan(), job);
+    match board.run(accepted, thread, bench) {
+        Ran::Done { job: done } => done.0 == job.0,
+        Ran::NotYet { .. } => false,
+        Ran::ThreadDone => false,
     }
 }

@@ -27,9 +27,9 @@ loop-job-preserved c =
     c.count-awaited.ensures ∙ ap (open_among stages)
     (c.list_at-depended.ensures ∙ ap (λ (lists : List (List JobId)). slice_index_or lists job.0 []) c.as_slice.ensures) in
     record {
-      length_is = ap length c.set_count.ensures ∙ length-set counts job.0 n ∙ same;
+      length_is = ap length c.set_number.ensures ∙ length-set counts job.0 n ∙ same;
       counted = λ k among.
-          subst (λ (l : List ℕ). IsLeftOrCounted tables stages l (ids (drop (i + 1) due)) k) (sym c.set_count.ensures)
+          subst (λ (l : List ℕ). IsLeftOrCounted tables stages l (ids (drop (i + 1) due)) k) (sym c.set_number.ensures)
           (one_counted tables stages counts (ids (drop (i + 1) due)) job.0 n k right there
           (subst (λ (jobs : List JobId). IsLeftOrCounted tables stages counts (ids jobs) k) (drop_more due i no_id c.loop-job-test.true)
           (c.loop-job.invariant.counted k among)));

@@ -1,4 +1,4 @@
-use Rattle.std.proofs.Common.{◌≡◌, ◌∙◌, ◌+◌, ◌++◌, ◌<◌, ◌∷◌, ℕ, [], List, ap, length, subst, sym, None}
+use Rattle.std.proofs.Common.{◌≡◌, ◌∙◌, ◌+◌, ◌<◌, ◌∷◌, ℕ, [], List, ap, length, subst, sym, None}
 use Rattle.std.proofs.lemmas.List.{length-append}
 use Rattle.trick_eval.specs.Bench.{BenchView, IsFor}
 use Rattle.trick_play.proofs.Plays.{bench_more}

@@ -1,9 +1,11 @@
 use Rattle.std.proofs.Common.{List, ◌∙◌, ap, subst, sym}
 use Rattle.std.specs.Option.{IfSome}
-use Rattle.trick_board.proofs.Calls.{next_at}
+use Rattle.trick_board.proofs.Calls.{first_at, next_at}
 use Rattle.trick_board.specs.Answers.{CanDo}
 use Rattle.trick_board.specs.Board.{BoardView, IsBoardOf, tic_at}
-use Rattle.trick_board.specs.Search.{next_in}
+use Rattle.std.specs.Prelude.{IsSome}
+use Rattle.trick_board.specs.Counts.{own_at}
+use Rattle.trick_board.specs.Search.{AreFirst, next_in}
 use Rattle.trick_model.specs.PlanOf.{plan_of}
 use Rattle.trick_schedule.specs.declared.stage.Stage.{Stage}
 use Rattle.trick_board.proofs.board.Board.next.Goals as goal
@@ -21,3 +23,12 @@ returns g c =
 pub next_of-requires-clause-tables : goal.next_of-requires-clause-tables
 next_of-requires-clause-tables g c =
     (subst (λ (v : BoardView). IsBoardOf c.args.plan.now v) (sym c.self.view_is) c.requires.belongs).tables
+
+pub next_of-requires-clause-first : goal.next_of-requires-clause-first
+next_of-requires-clause-first g c =
+    let b = c.self.inside in
+    let belongs = subst (λ (v : BoardView). IsBoardOf c.args.plan.now v) (sym c.self.view_is) c.requires.belongs in
+    subst (λ (s : List Stage). AreFirst b.tables s (own_at b.tables b.known.ranks.items b.known.left.items) c.args.thread) (sym c.deref.ensures.value)
+    (first_at g.M.Cells.numbers g.M.Cells.scalars b.tic b.on.items b.due.items b.stages.items b.memory c.args.plan.now b.tables
+    b.known.ranks.items b.known.left.items c.args.thread c.key_order_is_one.ensures belongs.tables
+    (subst (λ (v : BoardView). IsSome v.opened) (sym c.self.view_is) c.requires.open) belongs.opened c.self.invariant.4)

@@ -1,13 +1,16 @@
-use Rattle.std.proofs.Common.{◌≡◌, ℕ, IsTrue, List, length, ◌∙◌, ap, subst, sym, arith}
+use Rattle.std.proofs.Common.{◌≡◌, ◌<◌, ℕ, IsTrue, List, length, ◌∙◌, ap, subst, sym, arith}
 use Rattle.std.proofs.lemmas.List.{length-replicate}
 use Rattle.trick_board.proofs.Among.{opened_among}
 use Rattle.trick_board.proofs.Calls.{opened_belongs}
 use Rattle.trick_board.proofs.Counting.{all_counted}
+use Rattle.trick_board.proofs.Lines.{thread_small}
 use Rattle.trick_board.proofs.Passed.{none_passed}
+use Rattle.trick_board.proofs.Ranks.{opened_in_turn, opened_ranked}
 use Rattle.trick_board.proofs.Stages.{few_due}
 use Rattle.trick_board.specs.Board.{AreDueAmong, BoardView, IsBoardOf}
-use Rattle.trick_board.specs.Counts.{IsCounted}
+use Rattle.trick_board.specs.Counts.{AreInTurn, AreRanked, IsCounted, many_on, rank_in}
 use Rattle.trick_board.specs.Search.{ArePassed}
+use Rattle.trick_board.specs.Tables.{thread_in}
 use Rattle.trick_lang.specs.declared.job.JobId.{JobId}
 use Rattle.trick_model.specs.Laws.{is_among}
 use Rattle.trick_model.specs.PlanOf.{plan_of}
@@ -38,6 +41,30 @@ count_all-requires g c = record {
       omega (arith, many, there, counts);
 }
 
+pub rank_all-requires-clause-few : goal.rank_all-requires-clause-few
+rank_all-requires-clause-few g c =
+    let many : length c.self.inside.stages.items ≡ length c.args.plan.now.program.jobs = ap (λ (v : BoardView). v.jobs) c.self.view_is ∙ c.requires.belongs.many in
+    let few = few_due (plan_of c.args.plan.now) c.args.on.now c.args.tic c.args.due.now c.requires.due in
+    let copied = ap length (c.deref-4.ensures.value ∙ c.copy_jobs.ensures.items) in
+    let limit = c.self.invariant.0.limit in
+    omega (arith, many, few, copied, limit)
+
+pub rank_all-requires-clause-there : goal.rank_all-requires-clause-there
+rank_all-requires-clause-there g c = λ k among.
+    let many : length c.self.inside.stages.items ≡ length c.args.plan.now.program.jobs = ap (λ (v : BoardView). v.jobs) c.self.view_is ∙ c.requires.belongs.many in
+    let copied = ap ids (c.deref-4.ensures.value ∙ c.copy_jobs.ensures.items) ∙ c.requires.due in
+    let there = due_there (tic_of c.args.plan.now c.args.on.now c.args.tic) k (sym (ap (is_among k) copied) ∙ among) in
+    let ranks = c.self.invariant.0.ranks_are in
+    omega (arith, many, there, ranks)
+
+pub rank_all-requires-clause-threads : goal.rank_all-requires-clause-threads
+rank_all-requires-clause-threads g c = λ k among.
+    let jobs = c.args.plan.now.program.jobs in
+    let right = (subst (λ (v : BoardView). IsBoardOf c.args.plan.now v) (sym c.self.view_is) c.requires.belongs).tables.threads k in
+    let small = thread_small jobs k c.args.plan.now.program.right_threads in
+    let left = c.self.invariant.0.left_are in
+    omega (arith, right, small, left)
+
 pub invariant_of-self : goal.invariant_of-self
 invariant_of-self g c =
     let many : length c.self.inside.stages.items ≡ length c.args.plan.now.program.jobs = ap (λ (v : BoardView). v.jobs) c.self.view_is ∙ c.requires.belongs.many in
@@ -55,6 +82,21 @@ invariant_of-self g c =
     subst (AreDueAmong (ids c.copy_jobs.new.into.items)) (sym c.let_wait.ensures)
     (subst (λ ks. AreDueAmong ks (with_waiting (ids c.args.due.now) (replicate (length c.self.inside.stages.items) Idle))) (sym (ap ids c.copy_jobs.ensures.items))
     (opened_among (ids c.args.due.now) (length c.self.inside.stages.items))) in
+    let stages_are : c.let_wait.new.stages.items ≡ with_waiting (ids c.copy_jobs.new.into.items) (replicate (length c.self.inside.stages.items) Idle) =
+    c.let_wait.ensures ∙ ap (λ l. with_waiting l (replicate (length c.self.inside.stages.items) Idle)) (sym (ap ids c.copy_jobs.ensures.items)) in
+    let there : (k : ℕ) → IsTrue (is_among k (ids c.copy_jobs.new.into.items)) → k < length c.self.inside.stages.items =
+    λ k listed. (let inside = due_there (tic_of c.args.plan.now c.args.on.now c.args.tic) k
+    (sym (ap (is_among k) (ap ids c.copy_jobs.ensures.items ∙ c.requires.due)) ∙ listed) in omega (arith, many, inside)) in
+    let ranked : AreRanked c.self.inside.tables c.copy_jobs.new.into.items c.let_wait.new.stages.items c.rank_all.new.ranks.items c.rank_all.new.left.items =
+    subst (λ (l : List Stage). AreRanked c.self.inside.tables c.copy_jobs.new.into.items l c.rank_all.new.ranks.items c.rank_all.new.left.items) (sym stages_are)
+    (opened_ranked c.self.inside.tables c.copy_jobs.new.into.items (length c.self.inside.stages.items) c.rank_all.new.ranks.items c.rank_all.new.left.items there
+    (λ k listed. c.rank_all.ensures.ranked k (ap (λ (l : List JobId). is_among k (ids l)) c.deref-4.ensures.value ∙ listed)
+    ∙ ap (rank_in c.self.inside.tables (thread_in c.self.inside.tables k) k) c.deref-4.ensures.value)
+    (λ t. c.rank_all.ensures.left t ∙ ap (many_on c.self.inside.tables t) c.deref-4.ensures.value)
+    (opened_among (ids c.copy_jobs.new.into.items) (length c.self.inside.stages.items))) in
+    let turns : AreInTurn c.self.inside.tables c.copy_jobs.new.into.items c.let_wait.new.stages.items =
+    subst (AreInTurn c.self.inside.tables c.copy_jobs.new.into.items) (sym stages_are)
+    (opened_in_turn c.self.inside.tables c.copy_jobs.new.into.items (ids c.copy_jobs.new.into.items) (length c.self.inside.stages.items) there) in
     let counted : (k : ℕ) → IsTrue (is_among k (ids c.copy_jobs.new.into.items))
     → IsCounted c.self.inside.tables c.let_wait.new.stages.items c.count_all.new.counts.items k =
     λ k listed. subst (λ (l : List Stage). IsCounted c.self.inside.tables l c.count_all.new.counts.items k) c.deref-3.ensures.value
@@ -65,10 +107,14 @@ invariant_of-self g c =
         few = omega (arith, copied, few, many, same);
         room_is = omega (arith, same, room, capacity);
         counts_are = c.count_all.ensures.length ∙ c.self.invariant.0.counts_are ∙ sym same;
+        ranks_are = c.rank_all.ensures.as_many_ranks ∙ c.self.invariant.0.ranks_are ∙ sym same;
+        left_are = c.rank_all.ensures.as_many_threads ∙ c.self.invariant.0.left_are;
       },
       subst (ArePassed c.self.inside.tables c.let_wait.new.stages.items) (sym (c.fill.ensures.items (λ y e. e))) (none_passed c.self.inside.tables c.let_wait.new.stages.items _),
       among,
       all_counted c.self.inside.tables c.let_wait.new.stages.items c.count_all.new.counts.items (ids c.copy_jobs.new.into.items) among counted,
+      ranked,
+      turns,
     )
 
 pub returns-clause-belongs : goal.returns-clause-belongs

@@ -3,8 +3,10 @@ use Rattle.std.specs.List.{slice_index_or}
 use Rattle.std.specs.Option.{IfSome}
 use Rattle.std.specs.Prelude.{IsSome, vec_capacity, ◌≡◌}
 use Rattle.trick_board.proofs.Among.{stage_open, stepped_among}
+use Rattle.trick_board.proofs.Calls.{once_open}
 use Rattle.trick_board.proofs.Counting.{done_counted, open_sees}
 use Rattle.trick_board.proofs.Passed.{done_passed}
+use Rattle.trick_board.proofs.Ranks.{done_in_turn, done_ranked}
 use Rattle.trick_board.specs.Board.{BoardView, IsBoardOf, IsRoomy}
 use Rattle.trick_board.specs.Counts.{with_fewer}
 use Rattle.trick_board.specs.Search.{is_open}
@@ -22,7 +24,11 @@ invariant_of-self g c =
     let flies = stage_open g.M.Cells.numbers g.M.Cells.scalars b.tic b.on.items b.due.items b.stages.items b.memory c.args.job.0 InFlight
     (subst (λ (v : BoardView). IsSome v.opened) (sym c.self.view_is) c.requires.open)
     (subst (λ (v : BoardView). IfSome v.opened (λ o. stage_at o.progress.stages c.args.job.0 ≡ InFlight)) (sym c.self.view_is) c.requires.flies) in
-    let rooms : IsRoomy (length c.set_stage.new.stages.items) (length inside.on.items) (length inside.due.items) (vec_capacity inside.due) (length c.lower.new.counts.items) = search rules in
+    let rooms : IsRoomy (length c.set_stage.new.stages.items) (length inside.on.items) (length inside.due.items) (vec_capacity inside.due) (length c.lower.new.counts.items)
+    (length inside.known.ranks.items) (length c.lower_thread.new.left.items) = search rules in
+    let only = once_open g.M.Cells.numbers g.M.Cells.scalars b.tic b.on.items b.due.items b.stages.items b.memory c.args.plan.now c.args.job.0
+    c.key_order_is_one.ensures (subst (λ (v : BoardView). IsSome v.opened) (sym c.self.view_is) c.requires.open)
+    (subst (λ (v : BoardView). IsBoardOf c.args.plan.now v) (sym c.self.view_is) c.requires.belongs).opened in
     let sees = open_sees g.M.Cells.numbers g.M.Cells.scalars b.tic b.on.items b.due.items b.stages.items b.memory c.args.plan.now b.tables
     c.key_order_is_one.ensures
     (subst (λ (v : BoardView). IsBoardOf c.args.plan.now v) (sym c.self.view_is) c.requires.belongs).tables
@@ -57,5 +63,24 @@ invariant_of-self g c =
         | else-is_flagged w ↦ done_counted c.args.plan.now (record { on = b.on.items }) b.tic _ _ _ _ _ _ _ _ _ _ (ap (λ b. b.tables) w.self-inside-is)
             (ap (λ b. b.stages.items) w.self-inside-is) (ap (λ b. b.known.counts.items) w.self-inside-is) c.set_stage.ensures fewer
             sees (ap is_open flies) refl c.self.invariant.3
+      ],
+      elim c.if-is_flagged.branch [
+        | then-is_flagged+in-Some w ↦ done_ranked _ _ _ _ _ _ _ _ _ _ _ _ _ _ (ap (λ b. b.tables) w.self-inside-is) (ap (λ b. b.due.items) w.self-inside-is) (ap (λ b. b.stages.items) w.self-inside-is)
+            (ap (λ b. b.known.ranks.items) w.self-inside-is) (ap (λ b. b.known.left.items) w.self-inside-is) c.set_stage.ensures
+            c.lower_thread.ensures only flies refl c.self.invariant.5 c.self.invariant.4
+        | then-is_flagged+in_default w ↦ done_ranked _ _ _ _ _ _ _ _ _ _ _ _ _ _ (ap (λ b. b.tables) w.self-inside-is) (ap (λ b. b.due.items) w.self-inside-is) (ap (λ b. b.stages.items) w.self-inside-is)
+            (ap (λ b. b.known.ranks.items) w.self-inside-is) (ap (λ b. b.known.left.items) w.self-inside-is) c.set_stage.ensures
+            c.lower_thread.ensures only flies refl c.self.invariant.5 c.self.invariant.4
+        | else-is_flagged w ↦ done_ranked _ _ _ _ _ _ _ _ _ _ _ _ _ _ (ap (λ b. b.tables) w.self-inside-is) (ap (λ b. b.due.items) w.self-inside-is) (ap (λ b. b.stages.items) w.self-inside-is)
+            (ap (λ b. b.known.ranks.items) w.self-inside-is) (ap (λ b. b.known.left.items) w.self-inside-is) c.set_stage.ensures
+            c.lower_thread.ensures only flies refl c.self.invariant.5 c.self.invariant.4
+      ],
+      elim c.if-is_flagged.branch [
+        | then-is_flagged+in-Some w ↦ done_in_turn _ _ _ _ _ _ _ _ _ (ap (λ b. b.tables) w.self-inside-is) (ap (λ b. b.due.items) w.self-inside-is) (ap (λ b. b.stages.items) w.self-inside-is)
+            c.set_stage.ensures flies refl c.self.invariant.5
+        | then-is_flagged+in_default w ↦ done_in_turn _ _ _ _ _ _ _ _ _ (ap (λ b. b.tables) w.self-inside-is) (ap (λ b. b.due.items) w.self-inside-is) (ap (λ b. b.stages.items) w.self-inside-is)
+            c.set_stage.ensures flies refl c.self.invariant.5
+        | else-is_flagged w ↦ done_in_turn _ _ _ _ _ _ _ _ _ (ap (λ b. b.tables) w.self-inside-is) (ap (λ b. b.due.items) w.self-inside-is) (ap (λ b. b.stages.items) w.self-inside-is)
+            c.set_stage.ensures flies refl c.self.invariant.5
       ],
     )
