@@ -38,6 +38,18 @@ fn name_of<'t>(word: &Lexeme<'t>) -> Option<&'t [u8]>
     }
 }
 
+// Bytes that a full name has room for at first. A longer one grows it.
+const ROOM: usize = 64;
+
+// The bytes that a full name begins with.
+fn begin_name(alloc: Global, front: &[u8]) -> Result<Vec<u8>, AllocError>
+    ensures { IfOk result (λ name. name.items ≡ front.now) }
+{
+    let mut name = Vec::with_capacity(alloc, ROOM)?;
+    name.extend_from_slice(front)?;
+    Ok(name)
+}
+
 // Adds the member at the front of words to a name, and tells how many words it has.
 fn take_member(name: &mut Vec<u8>, words: &[Lexeme]) -> Result<Option<usize>, AllocError>
     ensures read { IfOk result (λ len. going_on name.new.items words.now len
@@ -133,7 +145,7 @@ pub fn read_path(alloc: Global, words: &[Lexeme]) -> Result<Option<Read>, AllocE
     let Some(name) = name_of(word) else {
         return Ok(None);
     };
-    match read_members(name.to_vec(alloc)?, behind)? {
+    match read_members(begin_name(alloc, name)?, behind)? {
         None => Ok(None),
         Some(Read { value, len }) => Ok(Some(Read {
             value,

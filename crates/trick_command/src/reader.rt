@@ -27,7 +27,7 @@ fn lexemes<'a>(
     requires { All (ReadsAsToken text.now) tokens.now }
     ensures { IfOk result (λ found. lexemes_in found.items ≡ lexemes_of text.now tokens.now) }
 {
-    let mut found = Vec::new(alloc);
+    let mut found = Vec::with_capacity(alloc, tokens.len())?;
     for token in tokens {
         found.push(lexeme_of(text, token))?;
     }

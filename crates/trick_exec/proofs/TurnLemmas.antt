@@ -18,7 +18,7 @@ use Rattle.trick_model.specs.Journal.{is_entry}
 use Rattle.trick_model.specs.Plan.{Plan}
 use Rattle.trick_model.specs.PlanOf.{plan_of}
 use Rattle.trick_model.specs.Session.{Message, staying}
-use Rattle.trick_model.specs.State.{State, World}
+use Rattle.trick_model.specs.State.{State, World, seen}
 use Rattle.trick_model.specs.Turn.{Hearing, begun, heard, replies, turn}
 use Rattle.trick_model.specs.ValidState.{IsSound, IsStateOf}
 use Rattle.trick_model.specs.declared.entry.Entry.{Entry}
@@ -62,6 +62,13 @@ not_ok (Err f) e is ok = cc
 if_not : {T : Type 0} (P : T → Type 0) (result : Result T Stop) (e : Stop) → result ≡ Err e → IfOk result P
 if_not P (Ok x) e is = cc
 if_not P (Err f) e is = tt
+
+-- the world that a result has, by its state and its sessions
+pub worlds_so : {D : Type 0} (numbers : D → List ℤ) (result : Result (WorldValue D) Stop) (w : World) {s : State} {sessions : List Session}
+    → IfOk result (λ after. seen numbers after.state ≡ s) → IfOk result (λ after. after.sessions.items ≡ sessions)
+    → s ≡ w.state → sessions ≡ w.sessions → IfOk result (λ after. world_of numbers after ≡ w)
+worlds_so numbers (Ok last) w state there one two = λ i. record { state = (state ∙ one) i; sessions = (there ∙ two) i }
+worlds_so numbers (Err e) w state there one two = tt
 
 -- posts of which nothing more is asked
 pub asks_quiet : {Q : Type 0} (posts : PostsGhosts Q) → PollsJoin posts → (decides : Bool) (P : List Poll → Type 0) (old mid new : Q)
@@ -204,7 +211,7 @@ module _ (p : Plan) (decides : Bool) (w : World) (list lines tail : List Entry) 
       came_not chosen result e silent turned at (inl (chosen_so h.posts join waits chosen hearing old.posts mid new.posts silent is asks quiet))
 
   -- it took its course
-  pub came : {S U M Q D : Type 0} (h : Hosts S U M Q) (numbers : D → List ℤ) {waits after : List ℕ} {old new : Place S U Q} {mid : Q} (chosen : List Entry)
+  came : {S U M Q D : Type 0} (h : Hosts S U M Q) (numbers : D → List ℤ) {waits after : List ℕ} {old new : Place S U Q} {mid : Q} (chosen : List Entry)
       (last : WorldValue D) (hearing : Hearing) → PollsJoin h.posts → has_line chosen ≡ false → hearing ≡ heard p lines (begun w)
       → Turned h p w (lines ++ cond decides tail chosen) old new (Ok last)
       → world_of numbers last ≡ (turn p w (lines ++ cond decides tail chosen)).world
@@ -225,3 +232,16 @@ module _ (p : Plan) (decides : Bool) (w : World) (list lines tail : List Entry) 
         waited_so = λ ok none. (counts none ∙ ap (λ (s : State). waited p s waits chosen) state
             ∙ ap (waited p (heard_state p w entries) waits) (sym (same_published chosen silent ∙ ap (λ (b : Bool). cond b tail chosen) none)));
       }
+
+  -- it took its course, or stopped on it
+  pub came_so : {S U M Q D : Type 0} (h : Hosts S U M Q) (numbers : D → List ℤ) {waits after : List ℕ} {old new : Place S U Q} {mid : Q} (chosen : List Entry)
+      (result : Result (WorldValue D) Stop) (hearing : Hearing) → PollsJoin h.posts → has_line chosen ≡ false → hearing ≡ heard p lines (begun w)
+      → Turned h p w (lines ++ cond decides tail chosen) old new result
+      → IfOk result (λ last. world_of numbers last ≡ (turn p w (lines ++ cond decides tail chosen)).world)
+      → Asks decides h.posts.asked (IsChosen p hearing.asking.state waits chosen) old.posts mid → h.posts.asked mid [] new.posts
+      → (decides ≡ false → after ≡ waited p hearing.asking.state waits chosen)
+      → CameTo h numbers p decides w list waits after old new result
+  came_so h numbers chosen (Ok last) hearing join silent is turned world asks quiet counts =
+      came h numbers chosen last hearing join silent is turned world asks quiet counts
+  came_so h numbers chosen (Err e) hearing join silent is turned world asks quiet counts =
+      came_late h chosen (Err e) e hearing join silent is turned refl asks quiet

@@ -76,7 +76,7 @@ impl<'a, F: Shelf, H, P: Posts, T> Run<'a, F, H, P, T> {
         laws::runs_join();
         let decides = self.turns.decides();
         let mut world = world;
-        'turns: for _turn in 0..most_turns(&world.state) {
+        for _turn in 0..most_turns(&world.state) {
             if is_over(&world.state) {
                 return Ok(Ended::Done(world));
             }

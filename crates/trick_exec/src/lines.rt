@@ -2,7 +2,6 @@
 
 ghost use Rattle.std.specs.Prelude.{◌≡◌, ◌+◌, ◌≤◌, All, IfOk, IsTrue, [], drop, length, not, take};
 ghost use Rattle.trick_eval.specs.Bench.{IsFor};
-ghost use Rattle.trick_exec.specs.Worlds.{world_of};
 ghost use Rattle.trick_hear.specs.Hearing.{hearing_of, said_of};
 ghost use Rattle.trick_hear.specs.Sessions.{AreHeard};
 ghost use Rattle.trick_job.specs.Belongs.{IsMemoryOf};
@@ -11,7 +10,7 @@ ghost use Rattle.trick_model.specs.Journal.{is_entry, is_of_session as is_of_ses
 ghost use Rattle.trick_model.specs.PlanOf.{plan_of};
 ghost use Rattle.trick_model.specs.State.{seen};
 ghost use Rattle.trick_base.specs.Time.{tic_limit};
-ghost use Rattle.trick_model.specs.Turn.{begun, heard, replies as replies_of};
+ghost use Rattle.trick_model.specs.Turn.{heard, replies as replies_of};
 ghost use Rattle.trick_model.specs.ValidState.{IsStateOf};
 ghost use Rattle.trick_model.specs.declared.entry.Entry.{Entry as EntryValue};
 ghost use Rattle.trick_outside.specs.Does.{Does};
@@ -20,15 +19,13 @@ ghost use Rattle.trick_tic.specs.Course.{IsCourseOf, IsMadeFor};
 ghost use Rattle.trick_tic.specs.Steps.{steps_of};
 ghost use Rattle.trick_turns.specs.Turns.{Sessions as SessionsOf, may_all_come};
 
-use crate::World;
-use trick_event::Asked;
 use trick_files::note;
 use trick_hear::{Hearing, Message, hear};
 use trick_lang::Cells;
 use trick_model::{Accepted, Entry, Plan, State, laws};
 use trick_outside::{Shelf, Stop};
 use trick_pass::Equipment;
-use trick_tic::{Course, Current};
+use trick_tic::Course;
 
 // Whether an entry is a join, a line or a leave.
 fn is_of_session(entry: &Entry) -> bool
@@ -56,13 +53,6 @@ pub(crate) fn count_lines(entries: &[Entry]) -> usize
     count
 }
 
-/// A turn whose lines were heard, with the replies to them.
-#[derive(Drop)]
-pub(crate) struct Heard<M> {
-    pub(crate) hearing: Hearing<M>,
-    pub(crate) replies: Vec<Message>,
-}
-
 // Looks at a course again, where a turn had lines, which may have changed flags.
 fn look_again<M: Cells>(plan: &Plan, lines: &[Entry], state: &State<M>, course: &mut Course)
     requires made { IsMadeFor plan.now course.old state.now.tic }
@@ -75,48 +65,43 @@ fn look_again<M: Cells>(plan: &Plan, lines: &[Entry], state: &State<M>, course: 
     }
 }
 
-/// Begins a turn: its lines are noted and then heard. Where there are some, they may have changed flags, so
-/// that the course is looked at again. It stops where the shelf failed, or where there was no memory.
-pub(crate) fn hear_lines<M: Cells + Drop, F: Shelf>(
+/// Hears the lines of a turn: they are noted and then heard, and the replies are given. Where there are some, they
+/// may have changed flags, so that the course is looked at again. It stops where the shelf failed, or where there
+/// was no memory; the state is of no use then.
+pub(crate) fn hear_lines<M: Cells, F: Shelf>(
     accepted: &Accepted,
     lines: &[Entry],
-    world: World<M>,
+    hearing: &mut Hearing<M>,
     equipment: &mut Equipment,
     shelf: &mut F,
-) -> Result<Heard<M>, Stop>
-    requires valid { IsStateOf (plan_of accepted.now.plan) (seen M.numbers world.state) }
-    requires memory { IsMemoryOf accepted.now.plan.program (M.numbers world.state.memory)
-        (M.scalars world.state.memory) }
-    requires course { IsCourseOf accepted.now.plan equipment.old.course (seen M.numbers world.state) }
+) -> Result<Vec<Message>, Stop>
+    requires valid { IsStateOf (plan_of accepted.now.plan) (seen M.numbers hearing.old.current.state) }
+    requires memory { IsMemoryOf accepted.now.plan.program (M.numbers hearing.old.current.state.memory)
+        (M.scalars hearing.old.current.state.memory) }
+    requires course { IsCourseOf accepted.now.plan equipment.old.course (seen M.numbers hearing.old.current.state) }
     requires bench { IsFor accepted.now.plan.program equipment.old.bench.parts }
     requires entries { All (λ (entry : EntryValue). IsTrue (is_entry entry)) lines.now }
-    requires sessions { AreHeard (plan_of accepted.now.plan) world.sessions.items lines.now }
-    ensures does { Does F.Shelf shelf.old shelf.new result (steps_of (note world.state.turn lines.now)) }
-    ensures heard { IfOk result (λ turn. hearing_of M.numbers turn.hearing
-        ≡ heard (plan_of accepted.now.plan) lines.now (begun (world_of M.numbers world))) }
-    ensures replies { IfOk result (λ turn. said_of turn.replies.items
-        ≡ replies_of (plan_of accepted.now.plan) lines.now (begun (world_of M.numbers world))) }
-    ensures sessions { IfOk result (λ turn. AreHeard (plan_of accepted.now.plan) turn.hearing.sessions.items []) }
-    ensures memory { IfOk result (λ turn. IsMemoryOf accepted.now.plan.program
-        (M.numbers turn.hearing.current.state.memory) (M.scalars turn.hearing.current.state.memory)) }
-    ensures course { IfOk result (λ turn. IsCourseOf accepted.now.plan equipment.new.course
-        (seen M.numbers turn.hearing.current.state)) }
+    requires sessions { AreHeard (plan_of accepted.now.plan) hearing.old.sessions.items lines.now }
+    ensures does { Does F.Shelf shelf.old shelf.new result
+        (steps_of (note hearing.old.current.state.turn lines.now)) }
+    ensures heard { IfOk result (λ replies. hearing_of M.numbers hearing.new
+        ≡ heard (plan_of accepted.now.plan) lines.now (hearing_of M.numbers hearing.old)) }
+    ensures replies { IfOk result (λ replies. said_of replies.items
+        ≡ replies_of (plan_of accepted.now.plan) lines.now (hearing_of M.numbers hearing.old)) }
+    ensures sessions { IfOk result (λ replies. AreHeard (plan_of accepted.now.plan) hearing.new.sessions.items []) }
+    ensures memory { IfOk result (λ replies. IsMemoryOf accepted.now.plan.program
+        (M.numbers hearing.new.current.state.memory) (M.scalars hearing.new.current.state.memory)) }
+    ensures course { IfOk result (λ replies. IsCourseOf accepted.now.plan equipment.new.course
+        (seen M.numbers hearing.new.current.state)) }
     ensures bench { IsFor accepted.now.plan.program equipment.new.bench.parts }
 {
     laws::plans_are_sound();
     let plan = accepted.plan();
     let alloc = equipment.course.alloc;
-    note(alloc, world.state.turn, lines, shelf)?;
-    let World { state, sessions } = world;
-    let asked = Asked {
-        freeze: false,
-        checkpoint: false,
-    };
-    let current = Current { state, asked };
-    let mut hearing = Hearing { current, sessions };
-    let Ok(replies) = hear(alloc, plan, lines, &mut hearing, &mut equipment.bench) else {
+    note(alloc, hearing.current.state.turn, lines, shelf)?;
+    let Ok(replies) = hear(alloc, plan, lines, hearing, &mut equipment.bench) else {
         return Err(Stop::Memory);
     };
     look_again(plan, lines, &hearing.current.state, &mut equipment.course);
-    Ok(Heard { hearing, replies })
+    Ok(replies)
 }

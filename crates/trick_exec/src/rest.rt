@@ -18,10 +18,9 @@ ghost use Rattle.trick_turns.specs.Turns.{is_among};
 
 use crate::World;
 use crate::lent::Run;
-use crate::lines::Heard;
 use crate::sending::send_all;
 use std::alloc::{AllocError, Global};
-use trick_hear::{Hearing, samples, stay};
+use trick_hear::{Hearing, Message, samples, stay};
 use trick_lang::Cells;
 use trick_model::{Accepted, Entry, Session, State};
 use trick_outside::{Shelf, Stop};
@@ -54,49 +53,48 @@ impl<'a, F: Shelf, H, P: Posts, T> Run<'a, F, H, P, T> {
     pub(crate) fn finish<M: Cells + Drop>(
         &mut self,
         accepted: &Accepted,
-        heard: Heard<M>,
+        hearing: Hearing<M>,
+        replies: &[Message],
         publications: &[Entry],
     ) -> Result<World<M>, Stop>
     where
         H: Phases<M>,
         T: Turns<M>,
         requires ready { IsReady H.Phases P.Posts accepted.now.plan self.old
-            (seen M.numbers heard.hearing.current.state) (M.scalars heard.hearing.current.state.memory) }
-        requires sessions { AreHeard (plan_of accepted.now.plan) heard.hearing.sessions.items [] }
+            (seen M.numbers hearing.current.state) (M.scalars hearing.current.state.memory) }
+        requires sessions { AreHeard (plan_of accepted.now.plan) hearing.sessions.items [] }
         requires replies { All (λ (message : MessageOf). IsTrue (is_among message.0
-            (T.sessions self.old.turns.now).reached)) (said_of heard.replies.items) }
-        requires reached { numbers_of heard.hearing.sessions.items ≡ (T.sessions self.old.turns.now).reached }
+            (T.sessions self.old.turns.now).reached)) (said_of replies.now) }
+        requires reached { numbers_of hearing.sessions.items ≡ (T.sessions self.old.turns.now).reached }
         ensures same { IsSame self.old self.new }
         ensures waits { self.new.waits.now ≡ self.old.waits.now }
         ensures state { IfOk result (λ after. seen M.numbers after.state
             ≡ state_after (plan_of accepted.now.plan) publications.now
-            (asking_of M.numbers heard.hearing.current)) }
+            (asking_of M.numbers hearing.current)) }
         ensures sessions { IfOk result (λ after. after.sessions.items
-            ≡ staying heard.hearing.sessions.items) }
+            ≡ staying hearing.sessions.items) }
         ensures does { Does F.Shelf self.old.shelf.now self.new.shelf.now result (steps_of
             (writes_after (plan_of accepted.now.plan) publications.now
-            (asking_of M.numbers heard.hearing.current))) }
-        ensures says { Says T.Turns self.old.turns.now self.new.turns.now result (said_of heard.replies.items
-            ++ samples_of heard.hearing.current.state.tic
+            (asking_of M.numbers hearing.current))) }
+        ensures says { Says T.Turns self.old.turns.now self.new.turns.now result (said_of replies.now
+            ++ samples_of hearing.current.state.tic
             (state_after (plan_of accepted.now.plan) publications.now
-            (asking_of M.numbers heard.hearing.current))
-            heard.hearing.sessions.items) }
+            (asking_of M.numbers hearing.current))
+            hearing.sessions.items) }
         ensures ready { IfOk result (λ after. IsReady H.Phases P.Posts accepted.now.plan self.new
             (seen M.numbers after.state) (M.scalars after.state.memory)) }
         ensures asks { AsksNothing P.Posts self.old.workers.now.posts self.new.workers.now.posts }
     {
-        let Heard { hearing, replies } = heard;
-        let Hearing { current, sessions } = hearing;
-        let from = current.state.tic;
-        let Ok(()) = send_all(&replies, self.turns) else {
+        let from = hearing.current.state.tic;
+        let Ok(()) = send_all(replies, self.turns) else {
             return Err(Stop::Memory);
         };
         let rest = Rest {
-            current,
+            current: hearing.current,
             publications,
         };
+        let mut sessions = hearing.sessions;
         let state = pass(accepted, rest, self.equipment, self.shelf, self.workers)?;
-        let mut sessions = sessions;
         let Ok(()) = send_samples(self.alloc, &sessions, &state, from, self.turns) else {
             return Err(Stop::Memory);
         };

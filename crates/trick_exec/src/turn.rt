@@ -14,11 +14,14 @@ use crate::World;
 use crate::lent::Run;
 use crate::lines::{count_lines, hear_lines};
 use crate::publish::{choose_publications, decided, note_publications};
+use trick_event::Asked;
+use trick_hear::Hearing;
 use trick_lang::Cells;
 use trick_model::{Accepted, Entry, laws};
 use trick_outside::{Shelf, Stop};
 use trick_phase::Phases;
 use trick_post::Posts;
+use trick_tic::Current;
 use trick_turns::Turns;
 
 /// What the source of a run gives for a turn: its entries, and whether these decide the publications.
@@ -63,8 +66,19 @@ impl<'a, F: Shelf, H, P: Posts, T> Run<'a, F, H, P, T> {
         let Given { entries, decides } = given;
         let number = world.state.turn;
         let (lines, tail) = entries.split_at(count_lines(entries));
-        let heard = hear_lines(accepted, lines, world, self.equipment, self.shelf)?;
-        let state = &heard.hearing.current.state;
+        let asked = Asked {
+            freeze: false,
+            checkpoint: false,
+        };
+        let mut hearing = Hearing {
+            current: Current {
+                state: world.state,
+                asked,
+            },
+            sessions: world.sessions,
+        };
+        let replies = hear_lines(accepted, lines, &mut hearing, self.equipment, self.shelf)?;
+        let state = &hearing.current.state;
         let course = &self.equipment.course;
         let Ok(chosen) = choose_publications(
             decides,
@@ -77,7 +91,6 @@ impl<'a, F: Shelf, H, P: Posts, T> Run<'a, F, H, P, T> {
         };
         let publications = decided(decides, tail, &chosen);
         note_publications(number, publications, course, state, self.shelf)?;
-        let world = self.finish(accepted, heard, publications)?;
-        Ok(world)
+        self.finish(accepted, hearing, &replies, publications)
     }
 }

@@ -12,11 +12,14 @@ use trick_journal::push_entry_line;
 use trick_model::Entry;
 use trick_outside::{Shelf, Stop, append};
 
+// Bytes that the text of a turn's lines has room for at first, for each entry. Longer lines grow it.
+const ROOM: usize = 64;
+
 // The lines of entries of a turn.
 fn entry_text(alloc: Global, turn: u64, entries: &[Entry]) -> Result<Vec<u8>, AllocError>
     ensures { IfOk result (λ text. text.items ≡ entry_lines turn entries.now) }
 {
-    let mut text = Vec::new(alloc);
+    let mut text = Vec::with_capacity(alloc, entries.len().saturating_mul(ROOM))?;
     for entry in entries {
         push_entry_line(&mut text, turn, entry)?;
     }

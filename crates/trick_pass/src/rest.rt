@@ -115,8 +115,7 @@ fn framed<M: Cells + Drop, F: Shelf, H: Phases<M>, P: Posts>(
     if !rest.current.state.runs() {
         return Ok(rest.current);
     }
-    let current = run_frame(accepted, rest, equipment, shelf, workers)?;
-    Ok(current)
+    run_frame(accepted, rest, equipment, shelf, workers)
 }
 
 // After a run frame each asynchronous thread that has nothing in flight starts a round.

@@ -28,8 +28,8 @@ use Rattle.trick_turns.specs.Gap.{Gap}
 use Rattle.trick_turns.specs.Turns.{Gives, Told}
 use Rattle.trick_turns.specs.declared.turns.Next.TheVariants as next
 
-pub turns-init : goal.turns-init
-turns-init g c =
+pub loop-turn-init : goal.loop-turn-init
+loop-turn-init g c =
     let p = plan_of c.args.accepted.now.plan in
     let h = hosts g.F.Shelf g.T.Turns g.P.Posts in
     let start : State = seen g.M.Cells.numbers c.args.world.state in
@@ -57,36 +57,36 @@ returns-then-is_over-clause-turns g c =
     let h = hosts g.F.Shelf g.T.Turns g.P.Posts in
     let laws : Laws h = record { shelf = g.met.F.Shelf.called_join; turns = g.met.T.Turns.went_join; posts = g.met.P.Posts.asked_join; runs = c.runs_join.ensures } in
     let start : State = seen g.M.Cells.numbers c.args.world.state in
-    let under = c.turns.invariant.under in
-    (under.lists, over_unasked h laws p start (g.met.T.Turns.went_none c.turns.self.turns.now) under.going (sym c.is_over.ensures ∙ c.if-is_over.true))
+    let under = c.loop-turn.invariant.under in
+    (under.lists, over_unasked h laws p start (g.met.T.Turns.went_none c.loop-turn.self.turns.now) under.going (sym c.is_over.ensures ∙ c.if-is_over.true))
 
 pub turn-requires-clause-given : goal.turn-requires-clause-given
 turn-requires-clause-given g c =
     let p = plan_of c.args.accepted.now.plan in
-    let under = c.turns.invariant.under in
-    let w : World = world_of g.M.Cells.numbers c.turns.world in
+    let under = c.loop-turn.invariant.under in
+    let w : World = world_of g.M.Cells.numbers c.loop-turn.world in
     let own : HasGiven p c.decides-decides.result w c.in-Entries.entries.items (g.T.Turns.sessions c.entries.new.self) = record {
-      known = g.T.Turns.sessions c.turns.self.turns.now;
-      are = c.turns.invariant.known;
+      known = g.T.Turns.sessions c.loop-turn.self.turns.now;
+      are = c.loop-turn.invariant.known;
       may = c.in-Entries.ensures.rules.0;
       after = c.in-Entries.ensures.rules.1;
       silent = λ none. c.in-Entries.ensures.rules.2 (under.going.decided ∙ sym c.decides-decides.ensures ∙ none);
     } in
     subst (λ (l : List Entry). HasGiven p c.decides-decides.result w l (g.T.Turns.sessions c.entries.new.self)) (sym c.deref-in-Entries.ensures.value) own
 
-pub turns-preserved : goal.turns-preserved
-turns-preserved g c =
+pub loop-turn-preserved : goal.loop-turn-preserved
+loop-turn-preserved g c =
     let plan = c.args.accepted.now.plan in
     let p = plan_of plan in
     let h = hosts g.F.Shelf g.T.Turns g.P.Posts in
     let laws : Laws h = record { shelf = g.met.F.Shelf.called_join; turns = g.met.T.Turns.went_join; posts = g.met.P.Posts.asked_join; runs = c.runs_join.ensures } in
     let start : State = seen g.M.Cells.numbers c.args.world.state in
-    let under = c.turns.invariant.under in
-    let w : World = world_of g.M.Cells.numbers c.turns.world in
+    let under = c.loop-turn.invariant.under in
+    let w : World = world_of g.M.Cells.numbers c.loop-turn.world in
     let tests = both_false (is_shut w.state.mode) (nat_le w.state.limit w.state.tic) (sym c.is_over.ensures ∙ c.if-is_over.false) in
-    let gave : Gave g.T.Turns w c.deref-in-Entries.result.now c.turns.self.turns.now c.entries.new.self =
+    let gave : Gave g.T.Turns w c.deref-in-Entries.result.now c.loop-turn.self.turns.now c.entries.new.self =
     gave_as (sym c.deref-in-Entries.ensures.value)
-    (gave_list g.T.Turns w c.deref.result.now c.in-Entries.entries c.turns.self.turns.now c.entries.new.self c.deref.ensures.value
+    (gave_list g.T.Turns w c.deref.result.now c.in-Entries.entries c.loop-turn.self.turns.now c.entries.new.self c.deref.ensures.value
     c.in-Entries.ensures.step c.in-Entries.ensures.pays c.in-Entries.ensures.gives c.in-Entries.ensures.rules c.in-Entries.ensures.decides) in
     record {
       under = under_more h laws g.M.Cells.numbers p start c.in_ok-world-in-Entries.world under c.decides-decides.ensures tests.0 tests.1 gave
@@ -101,14 +101,14 @@ turns-preserved g c =
 
 pub turn-requires-in-Nothing-clause-ready : goal.turn-requires-in-Nothing-clause-ready
 turn-requires-in-Nothing-clause-ready g c =
-    record { own = c.turns.invariant.ready.own; posts = c.turns.invariant.ready.posts; equipped = c.idles.ensures.equipped }
+    record { own = c.loop-turn.invariant.ready.own; posts = c.loop-turn.invariant.ready.posts; equipped = c.idles.ensures.equipped }
 
 pub turn-requires-in-Nothing-clause-given : goal.turn-requires-in-Nothing-clause-given
 turn-requires-in-Nothing-clause-given g c =
     let p = plan_of c.args.accepted.now.plan in
-    let own : HasGiven p c.decides-decides.result (world_of g.M.Cells.numbers c.turns.world) [] (g.T.Turns.sessions c.entries.new.self) = record {
-      known = g.T.Turns.sessions c.turns.self.turns.now;
-      are = c.turns.invariant.known;
+    let own : HasGiven p c.decides-decides.result (world_of g.M.Cells.numbers c.loop-turn.world) [] (g.T.Turns.sessions c.entries.new.self) = record {
+      known = g.T.Turns.sessions c.loop-turn.self.turns.now;
+      are = c.loop-turn.invariant.known;
       may = refl;
       after = c.in-Nothing.ensures.rules;
       silent = λ none. refl;
@@ -116,22 +116,22 @@ turn-requires-in-Nothing-clause-given g c =
     subst (λ (v : WorldValue g.row.M.Denot). HasGiven p c.decides-decides.result (world_of g.M.Cells.numbers v) [] (g.T.Turns.sessions c.entries.new.self))
     (sym (c.if-idles.ensures.unchanged refl)) own
 
-pub turns-preserved-in-Nothing : goal.turns-preserved-in-Nothing
-turns-preserved-in-Nothing g c =
+pub loop-turn-preserved-in-Nothing : goal.loop-turn-preserved-in-Nothing
+loop-turn-preserved-in-Nothing g c =
     let plan = c.args.accepted.now.plan in
     let p = plan_of plan in
     let h = hosts g.F.Shelf g.T.Turns g.P.Posts in
     let laws : Laws h = record { shelf = g.met.F.Shelf.called_join; turns = g.met.T.Turns.went_join; posts = g.met.P.Posts.asked_join; runs = c.runs_join.ensures } in
     let start : State = seen g.M.Cells.numbers c.args.world.state in
-    let under = c.turns.invariant.under in
-    let w : World = world_of g.M.Cells.numbers c.turns.world in
+    let under = c.loop-turn.invariant.under in
+    let w : World = world_of g.M.Cells.numbers c.loop-turn.world in
     let tests = both_false (is_shut w.state.mode) (nat_le w.state.limit w.state.tic) (sym c.is_over.ensures ∙ c.if-is_over.false) in
-    let gave : Gave g.T.Turns w [] c.turns.self.turns.now c.entries.new.self =
-    gave_nothing g.T.Turns w c.deref.result.now c.turns.self.turns.now c.entries.new.self c.deref.ensures.value
+    let gave : Gave g.T.Turns w [] c.loop-turn.self.turns.now c.entries.new.self =
+    gave_nothing g.T.Turns w c.deref.result.now c.loop-turn.self.turns.now c.entries.new.self c.deref.ensures.value
     c.in-Nothing.ensures.step c.in-Nothing.ensures.pays c.in-Nothing.ensures.gives c.in-Nothing.ensures.rules c.in-Nothing.ensures.decides in
     record {
       under = under_more h laws g.M.Cells.numbers p start c.in_ok-world-in-Nothing.world under c.decides-decides.ensures tests.0 tests.1 gave
-          (came_as c.idles.new.world c.turns.world (c.if-idles.ensures.unchanged refl) c.in_ok-world-in-Nothing.ensures.came_to);
+          (came_as c.idles.new.world c.loop-turn.world (c.if-idles.ensures.unchanged refl) c.in_ok-world-in-Nothing.ensures.came_to);
       ready = c.in_ok-world-in-Nothing.ensures.ready;
       same = Prim.search rules;
       waits = c.in_ok-world-in-Nothing.ensures.waits;
@@ -141,60 +141,60 @@ turns-preserved-in-Nothing g c =
           (ap (λ (v : World). v.sessions) c.in_ok-world-in-Nothing.ensures.came_to.world);
     }
 
-pub turns-preserved-then-idles : goal.turns-preserved-then-idles
-turns-preserved-then-idles g c =
+pub loop-turn-preserved-then-idles : goal.loop-turn-preserved-then-idles
+loop-turn-preserved-then-idles g c =
     let plan = c.args.accepted.now.plan in
     let p = plan_of plan in
     let h = hosts g.F.Shelf g.T.Turns g.P.Posts in
     let laws : Laws h = record { shelf = g.met.F.Shelf.called_join; turns = g.met.T.Turns.went_join; posts = g.met.P.Posts.asked_join; runs = c.runs_join.ensures } in
     let start : State = seen g.M.Cells.numbers c.args.world.state in
-    let under = c.turns.invariant.under in
-    let w : World = world_of g.M.Cells.numbers c.turns.world in
+    let under = c.loop-turn.invariant.under in
+    let w : World = world_of g.M.Cells.numbers c.loop-turn.world in
     let tests = both_false (is_shut w.state.mode) (nat_le w.state.limit w.state.tic) (sym c.is_over.ensures ∙ c.if-is_over.false) in
-    let gave : Gave g.T.Turns w [] c.turns.self.turns.now c.entries.new.self =
-    gave_nothing g.T.Turns w c.deref.result.now c.turns.self.turns.now c.entries.new.self c.deref.ensures.value
+    let gave : Gave g.T.Turns w [] c.loop-turn.self.turns.now c.entries.new.self =
+    gave_nothing g.T.Turns w c.deref.result.now c.loop-turn.self.turns.now c.entries.new.self c.deref.ensures.value
     c.in-Nothing.ensures.step c.in-Nothing.ensures.pays c.in-Nothing.ensures.gives c.in-Nothing.ensures.rules c.in-Nothing.ensures.decides in
     let idle = c.if-idles.ensures in
-    let host : Place g.row.F.Denot g.row.T.Denot g.row.P.Denot = at c.turns.self.shelf.now c.entries.new.self c.turns.self.workers.now.posts in
+    let host : Place g.row.F.Denot g.row.T.Denot g.row.P.Denot = at c.loop-turn.self.shelf.now c.entries.new.self c.loop-turn.self.workers.now.posts in
     record {
       under = under_more h laws g.M.Cells.numbers p start c.idles.new.world under c.decides-decides.ensures tests.0 tests.1 gave
-          (idle_turn h g.M.Cells.numbers p c.decides-decides.result c.turns.world c.idles.new.world c.turns.self.waits.now.items host
+          (idle_turn h g.M.Cells.numbers p c.decides-decides.result c.loop-turn.world c.idles.new.world c.loop-turn.self.waits.now.items host
           (g.met.F.Shelf.called_none host.shelf) (g.met.T.Turns.went_none host.turns) (g.met.P.Posts.asked_none host.posts)
-          (idle.no_session refl) idle.sessions (idle.alone refl) c.turns.invariant.waits (idle.state refl) (idle.writes refl));
-      ready = record { own = c.turns.invariant.ready.own; posts = c.turns.invariant.ready.posts; equipped = c.idles.ensures.equipped };
-      same = c.turns.invariant.same;
-      waits = c.turns.invariant.waits;
-      known = idle_known p (g.T.Turns.sessions c.turns.self.turns.now) (g.T.Turns.sessions c.entries.new.self) c.turns.world.sessions.items
-          c.idles.new.world.sessions.items c.turns.invariant.known c.in-Nothing.ensures.rules (ap (λ v. v.items) c.idles.ensures.sessions);
-      still = subst AreStill (sym (ap (λ v. v.items) c.idles.ensures.sessions)) c.turns.invariant.still;
+          (idle.no_session refl) idle.sessions (idle.alone refl) c.loop-turn.invariant.waits (idle.state refl) (idle.writes refl));
+      ready = record { own = c.loop-turn.invariant.ready.own; posts = c.loop-turn.invariant.ready.posts; equipped = c.idles.ensures.equipped };
+      same = c.loop-turn.invariant.same;
+      waits = c.loop-turn.invariant.waits;
+      known = idle_known p (g.T.Turns.sessions c.loop-turn.self.turns.now) (g.T.Turns.sessions c.entries.new.self) c.loop-turn.world.sessions.items
+          c.idles.new.world.sessions.items c.loop-turn.invariant.known c.in-Nothing.ensures.rules (ap (λ v. v.items) c.idles.ensures.sessions);
+      still = subst AreStill (sym (ap (λ v. v.items) c.idles.ensures.sessions)) c.loop-turn.invariant.still;
     }
 
-pub turns-preserved-in-Gap : goal.turns-preserved-in-Gap
-turns-preserved-in-Gap g c =
+pub loop-turn-preserved-in-Gap : goal.loop-turn-preserved-in-Gap
+loop-turn-preserved-in-Gap g c =
     let plan = c.args.accepted.now.plan in
     let p = plan_of plan in
     let h = hosts g.F.Shelf g.T.Turns g.P.Posts in
     let laws : Laws h = record { shelf = g.met.F.Shelf.called_join; turns = g.met.T.Turns.went_join; posts = g.met.P.Posts.asked_join; runs = c.runs_join.ensures } in
     let quiet : AreQuiet h = record { shelf = g.met.F.Shelf.called_none; turns = g.met.T.Turns.went_none; posts = g.met.P.Posts.asked_none } in
     let start : State = seen g.M.Cells.numbers c.args.world.state in
-    let w : World = world_of g.M.Cells.numbers c.turns.world in
+    let w : World = world_of g.M.Cells.numbers c.loop-turn.world in
     let tests = both_false (is_shut w.state.mode) (nat_le w.state.limit w.state.tic) (sym c.is_over.ensures ∙ c.if-is_over.false) in
     let now = c.entries.new.self in
-    let given : Gap (GivesTurn g.T.Turns w.sessions) w.state c.in-Gap.turns c.turns.self.turns.now now =
-    gap_as g.T.Turns c.deref.result.now w.sessions w.state c.in-Gap.turns c.turns.self.turns.now now c.deref.ensures.value c.in-Gap.ensures.gap in
+    let given : Gap (GivesTurn g.T.Turns w.sessions) w.state c.in-Gap.turns c.loop-turn.self.turns.now now =
+    gap_as g.T.Turns c.deref.result.now w.sessions w.state c.in-Gap.turns c.loop-turn.self.turns.now now c.deref.ensures.value c.in-Gap.ensures.gap in
     let counted = sym c.later-world.ensures in
     record {
-      under = under_as g.M.Cells.numbers c.turns.world c.in-Gap.turns c.later-world.result counted
-          (under_gap h laws quiet p start c.in-Gap.turns now c.turns.invariant.under tests.1 c.turns.invariant.still given);
+      under = under_as g.M.Cells.numbers c.loop-turn.world c.in-Gap.turns c.later-world.result counted
+          (under_gap h laws quiet p start c.in-Gap.turns now c.loop-turn.invariant.under tests.1 c.loop-turn.invariant.still given);
       ready = record {
-        own = c.turns.invariant.ready.own;
-        posts = c.turns.invariant.ready.posts;
-        equipped = equipped_later plan _ _ w.state _ c.in-Gap.turns _ counted c.turns.invariant.ready.equipped;
+        own = c.loop-turn.invariant.ready.own;
+        posts = c.loop-turn.invariant.ready.posts;
+        equipped = equipped_later plan _ _ w.state _ c.in-Gap.turns _ counted c.loop-turn.invariant.ready.equipped;
       };
-      same = c.turns.invariant.same;
-      waits = c.turns.invariant.waits;
-      known = gap_known p g.T.Turns w.sessions w.state c.in-Gap.turns c.turns.self.turns.now now w.sessions given c.turns.invariant.known;
-      still = c.turns.invariant.still;
+      same = c.loop-turn.invariant.same;
+      waits = c.loop-turn.invariant.waits;
+      known = gap_known p g.T.Turns w.sessions w.state c.in-Gap.turns c.loop-turn.self.turns.now now w.sessions given c.loop-turn.invariant.known;
+      still = c.loop-turn.invariant.still;
     }
 
 pub returns-in_err-world-in-Entries-clause-turns : goal.returns-in_err-world-in-Entries-clause-turns
@@ -204,12 +204,12 @@ returns-in_err-world-in-Entries-clause-turns g c =
     let h = hosts g.F.Shelf g.T.Turns g.P.Posts in
     let laws : Laws h = record { shelf = g.met.F.Shelf.called_join; turns = g.met.T.Turns.went_join; posts = g.met.P.Posts.asked_join; runs = c.runs_join.ensures } in
     let start : State = seen g.M.Cells.numbers c.args.world.state in
-    let under = c.turns.invariant.under in
-    let w : World = world_of g.M.Cells.numbers c.turns.world in
+    let under = c.loop-turn.invariant.under in
+    let w : World = world_of g.M.Cells.numbers c.loop-turn.world in
     let tests = both_false (is_shut w.state.mode) (nat_le w.state.limit w.state.tic) (sym c.is_over.ensures ∙ c.if-is_over.false) in
-    let gave : Gave g.T.Turns w c.deref-in-Entries.result.now c.turns.self.turns.now c.entries.new.self =
+    let gave : Gave g.T.Turns w c.deref-in-Entries.result.now c.loop-turn.self.turns.now c.entries.new.self =
     gave_as (sym c.deref-in-Entries.ensures.value)
-    (gave_list g.T.Turns w c.deref.result.now c.in-Entries.entries c.turns.self.turns.now c.entries.new.self c.deref.ensures.value
+    (gave_list g.T.Turns w c.deref.result.now c.in-Entries.entries c.loop-turn.self.turns.now c.entries.new.self c.deref.ensures.value
     c.in-Entries.ensures.step c.in-Entries.ensures.pays c.in-Entries.ensures.gives c.in-Entries.ensures.rules c.in-Entries.ensures.decides) in
     let error = err_from_is_err_and c.from_residual.result c.from_residual.ensures.1 in
     let result : Result (EndedValue g.row.M.Denot) Stop = Err error.0 in
@@ -226,11 +226,11 @@ returns-in_err-world-in-Nothing-clause-turns g c =
     let h = hosts g.F.Shelf g.T.Turns g.P.Posts in
     let laws : Laws h = record { shelf = g.met.F.Shelf.called_join; turns = g.met.T.Turns.went_join; posts = g.met.P.Posts.asked_join; runs = c.runs_join.ensures } in
     let start : State = seen g.M.Cells.numbers c.args.world.state in
-    let under = c.turns.invariant.under in
-    let w : World = world_of g.M.Cells.numbers c.turns.world in
+    let under = c.loop-turn.invariant.under in
+    let w : World = world_of g.M.Cells.numbers c.loop-turn.world in
     let tests = both_false (is_shut w.state.mode) (nat_le w.state.limit w.state.tic) (sym c.is_over.ensures ∙ c.if-is_over.false) in
-    let gave : Gave g.T.Turns w [] c.turns.self.turns.now c.entries.new.self =
-    gave_nothing g.T.Turns w c.deref.result.now c.turns.self.turns.now c.entries.new.self c.deref.ensures.value
+    let gave : Gave g.T.Turns w [] c.loop-turn.self.turns.now c.entries.new.self =
+    gave_nothing g.T.Turns w c.deref.result.now c.loop-turn.self.turns.now c.entries.new.self c.deref.ensures.value
     c.in-Nothing.ensures.step c.in-Nothing.ensures.pays c.in-Nothing.ensures.gives c.in-Nothing.ensures.rules c.in-Nothing.ensures.decides in
     let error = err_from_is_err_and c.from_residual-in_err-world-in-Nothing.result c.from_residual-in_err-world-in-Nothing.ensures.1 in
     let result : Result (EndedValue g.row.M.Denot) Stop = Err error.0 in
@@ -238,7 +238,7 @@ returns-in_err-world-in-Nothing-clause-turns g c =
     let new : Place g.row.F.Denot g.row.T.Denot g.row.P.Denot = at c.turn-in-Nothing.new.self.shelf.now c.turn-in-Nothing.new.self.turns.now c.turn-in-Nothing.new.self.workers.now.posts in
     subst (λ (r : Result (EndedValue g.row.M.Denot) Stop). AreTurns h g.M.Cells.numbers p start old new r) (sym error.1)
     (under_stops h laws g.M.Cells.numbers p start result _ error.0 under c.decides-decides.ensures tests.0 tests.1 gave
-    (came_as c.idles.new.world c.turns.world (c.if-idles.ensures.unchanged refl) c.in_err-world-in-Nothing.ensures.came_to) refl refl error.2)
+    (came_as c.idles.new.world c.loop-turn.world (c.if-idles.ensures.unchanged refl) c.in_err-world-in-Nothing.ensures.came_to) refl refl error.2)
 
 pub returns-in-NoMore-clause-turns : goal.returns-in-NoMore-clause-turns
 returns-in-NoMore-clause-turns g c =
@@ -247,12 +247,12 @@ returns-in-NoMore-clause-turns g c =
     let h = hosts g.F.Shelf g.T.Turns g.P.Posts in
     let laws : Laws h = record { shelf = g.met.F.Shelf.called_join; turns = g.met.T.Turns.went_join; posts = g.met.P.Posts.asked_join; runs = c.runs_join.ensures } in
     let start : State = seen g.M.Cells.numbers c.args.world.state in
-    let under = c.turns.invariant.under in
-    let w : World = world_of g.M.Cells.numbers c.turns.world in
+    let under = c.loop-turn.invariant.under in
+    let w : World = world_of g.M.Cells.numbers c.loop-turn.world in
     let tests = both_false (is_shut w.state.mode) (nat_le w.state.limit w.state.tic) (sym c.is_over.ensures ∙ c.if-is_over.false) in (
       under.lists,
       over_asked h laws p start c.entries.new.self under.going tests.1 c.in-NoMore.ensures.pays.0 c.in-NoMore.ensures.pays.1
-          (step_as g.T.Turns w c.deref.result.now None c.turns.self.turns.now c.entries.new.self c.deref.ensures.value c.in-NoMore.ensures.step)
+          (step_as g.T.Turns w c.deref.result.now None c.loop-turn.self.turns.now c.entries.new.self c.deref.ensures.value c.in-NoMore.ensures.step)
           (λ none. subst (λ (x : Option Told). Gives w.state x next.NoMore (g.T.Turns.journal c.entries.new.self)) none c.in-NoMore.ensures.gives)
           (λ told is. subst (λ (x : Option Told). Gives w.state x next.NoMore (g.T.Turns.journal c.entries.new.self)) is c.in-NoMore.ensures.gives),
     )
@@ -264,10 +264,10 @@ returns-in-Length-clause-turns g c =
     let h = hosts g.F.Shelf g.T.Turns g.P.Posts in
     let laws : Laws h = record { shelf = g.met.F.Shelf.called_join; turns = g.met.T.Turns.went_join; posts = g.met.P.Posts.asked_join; runs = c.runs_join.ensures } in
     let start : State = seen g.M.Cells.numbers c.args.world.state in
-    let under = c.turns.invariant.under in
-    let w : World = world_of g.M.Cells.numbers c.turns.world in
+    let under = c.loop-turn.invariant.under in
+    let w : World = world_of g.M.Cells.numbers c.loop-turn.world in
     let tests = both_false (is_shut w.state.mode) (nat_le w.state.limit w.state.tic) (sym c.is_over.ensures ∙ c.if-is_over.false) in
-    let told_of = λ (o : Option Told) (is : g.T.Turns.journal c.turns.self.turns.now ≡ o).
+    let told_of = λ (o : Option Told) (is : g.T.Turns.journal c.loop-turn.self.turns.now ≡ o).
     subst (λ (x : Option Told). Gives w.state x (next.Length c.in-Length.kept c.in-Length.given) (g.T.Turns.journal c.entries.new.self)) is c.in-Length.ensures.gives in (
       under.lists,
       w,
@@ -282,7 +282,7 @@ returns-in-OutOfMemory-clause-turns g c =
     let h = hosts g.F.Shelf g.T.Turns g.P.Posts in
     let laws : Laws h = record { shelf = g.met.F.Shelf.called_join; turns = g.met.T.Turns.went_join; posts = g.met.P.Posts.asked_join; runs = c.runs_join.ensures } in
     let start : State = seen g.M.Cells.numbers c.args.world.state in
-    let under = c.turns.invariant.under in
+    let under = c.loop-turn.invariant.under in
     let result : Result (EndedValue g.row.M.Denot) Stop = Err Memory in
     (under.lists, stops_between h laws p start result c.entries.new.self under.going c.in-OutOfMemory.ensures.step (λ ok. cc) (λ fault. cc))
 
@@ -293,6 +293,6 @@ returns-clause-turns g c =
     let h = hosts g.F.Shelf g.T.Turns g.P.Posts in
     let laws : Laws h = record { shelf = g.met.F.Shelf.called_join; turns = g.met.T.Turns.went_join; posts = g.met.P.Posts.asked_join; runs = c.runs_join.ensures } in
     let start : State = seen g.M.Cells.numbers c.args.world.state in
-    let under = c.turns.invariant.under in
+    let under = c.loop-turn.invariant.under in
     let result : Result (EndedValue g.row.M.Denot) Stop = Err Memory in
-    (under.lists, stops_between h laws p start result c.turns.self.turns.now under.going (g.met.T.Turns.went_none c.turns.self.turns.now) (λ ok. cc) (λ fault. cc))
+    (under.lists, stops_between h laws p start result c.loop-turn.self.turns.now under.going (g.met.T.Turns.went_none c.loop-turn.self.turns.now) (λ ok. cc) (λ fault. cc))

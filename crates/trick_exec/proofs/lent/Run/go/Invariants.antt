@@ -11,8 +11,8 @@ use Rattle.trick_runs.proofs.Gaps.{AreStill}
 use Rattle.trick_runs.specs.Hosts.{hosts}
 
 -- so many turns are done
-abbrev pub invariant-turns : goal.invariant-turns
-invariant-turns g l =
+abbrev pub invariant-loop-turn : goal.invariant-loop-turn
+invariant-loop-turn g l =
     let plan = l.accepted.plan in
     let p = plan_of plan in
     record {
