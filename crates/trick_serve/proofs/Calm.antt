@@ -1,5 +1,5 @@
 -- Sessions that are not to leave as long as nothing comes of them.
-use Rattle.std.proofs.Common.{◌≡◌, ◌∙◌, ⊎_elim, ℕ, ◌+◌, ◌-◌, ◌<◌, ◌≤◌, false, List, ap, arith, length, slice_index_or, subst, sym}
+use Rattle.std.proofs.Common.{◌≡◌, ◌∙◌, ⊎_elim, ℕ, ◌+◌, ◌-◌, ◌<◌, ◌≤◌, false, List, [], ap, arith, length, slice_index_or, subst, sym}
 use Rattle.std.proofs.lemmas.Bool.{cases_lt}
 use Rattle.std.proofs.lemmas.List.{ext_get_or, get_or_default}
 use Rattle.std.specs.List.{All, filter}
@@ -58,6 +58,12 @@ calm_all seats known reached count many past was = record {
 
     stay : filter (is_live seats) known ≡ known
     stay = filter_all (IsCalmAt seats) (is_live seats) (λ n calm. ap not calm.0) known each
+
+-- where there is none
+pub calm_none : (seats : List Seat) (known reached : List ℕ) → known ≡ [] → reached ≡ [] → AreCalm seats known reached
+calm_none seats known reached none empty =
+    let zero = ap length none in
+    calm_all seats known reached 0 (ap length empty ∙ sym zero) (omega (arith, zero)) (λ j within. absurd (omega (arith, within)))
 
 -- The next list begins with the same sessions.
 pub calm_next : (seats : List Seat) (known reached : List ℕ) → AreCalm seats known reached

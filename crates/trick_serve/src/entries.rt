@@ -165,6 +165,7 @@ impl<I: Drop, O: Drop, R: Wait + Copy> Served<I, O, R> {
         let rt = self.rt;
         let taken = take_clients(&rt, &mut self.coming, &mut self.roll);
         let Ok(took) = taken else {
+            self.idle = false;
             self.broke = true;
             return Err(AllocError);
         };
@@ -285,9 +286,7 @@ impl<I: Drop, O: Drop, R: Wait + Copy> Served<I, O, R> {
             (answered (seen M.numbers state.now) there.now result) [] }
         ensures pays { Pays (seen M.numbers state.now) result false false }
         ensures gives { Gives (seen M.numbers state.now) None result None }
-        ensures rules { GoesOn false
-            (sessions_by self.old.roll.seats.items self.old.roll.live.items self.old.reached.items) result
-            (sessions_by self.new.roll.seats.items self.new.roll.live.items self.new.reached.items) }
+        ensures rules { GoesOn false (view_of self.old).sessions result (view_of self.new).sessions }
         ensures no_gap { IfGap result (λ turns. ⊥) }
     {
         if self.broke {
@@ -295,33 +294,40 @@ impl<I: Drop, O: Drop, R: Wait + Copy> Served<I, O, R> {
         }
         match self.list(asks, alloc, is_frozen(state.mode), there) {
             Ok(Some(list)) => {
-                self.idle = list.is_empty();
-                if self.idle {
+                let is_empty = list.is_empty();
+                self.idle = self.asked && is_empty;
+                if is_empty {
                     return Next::Nothing;
                 }
                 Next::Entries(list)
             }
             Ok(None) => Next::NoMore,
             Err(AllocError) => {
+                self.idle = false;
                 self.broke = true;
                 Next::OutOfMemory
             }
         }
     }
 
-    // Whether a turn is given nothing without a look, where the bell is at this mark: nothing has come since the last
-    // look, at which nothing had come, and no session is to leave.
-    fn is_calm(&self, mark: u64, there: &[Session]) -> bool
+    // Whether no session is there, and none can be sent messages.
+    fn is_alone(&self) -> bool
+        ensures live { result ≡ true → self.now.roll.live.items ≡ [] }
+        ensures reached { result ≡ true → self.now.reached.items ≡ [] }
+    {
+        matches!(self.roll.live.as_slice(), []) && matches!(self.reached.as_slice(), [])
+    }
+
+    // Whether a turn is given nothing without a look, where nothing has come since the last look: nothing had come at
+    // that look, and no session is to leave.
+    #[tactic(auto, using(crate::proofs::Calm::calm_none))]
+    fn is_calm(&self, there: &[Session]) -> bool
         ensures calm { result ≡ true
             → AreCalm self.now.roll.seats.items self.now.roll.live.items self.now.reached.items }
         ensures asked { result ≡ true → self.now.asked ≡ true }
         ensures whole { result ≡ true → self.now.broke ≡ false }
     {
-        self.idle
-            && self.mark == mark
-            && self.asked
-            && !self.broke
-            && self.roll.is_calm(&self.reached, there)
+        self.idle && (self.is_alone() || self.roll.is_calm(&self.reached, there))
     }
 
     /// What the next turn is given, where this one brings the clients.
@@ -337,17 +343,18 @@ impl<I: Drop, O: Drop, R: Wait + Copy> Served<I, O, R> {
             (answered (seen M.numbers state.now) there.now result) [] }
         ensures pays { Pays (seen M.numbers state.now) result false false }
         ensures gives { Gives (seen M.numbers state.now) None result None }
-        ensures rules { GoesOn false
-            (sessions_by self.old.roll.seats.items self.old.roll.live.items self.old.reached.items) result
-            (sessions_by self.new.roll.seats.items self.new.roll.live.items self.new.reached.items) }
+        ensures rules { GoesOn false (view_of self.old).sessions result (view_of self.new).sessions }
         ensures no_gap { IfGap result (λ turns. ⊥) }
     {
         asks.ask();
         let mark = self.bell.mark();
-        if !is_frozen(state.mode) && self.is_calm(mark, there) {
+        if self.mark != mark || is_frozen(state.mode) {
+            self.mark = mark;
+            return self.seek(asks, alloc, state, there);
+        }
+        if self.is_calm(there) {
             return Next::Nothing;
         }
-        self.mark = mark;
         self.seek(asks, alloc, state, there)
     }
 }

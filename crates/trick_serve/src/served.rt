@@ -33,7 +33,7 @@ pub struct Served<I, O, R> {
     pub(crate) over: bool,
     // There was no memory once.
     pub(crate) broke: bool,
-    // Nothing came at the last look for a list.
+    // The door was heard, and nothing came at the last look for a list.
     pub(crate) idle: bool,
     // The mark of the bell before that look.
     pub(crate) mark: u64,
@@ -48,6 +48,8 @@ pub struct Served<I, O, R> {
     ghost first: { silent ≡ true → IsSilent (taken_by coming) },
     // Where the door was heard and gave no client, something else had come of it.
     ghost quiet: { asked ≡ true → roll.seats.items ≡ [] → silent ≡ true },
+    // A look at which nothing came was one after the door was heard, with memory.
+    ghost calm: { idle ≡ true → (asked ≡ true) × (broke ≡ false) },
     // Nor did it come that there was no memory.
     ghost memory: { broke ≡ false → has_lack (taken_by coming) ≡ false },
     // Those of which it was told that they left are live no more.

@@ -24,6 +24,7 @@ invariant_of-self g c =
       reach = seated_more c.args.self.now.reached.items was c.hang_up.new.self.seats.items (omega (arith, many)) c.args.self.now.reach;
       first = c.args.self.now.first;
       quiet = λ asked none. c.args.self.now.quiet asked (none_before was c.hang_up.new.self.seats.items (omega (arith, many)) none);
+      calm = c.args.self.now.calm;
       memory = c.args.self.now.memory;
       departed = omega (arith, many, live, c.dismiss.ensures.left, c.args.self.now.departed);
     }
@@ -39,6 +40,7 @@ invariant_of-self-2 g c =
       reach = seated_more c.seat.new.self.reached.items c.seat.new.self.roll.seats.items c.listen.new.self.seats.items (omega (arith, more)) c.seat.new.self.reach;
       first = c.seat.new.self.first;
       quiet = λ asked none. c.seat.new.self.quiet asked (none_before c.seat.new.self.roll.seats.items c.listen.new.self.seats.items (omega (arith, more)) none);
+      calm = c.seat.new.self.calm;
       memory = c.seat.new.self.memory;
       departed = omega (arith, more, live, c.seat.new.self.departed);
     }

@@ -6,8 +6,8 @@ use Rattle.trick_serve.specs.Looks.{Came, HasGiven, HasLost, HasNoMore}
 use Rattle.trick_serve.specs.Rolls.{view_of}
 use Rattle.trick_model.specs.Turn.{is_frozen}
 
-pub returns-else-self-2-clause-went : goal.returns-else-self-2-clause-went
-returns-else-self-2-clause-went g c =
+pub returns-else-is_empty-clause-went : goal.returns-else-is_empty-clause-went
+returns-else-is_empty-clause-went g c =
     let frozen : c.is_frozen.result ≡ is_frozen c.args.state.now.mode = search rules in
     let came : Came c.args.there.now (is_frozen c.args.state.now.mode) (view_of c.args.self.now) (view_of c.list.new.self) c.list.result =
     subst (λ (b : Bool). Came c.args.there.now b (view_of c.args.self.now) (view_of c.list.new.self) c.list.result) frozen c.list.ensures.came in
@@ -17,8 +17,8 @@ returns-else-self-2-clause-went g c =
     let kept : c.list.new.self.broke ≡ c.args.self.now.broke = subst (λ r. OnOk r (c.list.new.self.broke ≡ c.args.self.now.broke)) is c.list.ensures.broke in
     record { went = went_given c.args.there.now _ c.args.state.now.mode (view_of c.args.self.now) (view_of c.list.new.self) c.in-Ok-Some.list.items c.if-self.false kept so; same = λ i. (c.list.ensures.coming i, c.list.ensures.gone i) }
 
-pub returns-else-self-2-clause-pays : goal.returns-else-self-2-clause-pays
-returns-else-self-2-clause-pays g c =
+pub returns-else-is_empty-clause-pays : goal.returns-else-is_empty-clause-pays
+returns-else-is_empty-clause-pays g c =
     let frozen : c.is_frozen.result ≡ is_frozen c.args.state.now.mode = search rules in
     let came : Came c.args.there.now (is_frozen c.args.state.now.mode) (view_of c.args.self.now) (view_of c.list.new.self) c.list.result =
     subst (λ (b : Bool). Came c.args.there.now b (view_of c.args.self.now) (view_of c.list.new.self) c.list.result) frozen c.list.ensures.came in
@@ -27,8 +27,8 @@ returns-else-self-2-clause-pays g c =
     subst (λ r. Came c.args.there.now (is_frozen c.args.state.now.mode) (view_of c.args.self.now) (view_of c.list.new.self) r) is came in
     nothing_owed c.args.state.now.mode c.in-Ok-Some.list.items so.rules.only so.filled
 
-pub returns-then-self-2-clause-went : goal.returns-then-self-2-clause-went
-returns-then-self-2-clause-went g c =
+pub returns-then-is_empty-clause-went : goal.returns-then-is_empty-clause-went
+returns-then-is_empty-clause-went g c =
     let frozen : c.is_frozen.result ≡ is_frozen c.args.state.now.mode = search rules in
     let came : Came c.args.there.now (is_frozen c.args.state.now.mode) (view_of c.args.self.now) (view_of c.list.new.self) c.list.result =
     subst (λ (b : Bool). Came c.args.there.now b (view_of c.args.self.now) (view_of c.list.new.self) c.list.result) frozen c.list.ensures.came in
@@ -36,8 +36,8 @@ returns-then-self-2-clause-went g c =
     let so : HasGiven c.args.there.now (is_frozen c.args.state.now.mode) (view_of c.args.self.now) (view_of c.list.new.self) c.in-Ok-Some.list.items =
     subst (λ r. Came c.args.there.now (is_frozen c.args.state.now.mode) (view_of c.args.self.now) (view_of c.list.new.self) r) is came in
     let kept : c.list.new.self.broke ≡ c.args.self.now.broke = subst (λ r. OnOk r (c.list.new.self.broke ≡ c.args.self.now.broke)) is c.list.ensures.broke in
-    let none : c.is_empty-self.result ≡ true = search rules in
-    let empty : c.in-Ok-Some.list.items ≡ [] = empty_from c.in-Ok-Some.list.items c.in-Ok-Some.list.len c.is_empty-self.result c.in-Ok-Some.list.ok.0 c.is_empty-self.ensures none in
+    let none : c.is_empty-is_empty.result ≡ true = search rules in
+    let empty : c.in-Ok-Some.list.items ≡ [] = empty_from c.in-Ok-Some.list.items c.in-Ok-Some.list.len c.is_empty-is_empty.result c.in-Ok-Some.list.ok.0 c.is_empty-is_empty.ensures none in
     record {
       went = went_given c.args.there.now _ c.args.state.now.mode (view_of c.args.self.now) (view_of c.list.new.self) [] c.if-self.false kept
           (subst (λ l. HasGiven c.args.there.now (is_frozen c.args.state.now.mode) (view_of c.args.self.now) (view_of c.list.new.self) l) empty so);
