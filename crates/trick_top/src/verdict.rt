@@ -1,10 +1,9 @@
-ghost use Rattle.std.specs.Prelude.{◌≡◌, ◌++◌, IfNone, IfOk, IfSome, OnOk, decimal, true};
+ghost use Rattle.std.specs.Prelude.{◌≡◌, ◌++◌, IfNone, IfOk, IfSome, true};
 ghost use Rattle.trick_top.specs.Verdict.{Accepted, Ended as EndedBy, Generated as GeneratedBy, is_made, line_of};
 ghost use Rattle.trick_top.specs.Verdict.{Served as ServedBy, ended_facts as ended_facts_of};
 ghost use Rattle.trick_top.specs.Verdict.{ended_status as ended_status_of, generated_line as generated_line_of};
 ghost use Rattle.trick_top.specs.Verdict.{status_of, verdict_of};
 
-use itoa::Buffer;
 use std::alloc::{AllocError, Global};
 use trick_base::Word;
 use trick_refusal::length_line;
@@ -73,47 +72,33 @@ fn joined(alloc: Global, first: &[u8], second: &[u8], third: &[u8]) -> Result<Ve
     Ok(line)
 }
 
-// Appends a piece and a number after it.
-fn push_number(line: &mut Vec<u8>, piece: &[u8], number: u64) -> Result<(), AllocError>
-    ensures { OnOk result (line.new.items ≡ line.old.items ++ piece.now ++ decimal number) }
-{
-    line.extend_from_slice(piece)?;
-    line.extend_from_slice(Buffer::new().format(number).as_bytes())
-}
-
 fn accepted_line(alloc: Global, cells: u64, jobs: u64, threads: u64) -> Result<Vec<u8>, AllocError>
     ensures { IfOk result (λ line. line.items ≡ line_of (Accepted cells jobs threads)) }
 {
-    let mut line = Vec::new(alloc);
-    push_number(&mut line, b"accepted cells=", cells)?;
-    push_number(&mut line, b" jobs=", jobs)?;
-    push_number(&mut line, b" threads=", threads)?;
-    line.extend_from_slice(b"\n")?;
-    Ok(line)
+    let line = format!(in alloc; "accepted cells={cells} jobs={jobs} threads={threads}\n")?;
+    Ok(line.into_bytes())
 }
 
 // What a run says, with this end of its line.
-fn ended_facts(
-    alloc: Global,
-    ended: Ended,
-    sessions: u64,
-    end: &[u8],
-) -> Result<Vec<u8>, AllocError>
+fn ended_facts(alloc: Global, ended: Ended, sessions: u64, end: &str) -> Result<Vec<u8>, AllocError>
     ensures { IfOk result (λ line. line.items ≡ ended_facts_of ended sessions ++ end.now) }
 {
-    let mut line = Vec::new(alloc);
-    push_number(&mut line, b"ended turns=", ended.turns)?;
-    push_number(&mut line, b" tic=", ended.tic)?;
-    push_number(&mut line, b" faults=", ended.faults)?;
-    push_number(&mut line, b" sessions=", sessions)?;
-    line.extend_from_slice(end)?;
-    Ok(line)
+    let Ended {
+        turns,
+        tic,
+        faults,
+        ..
+    } = ended;
+    let line = format!(in alloc;
+        "ended turns={turns} tic={tic} faults={faults} sessions={sessions}{end}"
+    )?;
+    Ok(line.into_bytes())
 }
 
 fn ended_line(alloc: Global, ended: Ended, sessions: u64) -> Result<Vec<u8>, AllocError>
     ensures { IfOk result (λ line. line.items ≡ line_of (EndedBy ended sessions)) }
 {
-    ended_facts(alloc, ended, sessions, b"\n")
+    ended_facts(alloc, ended, sessions, "\n")
 }
 
 // What a run with clients says. That its door failed stands before the line feed.
@@ -126,7 +111,7 @@ fn served_line(
     ensures { IfOk result (λ line. line.items ≡ line_of (ServedBy ended sessions door_failed)) }
 {
     if door_failed {
-        ended_facts(alloc, ended, sessions, b" door=failed\n")
+        ended_facts(alloc, ended, sessions, " door=failed\n")
     } else {
         ended_line(alloc, ended, sessions)
     }
@@ -136,14 +121,9 @@ fn served_line(
 fn generated_line(alloc: Global, objects: u32, sum: i64) -> Result<Vec<u8>, AllocError>
     ensures { IfOk result (λ line. line.items ≡ generated_line_of objects sum) }
 {
-    let mut line = Vec::new(alloc);
-    push_number(&mut line, b"gen ", objects as u64)?;
-    push_number(&mut line, b" objects=", objects as u64)?;
-    push_number(&mut line, b" jobs=", 3 * objects as u64)?;
-    line.extend_from_slice(b" sum=")?;
-    line.extend_from_slice(Buffer::new().format(sum).as_bytes())?;
-    line.extend_from_slice(b"\n")?;
-    Ok(line)
+    let jobs = 3 * objects as u64;
+    let line = format!(in alloc; "gen {objects} objects={objects} jobs={jobs} sum={sum}\n")?;
+    Ok(line.into_bytes())
 }
 
 // The lines of a generated simulation and of its run.

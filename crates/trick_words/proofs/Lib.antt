@@ -2,6 +2,7 @@ mod Small
 mod Rows
 mod Turns
 mod Lines
+mod Flags
 mod Main
 mod Tops
 mod Reading

@@ -9,10 +9,14 @@ use Rattle.clap.specs.Faults.{check_fault, defaults_fault, settle_fault, turn_fa
 use Rattle.clap.specs.Simple.{Shape}
 use Rattle.trick_words.specs.CommandLine.{Fills, Given, IsAllowed, IsAmong, Item, NoneTwice, SpellsAll, has_hyphen, option, positional}
 use Rattle.trick_words.proofs.Rows.{no_default_fault, no_defaults, rows, single, use_needs, use_new}
-use Rattle.trick_words.proofs.Turns.{IsReady, KnowsLast, KnowsOption, Last, dashed, dashed_with, full, held, nothing, open_turn, or_else_free, or_else_parts, place_turn, settle_free, settle_needs, settle_rows, so_far, stand, stray_turn, value_turn, waiting_for, waits, with_turn}
+use Rattle.trick_words.proofs.Flags.{IsMet}
+use Rattle.trick_words.proofs.Turns.{IsReady, KnowsLast, KnowsOption, Last, dashed, dashed_with, full, held, met_none, nothing, open_turn, or_else_free, or_else_parts, place_turn, settle_free, settle_needs, settle_rows, so_far, stand, stray_turn, value_turn, waiting_for, waits, with_turn}
 use Rattle.trick_words.proofs.Lines.{Ahead, Apart, Fits, Fresh, apart_rest, ends, fresh_last, lacks, lacks_is, lacks_last, lacks_place, lacks_used, of_option, total, total_join, total_parts, twice_last, twice_new}
 
 module _ (s : Shape) (places options : List Text) (fits : Fits s places options) where
+  abbrev Met : List Text → Type 0
+  Met words = AllByRecursion (IsMet s [] options) words
+
   -- ---- the end of the words
 
   end_is : (ps : Given) (q : Last) (p : ℕ) → KnowsLast s.rules q → IsReady ps q
@@ -63,7 +67,7 @@ module _ (s : Shape) (places options : List Text) (fits : Fits s places options)
 
   abbrev Sound : List Text → Type 0
   Sound words = (ps : Given) (q : Last) (p : ℕ) (used left : List Text) → Along ps q p used left
-      → AllByRecursion (IsAllowed options) words → total s (stand ps q p) words ≡ [] → Spelled left (opened q words) (so_far ps q)
+      → Met words → total s (stand ps q p) words ≡ [] → Spelled left (opened q words) (so_far ps q)
 
   once_more : (ps : Given) (q : Last) → NoneTwice ps → IsReady ps q → NoneTwice (so_far ps q)
   once_more ps nothing h ready = h
@@ -88,7 +92,7 @@ module _ (s : Shape) (places options : List Text) (fits : Fits s places options)
 
   -- the word is the value of the option that waits
   value_step : (o w : Text) (rest : List Text) → Sound rest → (ps : Given) (p : ℕ) (used left : List Text) → Along ps (waits o) p used left
-      → has_hyphen w ≡ false → AllByRecursion (IsAllowed options) rest → total s (stand ps (waits o) p) (w ∷ rest) ≡ []
+      → has_hyphen w ≡ false → Met rest → total s (stand ps (waits o) p) (w ∷ rest) ≡ []
       → Spelled left (dashed o ∷ w ∷ rest) ps
   unfolding SpellsAll Fills
   value_step o w rest ih ps p used left a e later h =
@@ -109,7 +113,7 @@ module _ (s : Shape) (places options : List Text) (fits : Fits s places options)
 
   -- the word fills the next place
   place_step : (w : Text) (rest : List Text) → Sound rest → (ps : Given) (q : Last) (p : ℕ) (used left : List Text) → Along ps q p used left
-      → waiting_for q ≡ idle → has_hyphen w ≡ false → AllByRecursion (IsAllowed options) rest → total s (stand ps q p) (w ∷ rest) ≡ []
+      → waiting_for q ≡ idle → has_hyphen w ≡ false → Met rest → total s (stand ps q p) (w ∷ rest) ≡ []
       → Spelled left (w ∷ rest) (so_far ps q)
   unfolding SpellsAll Fills Ahead
   place_step w rest ih ps q p used [] a still e later h =
@@ -135,7 +139,7 @@ module _ (s : Shape) (places options : List Text) (fits : Fits s places options)
 
   -- the word is an option alone
   open_step : (o : Text) (rest : List Text) → Sound rest → (ps : Given) (q : Last) (p : ℕ) (used left : List Text) → Along ps q p used left
-      → IsAmong o options → AllByRecursion (IsAllowed options) rest → total s (stand ps q p) (dashed o ∷ rest) ≡ []
+      → IsAmong o options → Met rest → total s (stand ps q p) (dashed o ∷ rest) ≡ []
       → Spelled left (opened q (dashed o ∷ rest)) (so_far ps q)
   open_step o rest ih ps q p used left a among later h =
       let k = of_option (KnowsOption s.rules) o options fits.known among in
@@ -157,7 +161,7 @@ module _ (s : Shape) (places options : List Text) (fits : Fits s places options)
 
   -- the word is an option with its value
   with_step : (o v : Text) (rest : List Text) → Sound rest → (ps : Given) (q : Last) (p : ℕ) (used left : List Text) → Along ps q p used left
-      → IsAmong o options → v ≢ [] → AllByRecursion (IsAllowed options) rest → total s (stand ps q p) (dashed_with o v ∷ rest) ≡ []
+      → IsAmong o options → v ≢ [] → Met rest → total s (stand ps q p) (dashed_with o v ∷ rest) ≡ []
       → Spelled left (opened q (dashed_with o v ∷ rest)) (so_far ps q)
   unfolding SpellsAll Fills
   with_step o v rest ih ps q p used left a among some later h =
@@ -187,28 +191,30 @@ module _ (s : Shape) (places options : List Text) (fits : Fits s places options)
       )
 
   plain_step : (w : Text) (rest : List Text) → Sound rest → (ps : Given) (q : Last) (p : ℕ) (used left : List Text) → Along ps q p used left
-      → has_hyphen w ≡ false → AllByRecursion (IsAllowed options) rest → total s (stand ps q p) (w ∷ rest) ≡ []
+      → has_hyphen w ≡ false → Met rest → total s (stand ps q p) (w ∷ rest) ≡ []
       → Spelled left (opened q (w ∷ rest)) (so_far ps q)
   plain_step w rest ih ps nothing p used left a e later h = place_step w rest ih ps nothing p used left a refl e later h
   plain_step w rest ih ps (full id v) p used left a e later h = place_step w rest ih ps (full id v) p used left a refl e later h
   plain_step w rest ih ps (waits o) p used left a e later h = value_step o w rest ih ps p used left a e later h
 
-  step : (w : Text) (rest : List Text) → Sound rest → IsAllowed options w → (ps : Given) (q : Last) (p : ℕ) (used left : List Text) → Along ps q p used left
-      → AllByRecursion (IsAllowed options) rest → total s (stand ps q p) (w ∷ rest) ≡ [] → Spelled left (opened q (w ∷ rest)) (so_far ps q)
-  step w rest ih (inl e) ps q p used left a later h = plain_step w rest ih ps q p used left a e later h
-  step w rest ih (inr (o, among, inl e)) ps q p used left a later h =
+  step : (w : Text) (rest : List Text) → Sound rest → IsMet s [] options w → (ps : Given) (q : Last) (p : ℕ) (used left : List Text) → Along ps q p used left
+      → Met rest → total s (stand ps q p) (w ∷ rest) ≡ [] → Spelled left (opened q (w ∷ rest)) (so_far ps q)
+  step w rest ih (inl (inl e)) ps q p used left a later h = plain_step w rest ih ps q p used left a e later h
+  step w rest ih (inl (inr (o, among, inl e))) ps q p used left a later h =
       subst (λ (x : Text). Spelled left (opened q (x ∷ rest)) (so_far ps q)) (sym e)
       (open_step o rest ih ps q p used left a among later (subst (λ (x : Text). total s (stand ps q p) (x ∷ rest) ≡ []) e h))
-  step w rest ih (inr (o, among, inr (v, some, e))) ps q p used left a later h =
+  step w rest ih (inl (inr (o, among, inr (v, some, e)))) ps q p used left a later h =
       subst (λ (x : Text). Spelled left (opened q (x ∷ rest)) (so_far ps q)) (sym e)
       (with_step o v rest ih ps q p used left a among some later (subst (λ (x : Text). total s (stand ps q p) (x ∷ rest) ≡ []) e h))
+  step w rest ih (inr stray) ps q p used left a later h =
+      absurd (stray ps q p (met_none (waiting_for q) w) (total_parts s (stand ps q p) w rest h).0)
 
   sound_from : (words : List Text) → Sound words
   sound_from [] ps q p used left a allowed h = at_end ps q p used left a allowed h
   sound_from (w ∷ rest) ps q p used left a allowed h = step w rest (sound_from rest) allowed.0 ps q p used left a allowed.1 h
 
   -- a line without a fault is spelled by items
-  pub sound : (words : List Text) → AllByRecursion (IsAllowed options) words → total s (stand [] nothing 1) words ≡ [] → Spelled places words []
+  pub sound : (words : List Text) → Met words → total s (stand [] nothing 1) words ≡ [] → Spelled places words []
   unfolding NoneTwice
   sound words allowed h = sound_from words [] nothing 1 [] places (record {
     split = refl;

@@ -1,15 +1,13 @@
 -- The words that a parse reads, and those that it refuses.
-use Rattle.std.proofs.Common.{◌≡◌, ◌≢◌, ◌++◌, ◌∷◌, ◌||◌, ◌==◌, ◌∙◌, [], ℕ, List, Bool, true, false, not, Option, Some, None, map, refl, sym, ap, subst, append-nil, inl, inr, codes, length, take, drop, Global, Bor, slice_index_or, arith, ◌<◌, ◌-◌, if◌then◌else◌}
-use Rattle.std.specs.List.{list_all, list_any, AllByRecursion}
-use Rattle.std.specs.Option.{option_map}
+use Rattle.std.proofs.Common.{◌≡◌, ◌≢◌, ◌++◌, ◌∷◌, ◌||◌, ◌&&◌, ◌∙◌, [], List, Bool, true, false, not, Option, Some, None, refl, sym, ap, subst, inl, inr, codes, Global, Bor, arith, if◌then◌else◌, is_some}
+use Rattle.std.specs.List.{All, list_all, AllByRecursion}
+use Rattle.std.specs.Option.{MatchOption, option_map}
 use Rattle.std.specs.Prelude.{◌⊎◌, Box}
-use Rattle.std.specs.Str.{bytes_eq}
+use Rattle.std.specs.Str.{IsUtf8, bytes_eq}
 use Rattle.std.specs.Box.{box_value}
-use Rattle.std.proofs.Math.Seq.{take-append_seam, drop-append_seam}
-use Rattle.std.proofs.lemmas.List.{take-append-drop, take_all}
+use Rattle.std.proofs.lemmas.List.Elements.{All-drop}
 use Rattle.clap.proofs.WalkLemmas.{first_value-rows}
 use Rattle.std.proofs.lemmas.Slice.Eq.{bytes_eq-Decides}
-use Rattle.std.proofs.lemmas.Bool.Decides.{Decides-eqb}
 use Rattle.std.proofs.lemmas.Bool.{and_parts}
 use Rattle.clap.specs.Walk.{Row, Text, first_of, rows_of}
 use Rattle.clap.specs.Faults.{fault_of, is_simple_and_free}
@@ -23,18 +21,17 @@ use Rattle.clap.specs.Simple.{App, HasMatchesOf, subcommand_of, subcommand_rows,
 use Rattle.clap.specs.declared.parser.matches.ArgMatches.{ArgMatches}
 use Rattle.clap.specs.declared.parser.matches.ArgMatches.TheViews.{out-ArgMatches, out-SubCommand}
 use Rattle.clap.specs.declared.parser.matches.SubCommand.{SubCommand}
-use Rattle.trick_words.specs.Allowed.{is_allowed, is_option_word, is_tail}
 use Rattle.trick_words.specs.Commands.{name_of, options_of, places_of}
-use Rattle.trick_words.specs.CommandLine.{Fills, Given, IsAllowed, IsAmong, IsLine, has_hyphen, value_of}
+use Rattle.trick_words.specs.CommandLine.{Given, IsAllowed, IsAmong, IsLine, value_of}
+use Rattle.trick_words.specs.Plain.{is_bare, is_plain}
 use Rattle.trick_words.specs.Reads.{IsCommand, IsUsage}
 use Rattle.trick_words.specs.Rules.{all_app}
 use Rattle.trick_words.specs.declared.Kind.{Kind}
 use Rattle.trick_words.specs.declared.Kind.TheVariants as kind
+use Rattle.trick_words.proofs.Flags.{IsMet, met as met_word}
 use Rattle.trick_words.proofs.Main.{allowed_from, complete, sound}
-use Rattle.trick_words.proofs.Lines.{total}
-use Rattle.trick_words.proofs.Turns.{nothing, stand}
 use Rattle.trick_words.proofs.Rows.{rows}
-use Rattle.trick_words.proofs.Tops.{fault_is, fits, shape_for, simple, simple_and_free, subcommand_is}
+use Rattle.trick_words.proofs.Tops.{fault_is, fits, knows, no_command, no_words, shape_for, simple, simple_and_free, subcommand_is}
 
 -- ---- the names of the commands
 
@@ -56,118 +53,165 @@ some_same a b e = cc e
 pub same_kind : (a b : Kind) → name_of a ≡ name_of b → a ≡ b
 same_kind a b e = some_same a b (sym (named_is a) ∙ ap kind_named e ∙ named_is b)
 
--- ---- the test of a word
-
-option_tells : (start w : Text) → is_option_word start w ≡ true → (w ≡ start) ⊎ ((v : Text) × (v ≢ []) × (w ≡ start ++ (codes "=" ++ v)))
-option_tells start w h = by (bytes_eq (take (length start) w) start) refl
-  where
-    tail : (rest : Text) → is_tail rest ≡ true → w ≡ start ++ rest → (w ≡ start) ⊎ ((v : Text) × (v ≢ []) × (w ≡ start ++ (codes "=" ++ v)))
-    tail [] t e = inl (e ∙ append-nil start)
-    tail (x ∷ []) t e = cc t
-    tail (x ∷ y ∷ rest) t e = inr (y ∷ rest, (λ z. cc z), e ∙ ap (λ (c : ℕ). start ++ (c ∷ y ∷ rest)) ((Decides-eqb x 61).0 t))
-
-    by : (b : Bool) → bytes_eq (take (length start) w) start ≡ b → (w ≡ start) ⊎ ((v : Text) × (v ≢ []) × (w ≡ start ++ (codes "=" ++ v)))
-    by false e = cc (rw e at h)
-    by true e = tail (drop (length start) w) (rw e at h)
-        (sym (take-append-drop (length start) w) ∙ ap (λ (t : Text). t ++ drop (length start) w) ((bytes_eq-Decides (take (length start) w) start).0 e))
-
-option_from : (start rest : Text) → is_tail rest ≡ true → is_option_word start (start ++ rest) ≡ true
-option_from start rest t =
-    let same = (bytes_eq-Decides (take (length start) (start ++ rest)) start).1 (take-append_seam start rest) in
-    rw (same, drop-append_seam start rest) t
-
-tail_of : (v : Text) → v ≢ [] → is_tail (codes "=" ++ v) ≡ true
-tail_of [] n = absurd (n refl)
-tail_of (x ∷ v) n = refl
-
-or_cases : (a b : Bool) → (a || b) ≡ true → (a ≡ true) ⊎ (b ≡ true)
-or_cases true b e = inl refl
-or_cases false b e = inr e
+-- ---- the words
 
 pub or_right : (a b : Bool) → b ≡ true → (a || b) ≡ true
 or_right true b e = refl
 or_right false b e = e
 
-any_tells : (f : Text → Bool) (options : List Text) → list_any f options ≡ true → (o : Text) × IsAmong o options × (f o ≡ true)
-unfolding IsAmong
-any_tells f [] h = cc h
-any_tells f (o ∷ options) h = elim (or_cases (f o) (list_any f options) h) [
-  | inl e ↦ (o, inl refl, e)
-  | inr e ↦ let (x, among, t) = any_tells f options e in (x, inr among, t)
-]
+pub tail_same : (x y : Text) (xs ys : List Text) → x ∷ xs ≡ y ∷ ys → (x ≡ y) × (xs ≡ ys)
+tail_same x y xs ys e = (cc e, cc e)
 
-any_from : (f : Text → Bool) (options : List Text) (o : Text) → IsAmong o options → f o ≡ true → list_any f options ≡ true
-unfolding IsAmong
-any_from f [] o a h = absurd a
-any_from f (x ∷ options) o (inl e) h = rw (sym (ap f e) ∙ h) refl
-any_from f (x ∷ options) o (inr a) h = or_right (f x) _ (any_from f options o a h)
+pick : (k : Kind) (w : Text) → (w ≡ name_of k) ⊎ (bytes_eq w (name_of k) ≡ false)
+pick k w = by (bytes_eq w (name_of k)) refl
+  where
+    by : (b : Bool) → bytes_eq w (name_of k) ≡ b → (w ≡ name_of k) ⊎ (bytes_eq w (name_of k) ≡ false)
+    by true e = inl ((bytes_eq-Decides w (name_of k)).0 e)
+    by false e = inr e
+
+differ : (k : Kind) (w : Text) → bytes_eq w (name_of k) ≡ false → w ≢ name_of k
+differ k w other same = cc (sym other ∙ (bytes_eq-Decides w (name_of k)).1 same)
+
+no_kind : (w : Text) → bytes_eq w (name_of kind.Serial) ≡ false → bytes_eq w (name_of kind.Run) ≡ false
+    → bytes_eq w (name_of kind.Replay) ≡ false → bytes_eq w (name_of kind.Check) ≡ false → bytes_eq w (name_of kind.List) ≡ false
+    → bytes_eq w (name_of kind.Gen) ≡ false → (k : Kind) → w ≢ name_of k
+no_kind w s r p c l g kind.Serial = differ kind.Serial w s
+no_kind w s r p c l g kind.Run = differ kind.Run w r
+no_kind w s r p c l g kind.Replay = differ kind.Replay w p
+no_kind w s r p c l g kind.Check = differ kind.Check w c
+no_kind w s r p c l g kind.List = differ kind.List w l
+no_kind w s r p c l g kind.Gen = differ kind.Gen w g
+
+-- a word is the name of a command, or of none
+abbrev IsNamed : Text → Type 0
+IsNamed w = ((k : Kind) × (w ≡ name_of k)) ⊎ ((k : Kind) → w ≢ name_of k)
+
+named_by : (w : Text) → IsNamed w
+named_by w = serial (pick kind.Serial w)
+  where
+    gen : bytes_eq w (name_of kind.Serial) ≡ false → bytes_eq w (name_of kind.Run) ≡ false → bytes_eq w (name_of kind.Replay) ≡ false
+        → bytes_eq w (name_of kind.Check) ≡ false → bytes_eq w (name_of kind.List) ≡ false
+        → (w ≡ name_of kind.Gen) ⊎ (bytes_eq w (name_of kind.Gen) ≡ false) → IsNamed w
+    gen s r p c l (inl e) = inl (kind.Gen, e)
+    gen s r p c l (inr g) = inr (no_kind w s r p c l g)
+
+    list : bytes_eq w (name_of kind.Serial) ≡ false → bytes_eq w (name_of kind.Run) ≡ false → bytes_eq w (name_of kind.Replay) ≡ false
+        → bytes_eq w (name_of kind.Check) ≡ false → (w ≡ name_of kind.List) ⊎ (bytes_eq w (name_of kind.List) ≡ false) → IsNamed w
+    list s r p c (inl e) = inl (kind.List, e)
+    list s r p c (inr l) = gen s r p c l (pick kind.Gen w)
+
+    check : bytes_eq w (name_of kind.Serial) ≡ false → bytes_eq w (name_of kind.Run) ≡ false → bytes_eq w (name_of kind.Replay) ≡ false
+        → (w ≡ name_of kind.Check) ⊎ (bytes_eq w (name_of kind.Check) ≡ false) → IsNamed w
+    check s r p (inl e) = inl (kind.Check, e)
+    check s r p (inr c) = list s r p c (pick kind.List w)
+
+    replay : bytes_eq w (name_of kind.Serial) ≡ false → bytes_eq w (name_of kind.Run) ≡ false
+        → (w ≡ name_of kind.Replay) ⊎ (bytes_eq w (name_of kind.Replay) ≡ false) → IsNamed w
+    replay s r (inl e) = inl (kind.Replay, e)
+    replay s r (inr p) = check s r p (pick kind.Check w)
+
+    run : bytes_eq w (name_of kind.Serial) ≡ false → (w ≡ name_of kind.Run) ⊎ (bytes_eq w (name_of kind.Run) ≡ false) → IsNamed w
+    run s (inl e) = inl (kind.Run, e)
+    run s (inr r) = replay s r (pick kind.Replay w)
+
+    serial : (w ≡ name_of kind.Serial) ⊎ (bytes_eq w (name_of kind.Serial) ≡ false) → IsNamed w
+    serial (inl e) = inl (kind.Serial, e)
+    serial (inr s) = run s (pick kind.Run w)
+
+-- a word that is text, and may be shown to `clap`
+abbrev pub IsGood : Text → Type 0
+IsGood w = IsUtf8 w × (is_bare w ≡ false)
 
 not_true : (b : Bool) → not b ≡ true → b ≡ false
 not_true false e = refl
 not_true true e = cc e
 
-allowed_tells : (options : List Text) (w : Text) → is_allowed options w ≡ true → IsAllowed options w
-allowed_tells options w h = elim (or_cases (not (has_hyphen w)) _ h) [
-  | inl e ↦ inl (not_true (has_hyphen w) e)
-  | inr e ↦
-      let (o, among, t) = any_tells (λ o. is_option_word (codes "--" ++ o) w) options e in
-      inr (o, among, option_tells (codes "--" ++ o) w t)
-]
+pub all_good : (words : List Text) → list_all is_plain words ≡ true → All IsUtf8 words → AllByRecursion IsGood words
+all_good [] h texts = tt
+all_good (w ∷ words) h texts =
+    let (here, rest) = and_parts (is_plain w) (list_all is_plain words) h in
+    ((texts 0 w (omega arith), not_true (is_bare w) here), all_good words rest (All-drop IsUtf8 1 (w ∷ words) texts))
 
-allowed_of : (options : List Text) (w : Text) → IsAllowed options w → is_allowed options w ≡ true
-allowed_of options w (inl e) = rw e refl
-allowed_of options w (inr (o, among, inl e)) =
-    or_right (not (has_hyphen w)) _ (any_from (λ o. is_option_word (codes "--" ++ o) w) options o among
-    (ap (is_option_word (codes "--" ++ o)) (e ∙ sym (append-nil (codes "--" ++ o))) ∙ option_from (codes "--" ++ o) [] refl))
-allowed_of options w (inr (o, among, inr (v, some, e))) =
-    or_right (not (has_hyphen w)) _ (any_from (λ o. is_option_word (codes "--" ++ o) w) options o among
-    (ap (is_option_word (codes "--" ++ o)) e ∙ option_from (codes "--" ++ o) (codes "=" ++ v) (tail_of v some)))
+all_met : (k : Kind) (words : List Text) → AllByRecursion IsGood words → AllByRecursion (IsMet (shape_for k) [] (options_of k)) words
+all_met k [] h = tt
+all_met k (w ∷ words) h = (met_word (shape_for k) [] (options_of k) (knows k) w h.0.0 h.0.1, all_met k words h.1)
 
-pub all_tell : (options : List Text) (words : List Text) → list_all (is_allowed options) words ≡ true → AllByRecursion (IsAllowed options) words
-all_tell options [] h = tt
-all_tell options (w ∷ words) h =
-    let (here, rest) = and_parts (is_allowed options w) (list_all (is_allowed options) words) h in
-    (allowed_tells options w here, all_tell options words rest)
+-- ---- a word that is not shown to `clap` is in no line
 
-pub all_of : (options : List Text) (words : List Text) → AllByRecursion (IsAllowed options) words → list_all (is_allowed options) words ≡ true
-all_of options [] h = refl
-all_of options (w ∷ words) h = rw (allowed_of options w h.0) (all_of options words h.1)
+option_named : (k : Kind) (o : Text) → IsAmong o (options_of k) → (o ≡ codes "from") ⊎ (o ≡ codes "port")
+unfolding IsAmong
+option_named kind.Serial o (inl e) = inl e
+option_named kind.Serial o (inr never) = absurd never
+option_named kind.Run o (inl e) = inl e
+option_named kind.Run o (inr (inl e)) = inr e
+option_named kind.Run o (inr (inr never)) = absurd never
+option_named kind.Replay o (inl e) = inl e
+option_named kind.Replay o (inr never) = absurd never
+option_named kind.Check o never = absurd never
+option_named kind.List o never = absurd never
+option_named kind.Gen o never = absurd never
+
+abbrev Spelled : Text → Text → Type 0
+Spelled o w = (w ≡ codes "--" ++ o) ⊎ ((v : Text) × (v ≢ []) × (w ≡ codes "--" ++ (o ++ (codes "=" ++ v))))
+
+plain_option : (o w : Text) → (o ≡ codes "from") ⊎ (o ≡ codes "port") → Spelled o w → is_plain w ≡ true
+plain_option o w (inl f) (inl e) = ap is_plain (e ∙ ap (λ (t : Text). codes "--" ++ t) f)
+plain_option o w (inl f) (inr ([], some, e)) = absurd (some refl)
+plain_option o w (inl f) (inr (y ∷ v, some, e)) =
+    ap is_plain (e ∙ ap (λ (t : Text). codes "--" ++ (t ++ (codes "=" ++ (y ∷ v)))) f)
+plain_option o w (inr p) (inl e) = ap is_plain (e ∙ ap (λ (t : Text). codes "--" ++ t) p)
+plain_option o w (inr p) (inr ([], some, e)) = absurd (some refl)
+plain_option o w (inr p) (inr (y ∷ v, some, e)) =
+    ap is_plain (e ∙ ap (λ (t : Text). codes "--" ++ (t ++ (codes "=" ++ (y ∷ v)))) p)
+
+plain_of : (k : Kind) (w : Text) → IsAllowed (options_of k) w → is_plain w ≡ true
+plain_of k [] (inl e) = refl
+plain_of k (x ∷ xs) (inl e) = rw e refl
+plain_of k w (inr (o, among, told)) = plain_option o w (option_named k o among) told
+
+and_both : (a b : Bool) → a ≡ true → b ≡ true → (a && b) ≡ true
+and_both a b e f = rw (e, f) refl
+
+all_plain : (k : Kind) (words : List Text) → AllByRecursion (IsAllowed (options_of k)) words → list_all is_plain words ≡ true
+all_plain k [] h = refl
+all_plain k (w ∷ words) h = and_both (is_plain w) (list_all is_plain words) (plain_of k w h.0) (all_plain k words h.1)
+
+name_plain : (k : Kind) → is_plain (name_of k) ≡ true
+name_plain kind.Serial = refl
+name_plain kind.Run = refl
+name_plain kind.Replay = refl
+name_plain kind.Check = refl
+name_plain kind.List = refl
+name_plain kind.Gen = refl
+
+pub not_plain : (words : List Text) → list_all is_plain words ≡ false → IsUsage words
+not_plain words h k given (rest, is, (items, spells, fills, once)) =
+    let allowed = allowed_from (shape_for k) (places_of k) (options_of k) (fits k) items rest (places_of k) given spells fills in
+    let yes = and_both (is_plain (name_of k)) (list_all is_plain rest) (name_plain k) (all_plain k rest allowed) in
+    cc (sym h ∙ ap (list_all is_plain) is ∙ yes)
 
 -- ---- what the parse says
 
-pub tail_same : (x y : Text) (xs ys : List Text) → x ∷ xs ≡ y ∷ ys → (x ≡ y) × (xs ≡ ys)
-tail_same x y xs ys e = (cc e, cc e)
-
-pub good : (k : Kind) (rest : List Text) → AllByRecursion (IsAllowed (options_of k)) rest → fault_of all_app (name_of k ∷ rest) ≡ []
+good : (k : Kind) (rest : List Text) → AllByRecursion IsGood rest → fault_of all_app (name_of k ∷ rest) ≡ []
     → (given : Given) × IsLine (places_of k) (options_of k) rest given × (subcommand_of all_app (name_of k ∷ rest) ≡ Some (name_of k, rows given))
-good k rest allowed h =
-    let (items, given, spells, fills, once) = sound (shape_for k) (places_of k) (options_of k) (fits k) rest allowed (sym (fault_is k rest) ∙ h) in
+good k rest goods h =
+    let (items, given, spells, fills, once) = sound (shape_for k) (places_of k) (options_of k) (fits k) rest (all_met k rest goods) (sym (fault_is k rest) ∙ h) in
     let passes = complete (shape_for k) (places_of k) (options_of k) (fits k) items rest given spells fills once in
     (given, (items, spells, fills, once), subcommand_is k rest ∙ ap (λ (rs : List Row). Some (name_of k, rs)) passes.1)
 
-pub bad : (k : Kind) (rest : List Text) → fault_of all_app (name_of k ∷ rest) ≢ [] → IsUsage (name_of k ∷ rest)
-bad k rest h other given (back, is, (items, spells, fills, once)) =
-    let (name, same) = tail_same (name_of k) (name_of other) rest back is in
-    let kinds = same_kind k other name in
-    let fills_here = subst (λ (x : Kind). Fills (places_of x) (options_of x) items given) (sym kinds) fills in
-    let passes = complete (shape_for k) (places_of k) (options_of k) (fits k) items back given spells fills_here once in
-    h (fault_is k rest ∙ ap (total (shape_for k) (stand [] nothing 1)) same ∙ passes.0)
+bad : (words : List Text) → fault_of all_app words ≢ [] → IsUsage words
+bad words h k given (rest, is, (items, spells, fills, once)) =
+    let passes = complete (shape_for k) (places_of k) (options_of k) (fits k) items rest given spells fills once in
+    h (ap (fault_of all_app) is ∙ fault_is k rest ∙ passes.0)
 
--- words of which one is not allowed
-pub not_allowed : (k : Kind) (rest : List Text) → list_all (is_allowed (options_of k)) rest ≡ false → IsUsage (name_of k ∷ rest)
-not_allowed k rest h other given (back, is, (items, spells, fills, once)) =
-    let (name, same) = tail_same (name_of k) (name_of other) rest back is in
-    let kinds = same_kind k other name in
-    let fills_here = subst (λ (x : Kind). Fills (places_of x) (options_of x) items given) (sym kinds) fills in
-    let allowed = allowed_from (shape_for k) (places_of k) (options_of k) (fits k) items back (places_of k) given spells fills_here in
-    let yes = ap (list_all (is_allowed (options_of k))) same ∙ all_of (options_of k) back allowed in
-    cc (sym h ∙ yes)
-
-pub no_words : IsUsage []
-no_words k given (back, is, line) = cc is
-
-pub no_command : (w : Text) (rest : List Text) → ((k : Kind) → w ≢ name_of k) → IsUsage (w ∷ rest)
-no_command w rest h k given (back, is, line) = h k (tail_same w (name_of k) rest back is).0
+-- words without a fault begin with the name of a command
+named : (words : List Text) → AllByRecursion IsGood words → fault_of all_app words ≡ []
+    → (k : Kind) × (rest : List Text) × (words ≡ name_of k ∷ rest) × AllByRecursion IsGood rest
+named [] goods h = absurd (no_words h)
+named (w ∷ rest) goods h = elim (named_by w) [
+  | inl (k, e) ↦ (k, rest, ap (λ (n : Text). n ∷ rest) e, goods.1)
+  | inr none ↦ absurd (no_command w rest none goods.0.0 goods.0.1 h)
+]
 
 -- ---- the values
 
@@ -191,41 +235,38 @@ name_met m name rs h = by (out-ArgMatches m).subcommand ∙ ap (option_map (λ (
 pub rows_met : (m : ArgMatches) (name : Text) (rs : List Row) → subcommand_rows_of m ≡ Some (name, rs) → option_map (λ p. p.1) (subcommand_rows (out-ArgMatches m).subcommand) ≡ Some rs
 rows_met m name rs h = ap (option_map (λ (p : Text × List Row). p.1)) h
 
--- the words after the first
-pub first_word : (ws : List (Bor Text)) (d : Bor Text) → 0 < length ws → map (λ w. w.now) ws ≡ (slice_index_or ws 0 d).now ∷ map (λ w. w.now) (drop 1 ws)
-first_word [] d h = absurd (omega arith)
-first_word (w ∷ ws) d h = refl
-
-pub rest_words : (ws : List (Bor Text)) (d : Bor Text) → 0 < length ws
-    → map (λ w. w.now) ws ≡ (slice_index_or ws 0 d).now ∷ map (λ w. w.now) (take (length ws - 1) (drop 1 ws))
-rest_words [] d h = absurd (omega arith)
-rest_words (w ∷ ws) d h = ap (λ (xs : List (Bor Text)). w.now ∷ map (λ w. w.now) xs) (sym (take_all (length (w ∷ ws) - 1) ws (omega arith)))
-
 -- what a parse that succeeds met
-pub met : (words : List Text) (k : Kind) (rest : List Text) (m : ArgMatches) → words ≡ name_of k ∷ rest
-    → list_all (is_allowed (options_of k)) rest ≡ true → fault_of all_app words ≡ [] → HasMatchesOf all_app words m
-    → (given : Given) × IsCommand words k given × (subcommand_rows_of m ≡ Some (name_of k, rows given))
-met words k rest m is allowed free has =
-    let (given, line, sub) = good k rest (all_tell (options_of k) rest allowed) (sym (ap (fault_of all_app) is) ∙ free) in
-    (given, (rest, is, line), (has simple).1 ∙ ap (subcommand_of all_app) is ∙ sub)
+abbrev pub Meets : List Text → ArgMatches → Type 0
+Meets words m = (k : Kind) × (given : Given) × IsCommand words k given × (subcommand_rows_of m ≡ Some (name_of k, rows given))
+
+meets : (words : List Text) (m : ArgMatches) → AllByRecursion IsGood words → fault_of all_app words ≡ [] → HasMatchesOf all_app words m → Meets words m
+meets words m goods free has =
+    let (k, rest, is, later) = named words goods free in
+    let (given, line, sub) = good k rest later (sym (ap (fault_of all_app) is) ∙ free) in
+    (k, given, (rest, is, line), (has simple).1 ∙ ap (subcommand_of all_app) is ∙ sub)
 
 pub held_is : (inner : ArgMatches) (name : Text) (given : Given) → rows_of (found_of inner) ≡ rows given → first_value (found_of inner) name ≡ value_of name given
 held_is inner name given is = first_value-rows (found_of inner) name ∙ ap (first_of name) is ∙ first_is name given
 
-pub met_of : (a : App) (words : List Text) (k : Kind) (rest : List Text) (m : ArgMatches) → a ≡ all_app → words ≡ name_of k ∷ rest
-    → list_all (is_allowed (options_of k)) rest ≡ true → (is_simple_and_free a ≡ true → fault_of a words ≡ []) → HasMatchesOf a words m
-    → (given : Given) × IsCommand words k given × (subcommand_rows_of m ≡ Some (name_of k, rows given))
-met_of a words k rest m app is allowed kinds has =
-    met words k rest m is allowed (sym (ap (λ (x : App). fault_of x words) app) ∙ kinds (ap is_simple_and_free app ∙ simple_and_free))
+pub met_of : (a : App) (words : List Text) (m : ArgMatches) → a ≡ all_app → AllByRecursion IsGood words
+    → (is_simple_and_free a ≡ true → fault_of a words ≡ []) → HasMatchesOf a words m → Meets words m
+met_of a words m app goods kinds has =
+    meets words m goods (sym (ap (λ (x : App). fault_of x words) app) ∙ kinds (ap is_simple_and_free app ∙ simple_and_free))
     (subst (λ (x : App). HasMatchesOf x words m) app has)
 
-pub usage_of : (a : App) (words : List Text) (k : Kind) (rest : List Text) (e : Error) → a ≡ all_app → words ≡ name_of k ∷ rest
-    → (is_simple_and_free a ≡ true → HasKind (fault_of a words) e) → (kind_of e ≡ error.OutOfMemory → ⊥) → IsUsage words
-usage_of a words k rest e app is kinds other =
-    subst IsUsage (sym is) (bad k rest (λ none. elim (kinds (ap is_simple_and_free app ∙ simple_and_free)) [
+pub usage_of : (a : App) (words : List Text) (e : Error) → a ≡ all_app → (is_simple_and_free a ≡ true → HasKind (fault_of a words) e)
+    → (kind_of e ≡ error.OutOfMemory → ⊥) → IsUsage words
+usage_of a words e app kinds other =
+    bad words (λ none. elim (kinds (ap is_simple_and_free app ∙ simple_and_free)) [
       | inl memory ↦ other memory
-      | inr among ↦ subst (Kinds.IsAmong (kind_of e)) (ap (λ (x : App). fault_of x words) app ∙ ap (fault_of all_app) is ∙ none) among
-    ]))
+      | inr among ↦ subst (Kinds.IsAmong (kind_of e)) (ap (λ (x : App). fault_of x words) app ∙ none) among
+    ])
 
-pub some_words : (n : ℕ) (b : Bool) → b ≡ (n == 0) → b ≡ false → 0 < n
-some_words n b is other = grind (arith, is, other, Decides-eqb)
+pub named_some : (o : Option (Bor Text)) (t : Text) → option_map (λ s. s.now) o ≡ Some t → is_some o ≡ true
+named_some None t e = cc e
+named_some (Some b) t e = refl
+
+pub kind_some : (r : Option Kind) (t : Text) (k : Kind) → t ≡ name_of k
+    → MatchOption r ((kind : Kind) → t ≢ name_of kind) (λ kind. t ≡ name_of kind) → is_some r ≡ true
+kind_some None t k e none = absurd (none k e)
+kind_some (Some j) t k e told = refl

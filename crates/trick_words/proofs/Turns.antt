@@ -89,15 +89,15 @@ bytes_same t = (bytes_eq-Decides t t).1 refl
 
 -- ---- a word without a hyphen
 
-no_dashes : (w : Text) → has_hyphen w ≡ false → bytes_eq w (45 ∷ 45 ∷ []) ≡ false
+pub no_dashes : (w : Text) → has_hyphen w ≡ false → bytes_eq w (45 ∷ 45 ∷ []) ≡ false
 no_dashes [] e = refl
 no_dashes (x ∷ xs) e = rw e refl
 
-no_long : (w : Text) → has_hyphen w ≡ false → long_of w ≡ None
+pub no_long : (w : Text) → has_hyphen w ≡ false → long_of w ≡ None
 no_long [] e = refl
 no_long (x ∷ xs) e = rw e refl
 
-no_short : (w : Text) → has_hyphen w ≡ false → short_of w ≡ None
+pub no_short : (w : Text) → has_hyphen w ≡ false → short_of w ≡ None
 no_short [] e = refl
 no_short (x ∷ xs) e = rw e refl
 
@@ -115,7 +115,7 @@ plain_free_option : (s : Shape) (o : Text) (w : Text) (h : Held) → has_hyphen 
 plain_free_option s o w h e = rw (no_dashes w e, no_long w e, no_short w e) refl
 
 -- the word is a value of an option that waits
-abbrev turn_by : Shape → ℕ → Kinds → Held × Step → Kinds
+abbrev pub turn_by : Shape → ℕ → Kinds → Held × Step → Kinds
 turn_by s p fault met = or_else fault (step_fault s p met.0 met.1)
 
 abbrev walk_by : Shape → Walk → Text → Held × Step → Walk
@@ -178,7 +178,7 @@ pub record KnowsOption (c : List Rule) (o : Text) : Type 0 where
   pub by_id : arg_by_id c o ≡ Some (single o (Some o) None false)
 
 -- an option word, whatever waits
-met_none : (w : Waiting) (word : Text) → subcommand_met [] w word ≡ None
+pub met_none : (w : Waiting) (word : Text) → subcommand_met [] w word ≡ None
 met_none idle word = refl
 met_none (option o) word = refl
 met_none positional word = refl

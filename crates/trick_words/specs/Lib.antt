@@ -8,7 +8,7 @@ pub mod Reads
 pub mod Command
 -- What `clap` is told of the commands.
 pub mod Rules
--- The test of the words that stands before `clap`.
-pub mod Allowed
+-- The words that are refused before `clap` reads them.
+pub mod Plain
 -- What a command has of the values of its line.
 pub mod Fields

@@ -1,10 +1,10 @@
-// The words, tested and then read.
+// The words, as `clap` reads them.
 
-ghost use Rattle.std.specs.Prelude.{◌≡◌, ◌≢◌, IfOk, MatchOption, false, true, map, codes};
-ghost use Rattle.std.specs.List.{list_all};
-ghost use Rattle.trick_words.specs.Allowed.{is_allowed, is_option_word, is_tail};
-ghost use Rattle.trick_words.specs.Commands.{name_of, options_of};
-ghost use Rattle.trick_words.specs.CommandLine.{has_hyphen};
+ghost use Rattle.std.specs.Prelude.{◌≡◌, ◌≢◌, IfOk, MatchOption, map, codes};
+ghost use Rattle.std.specs.List.{All, list_all};
+ghost use Rattle.std.specs.Str.{IsUtf8};
+ghost use Rattle.trick_words.specs.Commands.{name_of};
+ghost use Rattle.trick_words.specs.Plain.{is_plain as is_plain_word};
 ghost use Rattle.trick_words.specs.Reads.{IsHeld, IsUsage, Reads};
 
 use crate::Kind;
@@ -30,22 +30,19 @@ pub(crate) fn read<'a>(
     alloc: Global,
     words: &'a [&'a str],
 ) -> Result<Option<CommandLine<'a>>, AllocError>
+    requires texts { All IsUtf8 (map (λ w. w.now) words.now) }
     ensures { IfOk result (λ read. MatchOption read
         (IsUsage (map (λ w. w.now) words.entry.now))
         (Reads (map (λ w. w.now) words.entry.now))) }
 {
-    if words.is_empty() {
-        return Ok(None);
-    }
-    let Some(kind) = kind_of(words[0]) else {
-        return Ok(None);
-    };
-    if !all_allowed(kind, &words[1..]) {
+    if !are_plain(words) {
         return Ok(None);
     }
     match all(alloc)?.try_get_matches_from(words) {
         Ok(matches) => {
-            let inner = matches.subcommand_matches(name(kind)).unwrap();
+            let name = matches.subcommand_name().unwrap();
+            let kind = kind_of(name).unwrap();
+            let inner = matches.subcommand_matches(name).unwrap();
             Ok(Some(line_of(kind, inner)))
         }
         Err(error) => {
@@ -79,19 +76,6 @@ fn line_of<'a>(kind: Kind, inner: &ArgMatches<'a>) -> CommandLine<'a>
     }
 }
 
-fn name(kind: Kind) -> &'static str
-    ensures { result.now ≡ name_of kind }
-{
-    match kind {
-        Kind::Serial => "serial",
-        Kind::Run => "run",
-        Kind::Replay => "replay",
-        Kind::Check => "check",
-        Kind::List => "list",
-        Kind::Gen => "gen",
-    }
-}
-
 fn kind_of(word: &str) -> Option<Kind>
     ensures { MatchOption result ((kind : Kind) → word.now ≢ name_of kind) (λ kind. word.now ≡ name_of kind) }
 {
@@ -106,49 +90,22 @@ fn kind_of(word: &str) -> Option<Kind>
     }
 }
 
-// Whether each word is allowed after the command.
-fn all_allowed(kind: Kind, words: &[&str]) -> bool
-    ensures { result ≡ list_all (is_allowed (options_of kind)) (map (λ w. w.now) words.now) }
+// Whether no word is one that `clap` takes and no line has.
+fn are_plain(words: &[&str]) -> bool
+    ensures { result ≡ list_all is_plain_word (map (λ w. w.now) words.now) }
 {
     for word in words {
-        if !allowed(kind, word) {
+        if !is_plain(word) {
             return false;
         }
     }
     true
 }
 
-fn allowed(kind: Kind, word: &str) -> bool
-    ensures { result ≡ is_allowed (options_of kind) word.now }
+// `clap` takes a hyphen alone for a value, lets what follows two of them begin with a hyphen, and takes an option
+// whose value after `=` is empty.
+fn is_plain(word: &str) -> bool
+    ensures { result ≡ is_plain_word word.now }
 {
-    let bytes = word.as_bytes();
-    if !begins_with_hyphen(bytes) {
-        return true;
-    }
-    match kind {
-        Kind::Serial | Kind::Replay => option_word(bytes, b"--from"),
-        Kind::Run => option_word(bytes, b"--from") || option_word(bytes, b"--port"),
-        Kind::Check | Kind::List | Kind::Gen => false,
-    }
-}
-
-fn begins_with_hyphen(word: &[u8]) -> bool
-    ensures { result ≡ has_hyphen word.now }
-{
-    !word.is_empty() && word[0] == b'-'
-}
-
-fn option_word(word: &[u8], start: &[u8]) -> bool
-    ensures { result ≡ is_option_word start.now word.now }
-{
-    match word.strip_prefix(start) {
-        Some(rest) => tail(rest),
-        None => false,
-    }
-}
-
-fn tail(rest: &[u8]) -> bool
-    ensures { result ≡ is_tail rest.now }
-{
-    rest.is_empty() || (rest.len() > 1 && rest[0] == b'=')
+    !(word == "-" || word == "--" || word == "--from=" || word == "--port=")
 }

@@ -1,4 +1,6 @@
-use Rattle.std.proofs.Common.{◌≡◌, ◌∙◌, ap, subst, map, List, Bor}
+use Rattle.std.proofs.Common.{◌≡◌, ◌∙◌, ap, sym, subst, map, List, Bor}
+use Rattle.std.specs.List.{All}
+use Rattle.std.specs.Str.{IsUtf8}
 use Rattle.trick_words.specs.CommandLine.{Text}
 use Rattle.trick_words.specs.Reads.{IsUsage, Reads}
 use Rattle.trick_words.proofs.Values.{no_line, places_of_line, read_as}
@@ -6,6 +8,12 @@ use Rattle.trick_words.proofs.command.read_command.Goals as goal
 
 abbrev now_of : List (Bor Text) → List Text
 now_of texts = map (λ text. text.now) texts
+
+pub read-requires : goal.read-requires
+read-requires c =
+    let texts = rw c.in-Some.is at c.in_ok-texts.ensures in
+    let words : now_of c.deref.result.now ≡ c.args.words.now = ap now_of c.deref.ensures.value ∙ texts.1 in
+    record { texts = subst (All IsUtf8) (sym words) texts.0 }
 
 pub command_of-requires : goal.command_of-requires
 command_of-requires c =
