@@ -1,17 +1,18 @@
-//! A link and a gate that wait for each other: a client's lines come while a job is at work.
+//! The link of the tests: what a client says, at once, or while a job is at work that waits for it.
 
 ghost use Rattle.std.specs.Prelude.{◌≡◌, [], List, ℕ, Some, length};
 
+use std::alloc::Global;
 use std::sync::Arc;
 use std::sync::atomic::AtomicBool;
 use std::sync::atomic::Ordering::SeqCst;
 use std::thread::yield_now;
-use trick_outside::{Gate, LinkIn, Read1, ScriptIn};
+use trick_outside::{LinkIn, Read1, ScriptIn};
 
 /// How often the one looks for the other.
 const LOOKS: u32 = 1_000_000;
 
-/// What has happened.
+/// What has happened to a link and to a job that wait for each other.
 #[derive(Drop)]
 pub(crate) struct Signals {
     /// A job of tic 0 is at work.
@@ -47,17 +48,67 @@ impl Signals {
         }
         self.late.store(true, SeqCst);
     }
+
+    /// A job of tic 0 is at work. It waits until the link has ended.
+    pub(crate) fn wait_for_the_link(&self) {
+        self.works.store(true, SeqCst);
+        self.wait_for(&self.ended);
+    }
+
+    // Waits until a job of tic 0 is at work.
+    fn wait_for_a_job(&self) {
+        self.wait_for(&self.works);
+    }
+
+    // The link has answered that it has ended.
+    fn end(&self) {
+        self.ended.store(true, SeqCst);
+    }
 }
 
-/// A link that gives its script once a job of tic 0 is at work.
+/// A link that gives its script, at once or once a job of tic 0 is at work.
 #[derive(Drop)]
-pub(crate) struct WaitingIn {
-    pub(crate) script: ScriptIn,
-    pub(crate) signals: Arc<Signals>,
-    pub(crate) is_first: bool,
+pub(crate) struct TestIn {
+    script: ScriptIn,
+    signals: Option<Arc<Signals, Global>>,
+    is_first: bool,
 }
 
-impl LinkIn for WaitingIn {
+impl TestIn {
+    /// A link that gives its script at once.
+    pub(crate) fn of(script: ScriptIn) -> TestIn {
+        TestIn {
+            script,
+            signals: None,
+            is_first: true,
+        }
+    }
+
+    /// A link that waits for a job.
+    pub(crate) fn waiting(script: ScriptIn, signals: Arc<Signals, Global>) -> TestIn {
+        TestIn {
+            script,
+            signals: Some(signals),
+            is_first: true,
+        }
+    }
+
+    // Waits for a job, where it is to wait.
+    fn wait(&self) {
+        if let Some(signals) = &self.signals {
+            signals.wait_for_a_job();
+        }
+    }
+
+    // Tells that it has ended.
+    fn end(&self) {
+        if let Some(signals) = &self.signals {
+            signals.end();
+        }
+    }
+}
+
+impl LinkIn for TestIn {
     ghost holds = { λ link. ⟦<ScriptIn as LinkIn>⟧.holds link.script };
 
     ghost failures = { λ link. ⟦<ScriptIn as LinkIn>⟧.failures link.script };
@@ -65,31 +116,16 @@ impl LinkIn for WaitingIn {
     fn read(&mut self, buffer: &mut [u8]) -> Read1 {
         if self.is_first {
             self.is_first = false;
-            self.signals.wait_for(&self.signals.works);
+            self.wait();
         }
         let answer = self.script.read(buffer);
         if answer == Read1::End {
-            self.signals.ended.store(true, SeqCst);
+            self.end();
         }
         answer
     }
 
     fn faults(&self) -> u64 {
         self.script.faults()
-    }
-}
-
-/// A gate at which a job of tic 0 waits until the link has ended.
-#[derive(Drop)]
-pub(crate) struct WaitingGate {
-    pub(crate) signals: Arc<Signals>,
-}
-
-impl Gate for WaitingGate {
-    fn between(&self, _thread: u8, tic: u64, _job: u32) {
-        if tic == 0 {
-            self.signals.works.store(true, SeqCst);
-            self.signals.wait_for(&self.signals.ended);
-        }
     }
 }

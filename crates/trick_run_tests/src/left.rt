@@ -1,10 +1,9 @@
-//! What a run left of which calls outside may have failed, and whether it is what it is to be: the beginning of what the
-//! lines of its journal come to. An append in memory adds all of its lines or none.
+//! What a run left of which calls outside may have failed, and whether it is what it is to be: the beginning of what
+//! the lines of its journal come to. An append in memory adds all of its lines or none.
 
-use crate::plan::Texts;
-use crate::runs::{Came, RIGHT, Replay, replay_of, replays};
+use crate::plans::Texts;
+use crate::runs::{Alone, Came, RIGHT, replay_of, replays};
 use std::alloc::{AllocError, Global};
-use trick_outside::LinkIn;
 
 /// The two lines with which each journal begins.
 const FIRST: &[u8] = b"tricks journal 1\nfrom 0\n";
@@ -26,7 +25,7 @@ fn joined(alloc: Global, first: &[u8], last: &[u8]) -> Result<Vec<u8>, AllocErro
 }
 
 // The run under these lines of a journal, replayed. It has an end, or is replayed up to where it is over.
-fn under(alloc: Global, texts: Texts, lines: &[u8]) -> Result<Replay, AllocError> {
+fn under(alloc: Global, texts: Texts, lines: &[u8]) -> Result<Alone, AllocError> {
     let far = joined(alloc, lines, FAR)?;
     let other = replay_of(alloc, texts, &far)?;
     let Some(turns) = other.printed.strip_prefix(TOO_FAR) else {
@@ -38,7 +37,7 @@ fn under(alloc: Global, texts: Texts, lines: &[u8]) -> Result<Replay, AllocError
 }
 
 // Whether each file that a run left is a beginning of that of its journal's lines.
-fn are_fronts<I: LinkIn + Drop>(came: &Came<I>, other: &Replay) -> Result<bool, AllocError> {
+fn are_fronts(came: &Came, other: &Alone) -> Result<bool, AllocError> {
     for name in came.names()? {
         let name = name.as_slice();
         match other.file(name) {
@@ -50,7 +49,7 @@ fn are_fronts<I: LinkIn + Drop>(came: &Came<I>, other: &Replay) -> Result<bool, 
 }
 
 // Whether no run began: there is no other file than the two texts and an empty journal.
-fn is_untouched<I: LinkIn + Drop>(came: &Came<I>) -> Result<bool, AllocError> {
+fn is_untouched(came: &Came) -> Result<bool, AllocError> {
     for name in came.names()? {
         let is_given = name.is(b"s") || name.is(b"i");
         if !is_given && !(name.is(b"journal.txt") && came.file(b"journal.txt").is_empty()) {
@@ -61,11 +60,7 @@ fn is_untouched<I: LinkIn + Drop>(came: &Came<I>) -> Result<bool, AllocError> {
 }
 
 // What is wrong with the files of a run.
-fn wrong_files<I: LinkIn + Drop>(
-    alloc: Global,
-    texts: Texts,
-    came: &Came<I>,
-) -> Result<&'static str, AllocError> {
+fn wrong_files(alloc: Global, texts: Texts, came: &Came) -> Result<&'static str, AllocError> {
     let is_right = if came.failed.shelf == 0 {
         replays(alloc, texts, came)?
     } else {
@@ -81,7 +76,7 @@ fn wrong_files<I: LinkIn + Drop>(
 
 // Whether the client was sent a beginning of what the lines of the journal come to: of this text where they let the run
 // go on, and else of nothing. It is back, and all of a text was sent where nothing failed.
-fn is_told<I: LinkIn + Drop>(came: &Came<I>, text: &[u8]) -> bool {
+fn is_told(came: &Came, text: &[u8]) -> bool {
     let Some(sent) = came.sent() else {
         return came.has_nobody() && !came.notes(b" join 1\n");
     };
@@ -91,7 +86,7 @@ fn is_told<I: LinkIn + Drop>(came: &Came<I>, text: &[u8]) -> bool {
 }
 
 // The status of a run of which so many calls failed.
-fn due_status<I>(came: &Came<I>) -> u8 {
+fn due_status(came: &Came) -> u8 {
     if came.failed.sink > 0 {
         8
     } else if came.failed.shelf > 0 {
@@ -102,7 +97,7 @@ fn due_status<I>(came: &Came<I>) -> u8 {
 }
 
 // Whether its line is printed as it is due.
-fn is_printed<I: LinkIn + Drop>(came: &Came<I>) -> bool {
+fn is_printed(came: &Came) -> bool {
     match came.status {
         0 => came.prints_at_end(b" door=failed\n") == (came.failed.door > 0),
         5 => came.has_printed(b"refused ShelfFault\n"),
@@ -111,7 +106,7 @@ fn is_printed<I: LinkIn + Drop>(came: &Came<I>) -> bool {
 }
 
 // Whether each leave has its cause, where a client neither asks to leave nor hangs up.
-fn are_causes<I: LinkIn + Drop>(came: &Came<I>) -> bool {
+fn are_causes(came: &Came) -> bool {
     if came.has_leave(b"NoThread") {
         return came.failed.starts > 0 && !came.has_other_leave(b"NoThread");
     }
@@ -123,10 +118,10 @@ fn are_causes<I: LinkIn + Drop>(came: &Came<I>) -> bool {
 
 /// What is wrong with a run of a plan, or that nothing is. Its client neither asks to leave nor hangs up, is sent
 /// nothing before it lets the run go on, and then this text.
-pub(crate) fn left<I: LinkIn + Drop>(
+pub(crate) fn left(
     alloc: Global,
     texts: Texts,
-    came: &Came<I>,
+    came: &Came,
     text: &[u8],
 ) -> Result<&'static str, AllocError> {
     if came.status != due_status(came) {

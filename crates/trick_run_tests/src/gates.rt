@@ -1,6 +1,9 @@
-//! Gates that show and disturb what workers do.
+//! The gate of the tests, which shows and disturbs what workers do.
 
+use crate::links::Signals;
+use std::alloc::Global;
 use std::rt::Clock;
+use std::sync::Arc;
 use std::sync::atomic::Ordering::SeqCst;
 use std::sync::atomic::{AtomicBool, AtomicU64};
 use std::thread;
@@ -41,10 +44,9 @@ impl Meeting {
             yield_now();
         }
     }
-}
 
-impl Gate for Meeting {
-    fn between(&self, _thread: u8, _tic: u64, _job: u32) {
+    // A worker is there.
+    fn meet(&self) {
         if self.inside.fetch_add(1, SeqCst) > 0 {
             self.have_met.store(true, SeqCst);
         }
@@ -123,16 +125,20 @@ impl Holding {
             yield_now();
         }
     }
-}
 
-impl Gate for Holding {
-    fn between(&self, thread: u8, _tic: u64, _job: u32) {
+    // The worker or clerk of this thread is there.
+    fn hold_clerk(&self, thread: u8) {
         if thread == 1 {
             self.hold();
         } else if thread == 2 {
             self.pass_frame();
         }
     }
+}
+
+// A number that looks like chance.
+fn chance(number: u64) -> u64 {
+    number.wrapping_mul(0x9E37_79B9_7F4A_7C15) >> 40
 }
 
 /// A gate at which workers are held up by chance: not at all, by a yield, or by a sleep of some microseconds.
@@ -150,20 +156,43 @@ impl<C: Clock> Shaking<C> {
             passes: AtomicU64::new(first),
         }
     }
-}
 
-// A number that looks like chance.
-fn chance(number: u64) -> u64 {
-    number.wrapping_mul(0x9E37_79B9_7F4A_7C15) >> 40
-}
-
-impl<C: Clock> Gate for Shaking<C> {
-    fn between(&self, _thread: u8, _tic: u64, _job: u32) {
+    // A worker is there.
+    fn shake(&self) {
         let chance = chance(self.passes.fetch_add(1, SeqCst));
         match chance % 4 {
             0 => thread::sleep(&self.clock, Duration::from_micros(chance % 17)),
             1 => yield_now(),
             _ => {}
+        }
+    }
+}
+
+/// What a worker meets between take and commit. The gates are kept after the run, and by nobody else once all of its
+/// threads are gone.
+#[derive(Drop)]
+pub(crate) enum Trial<C: Clock> {
+    /// It goes on at once.
+    Pass,
+    Meet(Arc<Meeting, Global>),
+    Hold(Arc<Holding, Global>),
+    Shake(Arc<Shaking<C>, Global>),
+    /// In tic 0 it waits until a client's link has ended.
+    Wait(Arc<Signals, Global>),
+}
+
+impl<C: Clock> Gate for Trial<C> {
+    fn between(&self, thread: u8, tic: u64, _job: u32) {
+        match self {
+            Trial::Pass => {}
+            Trial::Meet(meeting) => meeting.meet(),
+            Trial::Hold(holding) => holding.hold_clerk(thread),
+            Trial::Shake(shaking) => shaking.shake(),
+            Trial::Wait(signals) => {
+                if tic == 0 {
+                    signals.wait_for_the_link();
+                }
+            }
         }
     }
 }

@@ -1,15 +1,18 @@
 //! Runs of which calls of the forms outside fail: each call of each form in turn, and some of all of them by chance.
 
+use crate::gates::Trial;
 use crate::left::left;
-use crate::plan::FROZEN;
+use crate::links::TestIn;
+use crate::plans::FROZEN;
 use crate::runs::{Came, Failures, Outside, RIGHT, replays, serve};
 use std::alloc::{AllocError, Global};
 use std::collections::VecDeque;
 use std::process::Abort;
+use std::rt::Clock;
 use std::sync::Wait;
 use std::test::Fail;
 use std::thread::Threads;
-use trick_outside::{MemoryOut, MemorySink, NoGate, ScriptDoor, ScriptIn};
+use trick_outside::{MemoryOut, MemorySink, ScriptDoor, ScriptIn};
 
 /// What the client says: it watches the counter, asks for a checkpoint and lets the run go on.
 const SAID: &[u8] = b"trick.var_add(\"counter.n\")
@@ -62,7 +65,7 @@ impl Failing {
 }
 
 // What is outside of a run with one client.
-fn outside(alloc: Global, failing: Failing) -> Result<Outside<ScriptIn>, AllocError> {
+fn outside<C: Clock>(alloc: Global, failing: Failing) -> Result<Outside<C>, AllocError> {
     let Failing {
         shelf,
         sink,
@@ -77,12 +80,13 @@ fn outside(alloc: Global, failing: Failing) -> Result<Outside<ScriptIn>, AllocEr
     let input = ScriptIn::failing(Vec::from_slice(alloc, SAID)?, reads).with_most(most);
     let output = MemoryOut::new(MemorySink::failing(alloc, writes).with_most(most));
     let mut clients = VecDeque::new(alloc);
-    clients.push_back((input, output))?;
+    clients.push_back((TestIn::of(input), output))?;
     Ok(Outside {
         door: ScriptDoor::failing(alloc, clients, door).with_idle(idle),
         shelf,
         sink,
         starts,
+        gate: Trial::Pass,
     })
 }
 
@@ -99,7 +103,7 @@ struct Seen {
 }
 
 // What is seen of a run, and what is wrong with it.
-fn seen_of(alloc: Global, came: &Came<ScriptIn>) -> Result<Seen, AllocError> {
+fn seen_of(alloc: Global, came: &Came) -> Result<Seen, AllocError> {
     Ok(Seen {
         status: came.status,
         failed: came.failed,
@@ -110,12 +114,12 @@ fn seen_of(alloc: Global, came: &Came<ScriptIn>) -> Result<Seen, AllocError> {
 }
 
 // A run of which these calls fail.
-fn run_with<R: Threads + Wait + AllocGlobal + Copy + Send + Drop + 'static>(
+fn run_with<R: Threads + Wait + Clock + AllocGlobal + Copy + Send + Sync + Drop + 'static>(
     rt: R,
     failing: Failing,
 ) -> Result<Seen, AllocError> {
     let alloc = rt.alloc();
-    let came = serve(rt, FROZEN, outside(alloc, failing)?, NoGate)?;
+    let came = serve(rt, FROZEN, outside(alloc, failing)?)?;
     seen_of(alloc, &came)
 }
 
@@ -147,7 +151,7 @@ fn each_call_of_the_shelf_fails(rt: HostRuntime) -> Result<(), Fail> {
 }
 
 // What is seen of a run whose client's link gives so many bytes a read at most, and fails at this read.
-fn after_read<R: Threads + Wait + AllocGlobal + Copy + Send + Drop + 'static>(
+fn after_read<R: Threads + Wait + Clock + AllocGlobal + Copy + Send + Sync + Drop + 'static>(
     rt: R,
     call: u64,
     most: usize,
@@ -181,24 +185,24 @@ fn each_read_of_a_client_fails(rt: HostRuntime) -> Result<(), Fail> {
 }
 
 // A door with two clients. The first one watches the counter, and its link fails at this read.
-fn door_of_two(alloc: Global, call: u64) -> Result<ScriptDoor<ScriptIn, MemoryOut>, AllocError> {
+fn door_of_two(alloc: Global, call: u64) -> Result<ScriptDoor<TestIn, MemoryOut>, AllocError> {
     let first = Vec::from_slice(alloc, b"trick.var_add(\"counter.n\")\n")?;
     let first = ScriptIn::failing(first, vec![in alloc; call]?);
     let second = ScriptIn::new(alloc, Vec::from_slice(alloc, SAID)?);
     let mut clients = VecDeque::new(alloc);
-    clients.push_back((first, MemoryOut::new(MemorySink::new(alloc))))?;
-    clients.push_back((second, MemoryOut::new(MemorySink::new(alloc))))?;
+    clients.push_back((TestIn::of(first), MemoryOut::new(MemorySink::new(alloc))))?;
+    clients.push_back((TestIn::of(second), MemoryOut::new(MemorySink::new(alloc))))?;
     Ok(ScriptDoor::new(alloc, clients))
 }
 
 // What is wrong with a run of two clients, of which the first one's link fails at this read.
-fn beside<R: Threads + Wait + AllocGlobal + Copy + Send + Drop + 'static>(
+fn beside<R: Threads + Wait + Clock + AllocGlobal + Copy + Send + Sync + Drop + 'static>(
     rt: R,
     call: u64,
 ) -> Result<&'static str, AllocError> {
     let alloc = rt.alloc();
     let outside = Outside::at(alloc, door_of_two(alloc, call)?);
-    let came = serve(rt, FROZEN, outside, NoGate)?;
+    let came = serve(rt, FROZEN, outside)?;
     if came.status != 0 || !replays(alloc, FROZEN, &came)? {
         return Ok("its end");
     }

@@ -1,13 +1,8 @@
-//! The plans of the tests. One has eight threads of five jobs each, which are due at each of three tics. Each tic is a
-//! software frame and has a row of a log, and a checkpoint is written in the second frame. The other one has must-finish
-//! threads.
+//! The plans of the tests of threads. One has eight threads of five jobs each, which are due at each of three tics.
+//! Each tic is a software frame and has a row of a log, and a checkpoint is written in the second frame. The others
+//! have must-finish and asynchronous threads.
 
-/// The texts of a plan.
-#[derive(Clone, Copy)]
-pub(crate) struct Texts {
-    pub(crate) s_define: &'static str,
-    pub(crate) input: &'static str,
-}
+use crate::plans::Texts;
 
 /// The plan of eight threads.
 pub(crate) const EIGHT: Texts = Texts {
@@ -15,9 +10,9 @@ pub(crate) const EIGHT: Texts = Texts {
     input: INPUT,
 };
 
-/// A plan with a scheduled thread and two must-finish threads, of which one adds up what thread 0 and the other one what
-/// the scheduled thread counts, in cycles of two and of three tics. What they publish is recorded, and a checkpoint is
-/// written while they are at work.
+/// A plan with a scheduled thread and two must-finish threads, of which one adds up what thread 0 and the other one
+/// what the scheduled thread counts, in cycles of two and of three tics. What they publish is recorded, and a
+/// checkpoint is written while they are at work.
 pub(crate) const CLERKS: Texts = Texts {
     s_define: "class W : public Trick::SimObject {
   public:
@@ -63,8 +58,8 @@ trick.stop(0.000012)
 ",
 };
 
-/// A plan whose asynchronous thread 1 copies what thread 0 counts, while a job of the scheduled thread 2 runs at each tic.
-/// Each of a hundred tics is a software frame.
+/// A plan whose asynchronous thread 1 copies what thread 0 counts, while a job of the scheduled thread 2 runs at each
+/// tic. Each of a hundred tics is a software frame.
 pub(crate) const HELD: Texts = Texts {
     s_define: "class W : public Trick::SimObject {
   public:

@@ -1,16 +1,18 @@
-//! Runs of the plans by threads. Each writes what the run on one thread writes.
+//! Runs of the plans by threads, without clients. Each writes what the run on one thread writes.
 
-use crate::gates::{Meeting, Shaking};
-use crate::plan::{CLERKS, EIGHT, Texts};
-use crate::runs::{Came, by_one_thread, by_threads};
+use crate::gates::{Meeting, Shaking, Trial};
+use crate::plans::Texts;
+use crate::runs::{Came, Outside, by_one_thread, serve};
+use crate::thread_plans::{CLERKS, EIGHT};
 use std::alloc::{AllocError, Global};
+use std::collections::VecDeque;
 use std::process::Abort;
 use std::rt::Clock;
 use std::sync::{Arc, Wait};
 use std::test::Fail;
 use std::thread::Threads;
 use std::time::Instant;
-use trick_outside::{ListSpawner, Spawner, ThreadSpawner};
+use trick_outside::ScriptDoor;
 
 /// Runs of the plan with must-finish threads under a gate that shakes.
 const CLERK_RUNS: u64 = 200;
@@ -31,42 +33,55 @@ const SECONDS: u64 = 50;
 #[derive(Drop)]
 pub(crate) struct Seen {
     pub(crate) came: Came,
-    /// How many starts were refused.
-    pub(crate) refused: u64,
     /// Two workers were between take and commit at one moment.
     have_met: bool,
     /// No worker is left that has the gate.
     pub(crate) is_over: bool,
 }
 
+/// What is outside of a run without clients: a gate, and starts that are refused, by their numbers.
+pub(crate) fn without_clients<C: Clock>(
+    alloc: Global,
+    gate: Trial<C>,
+    refused: Vec<u64>,
+) -> Outside<C> {
+    Outside {
+        door: ScriptDoor::new(alloc, VecDeque::new(alloc)),
+        shelf: Vec::new(alloc),
+        sink: Vec::new(alloc),
+        starts: refused,
+        gate,
+    }
+}
+
 // A run whose workers wait for one another between take and commit. Starts of these numbers are refused.
-fn meet<R>(rt: R, alloc: Global, texts: Texts, refused: Vec<u64>) -> Result<Seen, AllocError>
+fn meet<R>(rt: R, texts: Texts, refused: Vec<u64>) -> Result<Seen, AllocError>
 where
-    R: Threads + Wait + Copy + Send + Drop + 'static,
+    R: Threads + Wait + Clock + AllocGlobal + Copy + Send + Sync + Drop + 'static,
 {
+    let alloc = rt.alloc();
     let mut gate = Arc::new(alloc, Meeting::new())?;
-    let spawner = ListSpawner::refusing(refused);
-    let (came, spawner) = by_threads(rt, alloc, texts, spawner, &gate)?;
+    let trial = Trial::Meet(Arc::try_clone(&gate)?);
+    let came = serve(rt, texts, without_clients(alloc, trial, refused))?;
     let have_met = gate.have_met();
     Ok(Seen {
         came,
-        refused: spawner.faults(),
         have_met,
         is_over: Arc::get_mut(&mut gate).is_some(),
     })
 }
 
 /// A run under a gate that shakes, beginning with this number.
-pub(crate) fn shake<R>(rt: R, alloc: Global, texts: Texts, first: u64) -> Result<Seen, AllocError>
+pub(crate) fn shake<R>(rt: R, texts: Texts, first: u64) -> Result<Seen, AllocError>
 where
-    R: Threads + Wait + Clock + Copy + Send + Sync + Drop + 'static,
+    R: Threads + Wait + Clock + AllocGlobal + Copy + Send + Sync + Drop + 'static,
 {
+    let alloc = rt.alloc();
     let mut gate = Arc::new(alloc, Shaking::new(rt, first))?;
-    let spawner = ThreadSpawner::new();
-    let (came, spawner) = by_threads(rt, alloc, texts, spawner, &gate)?;
+    let trial = Trial::Shake(Arc::try_clone(&gate)?);
+    let came = serve(rt, texts, without_clients(alloc, trial, Vec::new(alloc)))?;
     Ok(Seen {
         came,
-        refused: spawner.faults(),
         have_met: false,
         is_over: Arc::get_mut(&mut gate).is_some(),
     })
@@ -76,24 +91,24 @@ where
 fn workers_meet_where_threads_start(rt: HostRuntime) -> Result<(), Fail> {
     let alloc = rt.alloc();
     let wanted = by_one_thread(alloc, EIGHT)?;
-    let all = meet(rt, alloc, EIGHT, Vec::new(alloc))?;
+    let all = meet(rt, EIGHT, Vec::new(alloc))?;
     assert!(rt;
-        all.refused == 0 && all.have_met && all.is_over,
+        all.came.failed.starts == 0 && all.have_met && all.is_over,
         "two workers at one moment"
     );
     let is_same = all.came.is(&wanted)?;
     assert!(rt; is_same, "with all threads");
     // Seven workers, and who takes the clients.
-    let none = meet(rt, alloc, EIGHT, vec![in alloc; 0, 1, 2, 3, 4, 5, 6, 7]?)?;
+    let none = meet(rt, EIGHT, vec![in alloc; 0, 1, 2, 3, 4, 5, 6, 7]?)?;
     assert!(rt;
-        none.refused == 8 && !none.have_met && none.is_over,
+        none.came.failed.starts == 8 && !none.have_met && none.is_over,
         "no worker"
     );
     let is_same = none.came.is(&wanted)?;
     assert!(rt; is_same, "with no thread");
-    let some = meet(rt, alloc, EIGHT, vec![in alloc; 0, 2, 4, 6]?)?;
+    let some = meet(rt, EIGHT, vec![in alloc; 0, 2, 4, 6]?)?;
     assert!(rt;
-        some.refused == 4 && some.have_met && some.is_over,
+        some.came.failed.starts == 4 && some.have_met && some.is_over,
         "three workers"
     );
     let is_same = some.came.is(&wanted)?;
@@ -110,14 +125,15 @@ fn every_run_writes_the_same_files(rt: HostRuntime) -> Result<(), Fail> {
     assert!(rt;
         wanted
             .file(b"log_g.csv")
+            .unwrap_or(&[])
             .starts_with(b"tic,a.x\n0,1120934\n"),
         "the first cell after a tic, by hand"
     );
-    assert!(rt; !wanted.file(b"chkpnt_2.chk").is_empty(), "a checkpoint");
+    assert!(rt; wanted.file(b"chkpnt_2.chk").is_some(), "a checkpoint");
     for run in 0..RUNS {
-        let seen = shake(rt, alloc, EIGHT, run)?;
+        let seen = shake(rt, EIGHT, run)?;
         assert!(rt;
-            seen.refused == 0 && seen.is_over,
+            seen.came.failed.starts == 0 && seen.is_over,
             "the threads of run {run}"
         );
         let is_same = seen.came.is(&wanted)?;
@@ -139,26 +155,30 @@ fn clerks_meet_where_threads_start(rt: HostRuntime) -> Result<(), Fail> {
     assert!(rt;
         wanted
             .file(b"log_g.csv")
+            .unwrap_or(&[])
             .starts_with(b"tic,m.sum,n.sum\n0,0,0\n1,0,0\n"),
         "nothing is published before a cycle ends"
     );
-    let all = meet(rt, alloc, CLERKS, Vec::new(alloc))?;
+    let all = meet(rt, CLERKS, Vec::new(alloc))?;
     assert!(rt;
-        all.refused == 0 && all.have_met && all.is_over,
+        all.came.failed.starts == 0 && all.have_met && all.is_over,
         "a clerk is at work beside another one, or beside a worker"
     );
     let is_same = all.came.is(&wanted)?;
     assert!(rt; is_same, "with all threads");
     // A worker, two clerks, and who takes the clients.
-    let none = meet(rt, alloc, CLERKS, vec![in alloc; 0, 1, 2, 3]?)?;
+    let none = meet(rt, CLERKS, vec![in alloc; 0, 1, 2, 3]?)?;
     assert!(rt;
-        none.refused == 4 && !none.have_met && none.is_over,
+        none.came.failed.starts == 4 && !none.have_met && none.is_over,
         "no clerk and no worker"
     );
     let is_same = none.came.is(&wanted)?;
     assert!(rt; is_same, "with no thread");
-    let some = meet(rt, alloc, CLERKS, vec![in alloc; 0, 2]?)?;
-    assert!(rt; some.refused == 2 && some.is_over, "one thread of three");
+    let some = meet(rt, CLERKS, vec![in alloc; 0, 2]?)?;
+    assert!(rt;
+        some.came.failed.starts == 2 && some.is_over,
+        "one thread of three"
+    );
     let is_same = some.came.is(&wanted)?;
     assert!(rt; is_same, "with one thread of three");
     Ok(())
@@ -168,11 +188,11 @@ fn clerks_meet_where_threads_start(rt: HostRuntime) -> Result<(), Fail> {
 fn every_run_with_clerks_writes_the_same_files(rt: HostRuntime) -> Result<(), Fail> {
     let alloc = rt.alloc();
     let wanted = by_one_thread(alloc, CLERKS)?;
-    assert!(rt; !wanted.file(b"chkpnt_8.chk").is_empty(), "a checkpoint");
+    assert!(rt; wanted.file(b"chkpnt_8.chk").is_some(), "a checkpoint");
     for run in 0..CLERK_RUNS {
-        let seen = shake(rt, alloc, CLERKS, run)?;
+        let seen = shake(rt, CLERKS, run)?;
         assert!(rt;
-            seen.refused == 0 && seen.is_over,
+            seen.came.failed.starts == 0 && seen.is_over,
             "the threads of run {run}"
         );
         let is_same = seen.came.is(&wanted)?;

@@ -1,14 +1,17 @@
 //! Whole runs by the top calls, and what they come to.
 
-use crate::plan::Texts;
+use crate::gates::Trial;
+use crate::links::TestIn;
+use crate::plans::Texts;
 use std::alloc::{AllocError, Global};
 use std::collections::VecDeque;
+use std::rt::Clock;
 use std::sync::Wait;
 use std::thread::Threads;
 use trick_base::Word;
 use trick_outside::{
-    Door, Gate, LinkIn, LinkOut, ListSpawner, MemoryOut, MemoryShelf, MemorySink, ScriptDoor,
-    Shelf, Sink, Spawner,
+    Door, LinkIn, LinkOut, ListSpawner, MemoryOut, MemoryShelf, MemorySink, ScriptDoor, Shelf,
+    Sink, Spawner,
 };
 use trick_top::tricks_alone;
 use trick_top_serve::tricks;
@@ -42,26 +45,29 @@ pub(crate) struct Wants<'a> {
     pub(crate) printed: &'a [u8],
 }
 
-/// What is outside of a run: its door, and which calls of its other forms in memory fail.
+/// What is outside of a run: its door, which calls of its other forms in memory fail, and the gate that its workers
+/// pass.
 #[derive(Drop)]
-pub(crate) struct Outside<I> {
-    pub(crate) door: ScriptDoor<I, MemoryOut>,
+pub(crate) struct Outside<C: Clock> {
+    pub(crate) door: ScriptDoor<TestIn, MemoryOut>,
     /// Calls of the shelf, from 0.
     pub(crate) shelf: Vec<u64>,
     /// Writes of the sink, from 0.
     pub(crate) sink: Vec<u64>,
     /// Starts of threads, from 0.
     pub(crate) starts: Vec<u64>,
+    pub(crate) gate: Trial<C>,
 }
 
-impl<I> Outside<I> {
-    /// A door, and forms of which no call fails.
-    pub(crate) fn at(alloc: Global, door: ScriptDoor<I, MemoryOut>) -> Outside<I> {
+impl<C: Clock> Outside<C> {
+    /// A door, forms of which no call fails, and a gate at which nobody waits.
+    pub(crate) fn at(alloc: Global, door: ScriptDoor<TestIn, MemoryOut>) -> Outside<C> {
         Outside {
             door,
             shelf: Vec::new(alloc),
             sink: Vec::new(alloc),
             starts: Vec::new(alloc),
+            gate: Trial::Pass,
         }
     }
 }
@@ -77,12 +83,12 @@ pub(crate) struct Failures {
 
 /// What a run came to that was served.
 #[derive(Drop)]
-pub(crate) struct Came<I> {
+pub(crate) struct Came {
     pub(crate) status: u8,
     printed: Vec<u8>,
     pub(crate) failed: Failures,
     shelf: MemoryShelf,
-    door: ScriptDoor<I, MemoryOut>,
+    door: ScriptDoor<TestIn, MemoryOut>,
 }
 
 // Whether a part stands in a text.
@@ -90,7 +96,7 @@ fn has(text: &[u8], part: &[u8]) -> bool {
     text.windows(part.len().max(1)).any(|piece| piece == part)
 }
 
-impl<I: LinkIn + Drop> Came<I> {
+impl Came {
     /// The bytes of a file, and none where it is not there.
     pub(crate) fn file(&self, name: &[u8]) -> &[u8] {
         self.shelf.file(name).unwrap_or(&[])
@@ -120,6 +126,12 @@ impl<I: LinkIn + Drop> Came<I> {
     /// The names of all files.
     pub(crate) fn names(&self) -> Result<Vec<Word>, AllocError> {
         self.shelf.names()
+    }
+
+    /// Whether it came to what one thread came to: to its status, its line and all of its files.
+    pub(crate) fn is(&self, other: &Alone) -> Result<bool, AllocError> {
+        let is_same = self.status == other.status && self.printed == other.printed;
+        Ok(is_same && has_all(&self.shelf, &other.shelf)? && has_all(&other.shelf, &self.shelf)?)
     }
 
     /// Whether no client was taken.
@@ -182,6 +194,17 @@ impl<I: LinkIn + Drop> Came<I> {
     }
 }
 
+// Whether a shelf has all files of another, with their bytes.
+fn has_all(shelf: &MemoryShelf, other: &MemoryShelf) -> Result<bool, AllocError> {
+    for name in other.names()? {
+        let name = name.as_slice();
+        if shelf.file(name) != other.file(name) {
+            return Ok(false);
+        }
+    }
+    Ok(true)
+}
+
 /// These words.
 pub(crate) fn words(alloc: Global, texts: &[&[u8]]) -> Result<Vec<Word>, AllocError> {
     let mut words = Vec::new(alloc);
@@ -199,26 +222,19 @@ fn with_texts(shelf: MemoryShelf, texts: Texts) -> Result<MemoryShelf, AllocErro
 }
 
 /// A door that gives one client, over this link, and has then ended.
-pub(crate) fn door_of<I>(alloc: Global, input: I) -> Result<ScriptDoor<I, MemoryOut>, AllocError>
-where
-    I: Drop,
-{
+pub(crate) fn door_of(
+    alloc: Global,
+    input: TestIn,
+) -> Result<ScriptDoor<TestIn, MemoryOut>, AllocError> {
     let mut clients = VecDeque::new(alloc);
     clients.push_back((input, MemoryOut::new(MemorySink::new(alloc))))?;
     Ok(ScriptDoor::new(alloc, clients))
 }
 
-/// Serves a run of a plan.
-pub(crate) fn serve<I, G, R>(
-    rt: R,
-    texts: Texts,
-    outside: Outside<I>,
-    gate: G,
-) -> Result<Came<I>, AllocError>
+/// A run of a plan by threads, with the clients of its door.
+pub(crate) fn serve<R>(rt: R, texts: Texts, outside: Outside<R>) -> Result<Came, AllocError>
 where
-    I: LinkIn + Send + Drop + 'static,
-    G: Gate + Send + Sync + Drop + 'static,
-    R: Threads + Wait + AllocGlobal + Copy + Send + Drop + 'static,
+    R: Threads + Wait + Clock + AllocGlobal + Copy + Send + Sync + Drop + 'static,
 {
     let alloc = rt.alloc();
     let Outside {
@@ -226,6 +242,7 @@ where
         shelf,
         sink,
         starts,
+        gate,
     } = outside;
     let words = words(alloc, &[b"run", b"s", b"i"])?;
     let mut shelf = with_texts(MemoryShelf::failing(alloc, shelf), texts)?;
@@ -250,41 +267,49 @@ where
     })
 }
 
-/// What a replay came to.
+/// What one thread came to.
 #[derive(Drop)]
-pub(crate) struct Replay {
+pub(crate) struct Alone {
     pub(crate) status: u8,
     pub(crate) printed: Vec<u8>,
     shelf: MemoryShelf,
 }
 
-impl Replay {
+impl Alone {
     /// The bytes of a file. None where it is not there.
     pub(crate) fn file(&self, name: &[u8]) -> Option<&[u8]> {
         self.shelf.file(name)
     }
 }
 
-/// The replay of a journal of a plan.
-pub(crate) fn replay_of(alloc: Global, texts: Texts, journal: &[u8]) -> Result<Replay, AllocError> {
-    let words = words(alloc, &[b"replay", b"s", b"i", b"j"])?;
-    let mut shelf = with_texts(MemoryShelf::new(alloc), texts)?.with_file(b"j", journal)?;
+// What one thread comes to that does what these words ask for.
+fn on_one_thread(alloc: Global, words: &[Word], shelf: MemoryShelf) -> Result<Alone, AllocError> {
+    let mut shelf = shelf;
     let mut sink = MemorySink::new(alloc);
-    let status = tricks_alone(alloc, &words, &mut shelf, &mut sink);
+    let status = tricks_alone(alloc, words, &mut shelf, &mut sink);
     let printed = Vec::from_slice(alloc, sink.bytes())?;
-    Ok(Replay {
+    Ok(Alone {
         status,
         printed,
         shelf,
     })
 }
 
+/// The run of a plan on one thread.
+pub(crate) fn by_one_thread(alloc: Global, texts: Texts) -> Result<Alone, AllocError> {
+    let words = words(alloc, &[b"serial", b"s", b"i"])?;
+    on_one_thread(alloc, &words, with_texts(MemoryShelf::new(alloc), texts)?)
+}
+
+/// The replay of a journal of a plan.
+pub(crate) fn replay_of(alloc: Global, texts: Texts, journal: &[u8]) -> Result<Alone, AllocError> {
+    let words = words(alloc, &[b"replay", b"s", b"i", b"j"])?;
+    let shelf = with_texts(MemoryShelf::new(alloc), texts)?.with_file(b"j", journal)?;
+    on_one_thread(alloc, &words, shelf)
+}
+
 /// Whether the journal that a run of a plan wrote, replayed, gives the same files.
-pub(crate) fn replays<I: LinkIn + Drop>(
-    alloc: Global,
-    texts: Texts,
-    came: &Came<I>,
-) -> Result<bool, AllocError> {
+pub(crate) fn replays(alloc: Global, texts: Texts, came: &Came) -> Result<bool, AllocError> {
     let other = replay_of(alloc, texts, came.file(b"journal.txt"))?;
     for name in came.names()? {
         if other.file(name.as_slice()) != Some(came.file(name.as_slice())) {
@@ -295,10 +320,10 @@ pub(crate) fn replays<I: LinkIn + Drop>(
 }
 
 /// What is wrong with a run of a plan, or that nothing is. Its journal, replayed, has to give its files.
-pub(crate) fn judged<I: LinkIn + Drop>(
+pub(crate) fn judged(
     alloc: Global,
     texts: Texts,
-    came: &Came<I>,
+    came: &Came,
     wants: &Wants<'_>,
 ) -> Result<&'static str, AllocError> {
     if let Some(part) = came.differs(wants) {

@@ -1,15 +1,17 @@
 //! What clients are sent, and what their runs write.
 
-use crate::meeting::{Signals, WaitingGate, WaitingIn};
-use crate::plan::{BESIDE, COUNTED, FROZEN, RECORDED, Texts, UNCOUNTED};
+use crate::gates::Trial;
+use crate::links::{Signals, TestIn};
+use crate::plans::{BESIDE, COUNTED, FROZEN, RECORDED, Texts, UNCOUNTED};
 use crate::runs::{Outside, RIGHT, Wants, door_of, judged, serve, words};
 use std::alloc::{AllocError, Global};
 use std::collections::VecDeque;
 use std::process::Abort;
+use std::rt::Clock;
 use std::sync::{Arc, Wait};
 use std::test::Fail;
 use std::thread::Threads;
-use trick_outside::{MemoryOut, NoGate, ScriptDoor, ScriptIn};
+use trick_outside::{MemoryOut, ScriptDoor, ScriptIn};
 use trick_top_serve::port_wanted;
 
 /// What a client says that watches the counter and lets it run.
@@ -46,17 +48,18 @@ struct Talk<'a> {
 }
 
 // What is wrong with a run with one client, or that nothing is. Starts of these numbers are refused.
-fn talked<R: Threads + Wait + AllocGlobal + Copy + Send + Drop + 'static>(
+fn talked<R: Threads + Wait + Clock + AllocGlobal + Copy + Send + Sync + Drop + 'static>(
     rt: R,
     talk: Talk<'_>,
     refused: Vec<u64>,
     wants: &Wants<'_>,
 ) -> Result<&'static str, AllocError> {
     let alloc = rt.alloc();
-    let door = door_of(alloc, link(alloc, talk.said, talk.most)?)?;
+    let input = TestIn::of(link(alloc, talk.said, talk.most)?);
+    let door = door_of(alloc, input)?;
     let mut outside = Outside::at(alloc, door);
     outside.starts = refused;
-    let came = serve(rt, talk.texts, outside, NoGate)?;
+    let came = serve(rt, talk.texts, outside)?;
     judged(alloc, talk.texts, &came, wants)
 }
 
@@ -251,16 +254,16 @@ fn a_client_of_the_first_call_joins_in_turn_0(rt: HostRuntime) -> Result<(), Fai
 }
 
 // Whether the line of a run whose door fails at its first call says so.
-fn tells_of_its_door<R: Threads + Wait + AllocGlobal + Copy + Send + Drop + 'static>(
+fn tells_of_its_door<R: Threads + Wait + Clock + AllocGlobal + Copy + Send + Sync + Drop + 'static>(
     rt: R,
 ) -> Result<bool, AllocError> {
     let alloc = rt.alloc();
-    let door: ScriptDoor<ScriptIn, MemoryOut> = ScriptDoor::failing(
+    let door: ScriptDoor<TestIn, MemoryOut> = ScriptDoor::failing(
         alloc,
         VecDeque::new(alloc),
         vec![in alloc; 0]?,
     );
-    let came = serve(rt, RECORDED, Outside::at(alloc, door), NoGate)?;
+    let came = serve(rt, RECORDED, Outside::at(alloc, door))?;
     Ok(came.has_printed(b"ended turns=4 tic=3000001 faults=0 sessions=0 door=failed\n"))
 }
 
@@ -284,23 +287,17 @@ fn a_port_is_wanted_where_words_name_one(rt: HostRuntime) -> Result<(), Fail> {
 }
 
 // What is wrong with a run whose client's lines come while the job of tic 0 is at work.
-fn met<R: Threads + Wait + AllocGlobal + Copy + Send + Drop + 'static>(
+fn met<R: Threads + Wait + Clock + AllocGlobal + Copy + Send + Sync + Drop + 'static>(
     rt: R,
     wants: &Wants<'_>,
 ) -> Result<&'static str, AllocError> {
     let alloc = rt.alloc();
     let signals = Arc::new(alloc, Signals::new())?;
     let said = b"counter.n = 100\ntrick.var_exists(\"counter.n\")\n";
-    let input = WaitingIn {
-        script: link(alloc, said, 1000)?,
-        signals: Arc::try_clone(&signals)?,
-        is_first: true,
-    };
-    let gate = WaitingGate {
-        signals: Arc::try_clone(&signals)?,
-    };
-    let outside = Outside::at(alloc, door_of(alloc, input)?);
-    let came = serve(rt, BESIDE, outside, gate)?;
+    let input = TestIn::waiting(link(alloc, said, 1000)?, Arc::try_clone(&signals)?);
+    let mut outside = Outside::at(alloc, door_of(alloc, input)?);
+    outside.gate = Trial::Wait(Arc::try_clone(&signals)?);
+    let came = serve(rt, BESIDE, outside)?;
     if !signals.have_met() {
         return Ok("the job and the link do not meet");
     }

@@ -1,37 +1,34 @@
 //! Runs with asynchronous threads: what they are published when is told by the journal that the run leaves.
 
-use crate::gates::{HELD_FRAMES, Holding};
-use crate::plan::{HELD, ROUNDS};
-use crate::runs::{Came, by_one_thread, by_threads, is_replayed};
-use crate::tests::shake;
+use crate::gates::{HELD_FRAMES, Holding, Trial};
+use crate::runs::{Came, by_one_thread, replays, serve};
+use crate::thread_plans::{HELD, ROUNDS};
+use crate::threads::{shake, without_clients};
 use std::alloc::{AllocError, Global};
 use std::process::Abort;
+use std::rt::Clock;
 use std::sync::{Arc, Wait};
 use std::test::Fail;
 use std::thread::Threads;
-use trick_outside::ThreadSpawner;
 
 /// Runs under a gate that shakes.
 const RUNS: u64 = 200;
 
-// Whether a part stands in a text.
-fn has(text: &[u8], part: &[u8]) -> bool {
-    text.windows(part.len().max(1)).any(|piece| piece == part)
-}
-
 // Whether the round of thread 1 is published in this turn.
 fn is_published(alloc: Global, came: &Came, turn: u64) -> Result<bool, AllocError> {
     let line = format!(in alloc; "\n{turn} publish 1\n")?;
-    Ok(has(came.file(b"journal.txt"), line.as_bytes()))
+    Ok(came.notes(line.as_bytes()))
 }
 
 // A run whose clerk of thread 1 is held, and whether it was held while the run went on.
-fn held<R>(rt: R, alloc: Global) -> Result<(Came, bool), AllocError>
+fn held<R>(rt: R) -> Result<(Came, bool), AllocError>
 where
-    R: Threads + Wait + Copy + Send + Drop + 'static,
+    R: Threads + Wait + Clock + AllocGlobal + Copy + Send + Sync + Drop + 'static,
 {
+    let alloc = rt.alloc();
     let gate = Arc::new(alloc, Holding::new())?;
-    let (came, _) = by_threads(rt, alloc, HELD, ThreadSpawner::new(), &gate)?;
+    let trial = Trial::Hold(Arc::try_clone(&gate)?);
+    let came = serve(rt, HELD, without_clients(alloc, trial, Vec::new(alloc)))?;
     let was_held = gate.was_held();
     Ok((came, was_held))
 }
@@ -39,17 +36,14 @@ where
 #[test]
 fn a_clerk_that_is_held_publishes_later(rt: HostRuntime) -> Result<(), Fail> {
     let alloc = rt.alloc();
-    let (came, was_held) = held(rt, alloc)?;
+    let (came, was_held) = held(rt)?;
     assert!(rt; came.status == 0 && was_held, "the run goes on meanwhile");
     for turn in 0..HELD_FRAMES {
         let is_early = is_published(alloc, &came, turn)?;
         assert!(rt; !is_early, "nothing is published in turn {turn}");
     }
-    assert!(rt;
-        has(came.file(b"journal.txt"), b" publish 1\n"),
-        "it is published later"
-    );
-    let is_same = is_replayed(alloc, HELD, &came)?;
+    assert!(rt; came.notes(b" publish 1\n"), "it is published later");
+    let is_same = replays(alloc, HELD, &came)?;
     assert!(rt; is_same, "its journal gives its files");
     Ok(())
 }
@@ -60,16 +54,16 @@ fn every_run_with_rounds_is_the_run_of_its_journal(rt: HostRuntime) -> Result<()
     let wanted = by_one_thread(alloc, ROUNDS)?;
     assert!(rt; wanted.status == 0, "no job faults");
     for run in 0..RUNS {
-        let seen = shake(rt, alloc, ROUNDS, run)?;
+        let seen = shake(rt, ROUNDS, run)?;
         assert!(rt;
-            seen.refused == 0 && seen.is_over,
+            seen.came.status == 0 && seen.came.failed.starts == 0 && seen.is_over,
             "the threads of run {run}"
         );
         assert!(rt;
-            seen.came.file(b"log_g.csv") == wanted.file(b"log_g.csv"),
+            Some(seen.came.file(b"log_g.csv")) == wanted.file(b"log_g.csv"),
             "the logs of run {run} are those of one thread"
         );
-        let is_same = is_replayed(alloc, ROUNDS, &seen.came)?;
+        let is_same = replays(alloc, ROUNDS, &seen.came)?;
         assert!(rt; is_same, "the journal of run {run} gives its files");
     }
     Ok(())

@@ -1,4 +1,4 @@
-//! The plans of the tests, and their logs.
+//! The texts of a plan; the plans of the tests with clients, and their logs.
 
 /// The texts of a plan.
 #[derive(Clone, Copy)]
