@@ -1,4 +1,4 @@
-//! Checkpoints, loaded and printed, and threads beside the tics.
+//! Checkpoints, loaded and printed, the bytes of their memories, and threads beside the tics.
 
 use crate::bytes::push_lines;
 use crate::runs::Runs;
@@ -70,6 +70,25 @@ pub(crate) fn loaded_with(
         }
     }
     loaded(alloc, plan, &bytes)
+}
+
+// A line of bytes in hexadecimal.
+fn in_hexadecimal(alloc: Global, bytes: &[u8]) -> Result<String, AllocError> {
+    let mut text = String::from_str(alloc, ">")?;
+    for byte in bytes {
+        let byte = *byte;
+        write!(text, " {byte:02x}")?;
+    }
+    text.push_str("\n")?;
+    Ok(text)
+}
+
+/// The bytes of the memory of a checkpoint, in hexadecimal, or the refusal of the text.
+pub(crate) fn packed(alloc: Global, plan: &Plan, text: &[u8]) -> Result<String, AllocError> {
+    match state_of(alloc, plan, text)? {
+        Ok(state) => in_hexadecimal(alloc, state.memory.bytes()),
+        Err(fault) => refusal(alloc, fault),
+    }
 }
 
 // Whether a text is loaded, or how it is refused.

@@ -1,6 +1,6 @@
 //! Calls that are made with the plan of the texts `s_define` and `input`.
 
-use crate::checkpoints::{beside, fronts_loaded, loaded, loaded_with};
+use crate::checkpoints::{beside, fronts_loaded, loaded, loaded_with, packed};
 use crate::journals::{fronts_read, read_after};
 use crate::sessions::{applied, sampled, stopped};
 use crate::texts::Texts;
@@ -27,6 +27,8 @@ pub(crate) enum PlanCall<'a> {
     LoadWith { line: usize },
     /// Each beginning of a checkpoint is loaded.
     LoadFronts,
+    /// A checkpoint is loaded, and the bytes of its memory are told.
+    Bytes,
     /// The threads beside the tics, with their jobs and cells.
     Beside,
 }
@@ -53,6 +55,7 @@ pub(crate) fn plan_call<'a>(words: &[&'a str]) -> Option<PlanCall<'a>> {
             line: line.parse().ok()?,
         }),
         ["load_fronts"] => Some(PlanCall::LoadFronts),
+        ["bytes"] => Some(PlanCall::Bytes),
         ["beside"] => Some(PlanCall::Beside),
         _ => None,
     }
@@ -96,6 +99,7 @@ pub(crate) fn answer(
             loaded_with(alloc, plan, texts.named("checkpoint"), line, bytes)
         }
         PlanCall::LoadFronts => fronts_loaded(alloc, plan, bytes),
+        PlanCall::Bytes => packed(alloc, plan, bytes),
         PlanCall::Beside => beside(alloc, plan),
     }
 }

@@ -1,6 +1,7 @@
 //! What a line of `stdin` says.
 
 use crate::words::DueJob;
+use crate::yardstick::{Drawing, Form};
 use std::alloc::{AllocError, Global};
 
 /// A call with the plan of the texts `s_define` and `input`.
@@ -54,6 +55,8 @@ pub(crate) enum Directive<'a> {
     Line(&'a str),
     /// A call is made.
     Call(Call<'a>),
+    /// A form is compared with its plain one, on plans that are drawn.
+    Drawn(Drawing),
     /// A line of no form.
     Unknown,
 }
@@ -110,11 +113,29 @@ fn call_of<'a>(name: &str, words: &'a str) -> Option<Call<'a>> {
     }
 }
 
+// The plans of a word and what stands after it: the number that they follow from, and how many they are.
+fn drawing_of(name: &str, words: &str) -> Option<Drawing> {
+    let form = match name {
+        "drawn_queues" => Form::Queues,
+        "drawn_boards" => Form::Board,
+        _ => return None,
+    };
+    let (seed, count) = first_word(words);
+    Some(Drawing {
+        form,
+        seed: number(seed),
+        count: number(count),
+    })
+}
+
 // What a line of words says.
 fn of_words(line: &str) -> Directive {
     let (name, words) = first_word(line);
     if name == "text" {
         return Directive::Text(words);
+    }
+    if let Some(drawing) = drawing_of(name, words) {
+        return Directive::Drawn(drawing);
     }
     match call_of(name, words) {
         Some(call) => Directive::Call(call),

@@ -5,14 +5,19 @@
 
 mod benches;
 mod directive;
+mod drawn;
+mod drives;
 mod forms;
+mod plain;
 mod schedules;
 mod tally;
 mod texts;
 mod told;
 mod trial;
+mod walks;
 mod words;
 mod world;
+mod yardstick;
 
 use std::io;
 use world::World;

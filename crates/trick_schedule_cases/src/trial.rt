@@ -1,6 +1,6 @@
 //! A board with two benches, and what its calls answer.
 
-ghost use Rattle.std.specs.Prelude.{◌≤◌, IfOk};
+ghost use Rattle.std.specs.Prelude.{◌≡◌, ◌≤◌, IfOk};
 ghost use Rattle.trick_base.specs.Time.{tic_limit};
 ghost use Rattle.trick_schedule_cases.specs.Trial.{IsTrial};
 
@@ -45,7 +45,7 @@ pub(crate) struct Trial {
 
 impl Trial {
     /// A closed board and two empty benches.
-    fn new(alloc: Global, accepted: &Accepted) -> Result<Self, AllocError>
+    pub(crate) fn new(alloc: Global, accepted: &Accepted) -> Result<Self, AllocError>
         ensures { IfOk result (λ t. IsTrial accepted.now.plan t.board t.is_open t.bench t.other) }
     {
         let bench = Bench::new(alloc, &accepted.plan().program)?;
@@ -59,7 +59,13 @@ impl Trial {
         })
     }
 
-    fn open(&mut self, alloc: Global, accepted: &Accepted, tic: u64) -> Result<String, AllocError>
+    /// Opens a tic with a memory of zeros.
+    pub(crate) fn open(
+        &mut self,
+        alloc: Global,
+        accepted: &Accepted,
+        tic: u64,
+    ) -> Result<String, AllocError>
         requires right { IsTrial accepted.now.plan self.old.board self.old.is_open self.old.bench self.old.other }
         requires tic { tic ≤ tic_limit }
         ensures { IsTrial accepted.now.plan self.new.board self.new.is_open self.new.bench self.new.other }
@@ -77,7 +83,13 @@ impl Trial {
         format!(in alloc; "opened")
     }
 
-    fn take(&mut self, alloc: Global, accepted: &Accepted, thread: u8) -> Result<String, AllocError>
+    /// Takes a job of a thread into the bench.
+    pub(crate) fn take(
+        &mut self,
+        alloc: Global,
+        accepted: &Accepted,
+        thread: u8,
+    ) -> Result<String, AllocError>
         requires { IsTrial accepted.now.plan self.old.board self.old.is_open self.old.bench self.old.other }
         ensures { IsTrial accepted.now.plan self.new.board self.new.is_open self.new.bench self.new.other }
     {
@@ -107,7 +119,12 @@ impl Trial {
         format!(in alloc; "filled")
     }
 
-    fn commit(&mut self, alloc: Global, accepted: &Accepted) -> Result<String, AllocError>
+    /// Evaluates the job in the bench and commits it.
+    pub(crate) fn commit(
+        &mut self,
+        alloc: Global,
+        accepted: &Accepted,
+    ) -> Result<String, AllocError>
         requires { IsTrial accepted.now.plan self.old.board self.old.is_open self.old.bench self.old.other }
         ensures { IsTrial accepted.now.plan self.new.board self.new.is_open self.new.bench self.new.other }
     {
@@ -148,6 +165,21 @@ impl Trial {
         format!(in alloc; "{phase} {job:?}")
     }
 
+    /// The job of the bench.
+    pub(crate) fn held(&self) -> Option<JobId> {
+        self.bench.job()
+    }
+
+    /// Goes on with the other bench.
+    pub(crate) fn swap(&mut self)
+        ensures board { self.new.board ≡ self.old.board }
+        ensures is_open { self.new.is_open ≡ self.old.is_open }
+        ensures bench { self.new.bench ≡ self.old.other }
+        ensures other { self.new.other ≡ self.old.bench }
+    {
+        swap(&mut self.bench, &mut self.other);
+    }
+
     /// Does an act.
     fn act(&mut self, alloc: Global, accepted: &Accepted, act: Act) -> Result<String, AllocError>
         requires { IsTrial accepted.now.plan self.old.board self.old.is_open self.old.bench self.old.other }
@@ -160,7 +192,7 @@ impl Trial {
             Act::Commit => self.commit(alloc, accepted),
             Act::Close => self.close(alloc, accepted),
             Act::Swap => {
-                swap(&mut self.bench, &mut self.other);
+                self.swap();
                 self.look(alloc)
             }
             Act::Look => self.look(alloc),

@@ -6,6 +6,7 @@ use crate::forms::{by_one_bench, by_one_phase};
 use crate::schedules::{Wrong, played, played_all};
 use crate::texts::Texts;
 use crate::trial::answers;
+use crate::yardstick::compared;
 use std::alloc::{AllocError, Global};
 use trick_model::Accepted;
 use trick_ready::{Unready, ready};
@@ -61,8 +62,8 @@ fn answer_under(
     }
 }
 
-// Why there is no plan.
-fn refused(alloc: Global, unready: &Unready) -> Result<String, AllocError> {
+/// Why there is no plan.
+pub(crate) fn refused(alloc: Global, unready: &Unready) -> Result<String, AllocError> {
     match unready {
         Unready::TextRefused { line } | Unready::PlanRefused { line } => {
             String::from_utf8_lossy(alloc, line.as_slice())
@@ -103,6 +104,10 @@ impl World {
             }
             Directive::Call(call) => {
                 let answer = answer(alloc, &self.texts, call)?;
+                format!(in alloc; "{line}\n{answer}")
+            }
+            Directive::Drawn(drawing) => {
+                let answer = compared(alloc, drawing)?;
                 format!(in alloc; "{line}\n{answer}")
             }
             Directive::Unknown => format!(in alloc; "{line}\n> no directive\n"),
