@@ -45,7 +45,8 @@ module _ {B : Type 0} where
     pub commits : CommitsAt plan between q (evaluated plan.program filled) left answer
 
   -- There was nothing to take, for this reason.
-  pub record FindsNothing (IsReason : HandTook → Type 0) (plan : Plan) (thread : ℕ) (p q : Pass B Entry) (was left : BenchView) : Type 0 where
+  pub record FindsNothing (IsReason : HandTook → Type 0) (plan : Plan) (thread : ℕ) (p q : Pass B Entry)
+      (was left : BenchView) : Type 0 where
     pub answer : HandTook
     pub reason : IsReason answer
     pub takes : TakesAt plan thread p q was left answer
