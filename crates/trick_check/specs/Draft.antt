@@ -7,9 +7,9 @@ use Rattle.trick_cells.specs.Tables.{item_rows}
 use Rattle.trick_check.specs.Refused.{StepsAreRight}
 use Rattle.trick_check.specs.Walk.{all_made, file_layout, jobs_named, objects_of}
 use Rattle.trick_check.specs.declared.draft.Draft.{Draft}
-use Rattle.trick_lang.specs.Names.{are_apart, are_short_names, of_one_instance, of_one_name, of_one_number}
+use Rattle.trick_lang.specs.Names.{are_apart, are_plain_cells, are_plain_names, are_short_names, of_one_instance, of_one_name, of_one_number}
 use Rattle.trick_lang.specs.SyntaxTree.{SDefine}
-use Rattle.trick_lang.specs.Valid.{are_short, have_right_threads, have_right_times, jobs_stand, objects_stand}
+use Rattle.trick_lang.specs.Valid.{are_short, have_right_instances, have_right_threads, have_right_times, jobs_stand, objects_stand}
 use Rattle.trick_lang.specs.declared.program.Program.{Program}
 use Rattle.trick_names.specs.Tables.{tables_of}
 
@@ -33,12 +33,15 @@ pub record IsWhole (d : Draft) : Type 0 where
   pub job_limit : length d.jobs ≤ 512
   pub short : IsTrue (are_short d.bodies.blocks.items d.bodies.methods d.jobs)
 
--- what the parts of a file that was read from a text keep besides, which is tested
-pub record IsTested (d : Draft) : Type 0 where
+-- what they keep by the facts that the reader of a file knows
+pub record IsProper (d : Draft) : Type 0 where
   pub cell_names : IsTrue (are_apart of_one_name d.cells)
   pub short_names : IsTrue (are_short_names d.objects d.bodies.methods d.items)
+  pub plain_cells : IsTrue (are_plain_cells d.cells)
+  pub plain_names : IsTrue (are_plain_names d.objects d.bodies.methods)
   pub job_parts : IsTrue (jobs_stand d.objects d.bodies.methods d.jobs)
   pub job_names : IsTrue (are_apart (of_one_instance d.objects d.bodies.methods) d.jobs)
+  pub right_instances : IsTrue (have_right_instances d.jobs)
   pub right_times : IsTrue (have_right_times d.jobs)
   pub right_threads : IsTrue (have_right_threads d.jobs)
 

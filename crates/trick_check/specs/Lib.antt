@@ -6,7 +6,5 @@ pub mod Walk
 pub mod Refused
 -- Which program a file names.
 pub mod Named
--- What the tests of a program go by.
-pub mod Tests
 -- The parts of a program, before they are joined.
 pub mod Draft

@@ -12,7 +12,6 @@ mod order;
 mod program;
 mod step;
 mod title;
-mod valid;
 mod walk;
 
 pub use fault::CheckFault;

@@ -1,7 +1,7 @@
 ghost use Rattle.std.specs.Prelude.{◌≡◌, IfErr, IfOk, OnOk};
 ghost use Rattle.trick_check.specs.Refused.{IsRefused, NamesAreRight};
 ghost use Rattle.trick_check.specs.Refused.{check_fault};
-ghost use Rattle.trick_lang.specs.Syntax.{sdefine_of};
+ghost use Rattle.trick_lang.specs.SDefineOf.{sdefine_of};
 ghost use Rattle.trick_names.specs.Tables.{tables_of};
 
 use crate::CheckFault;

@@ -5,13 +5,14 @@ ghost use Rattle.trick_check.specs.Named.{IsNamed};
 ghost use Rattle.trick_check.specs.Parts.{AreOrders};
 ghost use Rattle.trick_check.specs.Refused.{IsRefused, JobsAreRight, NamesAreRight};
 ghost use Rattle.trick_check.specs.Walk.{all_made, jobs_named, objects_of, sizes_of};
-ghost use Rattle.trick_lang.specs.Syntax.{definitions_of, sdefine_of};
+ghost use Rattle.trick_lang.specs.SDefineOf.{sdefine_of};
+ghost use Rattle.trick_lang.specs.Syntax.{definitions_of};
 ghost use Rattle.trick_lang.specs.Valid.{are_short};
 ghost use Rattle.trick_names.specs.Tables.{tables_of};
 
 use crate::CheckFault;
 use crate::count::{Counted, count};
-use crate::draft::{Draft, is_tested, join};
+use crate::draft::{Draft, join};
 use crate::name::check_names;
 use crate::order::orders;
 use crate::step::check_steps;
@@ -125,31 +126,24 @@ fn draft_of(alloc: Memory, definitions: &[Definition], tables: &Tables) -> Resul
 }
 
 // The program of a file whose names are right.
-fn resolve_definitions(
-    alloc: Memory,
-    definitions: &[Definition],
-    tables: &Tables,
-) -> Result<Program, CheckFault>
-    requires tables { tables.now ≡ tables_of (definitions_of definitions.now) }
-    requires right { NamesAreRight (definitions_of definitions.now) }
-    ensures named { IfOk result (λ program. IsNamed (definitions_of definitions.now) program) }
-    ensures refused { IfErr result (λ fault. IsRefused (definitions_of definitions.now) fault) }
+fn resolve_named(alloc: Memory, sdef: &SDefine, tables: &Tables) -> Result<Program, CheckFault>
+    requires tables { tables.now ≡ tables_of (sdefine_of sdef.now) }
+    requires right { NamesAreRight (sdefine_of sdef.now) }
+    ensures named { IfOk result (λ program. IsNamed (sdefine_of sdef.now) program) }
+    ensures refused { IfErr result (λ fault. IsRefused (sdefine_of sdef.now) fault) }
 {
-    let draft = draft_of(alloc, definitions, tables)?;
-    match is_tested(alloc, &draft) {
-        Ok(true) => Ok(join(draft)),
-        Ok(false) | Err(_) => Err(CheckFault::OutOfMemory),
+    match draft_of(alloc, sdef.definitions.as_slice(), tables) {
+        Ok(draft) => Ok(join(draft)),
+        Err(fault) => Err(fault),
     }
 }
 
 /// The program that a file names, or the first refusal of the first kind that the file has
 /// (docs/FORMATS.md, 4.4 and 5.3). It takes time and memory as the text and the cells that there are.
-/// A file that no reader gives, with names that no text has or with times or threads out of their
-/// ranges, is refused as for want of memory.
 pub fn resolve(alloc: Memory, sdef: &SDefine) -> Result<Program, CheckFault>
     ensures named { IfOk result (λ program. IsNamed (sdefine_of sdef.now) program) }
     ensures refused { IfErr result (λ fault. IsRefused (sdefine_of sdef.now) fault) }
 {
     let tables = check_names(alloc, sdef)?;
-    resolve_definitions(alloc, sdef.definitions.as_slice(), &tables)
+    resolve_named(alloc, sdef, &tables)
 }

@@ -4,11 +4,14 @@ use Rattle.std.proofs.Math.Nat.{suc-mul}
 use Rattle.std.proofs.lemmas.List.{length-append, length-map}
 use Rattle.std.specs.List.{list_any}
 use Rattle.std.specs.Str.{bytes_eq}
+use Rattle.trick_declare.proofs.Apart.{all_of_both}
+use Rattle.trick_declare.proofs.Declared.{cells_of_plain}
 use Rattle.trick_declare.proofs.More.{lie_in_more, objects_stand_more}
 use Rattle.trick_declare.proofs.Names.{cell, neither, stay_apart}
 use Rattle.trick_declare.specs.Cells.{begins_with, cells_of, count_of, element, elements, full_names, is_taken, row_elements, total}
 use Rattle.trick_declare.specs.declared.declaration.Declaration.{Declaration}
-use Rattle.trick_lang.specs.Names.{are_apart, of_one_name}
+use Rattle.trick_lang.proofs.Plain.{spelled_plain}
+use Rattle.trick_lang.specs.Names.{are_apart, are_plain_cells, is_plain, is_spelled, of_one_name}
 use Rattle.trick_lang.specs.Valid.{lie_in, objects_stand}
 use Rattle.trick_lang.specs.declared.object.Object.{Object}
 use Rattle.trick_lang.specs.declared.program.Program.{Program}
@@ -40,6 +43,7 @@ length_cells d = length-map (full_names d.name d.lengths) (cell d.scalar) ∙ le
 -- what a program keeps of its cells
 pub record HasCells (p : Program) (cells : List Variable) : Type 0 where
   pub cell_names : are_apart of_one_name cells ≡ true
+  pub plain_cells : are_plain_cells cells ≡ true
   pub in_cells : lie_in (length cells) p.sizes p.blocks ≡ true
   pub object_cells : objects_stand (length cells) p.sizes p.objects ≡ true
   pub cell_limit : length cells ≤ 65536
@@ -47,9 +51,9 @@ pub record HasCells (p : Program) (cells : List Variable) : Type 0 where
 counted : (a count : ℕ) → min (a + count) (2 ^ 64 - 1) ≤ 65536 → a + count ≤ 65536
 counted a count h = omega (arith, h)
 
-pub kept : (p : Program) (d : Declaration) → is_taken d.name p.objects p.cells ≡ false → total d.lengths p.cells ≤ 65536
+pub kept : (p : Program) (d : Declaration) → is_spelled d.name ≡ true → is_taken d.name p.objects p.cells ≡ false → total d.lengths p.cells ≤ 65536
     → HasCells p (p.cells ++ cells_of d)
-kept p d free few =
+kept p d spelled free few =
     let fits : length p.cells + count_of d.lengths ≤ 65536 = counted (length p.cells) (count_of d.lengths) few in
     let size : length (p.cells ++ cells_of d) ≡ length p.cells + count_of d.lengths =
     length-append p.cells (cells_of d) ∙ ap (λ (n : ℕ). length p.cells + n) (length_cells d) in
@@ -57,6 +61,7 @@ kept p d free few =
     let parts = neither (list_any (λ (object : Object). bytes_eq object.name d.name) p.objects) (list_any (begins_with d.name) p.cells) free in
     record {
       cell_names = stay_apart p.cells d (omega (arith, fits)) parts.1 p.cell_names;
+      plain_cells = all_of_both (λ cell. is_plain cell.name) p.cells (cells_of d) p.plain_cells (cells_of_plain d (spelled_plain d.name spelled));
       in_cells = lie_in_more (length p.cells) (length (p.cells ++ cells_of d)) more p.sizes p.blocks p.in_cells;
       object_cells = objects_stand_more (length p.cells) (length (p.cells ++ cells_of d)) more p.sizes p.objects p.object_cells;
       cell_limit = omega (arith, size, fits);
@@ -65,6 +70,7 @@ kept p d free few =
 pub own : (p : Program) → HasCells p p.cells
 own p = record {
   cell_names = p.cell_names;
+  plain_cells = p.plain_cells;
   in_cells = p.in_cells;
   object_cells = p.object_cells;
   cell_limit = p.cell_limit;

@@ -4,6 +4,8 @@ pub mod Apart
 pub mod Names
 -- What holds of places in so many cells holds in more.
 pub mod More
+-- What a text declares has a name that is spelled, and cells with plain names.
+pub mod Declared
 -- What a program keeps with the cells of a declaration.
 pub mod Kept
 -- What a plan keeps with more cells.

@@ -1,20 +1,20 @@
 -- What a plan keeps with more cells.
-use Rattle.std.proofs.Common.{◌≡◌, ◌∙◌, ◌+◌, ◌<◌, ◌≤◌, ◌++◌, ◌∷◌, [], ℕ, zero, suc, ℤ, List, Bool, true, false, ◌&&◌, not, nat_lt, nat_le, Option, Some, None, is_some, IsTrue, All, length, map, slice_index_or, refl, sym, ap, subst, arith, append-nil}
+use Rattle.std.proofs.Common.{◌≡◌, ◌∙◌, ◌+◌, ◌<◌, ◌≤◌, ◌++◌, ◌∷◌, [], ℕ, zero, suc, ℤ, List, true, ◌&&◌, not, nat_lt, nat_le, Option, Some, None, IsTrue, All, length, map, slice_index_or, refl, sym, ap, subst, arith, append-nil}
 use Rattle.std.proofs.lemmas.Bool.Decides.{nat_tests}
 use Rattle.std.proofs.lemmas.Bool.{and_parts}
-use Rattle.std.specs.Str.{bytes_eq}
+use Rattle.std.proofs.lemmas.List.{length-append}
 use Rattle.trick_declare.proofs.Apart.{both}
 use Rattle.trick_lang.specs.Effect.{scalars_of}
 use Rattle.trick_lang.specs.Tree.{Term, Number, Local, Cell, Prefixed, Chain, Choose, Links, NoLink, Link, Choices, Last, Choice, Spot, spot}
 use Rattle.trick_lang.specs.TreeOf.{term_of}
-use Rattle.trick_lang.specs.Wrap.{IsInRange, IsOf, scalar_at}
+use Rattle.trick_lang.specs.Wrap.{IsOf, scalar_at}
 use Rattle.trick_lang.specs.declared.cells.Cell.{Cell as CellNumber}
 use Rattle.trick_lang.specs.declared.job.Job.{Job}
 use Rattle.trick_lang.specs.declared.scalar.Scalar.{Scalar}
 use Rattle.trick_lang.specs.declared.tree.Expr.{Expr}
 use Rattle.trick_lang.specs.declared.variable.Variable.{Variable}
 use Rattle.trick_model.specs.Condition.{are_all_conditions, are_conditions, has_no_step, is_condition, is_condition_of, is_plain_place, is_safe}
-use Rattle.trick_model.specs.Names.{Names, SetEvent, SetGroup, SetJob, deed_of, find_job, find_name, on_found, one_more, set_in_range}
+use Rattle.trick_model.specs.Names.{Names}
 use Rattle.trick_lang.specs.Names.{job_name}
 use Rattle.trick_lang.specs.declared.method.Method.{Method}
 use Rattle.trick_lang.specs.declared.object.Object.{Object}
@@ -25,46 +25,14 @@ use Rattle.trick_declare.specs.Grammar.{Declares}
 use Rattle.trick_declare.specs.declared.declaration.Declaration.{Declaration}
 use Rattle.trick_declare.specs.declared.fault.DeclareFault.{DeclareFault}
 use Rattle.trick_declare.specs.declared.fault.DeclareFault.TheVariants as fault
-use Rattle.trick_model.specs.Valid.{AreDoable, IsAssignment, IsCell, IsDoable, cell_names, names_in}
+use Rattle.trick_model.specs.Valid.{AreDeedsAmong, IsAssignment, IsCell, IsDeedAmong, cell_names, names_in}
 use Rattle.trick_model.specs.declared.event.Event.{Event}
 use Rattle.trick_model.specs.declared.group.Group.{Group}
 use Rattle.trick_model.specs.declared.read_at.ReadAt.{ReadAt}
-use Rattle.trick_model.specs.declared.action.Action.{Action}
-use Rattle.trick_model.specs.declared.action.Action.TheVariants as action
+use Rattle.trick_model.specs.declared.deed.Deed.{Deed}
+use Rattle.trick_model.specs.declared.deed.Deed.TheVariants.{SetCell, SetJob, Freeze, Stop, Checkpoint, SetGroup, SetEvent}
 
 -- ---- names
-
-found_more : (name : List ℕ) (names more : List (List ℕ)) (k : ℕ) → find_name name names ≡ Some k → find_name name (names ++ more) ≡ Some k
-found_more name [] more k h = cc h
-found_more name (other ∷ others) more k h = by (bytes_eq name other) refl k h (found_more name others more)
-  where
-    from : List (List ℕ) → Bool → Option ℕ
-    from rest b = elim b [ true ↦ Some 0 | false ↦ one_more (find_name name rest) ]
-
-    by : (b : Bool) → bytes_eq name other ≡ b → (k : ℕ) → find_name name (other ∷ others) ≡ Some k
-        → ((j : ℕ) → find_name name others ≡ Some j → find_name name (others ++ more) ≡ Some j) → find_name name ((other ∷ others) ++ more) ≡ Some k
-    by true s k h rest = ap (from (others ++ more)) s ∙ (sym (ap (from others) s) ∙ h)
-    by false s k h rest = ap (from (others ++ more)) s ∙ behind (find_name name others) refl (sym (ap (from others) s) ∙ h)
-      where
-        behind : (o : Option ℕ) → find_name name others ≡ o → one_more o ≡ Some k → one_more (find_name name (others ++ more)) ≡ Some k
-        behind None e i = cc i
-        behind (Some j) e i = ap one_more (rest j e) ∙ i
-
-found_there : (name : List ℕ) (names : List (List ℕ)) (k : ℕ) → find_name name names ≡ Some k → k < length names
-found_there name [] k h = cc h
-found_there name (other ∷ others) zero h = omega arith
-found_there name (other ∷ others) (suc k) h = by (bytes_eq name other) refl (found_there name others k)
-  where
-    from : Bool → Option ℕ
-    from b = elim b [ true ↦ Some 0 | false ↦ one_more (find_name name others) ]
-
-    by : (b : Bool) → bytes_eq name other ≡ b → (find_name name others ≡ Some k → k < length others) → suc k < length (other ∷ others)
-    by true s rest = let no = sym (ap from s) ∙ h in cc no
-    by false s rest = behind (find_name name others) refl (sym (ap from s) ∙ h)
-      where
-        behind : (o : Option ℕ) → find_name name others ≡ o → one_more o ≡ Some (suc k) → suc k < length (other ∷ others)
-        behind None e i = cc i
-        behind (Some j) e i = let there = rest (e ∙ cc i) in omega (arith, there)
 
 scalar_stays : (scalars more : List Scalar) (k : ℕ) → k < length scalars → scalar_at (scalars ++ more) k ≡ scalar_at scalars k
 scalar_stays [] more k there = absurd (omega (arith, there))
@@ -83,31 +51,20 @@ pub record HasMore (old new : Names) : Type 0 where
   pub groups : new.groups ≡ old.groups
   pub events : new.events ≡ old.events
 
-set_more : (scalars more : List Scalar) (number : ℤ) (o p : Option ℕ) → ((k : ℕ) → o ≡ Some k → (p ≡ Some k) × (k < length scalars))
-    → IsTrue (is_some (set_in_range scalars number o)) → IsTrue (is_some (set_in_range (scalars ++ more) number p))
-set_more scalars more number None p found h = cc h
-set_more scalars more number (Some k) p found h =
-    let there = found k refl in
-    subst (λ (q : Option ℕ). IsTrue (is_some (set_in_range (scalars ++ more) number q))) (sym there.0)
-    (subst (λ (s : Scalar). IsTrue (is_some (elim (Rattle.std.specs.Ordering.int_eq (Rattle.trick_lang.specs.Wrap.wrap s number) number) [ true ↦ Some (Rattle.trick_model.specs.Names.SetCell k number) | false ↦ None ])))
-    (sym (scalar_stays scalars more k there.1)) h)
-
--- what can be done can be done with more cells
-pub doable_more : (old new : Names) → HasMore old new → (a : Action) → IsDoable old a → IsDoable new a
-doable_more old new more (action.SetCell name number) h =
-    subst (λ (scalars : List Scalar). IsTrue (is_some (set_in_range scalars number (find_name name new.cells)))) (sym more.types)
-    (set_more old.scalars more.scalars number (find_name name old.cells) (find_name name new.cells)
-    (λ k e. (ap (find_name name) more.cells ∙ found_more name old.cells more.names k e, subst (λ (n : ℕ). k < n) more.as_many (found_there name old.cells k e))) h)
-doable_more old new more (action.SetJob name instance on) h =
-    subst (λ (names : List (List ℕ)). IsTrue (is_some (on_found (λ k. SetJob k on) (find_job name instance names new.jobs)))) (sym more.job_names)
-    (subst (λ (jobs : List Job). IsTrue (is_some (on_found (λ k. SetJob k on) (find_job name instance old.job_names jobs)))) (sym more.jobs) h)
-doable_more old new more action.Freeze h = h
-doable_more old new more (action.Stop at) h = h
-doable_more old new more action.Checkpoint h = h
-doable_more old new more (action.SetGroup name on) h =
-    subst (λ (names : List (List ℕ)). IsTrue (is_some (on_found (λ k. SetGroup k on) (find_name name names)))) (sym more.groups) h
-doable_more old new more (action.SetEvent name on) h =
-    subst (λ (names : List (List ℕ)). IsTrue (is_some (on_found (λ k. SetEvent k on) (find_name name names)))) (sym more.events) h
+-- a deed about some names is about them with more cells
+pub among_more : (old new : Names) → HasMore old new → (deed : Deed) → IsDeedAmong old deed → IsDeedAmong new deed
+among_more old new more (SetCell cell number) h = (
+  subst (λ (names : List (List ℕ)). cell.0 < length names) (sym more.cells) (let larger = length-append old.cells more.names in let there = h.0 in omega (arith, there, larger)),
+  subst (λ (s : Scalar). IsOf s number)
+      (sym (ap (λ (scalars : List Scalar). scalar_at scalars cell.0) more.types
+      ∙ scalar_stays old.scalars more.scalars cell.0 (subst (λ (n : ℕ). cell.0 < n) more.as_many h.0))) h.1,
+)
+among_more old new more (SetJob job on) h = subst (λ (jobs : List Job). job.0 < length jobs) (sym more.jobs) h
+among_more old new more Freeze h = tt
+among_more old new more (Stop at) h = h
+among_more old new more Checkpoint h = tt
+among_more old new more (SetGroup group on) h = subst (λ (names : List (List ℕ)). group < length names) (sym more.groups) h
+among_more old new more (SetEvent event on) h = subst (λ (names : List (List ℕ)). event < length names) (sym more.events) h
 
 -- ---- conditions
 
@@ -212,8 +169,8 @@ names_more old new more groups events cells rest = record {
 pub record KeepsNames (p : Program) (groups : List Group) (events : List Event) (reads : List ReadAt) (assigns : List (CellNumber × ℤ)) : Type 0 where
   pub group_cells : All (λ (group : Group). All (IsCell (length p.cells)) group.cells) groups
   pub assigns_right : All (IsAssignment p.cells) assigns
-  pub event_actions : All (AreDoable (names_in p groups events)) events
-  pub read_actions : All (λ (read : ReadAt). All (IsDoable (names_in p groups events)) read.actions) reads
+  pub event_actions : All (λ (event : Event). AreDeedsAmong (names_in p groups events) event.actions) events
+  pub read_actions : All (λ (read : ReadAt). All (IsDeedAmong (names_in p groups events)) read.actions) reads
   pub conditions_right : All (λ (event : Event). IsTrue (is_condition_of (length p.cells) event.condition)) events
 
 pub names_kept : (old new : Program) (more : List Variable) (groups : List Group) (events : List Event) (reads : List ReadAt) (assigns : List (CellNumber × ℤ))
@@ -224,8 +181,8 @@ names_kept old new more groups events reads assigns cells rest h =
     record {
       group_cells = λ k d there j e fits. let was = h.group_cells k d there j e fits in omega (arith, was, larger);
       assigns_right = λ k d there. subst (λ (cs : List Variable). IsAssignment cs (slice_index_or assigns k d)) (sym cells) (assignment_more old.cells more (slice_index_or assigns k d) (h.assigns_right k d there));
-      event_actions = λ k d there j e inside i f fits. doable_more (names_in old groups events) (names_in new groups events) names (slice_index_or (slice_index_or (slice_index_or {A = Event} events k d).actions j e).1 i f) (h.event_actions k d there j e inside i f fits);
-      read_actions = λ k d there j e inside. doable_more (names_in old groups events) (names_in new groups events) names (slice_index_or (slice_index_or {A = ReadAt} reads k d).actions j e) (h.read_actions k d there j e inside);
+      event_actions = λ k d there j e inside i f fits. among_more (names_in old groups events) (names_in new groups events) names (slice_index_or (slice_index_or (slice_index_or {A = Event} events k d).actions j e).1 i f) (h.event_actions k d there j e inside i f fits);
+      read_actions = λ k d there j e inside. among_more (names_in old groups events) (names_in new groups events) names (slice_index_or (slice_index_or {A = ReadAt} reads k d).actions j e) (h.read_actions k d there j e inside);
       conditions_right = λ k d there. condition_of_more (length old.cells) (length new.cells) larger (slice_index_or events k d).condition (h.conditions_right k d there);
     }
 

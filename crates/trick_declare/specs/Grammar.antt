@@ -7,6 +7,7 @@ use Rattle.trick_body.specs.Symbols.{Token, number_of}
 use Rattle.trick_body.specs.declared.symbol.Symbol.{Symbol}
 use Rattle.trick_body.specs.declared.symbol.Symbol.TheVariants as the
 use Rattle.trick_declare.specs.declared.declaration.Declaration.{Declaration}
+use Rattle.trick_declare.specs.declared.spelled.SpelledDeclaration.{SpelledDeclaration}
 use Rattle.trick_grammar.specs.Gives.{class_of}
 use Rattle.trick_grammar.specs.Grammar.{act, one, optional, token, ◌⨾◌}
 use Rattle.trick_grammar.specs.Reading.{Refused}
@@ -45,6 +46,11 @@ read_or_none (Err refused) = None
 -- the declaration that these are all the tokens of
 abbrev pub declaration_of : List ℕ → List cut.Token → Option Declaration
 declaration_of text ts = read_or_none (read_all number_of class_of (declaration text) (lexemes_of text ts))
+
+-- the declaration that a text has
+abbrev pub declaration_in : Option SpelledDeclaration → Option Declaration
+declaration_in None = None
+declaration_in (Some known) = Some known.declaration
 
 -- What a text declares: what its tokens are the declaration of, where it has tokens. It is cut in the style of
 -- commands.

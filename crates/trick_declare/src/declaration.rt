@@ -1,12 +1,14 @@
-ghost use Rattle.std.specs.Prelude.{◌≡◌, All, IfOk, None, Some, [], List, ℕ};
+ghost use Rattle.std.specs.Prelude.{◌≡◌, IfOk, None, Some, [], List, ℕ};
 ghost use Rattle.trick_body.specs.Lexemes.{lexemes_of};
 ghost use Rattle.trick_body.specs.Symbols.{number_of};
-ghost use Rattle.trick_declare.specs.Grammar.{declaration, declaration_of, length, lengths, read_or_none};
+ghost use Rattle.trick_declare.specs.Grammar.{declaration, declaration_in, declaration_of, length, lengths, read_or_none};
 ghost use Rattle.trick_grammar.specs.Gives.{Gives, class_of};
 ghost use Rattle.trick_grammar.specs.Reading.{read};
 ghost use Rattle.trick_grammar.specs.Text.{read_all};
-ghost use Rattle.trick_text.specs.Tokens.{ReadsAsToken};
+ghost use Rattle.trick_text.specs.Tokens.{AreAllTokens};
+ghost use Rattle.trick_text.specs.declared.token.Style.TheVariants.{Command};
 
+use crate::SpelledDeclaration;
 use std::alloc::{AllocError, Global};
 use trick_base::{Items, Word};
 use trick_body::{NAMES, Symbol, Token, lexemes, name_of, read_basic};
@@ -94,18 +96,34 @@ fn read_all(alloc: Global, text: &[u8], tokens: &[Token]) -> Result<Option<Decla
     }
 }
 
-impl Declaration {
-    ghost use Rattle.trick_declare.specs.Grammar.{Declares};
+// What all tokens of a text declare.
+fn declaration_of(
+    alloc: Global,
+    text: &[u8],
+    tokens: &[trick_text::Token],
+) -> Result<Option<SpelledDeclaration>, AllocError>
+    requires { AreAllTokens Command text.now tokens.now }
+    ensures { IfOk result (λ known. declaration_in known ≡ declaration_of text.now tokens.now) }
+{
+    trick_text::laws::all_are_tokens();
+    let found = lexemes(alloc, text, tokens)?;
+    match read_all(alloc, text, &found)? {
+        Some(declaration) => Ok(Some(SpelledDeclaration { declaration })),
+        None => Ok(None),
+    }
+}
+
+impl SpelledDeclaration {
+    ghost use Rattle.trick_declare.specs.Grammar.{Declares, declaration_in};
 
     /// What a text declares: a type, a name, and up to two lengths in brackets, as `int spare[2]`.
     /// `None` where it is no declaration. FORMATS.md has its form.
-    pub fn read(alloc: Global, text: &[u8]) -> Result<Option<Declaration>, AllocError>
-        ensures { IfOk result (λ declared. Declares text.now declared) }
+    pub fn read(alloc: Global, text: &[u8]) -> Result<Option<SpelledDeclaration>, AllocError>
+        ensures { IfOk result (λ known. Declares text.now (declaration_in known)) }
     {
         trick_text::laws::refused_has_none();
-        trick_text::laws::all_are_tokens();
         match tokens(alloc, text, Style::Command) {
-            Ok(found) => read_all(alloc, text, &lexemes(alloc, text, &found)?),
+            Ok(found) => declaration_of(alloc, text, &found),
             Err(TextFault::OutOfMemory) => Err(AllocError),
             Err(_) => Ok(None),
         }

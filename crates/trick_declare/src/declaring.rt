@@ -2,7 +2,7 @@ ghost use Rattle.std.specs.Prelude.{◌≡◌, ◌++◌, Some, false, is_ok, if�
 ghost use Rattle.trick_declare.specs.Cells.{Adds, DeclaresIn, KeepsPlan, KeepsRest, added, is_taken};
 
 use crate::cells::{cells_of, total};
-use crate::{Declaration, DeclareFault, is_taken};
+use crate::{DeclareFault, SpelledDeclaration, is_taken};
 use std::alloc::{AllocError, Global};
 use std::mem;
 use trick_base::{CELL_LIMIT, Items};
@@ -24,13 +24,14 @@ fn append(alloc: Global, cells: &mut Items<Variable>, more: Vec<Variable>) -> Re
 pub fn add(
     alloc: Global,
     program: &mut Program,
-    declaration: &Declaration,
+    known: &SpelledDeclaration,
 ) -> Result<(), DeclareFault>
-    requires free { is_taken declaration.now.name program.old.objects program.old.cells ≡ false }
-    ensures cells { Adds (added program.old.objects program.old.cells (Some declaration.now)) result
+    requires free { is_taken known.now.declaration.name program.old.objects program.old.cells ≡ false }
+    ensures cells { Adds (added program.old.objects program.old.cells (Some known.now.declaration)) result
         program.old.cells program.new.cells }
     ensures rest { KeepsRest program.old program.new }
 {
+    let declaration = &known.declaration;
     let count = total(declaration.lengths.as_slice(), program.cells.as_slice());
     if count > CELL_LIMIT {
         return Err(DeclareFault::TooManyCells { count });
@@ -47,13 +48,13 @@ pub fn declare(alloc: Global, plan: &mut Plan, text: &[u8]) -> Result<(), Declar
     ensures cells { DeclaresIn text.now result plan.old.program plan.new.program }
     ensures rest { KeepsPlan plan.old plan.new }
 {
-    let Some(declaration) = Declaration::read(alloc, text)? else {
+    let Some(known) = SpelledDeclaration::read(alloc, text)? else {
         return Err(DeclareFault::BadDeclaration);
     };
     let program = &mut plan.program;
     let (objects, cells) = (program.objects.as_slice(), program.cells.as_slice());
-    if is_taken(declaration.name.as_slice(), objects, cells) {
+    if is_taken(known.declaration.name.as_slice(), objects, cells) {
         return Err(DeclareFault::Taken);
     }
-    add(alloc, program, &declaration)
+    add(alloc, program, &known)
 }

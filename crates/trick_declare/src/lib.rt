@@ -7,9 +7,11 @@ mod declaration;
 mod declaring;
 mod fault;
 pub mod laws;
+mod spelled;
 mod taken;
 
 pub use declaration::Declaration;
 pub use declaring::{add, declare};
 pub use fault::DeclareFault;
+pub use spelled::SpelledDeclaration;
 pub use taken::{first_name, is_taken};

@@ -236,12 +236,14 @@ fn ranges_of(all: &[Items<CellRange>], job: JobId) -> &[CellRange]
     }
 }
 
+// The job of a bench that is filled.
 fn job_of(job: Option<JobId>) -> JobId
+    requires filled { job ≡ Some (the_job job) }
     ensures { result ≡ the_job job }
 {
     match job {
         Some(job) => job,
-        None => JobId(0),
+        None => unreachable!(),
     }
 }
 

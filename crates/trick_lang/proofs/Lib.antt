@@ -7,6 +7,7 @@ pub mod Inside
 pub mod Lists
 pub mod Overwrites
 pub mod Places
+pub mod Plain
 pub mod Stores
 pub mod SyntaxLists
 pub mod Tests

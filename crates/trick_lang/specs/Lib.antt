@@ -4,6 +4,14 @@ pub mod Wrap
 pub mod SyntaxTree
 -- The tree of the text that a value of the code holds.
 pub mod Syntax
+-- Tests of the parts of an S_define, and whether its tree passes them.
+pub mod PartTests
+-- Where the loops of bodies end.
+pub mod Loops
+-- What the reader of an S_define knows of its tree.
+pub mod Facts
+-- The tree of an S_define.
+pub mod SDefineOf
 -- What a program holds: resolved trees, in numbered blocks.
 pub mod Tree
 -- The tree that a value of the code holds.

@@ -12,7 +12,6 @@ use Rattle.trick_lang.specs.declared.syntax.definition.EnumItem.{EnumItem}
 use Rattle.trick_lang.specs.declared.syntax.definition.JobLine.{JobLine}
 use Rattle.trick_lang.specs.declared.syntax.definition.Members.{Members}
 use Rattle.trick_lang.specs.declared.syntax.definition.Method.{Method}
-use Rattle.trick_lang.specs.declared.syntax.definition.SDefine.{SDefine}
 use Rattle.trick_lang.specs.declared.syntax.expression.Choice.{Choice}
 use Rattle.trick_lang.specs.declared.syntax.expression.Expr.{Expr, Whole, Truth, Named', Prefixed', Chain', Choose', Row_of-Link, end_of-Link, more_of-Link, Row_of-Choice, end_of-Choice, more_of-Choice, Row_of-Part, end_of-Part, more_of-Part}
 use Rattle.trick_lang.specs.declared.syntax.expression.Link.{Link}
@@ -173,6 +172,3 @@ definition_of (Object line class name) = SyntaxTree.Object line class name
 abbrev pub definitions_of : List Definition → SyntaxTree.SDefine
 definitions_of [] = []
 definitions_of (d ∷ ds) = definition_of d ∷ definitions_of ds
-
-abbrev pub sdefine_of : SDefine → SyntaxTree.SDefine
-sdefine_of s = definitions_of s.definitions

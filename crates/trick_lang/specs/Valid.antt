@@ -160,6 +160,10 @@ have_right_times = list_all (λ job. has_right_times job.class job)
 abbrev pub have_right_threads : List Job → Bool
 have_right_threads = list_all (λ job. nat_le job.thread 15)
 
+-- an instance is at most 512, as no more jobs are there
+abbrev pub have_right_instances : List Job → Bool
+have_right_instances = list_all (λ job. nat_le job.instance 512)
+
 -- the block that a job runs: that of its method; a job or a method that is not there runs the number
 -- past the last block, which does nothing
 abbrev pub block_of : ℕ → Option Method → ℕ

@@ -1,8 +1,8 @@
 ghost use Rattle.std.specs.Prelude.{◌≤◌, IsTrue, length};
 ghost use Rattle.trick_lang.specs.Locals.{methods_know};
-ghost use Rattle.trick_lang.specs.Names.{are_apart, are_short_names, of_one_instance, of_one_name, of_one_number};
+ghost use Rattle.trick_lang.specs.Names.{are_apart, are_plain_cells, are_plain_names, are_short_names, of_one_instance, of_one_name, of_one_number};
 ghost use Rattle.trick_lang.specs.TreeOf.{codes_of};
-ghost use Rattle.trick_lang.specs.Valid.{are_deep, are_in_order, are_short, have_right_threads, have_right_times, jobs_stand, lie_in, methods_stand, objects_stand, run_own_class, stay_in_span};
+ghost use Rattle.trick_lang.specs.Valid.{are_deep, are_in_order, are_short, have_right_instances, have_right_threads, have_right_times, jobs_stand, lie_in, methods_stand, objects_stand, run_own_class, stay_in_span};
 
 use crate::{Block, EnumItem, Job, Method, Object, Variable};
 use trick_base::Items;
@@ -30,6 +30,9 @@ pub struct Program {
     pub ghost cell_names: { IsTrue (are_apart of_one_name cells) },
     // Names of objects, methods and enum items have at most 64 bytes.
     pub ghost short_names: { IsTrue (are_short_names objects methods items) },
+    // Full names of cells and names of objects and methods have neither a space nor a line feed.
+    pub ghost plain_cells: { IsTrue (are_plain_cells cells) },
+    pub ghost plain_names: { IsTrue (are_plain_names objects methods) },
     // A place stays in its span wherever its computed indexes lead.
     pub ghost in_span: { IsTrue (stay_in_span (codes_of blocks)) },
     // The span of a place lies in an object of its class, or in the memory.
@@ -53,6 +56,8 @@ pub struct Program {
     pub ghost job_numbers: { IsTrue (are_apart of_one_number jobs) },
     // No two jobs have one name and one instance.
     pub ghost job_names: { IsTrue (are_apart (of_one_instance objects methods) jobs) },
+    // An instance is at most 512.
+    pub ghost right_instances: { IsTrue (have_right_instances jobs) },
     // A scheduled job has a cycle from 1 and no time after the last tic; others have no times.
     pub ghost right_times: { IsTrue (have_right_times jobs) },
     // Threads go from 0 to 15.

@@ -8,7 +8,7 @@ use Rattle.std.specs.Prelude.{All, codes, cond, filter, ℤ, pos, ◌==◌}
 use Rattle.trick_load.proofs.JobTexts.{one_line, texts_apart}
 use Rattle.trick_load.specs.CheckpointLines.{Held, cells_of, checkpoint, flag_at, flag_line, flag_place, flags_of, group_of, groups_of, head_lines, held_behind, held_of, job_flags_of, last_line, last_of, memory_of, mode_at, mode_line, mode_place, mode_words, record_name, record_of, record_words, records_of, scope_cells, taken_by, taken_parts, thread_jobs}
 use Rattle.trick_load.specs.Faults.{fault_code, fault_line, faults_lines, faults_of, job_text, job_texts, kind_place, kind_word_at, kind_words, no_fault}
-use Rattle.trick_load.specs.Plain.{HasInstances, HasPlainNames}
+use Rattle.trick_load.proofs.Plain.{HasInstances, HasWords, instances_fit, names_are_words}
 use Rattle.trick_load.specs.Ranges.{name_at, range_at, range_of, ranges_at}
 use Rattle.trick_codes.proofs.IsSound.{end_line_sound, indexed_one_line, integer_line_sound, named_one_line, named_sound, none_or_one_line, none_or_sound, number_line_sound, number_one_line, numbered_sound, one_line-append, one_of_lines, row_one_line, row_sound, row_start, word_line_sound}
 use Rattle.trick_codes.proofs.Words.{prefix_free}
@@ -162,7 +162,7 @@ jobs_small plan thread = go (jobs_of plan.program.jobs thread) (kept_below (λ k
     go [] low = tt
     go (k ∷ ks) low = (low.0, go ks low.1)
 
-module _ (plan : Plan) (plain : HasPlainNames plan) (thread : Thread) (small : thread.number ≤ 15) where
+module _ (plan : Plan) (plain : HasWords plan) (thread : Thread) (small : thread.number ≤ 15) where
   name_one_line : is_one_line (record_name thread) ≡ true
   name_one_line = indexed_one_line (codes "taken") thread.number refl (omega arith)
 
@@ -199,12 +199,12 @@ module _ (plan : Plan) (plain : HasPlainNames plan) (thread : Thread) (small : t
     λ v h. record_back v.0 v.1 h.0.0.1 h.1,
   )
 
-records_all : (plan : Plan) → HasPlainNames plan → (threads : List Thread) → All (λ (thread : Thread). thread.number ≤ 15) threads → AllSound (record_of plan) threads
+records_all : (plan : Plan) → HasWords plan → (threads : List Thread) → All (λ (thread : Thread). thread.number ≤ 15) threads → AllSound (record_of plan) threads
 records_all plan plain [] small = tt
 records_all plan plain (thread ∷ threads) small =
     (record_sound plan plain thread (small 0 thread (omega arith)), records_all plan plain threads (λ k d lt. small (suc k) d (omega arith)))
 
-records_sound : (plan : Plan) → HasPlainNames plan → SoundLines (records_of plan)
+records_sound : (plan : Plan) → HasWords plan → SoundLines (records_of plan)
 unfolding records_of
 records_sound plan plain =
     each_sound nothing_taken (record_of plan) (threads_beside (plan_of plan))
@@ -264,7 +264,7 @@ faults_sound (text ∷ texts) apart lines = (
 )
 
 -- ---- the whole
-texts_one_line : (plan : Plan) → HasPlainNames plan → (jobs : List Job) → All (λ (job : Job). job.instance ≤ 4294967295) jobs
+texts_one_line : (plan : Plan) → HasWords plan → (jobs : List Job) → All (λ (job : Job). job.instance ≤ 4294967295) jobs
     → (i : ℕ) → is_one_line (get_or (map (λ (job : Job). job_text (job_name plan.program.objects plan.program.methods job) job.instance) jobs) i []) ≡ true
 texts_one_line plan plain [] small i = refl
 texts_one_line plan plain (job ∷ jobs) small zero = one_line plan plain job (small 0 job (omega arith))
@@ -274,9 +274,9 @@ zip_back : {A B : Type 0} (xs : List (A × B)) → zip (map (λ (x : A × B). x.
 zip_back [] = refl
 zip_back {A} {B} (x ∷ xs) = ap (λ (ys : List (A × B)). x ∷ ys) (zip_back xs)
 
-pub checkpoint_sound : (plan : Plan) → HasPlainNames plan → HasInstances plan → SoundLines (checkpoint plan)
+checkpoint_by : (plan : Plan) → HasWords plan → HasInstances plan → SoundLines (checkpoint plan)
 unfolding checkpoint memory_of
-checkpoint_sound plan plain small = (
+checkpoint_by plan plain small = (
   (
     head_sound,
     λ head h. (
@@ -298,3 +298,6 @@ checkpoint_sound plan plain small = (
   ),
   λ v h. ap (λ (gs : List (Bool × Option (List ℤ))). (v.0, (v.1.0, (v.1.1.0, (v.1.1.1.0, (gs, v.1.1.1.1.1)))))) (zip_back v.1.1.1.1.0),
 )
+
+pub checkpoint_sound : (plan : Plan) → SoundLines (checkpoint plan)
+checkpoint_sound plan = checkpoint_by plan (names_are_words plan) (instances_fit plan)

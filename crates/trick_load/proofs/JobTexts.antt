@@ -7,7 +7,7 @@ use Rattle.std.specs.Fmt.{decimal}
 use Rattle.std.specs.List.{list_all}
 use Rattle.std.specs.Prelude.{nat_eq, codes, slice_get}
 use Rattle.trick_load.specs.Faults.{job_text, job_texts}
-use Rattle.trick_load.specs.Plain.{is_plain, HasInstances, HasPlainNames}
+use Rattle.trick_load.proofs.Plain.{HasInstances, HasWords, is_word}
 use Rattle.trick_codes.proofs.Codes.{back}
 use Rattle.trick_codes.proofs.IsSound.{one_line-append, number_one_line}
 use Rattle.trick_codes.specs.Code.{Code, ArePrefixFree, Fits, Sound, Told, free, is_free, largest, number, read, sequence}
@@ -28,18 +28,18 @@ free-append end (u ∷ us) vs h k = go (nat_eq u end) h (free-append end us vs)
     go true h others = h
     go false h others = others h k
 
-plain-append : (us vs : List ℕ) → is_plain us ≡ true → is_plain vs ≡ true → is_plain (us ++ vs) ≡ true
-plain-append us vs h k =
+word-append : (us vs : List ℕ) → is_word us ≡ true → is_word vs ≡ true → is_word (us ++ vs) ≡ true
+word-append us vs h k =
     let p = and_parts _ _ h in
     let q = and_parts _ _ k in
     and_from _ _ (free-append 32 us vs p.0 q.0) (one_line-append us vs p.1 q.1)
 
-plain_object : (objects : List Object) → list_all (λ (o : Object). is_plain o.name) objects ≡ true → (k : ℕ) → is_plain (object_name (slice_get objects k)) ≡ true
+plain_object : (objects : List Object) → list_all (λ (o : Object). is_word o.name) objects ≡ true → (k : ℕ) → is_word (object_name (slice_get objects k)) ≡ true
 plain_object [] h k = refl
 plain_object (o ∷ objects) h zero = (and_parts _ _ h).0
 plain_object (o ∷ objects) h (suc k) = plain_object objects (and_parts _ _ h).1 k
 
-plain_method : (methods : List Method) → list_all (λ (m : Method). is_plain m.name) methods ≡ true → (k : ℕ) → is_plain (method_name (slice_get methods k)) ≡ true
+plain_method : (methods : List Method) → list_all (λ (m : Method). is_word m.name) methods ≡ true → (k : ℕ) → is_word (method_name (slice_get methods k)) ≡ true
 plain_method [] h k = refl
 plain_method (m ∷ methods) h zero = (and_parts _ _ h).0
 plain_method (m ∷ methods) h (suc k) = plain_method methods (and_parts _ _ h).1 k
@@ -53,15 +53,15 @@ abbrev number_told : Told (List ℕ × ℕ) → ℕ
 number_told (Ok x) = x.0.1
 number_told (Err e) = 0
 
-module _ (plan : Plan) (plain : HasPlainNames plan) where
+module _ (plan : Plan) (plain : HasWords plan) where
   abbrev name_of : Job → List ℕ
   name_of job = job_name plan.program.objects plan.program.methods job
 
-  plain_name : (job : Job) → is_plain (name_of job) ≡ true
+  plain_name : (job : Job) → is_word (name_of job) ≡ true
   plain_name job =
-      plain-append (object_name (slice_get plan.program.objects job.object)) (dot ∷ method_name (slice_get plan.program.methods job.method))
+      word-append (object_name (slice_get plan.program.objects job.object)) (dot ∷ method_name (slice_get plan.program.methods job.method))
       (plain_object plan.program.objects plain.objects job.object)
-      (plain-append (dot ∷ []) (method_name (slice_get plan.program.methods job.method)) refl (plain_method plan.program.methods plain.methods job.method))
+      (word-append (dot ∷ []) (method_name (slice_get plan.program.methods job.method)) refl (plain_method plan.program.methods plain.methods job.method))
 
   -- each text is of one line
   pub one_line : (job : Job) → job.instance ≤ 4294967295 → is_one_line (job_text (name_of job) job.instance) ≡ true
@@ -116,7 +116,7 @@ pub length_map : {X Y : Type 0} (f : X → Y) (xs : List X) → length (map f xs
 length_map f [] = refl
 length_map f (x ∷ xs) = ap suc (length_map f xs)
 
-pub texts_apart : (plan : Plan) → HasPlainNames plan → HasInstances plan → ArePrefixFree (job_texts plan)
+pub texts_apart : (plan : Plan) → HasWords plan → HasInstances plan → ArePrefixFree (job_texts plan)
 texts_apart plan plain small i j lt le more e =
     let jobs = plan.program.jobs in
     let text = λ (job : Job). job_text (job_name plan.program.objects plan.program.methods job) job.instance in

@@ -1,3 +1,5 @@
+-- the names of a plan are words of lines
+pub mod Plain
 -- a fault names one job
 pub mod JobTexts
 -- the lines of the checkpoints of a plan are sound

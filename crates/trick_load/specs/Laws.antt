@@ -1,7 +1,6 @@
 -- Laws of checkpoints.
 use Rattle.std.specs.Prelude.{◌≡◌, ℕ, List, [], ◌++◌}
 use Rattle.trick_load.specs.CheckpointLines.{checkpoint}
-use Rattle.trick_load.specs.Plain.{HasInstances, HasPlainNames}
 use Rattle.trick_codes.specs.Lines.{Holds, text}
 use Rattle.trick_model.specs.Checkpoint.{checkpoint_text}
 use Rattle.trick_model.specs.PlanOf.{plan_of}
@@ -11,7 +10,7 @@ use Rattle.trick_model.specs.declared.plan.Plan.{Plan}
 -- No checkpoint of a plan is a proper prefix of another, and each is of one state.
 abbrev pub NoPrefix : Type 0
 NoPrefix =
-    (plan : Plan) (s t : State) (more : List ℕ) → HasPlainNames plan → HasInstances plan → Holds (checkpoint plan) s
+    (plan : Plan) (s t : State) (more : List ℕ) → Holds (checkpoint plan) s
     → Holds (checkpoint plan) t
     → checkpoint_text (plan_of plan) s ++ more ≡ checkpoint_text (plan_of plan) t → (s ≡ t) × (more ≡ [])
 

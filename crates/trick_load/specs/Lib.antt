@@ -8,7 +8,5 @@ pub mod Faults
 pub mod Fields
 -- the checkpoints of a plan as a file of lines
 pub mod CheckpointLines
--- plain names
-pub mod Plain
 -- laws of checkpoints
 pub mod Laws

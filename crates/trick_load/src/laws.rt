@@ -1,5 +1,5 @@
-//! Laws of checkpoints, for every plan whose names are plain, and all states. A function that calls one
-//! of them may rest on what it says; the call itself does nothing.
+//! Laws of checkpoints, for every plan and all states. A function that calls one of them may rest on what it
+//! says; the call itself does nothing.
 
 ghost use Rattle.trick_load.specs.Laws.{NoPrefix, OneText};
 

@@ -2,7 +2,6 @@
 
 ghost use Rattle.std.specs.Prelude.{◌≡◌, IfOk};
 ghost use Rattle.trick_load.specs.CheckpointLines.{checkpoint, head_lines, mode_at, mode_line};
-ghost use Rattle.trick_load.specs.Plain.{HasInstances, HasPlainNames};
 ghost use Rattle.trick_codes.specs.Gives.{beside, Gives};
 ghost use Rattle.trick_codes.specs.Lines.{read_lines};
 ghost use Rattle.trick_codes.specs.Loads.{Loads};
@@ -114,8 +113,7 @@ pub fn load<M: Cells + Drop>(
     into: M,
 ) -> Result<State<M>, LoadFault>
     requires { M.scalars into ≡ scalars_of plan.now.program.cells }
-    ensures loaded { HasPlainNames plan.now → HasInstances plan.now
-        → Loads (seen M.numbers) (checkpoint plan.now) text.now result }
+    ensures loaded { Loads (seen M.numbers) (checkpoint plan.now) text.now result }
     ensures scalars { IfOk result (λ state. M.scalars state.memory ≡ scalars_of plan.now.program.cells) }
 {
     whole(text, read_state(alloc, plan, into, text))

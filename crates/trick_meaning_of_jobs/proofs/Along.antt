@@ -31,7 +31,7 @@ use Rattle.trick_meaning_of_jobs.proofs.Known.{new_case, new_known, grows_with}
 use Rattle.trick_meaning_of_jobs.proofs.Lists.{append_none, has_push, stand_first}
 use Rattle.trick_meaning_of_jobs.proofs.Made.{Begin, begin_parts, blocks_below, codes_many, codes_with, has_made, parts_slots, slots_grow}
 use Rattle.trick_meaning_of_jobs.proofs.Parts.{AreNumbered}
-use Rattle.trick_sdef_facts.specs.Loops.{are_short_loops}
+use Rattle.trick_lang.specs.Loops.{are_short_loops}
 use Rattle.trick_names.specs.BodyMistakes as names
 use Rattle.trick_names.specs.BodyMistakes.{all_mistakes}
 use Rattle.trick_names.specs.Calls.{all_calls}

@@ -7,7 +7,7 @@ use Rattle.trick_meaning_kept.proofs.Values.{none_left, none_right}
 use Rattle.trick_meaning_kept.specs.Alike.{CanBranch, CanRun, CanRunAll}
 use Rattle.trick_meaning_of_jobs.proofs.Known.{Grow}
 use Rattle.trick_meaning_of_jobs.proofs.Lists.{all_in_two, both, none_both, two}
-use Rattle.trick_sdef_facts.specs.Loops.{branches_have_short_loops, has_short_loops, are_short_loops}
+use Rattle.trick_lang.specs.Loops.{branches_have_short_loops, has_short_loops, are_short_loops}
 use Rattle.trick_names.specs.BodyMistakes.{after, all_mistakes, astray, branch_mistakes, call_mistakes, change_mistakes, choice_mistakes, declared, ends, expression_mistakes, first_value_mistakes, line_of, link_mistakes, local_type_mistakes, loop_in, part_mistakes, path_mistakes, statement_mistakes, strays, type_mistakes, unless_fixed}
 use Rattle.trick_names.specs.Calls.{all_calls, branch_calls, method_of, statement_calls}
 use Rattle.trick_names.specs.Mistakes.{twice}

@@ -17,11 +17,11 @@ use Rattle.trick_names.specs.declared.tables.Member.{Member}
 use Rattle.trick_names.specs.declared.tables.Member.TheVariants.{Variable as Holds, Method}
 use Rattle.trick_names.specs.declared.tables.Shape.{Shape}
 use Rattle.trick_names.specs.declared.tables.Tables.{Tables}
-use Rattle.trick_sdef_facts.specs.Facts.{are_right_lengths, have_right_lengths}
-use Rattle.trick_sdef_facts.specs.Leaves.{Leaves, anything, declarator_passes, definition_passes, members_pass, part_passes, type_passes}
+use Rattle.trick_lang.specs.Facts.{are_right_lengths, have_right_lengths}
+use Rattle.trick_lang.specs.PartTests.{PartTests, anything, declarator_passes, definition_passes, members_pass, part_passes, type_passes}
 use Rattle.trick_text.specs.Numbers.{whole_limit}
 
-abbrev measured : Leaves
+abbrev measured : PartTests
 measured = record anything { lengths = are_right_lengths }
 
 lengths_full : (ls : List ℕ) → are_right_lengths ls ≡ true → has_elements (lengths_of ls) ≡ true

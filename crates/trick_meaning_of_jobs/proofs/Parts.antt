@@ -14,8 +14,8 @@ use Rattle.trick_meaning_kept.proofs.Values.{none_left, none_right}
 use Rattle.trick_meaning_of_jobs.proofs.Bodies.{all_none}
 use Rattle.trick_meaning_of_jobs.proofs.Known.{Grow, definitions_grow, name_same, new_case, new_known, part_grows, same_name, unknown_before}
 use Rattle.trick_meaning_of_jobs.proofs.Lists.{append_none, both, get_behind}
-use Rattle.trick_sdef_facts.specs.Facts.{have_short_loops}
-use Rattle.trick_sdef_facts.specs.Loops.{are_short_loops}
+use Rattle.trick_lang.specs.Facts.{have_short_loops}
+use Rattle.trick_lang.specs.Loops.{are_short_loops}
 use Rattle.trick_names.specs.BodyMistakes.{all_mistakes}
 use Rattle.trick_names.specs.Calls.{all_calls, class_calls}
 use Rattle.trick_names.specs.FileMistakes.{at_start, class_mistakes, declared_mistakes, definition_mistakes, definitions_mistakes, done_mistakes, mistakes, past}
@@ -32,7 +32,7 @@ use Rattle.trick_names.specs.declared.tables.Shape.{Shape}
 use Rattle.trick_names.specs.declared.tables.Tables.{Tables}
 use Rattle.trick_names.specs.declared.world.World.{World}
 use Rattle.trick_order.specs.Calls.{callees}
-use Rattle.trick_sdef_facts.specs.Leaves.{anything, definition_passes, part_passes}
+use Rattle.trick_lang.specs.PartTests.{anything, definition_passes, part_passes}
 
 -- ---- methods by number and by name
 

@@ -5,7 +5,7 @@ use Rattle.trick_check.specs.Named.{IsNamed}
 use Rattle.trick_lang.specs.Effect.{begun, effect, ran}
 use Rattle.trick_lang.specs.Names.{method_name, object_name}
 use Rattle.trick_lang.specs.Numbers.{and_then}
-use Rattle.trick_lang.specs.Syntax.{sdefine_of}
+use Rattle.trick_lang.specs.SDefineOf.{sdefine_of}
 use Rattle.trick_lang.specs.SyntaxTree.{Name, SDefine}
 use Rattle.trick_lang.specs.declared.fault.Stop.{Stop}
 use Rattle.trick_lang.specs.declared.job.Job.{Job}
@@ -20,7 +20,7 @@ use Rattle.trick_meaning_kept.specs.Alike.{HaveElements}
 use Rattle.trick_names.specs.Names.{meaning_of}
 use Rattle.trick_names.specs.Tables.{tables_of}
 use Rattle.trick_sdef.specs.Answers.{IsSDefine}
-use Rattle.trick_sdef_facts.specs.Facts.{have_short_loops}
+use Rattle.trick_lang.specs.Facts.{have_short_loops}
 
 -- ---- numbers by name
 

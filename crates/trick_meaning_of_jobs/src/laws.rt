@@ -9,7 +9,6 @@ use trick_lang::laws::{block_law, wrap_law};
 use trick_meaning_kept::laws::tables_keep;
 use trick_order::laws::one_order_law;
 use trick_places::laws::{object_law, place_law, tables_law};
-use trick_sdef_facts::laws::{bodies_are_right, numbers_are_right};
 
 /// What the block of a method does is what the method's text says.
 pub fn methods_keep()
@@ -37,10 +36,7 @@ pub fn effects_are_meant()
 /// No array of a text is without elements, and each loop ends at 1,000,000 at most.
 pub fn texts_are_readable()
     ensures { TextsAreReadable }
-{
-    numbers_are_right();
-    bodies_are_right();
-}
+{}
 
 /// So of each text the effect of each job is what the text says.
 pub fn texts_are_meant()

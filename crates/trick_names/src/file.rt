@@ -1,5 +1,6 @@
 ghost use Rattle.std.specs.Prelude.{◌≡◌, ◌≢◌, None, Some, IfErr, IfOk, OnOk};
-ghost use Rattle.trick_lang.specs.Syntax.{definition_of, definitions_of, sdefine_of};
+ghost use Rattle.trick_lang.specs.SDefineOf.{sdefine_of};
+ghost use Rattle.trick_lang.specs.Syntax.{definition_of, definitions_of};
 ghost use Rattle.trick_names.specs.FileMistakes.{definition_mistakes, definitions_mistakes, mistakes, unless_class};
 ghost use Rattle.trick_names.specs.Mistakes.{fault_of, noted, twice};
 ghost use Rattle.trick_names.specs.Tables.{behind_definition, members_in, names_behind, object_base, tables_of};

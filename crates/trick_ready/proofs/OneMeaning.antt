@@ -7,7 +7,7 @@ use Rattle.trick_check.specs.Refused.{IsRefused}
 use Rattle.trick_draft.specs.declared.draft.Draft.{Draft}
 use Rattle.trick_input.specs.declared.call.Call.{Call}
 use Rattle.trick_input.specs.declared.fault.InputFault.{InputFault}
-use Rattle.trick_lang.specs.Syntax.{sdefine_of}
+use Rattle.trick_lang.specs.SDefineOf.{sdefine_of}
 use Rattle.trick_lang.specs.SyntaxTree.{SDefine}
 use Rattle.trick_lang.specs.declared.program.Program.{Program}
 use Rattle.trick_lines.specs.Laws.{AnswersOne}

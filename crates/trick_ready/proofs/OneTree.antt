@@ -8,7 +8,7 @@ use Rattle.trick_grammar.specs.Cut.{IsFirst}
 use Rattle.trick_grammar.specs.Gives.{class_of}
 use Rattle.trick_grammar.specs.Reading.{Refused}
 use Rattle.trick_grammar.specs.Text.{IsRefusedAt, IsText, read_all}
-use Rattle.trick_lang.specs.Syntax.{sdefine_of}
+use Rattle.trick_lang.specs.SDefineOf.{sdefine_of}
 use Rattle.trick_lang.specs.SyntaxTree as tree
 use Rattle.trick_lang.specs.declared.syntax.definition.SDefine.{SDefine}
 use Rattle.trick_ready.proofs.Uncut.{cut_and_uncut, uncut_once}

@@ -8,7 +8,7 @@ use Rattle.trick_input.specs.Answers.{IsInput}
 use Rattle.trick_input.specs.declared.call.Call.{Call}
 use Rattle.trick_input.specs.declared.fault.InputFault.{InputFault}
 use Rattle.trick_input.specs.declared.fault.InputFault.TheVariants as reading
-use Rattle.trick_lang.specs.Syntax.{sdefine_of}
+use Rattle.trick_lang.specs.SDefineOf.{sdefine_of}
 use Rattle.trick_lang.specs.declared.program.Program.{Program}
 use Rattle.trick_lang.specs.declared.syntax.definition.SDefine.{SDefine}
 use Rattle.trick_lines.specs.declared.fault.JoinFault.{JoinFault}

@@ -3,7 +3,7 @@
 ghost use Rattle.std.specs.Prelude.{Err, IfErr, IfOk, List, Ok, ℕ};
 ghost use Rattle.trick_check.specs.Named.{IsNamed};
 ghost use Rattle.trick_check.specs.Refused.{IsRefused};
-ghost use Rattle.trick_lang.specs.Syntax.{sdefine_of};
+ghost use Rattle.trick_lang.specs.SDefineOf.{sdefine_of};
 ghost use Rattle.trick_ready.specs.Answers.{IsUnready};
 ghost use Rattle.trick_ready.specs.Texts.{HasProgram};
 ghost use Rattle.trick_sdef.specs.Answers.{IsSDefine};

@@ -5,7 +5,6 @@ use Rattle.std.specs.List.{slice_index_or}
 use Rattle.std.specs.Prelude.{IfOk, Result, length, map, if◌then◌else◌}
 use Rattle.trick_load.specs.CheckpointLines.{checkpoint}
 use Rattle.trick_load.specs.Laws.{NoPrefix, OneText}
-use Rattle.trick_load.specs.Plain.{HasInstances, HasPlainNames}
 use Rattle.trick_codes.specs.Lines.{Holds, first_line, text}
 use Rattle.trick_codes.specs.Loads.{IsRefusedAt, Loads}
 use Rattle.trick_codes.specs.declared.kind.Kind.{Kind}
@@ -49,18 +48,18 @@ not_refused plan s k number holds (front, rest, is, prefix, not_more, place, kin
     )
 
 pub loaded_as : {X : Type 0} (view : X → State) (plan : Plan) (s : State) (result : Result X LoadFault) → NoPrefix → OneText
-    → HasPlainNames plan → HasInstances plan → Holds (checkpoint plan) s → Loads view (checkpoint plan) (text (checkpoint plan) s) result → IsLoadedAs view s result
-loaded_as view plan s (Ok x) prefix one plain instances holds (is, held) =
-    let same = prefix plan (view x) s [] plain instances held holds
+    → Holds (checkpoint plan) s → Loads view (checkpoint plan) (text (checkpoint plan) s) result → IsLoadedAs view s result
+loaded_as view plan s (Ok x) prefix one holds (is, held) =
+    let same = prefix plan (view x) s [] held holds
     (append-nil (checkpoint_text (plan_of plan) (view x)) ∙ sym (one plan (view x) held) ∙ sym is ∙ one plan s holds) in
     same.0
-loaded_as view plan s (Err fault.OutOfMemory) prefix one plain instances holds loads = refl
-loaded_as view plan s (Err (fault.BadLine line)) prefix one plain instances holds loads = absurd (not_refused plan s _ line holds loads)
-loaded_as view plan s (Err (fault.WrongPlan line)) prefix one plain instances holds loads = absurd (not_refused plan s _ line holds loads)
-loaded_as view plan s (Err (fault.OutOfRange line)) prefix one plain instances holds loads = absurd (not_refused plan s _ line holds loads)
-loaded_as view plan s (Err (fault.Truncated at)) prefix one plain instances holds (place, proper) = absurd (proper.1 s holds refl)
-loaded_as view plan s (Err (fault.Trailing at)) prefix one plain instances holds (x, rest, held, is, some, place) =
-    let same = prefix plan x s rest plain instances held holds
+loaded_as view plan s (Err fault.OutOfMemory) prefix one holds loads = refl
+loaded_as view plan s (Err (fault.BadLine line)) prefix one holds loads = absurd (not_refused plan s _ line holds loads)
+loaded_as view plan s (Err (fault.WrongPlan line)) prefix one holds loads = absurd (not_refused plan s _ line holds loads)
+loaded_as view plan s (Err (fault.OutOfRange line)) prefix one holds loads = absurd (not_refused plan s _ line holds loads)
+loaded_as view plan s (Err (fault.Truncated at)) prefix one holds (place, proper) = absurd (proper.1 s holds refl)
+loaded_as view plan s (Err (fault.Trailing at)) prefix one holds (x, rest, held, is, some, place) =
+    let same = prefix plan x s rest held holds
     (ap (λ (front : List ℕ). front ++ rest) (sym (one plan x held)) ∙ sym is ∙ one plan s holds) in
     absurd (some same.1)
 

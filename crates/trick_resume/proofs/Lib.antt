@@ -6,8 +6,6 @@ pub mod Numbers
 pub mod Parts
 -- The whole state.
 pub mod Whole
--- Names without a byte.
-pub mod Without
 -- What states have is what lines hold.
 pub mod Holding
 -- States have checkpoints.

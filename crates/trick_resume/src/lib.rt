@@ -4,6 +4,5 @@
 
 pub mod laws;
 mod loading;
-mod plain;
 
 pub use loading::resume;

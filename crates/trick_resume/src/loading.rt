@@ -8,7 +8,6 @@ ghost use Rattle.trick_model.specs.State.{State as StateOf, seen};
 ghost use Rattle.trick_resume.specs.Loaded.{IsCheckpointOf, IsLoadedAs};
 
 use crate::laws;
-use crate::plain::is_plain;
 use std::alloc::Global;
 use trick_codes::LoadFault;
 use trick_load::laws::{lines_are_the_text, no_checkpoint_is_a_proper_prefix};
@@ -18,9 +17,7 @@ use trick_model::{Plan, State};
 
 /// The state of a plan of which the text is the checkpoint, or why it is none: `docs/FORMATS.md` has the form
 /// and the refusals. It is a valid state, from which a run of the plan can go on, and of the checkpoint of a
-/// valid state it is that state. The cost is linear in
-/// the text and the plan. Names of a plan that are not plain, which those of the language are, are answered
-/// as want of memory.
+/// valid state it is that state. The cost is linear in the text and the plan.
 pub fn resume(alloc: Global, plan: &Plan, text: &[u8]) -> Result<State<Memory>, LoadFault>
     ensures loaded { Loads (seen (λ memory. memory.numbers)) (checkpoint plan.now) text.now result }
     ensures checkpoint { IfOk result (λ state. IsCheckpointOf plan.now text.now
@@ -34,9 +31,6 @@ pub fn resume(alloc: Global, plan: &Plan, text: &[u8]) -> Result<State<Memory>, 
     laws::states_have_checkpoints();
     no_checkpoint_is_a_proper_prefix();
     lines_are_the_text();
-    if !is_plain(plan) {
-        return Err(LoadFault::OutOfMemory);
-    }
     let Ok(memory) = Memory::new(alloc, plan) else {
         return Err(LoadFault::OutOfMemory);
     };

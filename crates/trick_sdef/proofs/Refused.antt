@@ -12,7 +12,8 @@ use Rattle.trick_grammar.specs.Reading.{Refused}
 use Rattle.trick_grammar.specs.Text.{IsExact, read_all}
 use Rattle.trick_grammar.specs.declared.refusal.Refusal.{Refusal}
 use Rattle.trick_grammar.specs.declared.refusal.Refusal.TheVariants.{Expected, NotInProfile, TooLong, TooDeep, BadHeader, BadLoop, BadName, BadTime}
-use Rattle.trick_lang.specs.Syntax.{definition_of, sdefine_of}
+use Rattle.trick_lang.specs.SDefineOf.{sdefine_of}
+use Rattle.trick_lang.specs.Syntax.{definition_of, definitions_of}
 use Rattle.trick_lang.specs.declared.syntax.definition.Definition.{Definition}
 use Rattle.trick_lang.specs.declared.syntax.definition.SDefine.{SDefine}
 use Rattle.trick_sdef.proofs.Files.{file_test}
@@ -53,6 +54,10 @@ module _ (text : List ℕ) (ts : List cut.Token) where
   file_read ds s same is =
       let tree : map definition_of ds ≡ sdefine_of s = ap (map definition_of) (sym same) ∙ sym (definitions_are s.definitions) in
       (refl, subst (IsAnswer text ts) (is ∙ ap (λ t. Ok t) tree) exact_file)
+
+  -- what is read of all tokens is the answer of the text
+  pub tree_read : (ds : List Definition) → read_all number_of class_of (file text) lexed ≡ Ok (map definition_of ds) → IsAnswer text ts (Ok (definitions_of ds))
+  tree_read ds is = subst (IsAnswer text ts) (is ∙ ap (λ t. Ok t) (sym (definitions_are ds))) exact_file
 
   pub fault_behind : (ds : List Definition) (fault : FirstFault) → read_all number_of class_of (file text) lexed ≡ Ok (map definition_of ds) → IsRead text ts (Some fault) (Err (faults.Text fault.fault))
   fault_behind ds fault is = (fault, refl, refl, subst (λ q. IsFirst number_of class_of spelled (file text) lexed (at_token q)) is first_in)

@@ -11,7 +11,7 @@ use Rattle.trick_grammar.specs.Reading.{Refused}
 use Rattle.trick_grammar.specs.Text.{IsExact, read_all}
 use Rattle.trick_grammar.specs.declared.refusal.Refusal.{Refusal}
 use Rattle.trick_grammar.specs.declared.refusal.Refusal.TheVariants.{Expected, NotInProfile, TooLong, TooDeep, BadHeader, BadLoop, BadName, BadTime}
-use Rattle.trick_lang.specs.Syntax.{sdefine_of}
+use Rattle.trick_lang.specs.SDefineOf.{sdefine_of}
 use Rattle.trick_lang.specs.SyntaxTree as tree
 use Rattle.trick_lang.specs.declared.syntax.definition.SDefine.{SDefine}
 use Rattle.trick_sdef.specs.Files as grammar

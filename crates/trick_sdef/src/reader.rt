@@ -1,6 +1,6 @@
 //! Simulation definitions, read whole.
 
-ghost use Rattle.std.specs.Prelude.{◌≡◌, ◌≤◌, ◌-◌, All, Err, length, map, slice_get, take};
+ghost use Rattle.std.specs.Prelude.{◌≡◌, ◌≤◌, ◌-◌, All, Err, None, Ok, length, map, slice_get, take};
 ghost use Rattle.trick_body.specs.Lexemes.{lexemes_of};
 ghost use Rattle.trick_body.specs.Symbols.{number_of};
 ghost use Rattle.trick_grammar.specs.Gives.{Gives, class_of};
@@ -149,17 +149,28 @@ fn refused(read: Cut, reason: Refusal, rest: &[Token], fault: Option<FirstFault>
     }
 }
 
+// The definition that all tokens of a text are, with what is known of it.
+fn whole_of(read: Cut, definitions: Vec<Definition>) -> SDefine
+    requires cut { IsCut style.SDefine read.text.now read.tokens.now None }
+    requires lexemes { read.lexemes.now ≡ lexemes_of read.text.now read.tokens.now }
+    requires read { read_all number_of class_of (file read.text.now) read.lexemes.now
+        ≡ Ok (map definition_of definitions.items) }
+    ensures { result.definitions ≡ definitions.items }
+{
+    SDefine {
+        definitions: Items::from_vec(definitions),
+    }
+}
+
 fn read_cut(alloc: Global, read: Cut, fault: Option<FirstFault>) -> Result<SDefine, SdefFault>
     requires short { length read.text.now ≤ 16777216 }
-    requires tokens { All (ReadsAsToken read.text.now) read.tokens.now }
+    requires cut { IsCut style.SDefine read.text.now read.tokens.now fault }
     requires lexemes { read.lexemes.now ≡ lexemes_of read.text.now read.tokens.now }
     ensures { IsRead read.entry.text.now read.entry.tokens.now fault result }
 {
     match read_to_end(alloc, read.text, read.lexemes) {
         Ok(definitions) => match fault {
-            None => Ok(SDefine {
-                definitions: Items::from_vec(definitions),
-            }),
+            None => Ok(whole_of(read, definitions)),
             Some(first) => Err(SdefFault::Text(first.fault)),
         },
         Err(Stop::Memory) => Err(SdefFault::OutOfMemory),

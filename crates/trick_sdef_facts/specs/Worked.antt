@@ -11,7 +11,7 @@ use Rattle.trick_lang.specs.declared.bound.Bound.TheVariants.{Below, UpTo}
 use Rattle.trick_lang.specs.declared.class.Class.{Class}
 use Rattle.trick_lang.specs.declared.class.Class.TheVariants as class
 use Rattle.trick_lang.specs.declared.scalar.Scalar.TheVariants as scalar
-use Rattle.trick_sdef_facts.specs.Facts.{give_no_trick, have_declarators, have_items, have_lists_within, have_no_keyword, have_right_lengths, have_right_phases, have_right_threads, have_right_times, have_right_values, have_short_lists, have_short_loops, have_short_names, have_spelled_names, is_keyword}
+use Rattle.trick_lang.specs.Facts.{give_no_trick, have_declarators, have_items, have_lists_within, have_no_keyword, have_right_lengths, have_right_phases, have_right_threads, have_right_times, have_right_values, have_short_lists, have_short_loops, have_short_names, have_spelled_names, is_keyword}
 
 -- ---- small trees
 

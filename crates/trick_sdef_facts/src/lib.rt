@@ -1,6 +1,5 @@
-//! What holds of each simulation definition that `trick_sdef::read_sdef` gives: how long its names are, and of
-//! what letters; how many items its lists have; in which ranges its numbers, times, threads and phases are; and where
-//! its loops end.
+//! Worked trees of simulation definitions: for each fact that `trick_lang::syntax::SDefine` keeps, trees that just pass
+//! its test and such that just fail.
 #![tactic(auto)]
 
 pub mod laws;

@@ -2,7 +2,7 @@ use Rattle.std.proofs.Common.{sym, subst}
 use Rattle.trick_check.proofs.Refusing.{names_refused}
 use Rattle.trick_check.proofs.name.check_names.Goals as goal
 use Rattle.trick_check.specs.Refused.{IsRefused}
-use Rattle.trick_lang.specs.Syntax.{sdefine_of}
+use Rattle.trick_lang.specs.SDefineOf.{sdefine_of}
 
 pub returns-in-Err-clause-refused : goal.returns-in-Err-clause-refused
 returns-in-Err-clause-refused c =

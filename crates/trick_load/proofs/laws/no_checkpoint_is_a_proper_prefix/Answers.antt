@@ -6,6 +6,6 @@ use Rattle.trick_load.specs.CheckpointLines.{checkpoint}
 use Rattle.trick_codes.proofs.Lines.{no_front}
 
 pub returns : goal.returns
-returns c = λ plan s t more plain small h k e.
-    no_front (checkpoint plan) (checkpoint_sound plan plain small) s t more h k
+returns c = λ plan s t more h k e.
+    no_front (checkpoint plan) (checkpoint_sound plan) s t more h k
     (ap (λ (us : List ℕ). us ++ more) (spells plan s h) ∙ e ∙ sym (spells plan t k))

@@ -1,4 +1,4 @@
-use Rattle.trick_lang.specs.Syntax.{sdefine_of}
+use Rattle.trick_lang.specs.SDefineOf.{sdefine_of}
 use Rattle.trick_meaning_of_jobs.proofs.laws.texts_are_meant.Goals as goal
 
 pub returns : goal.returns

@@ -1,5 +1,6 @@
 use Rattle.std.proofs.Common.{◌≡◌, ◌∙◌, [], List, ap, sym, refl}
-use Rattle.trick_lang.specs.Syntax.{definitions_of, sdefine_of}
+use Rattle.trick_lang.specs.SDefineOf.{sdefine_of}
+use Rattle.trick_lang.specs.Syntax.{definitions_of}
 use Rattle.trick_lang.specs.declared.syntax.definition.Definition.{Definition}
 use Rattle.trick_lang.specs.declared.syntax.definition.SDefine.{SDefine}
 use Rattle.trick_names.proofs.Noted.{decided}

@@ -4,6 +4,3 @@ use Rattle.trick_sdef.proofs.reader.read_whole.Goals as goal
 
 pub lexemes-requires : goal.lexemes-requires
 lexemes-requires c = all_read style.SDefine c.args.text.now c.args.tokens.now c.args.fault c.requires
-
-pub read_cut-requires-clause-tokens : goal.read_cut-requires-clause-tokens
-read_cut-requires-clause-tokens c = all_read style.SDefine c.args.text.now c.args.tokens.now c.args.fault c.requires

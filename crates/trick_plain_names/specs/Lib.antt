@@ -1,2 +1,0 @@
--- What the plans of texts are named.
-pub mod Texts

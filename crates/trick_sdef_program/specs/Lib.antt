@@ -1,2 +1,0 @@
--- tests of what a tree names
-pub mod Tests
