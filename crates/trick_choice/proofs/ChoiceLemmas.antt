@@ -1,21 +1,21 @@
 -- What the rounds of threads add to a choice, and how long they wait.
-use Rattle.std.proofs.Common.{◌≡◌, ◌∙◌, ℕ, suc, ◌+◌, ◌<◌, ◌≤◌, Bool, true, false, List, [], ◌∷◌, ◌++◌, Option, Some, None, add-one, ap, append-nil, append_assoc, arith, drop, get_or, inl, inr, length, length-set, refl, set, subst, sym, take}
+use Rattle.std.proofs.Common.{◌≡◌, ◌∙◌, ℕ, suc, ◌+◌, ◌<◌, ◌≤◌, Bool, true, false, List, [], ◌∷◌, ◌++◌, Option, Some, None, ap, append-nil, append_assoc, arith, drop, inl, inr, length, length-set, refl, set, subst, sym, take}
 use Rattle.std.proofs.Math.Seq.{take-suc}
 use Rattle.std.proofs.lemmas.Bool.Decides.{nat_tests}
 use Rattle.std.proofs.lemmas.Grind.{take-set_at}
 use Rattle.std.proofs.lemmas.List.{drop-set-lt, drop_all, drop_more, get_or_default, length-take-le, take_all}
 use Rattle.std.proofs.lemmas.List.Elements.{filter-append}
 use Rattle.std.specs.List.{position, slice_index_or}
-use Rattle.std.specs.Prelude.{◌⊎◌, ◌==◌, ◌&&◌, cond, filter, min, nat_le, not}
+use Rattle.std.specs.Prelude.{◌⊎◌, ◌==◌, ◌&&◌, cond, min, nat_le, not}
 use Rattle.trick_beside.proofs.Seats.{place_found, seat_of}
 use Rattle.trick_beside.proofs.RoundLemmas.{place_none}
-use Rattle.trick_beside.proofs.Threads.{AreFound, beside_found}
+use Rattle.trick_beside.proofs.Threads.{beside_found}
 use Rattle.trick_beside.specs.Flight.{GoesWith, thread_in}
 use Rattle.trick_beside.specs.Stations.{AreStations, IsSeat}
 use Rattle.trick_beside.specs.declared.station.Station.{Station}
 use Rattle.trick_choice.specs.Adds.{Adds, AreAsIs, answer_of, counted_of, polls_for}
 use Rattle.trick_lang.specs.declared.scalar.Scalar.{Scalar}
-use Rattle.trick_model.specs.Beside.{find_thread, has_round, is_in_flight}
+use Rattle.trick_model.specs.Beside.{has_round, is_in_flight}
 use Rattle.trick_model.specs.Plan.{Plan, threads_beside}
 use Rattle.trick_model.specs.PlanOf.{plan_of}
 use Rattle.trick_model.specs.State.{State}
@@ -25,7 +25,7 @@ use Rattle.trick_model.specs.declared.entry.Entry.TheVariants.{Publish}
 use Rattle.trick_model.specs.declared.plan.Plan.{Plan as PlanValue}
 use Rattle.trick_model.specs.declared.thread.Thread.{Thread}
 use Rattle.trick_post.specs.Polls.{Poll}
-use Rattle.trick_post.specs.Work.{Started, no_thread}
+use Rattle.trick_post.specs.Work.{no_thread}
 use Rattle.trick_post.specs.declared.posts.Posts.{Ghosts}
 use Rattle.trick_runs.specs.Parts.{counting}
 use Rattle.trick_runs.specs.Rounds.{Chooses, idle, is_published, not_yet, patience, ready, unasked, wait_at, waited_at, waited_from}

@@ -2,5 +2,3 @@
 pub mod Finding
 -- a name that is an object's, a dot and a method's
 pub mod Joined
--- the names of a plan
-pub mod Plans

@@ -1,2 +1,2 @@
--- What a deed of the code is.
+-- Numbers that a type can hold.
 pub mod Deeds

@@ -1,20 +1,19 @@
 //! Actions as deeds.
 
-ghost use Rattle.std.specs.Prelude.{◌≡◌, ◌<◌, IfSome, length, option_map};
-ghost use Rattle.trick_deed.specs.Deeds.{IsDeedIn, deed_as, fitting};
+ghost use Rattle.std.specs.Prelude.{◌≡◌, ◌<◌, IfSome, [], length};
+ghost use Rattle.trick_deed.specs.Deeds.{fitting};
 ghost use Rattle.trick_lang.specs.Effect.{scalars_of};
 ghost use Rattle.trick_lang.specs.Wrap.{IsOf, scalar_at};
 ghost use Rattle.trick_model.specs.Events.{names_of};
 ghost use Rattle.trick_model.specs.Names.{deed_of, find_name, set_in_range, stop_after};
 ghost use Rattle.trick_model.specs.PlanOf.{plan_of};
-ghost use Rattle.trick_model.specs.Valid.{cell_names, names_in};
+ghost use Rattle.trick_model.specs.Valid.{IsDeedAmong, cell_names, names_in};
 
-use crate::Deed;
 use crate::find::{find_cell, find_job};
 use crate::named::place_of;
 use trick_base::TIC_LIMIT;
 use trick_lang::{Cell, Program, Scalar, wrap};
-use trick_model::{Action, Event, Group, Plan};
+use trick_model::{Action, Deed, Event, Group, Plan};
 
 fn scalar_at(program: &Program, cell: Cell) -> Scalar
     requires { cell.0 < length program.now.cells }
@@ -38,18 +37,18 @@ pub fn fitting(scalar: Scalar, number: i128) -> Option<i64>
 
 // A cell of this name gets a number, if that is in its range.
 fn set_cell(program: &Program, name: &[u8], number: i128) -> Option<Deed>
-    ensures deed { option_map deed_as result
+    ensures deed { result
         ≡ set_in_range (scalars_of program.now.cells) number (find_name name.now (cell_names program.now.cells)) }
-    ensures there { IfSome result (IsDeedIn program.now 0 0) }
+    ensures there { IfSome result (IsDeedAmong (names_in program.now [] [])) }
 {
     let cell = find_cell(program, name)?;
     let number = fitting(scalar_at(program, cell), number)?;
     Some(Deed::SetCell { cell, number })
 }
 
-// A stop after no tic, or after one that is a time.
-fn stop(at: Option<u64>) -> Option<Deed>
-    ensures { option_map deed_as result ≡ stop_after at }
+/// A stop after no tic, or after one that is a time; none where it is too late. Takes no memory.
+pub fn stop(at: Option<u64>) -> Option<Deed>
+    ensures { result ≡ stop_after at }
 {
     match at {
         Some(at) if at > TIC_LIMIT => None,
@@ -66,8 +65,8 @@ pub fn deed_of(
     events: &[Event],
     action: &Action,
 ) -> Option<Deed>
-    ensures deed { option_map deed_as result ≡ deed_of (names_in program.now groups.now events.now) action.now }
-    ensures there { IfSome result (IsDeedIn program.now (length groups.now) (length events.now)) }
+    ensures deed { result ≡ deed_of (names_in program.now groups.now events.now) action.now }
+    ensures there { IfSome result (IsDeedAmong (names_in program.now groups.now events.now)) }
 {
     match action {
         Action::SetCell { name, number } => set_cell(program, name.as_slice(), *number),
@@ -91,9 +90,8 @@ pub fn deed_of(
 
 /// What an action asks for in a plan; none where it asks for nothing that can be done.
 pub fn deed_in_plan(plan: &Plan, action: &Action) -> Option<Deed>
-    ensures deed { option_map deed_as result ≡ deed_of (names_of (plan_of plan.now)) action.now }
-    ensures there { IfSome result
-        (IsDeedIn plan.now.program (length plan.now.groups) (length plan.now.events)) }
+    ensures deed { result ≡ deed_of (names_of (plan_of plan.now)) action.now }
+    ensures there { IfSome result (IsDeedAmong (names_of (plan_of plan.now))) }
 {
     let groups = plan.groups.as_slice();
     let events = plan.events.as_slice();

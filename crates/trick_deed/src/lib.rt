@@ -4,10 +4,8 @@
 #![tactic(auto)]
 
 mod ask;
-mod deed;
 mod find;
 mod named;
 
-pub use ask::{deed_in_plan, deed_of, fitting};
-pub use deed::Deed;
+pub use ask::{deed_in_plan, deed_of, fitting, stop};
 pub use find::{find_cell, find_job};

@@ -1,5 +1,5 @@
 -- A declaration in the program and in the draft.
-use Rattle.std.proofs.Common.{◌≡◌, ◌∙◌, ◌+◌, ◌-◌, ◌≤◌, ◌++◌, ◌∷◌, [], ℕ, suc, Bool, true, false, nat_lt, List, Some, Result, Ok, Err, length, length-drop, drop, take, refl, sym, ap, add-zero, zero-add, arith}
+use Rattle.std.proofs.Common.{◌≡◌, ◌∙◌, ◌+◌, ◌-◌, ◌≤◌, ◌++◌, ◌∷◌, [], ℕ, suc, Bool, true, false, nat_lt, List, Some, Ok, Err, length, length-drop, drop, take, refl, sym, ap, add-zero, zero-add, arith}
 use Rattle.std.proofs.Math.Seq.{drop-append_seam}
 use Rattle.std.proofs.lemmas.List.{take_rest}
 use Rattle.trick_declare.specs.Cells.{cells_of, count_of, is_taken}
@@ -14,7 +14,6 @@ use Rattle.trick_draft.specs.declared.cells.KnownCells.{KnownCells}
 use Rattle.trick_draft.specs.declared.draft.Draft.{Draft}
 use Rattle.trick_draft.specs.declared.fault.LineFault.{LineFault}
 use Rattle.trick_draft.specs.declared.fault.LineFault.TheVariants as fault
-use Rattle.trick_lang.specs.Effect.{scalars_of}
 use Rattle.trick_lang.specs.SyntaxTree.{Name}
 use Rattle.trick_lang.specs.declared.object.Object.{Object}
 use Rattle.trick_lang.specs.declared.program.Program.{Program}

@@ -1,5 +1,5 @@
 -- A list of actions at its place by number.
-use Rattle.std.proofs.Common.{◌≡◌, ◌++◌, ◌∷◌, [], ℕ, suc, Bool, true, false, nat_lt, List, drop, take, refl, ap, if◌then◌else◌}
+use Rattle.std.proofs.Common.{◌≡◌, ◌∷◌, [], suc, Bool, true, false, nat_lt, List, refl, ap, if◌then◌else◌}
 use Rattle.std.specs.List.{insert}
 use Rattle.trick_draft.specs.Lines.{Numbered, with_numbered}
 use Rattle.trick_draft.specs.Places.{place_for}

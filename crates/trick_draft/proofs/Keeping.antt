@@ -1,32 +1,33 @@
 -- What lines about cells, jobs and reads keep of a draft.
-use Rattle.std.proofs.Common.{rules, ◌≡◌, ◌∙◌, ◌+◌, ◌<◌, ◌≤◌, ◌++◌, ◌∷◌, [], ℕ, zero, suc, ℤ, Bool, true, false, not, ◌&&◌, ◌||◌, nat_lt, List, Option, Some, None, is_none, is_some, Result, Ok, IsTrue, All, length, map, slice_set, refl, sym, ap, subst, arith, if◌then◌else◌}
+use Rattle.std.proofs.Common.{◌≡◌, ◌∙◌, ◌≤◌, ◌++◌, ◌∷◌, [], ℕ, ℤ, Bool, true, false, ◌&&◌, ◌||◌, List, Option, Some, None, is_none, Ok, All, length, slice_set, refl, sym, ap, subst, arith, if◌then◌else◌}
 use Rattle.std.proofs.lemmas.Bool.Decides.{Decides-int_eq}
 use Rattle.std.proofs.lemmas.List.Elements.{All-push}
-use Rattle.std.proofs.lemmas.List.Sums.{AllPass-from_list_all}
 use Rattle.std.proofs.lemmas.List.{length-replicate, length-set}
-use Rattle.std.specs.List.{list_all}
 use Rattle.std.specs.Ordering.{int_eq}
+use Rattle.std.specs.Prelude.{IfSome}
 use Rattle.trick_deed.specs.Deeds.{fitting}
 use Rattle.trick_draft.proofs.Added.{room}
 use Rattle.trick_draft.proofs.Mirrored.{cell_there, mirrored}
-use Rattle.trick_draft.proofs.Passed.{first_passed, holds, is_answer, neither, there}
+use Rattle.trick_draft.proofs.Passed.{first_passed, is_answer, neither}
 use Rattle.trick_draft.specs.Drafts.{begun, names_of}
 use Rattle.trick_draft.specs.Jobs.{Jobs, job_named, jobs_of, passing, waiting_job}
-use Rattle.trick_draft.specs.Kept.{AreAdded, ArePairs, AreReads, IsDraftOf, IsMirrored, IsSet}
+use Rattle.trick_draft.specs.Kept.{IsDraftOf, IsSet}
 use Rattle.trick_draft.specs.Laws.{Keeps}
-use Rattle.trick_draft.specs.Lines.{add_read_line, assign_line, can_do, can_do_all, depend_line, fitting_in, is_full, or_first, or_job, or_none, or_nothing, set_job_line}
+use Rattle.trick_draft.specs.Lines.{add_read_line, assign_line, deeds_in, depend_line, fitting_in, is_full, or_first, or_job, or_none, or_nothing, set_job_line}
 use Rattle.trick_draft.specs.declared.draft.Draft.{Draft}
 use Rattle.trick_draft.specs.declared.fault.LineFault.TheVariants as fault
 use Rattle.trick_lang.specs.SyntaxTree.{Name}
-use Rattle.trick_lang.specs.Wrap.{IsInRange, IsOf, scalar_at, wrap}
+use Rattle.trick_lang.specs.Wrap.{IsOf, scalar_at, wrap}
 use Rattle.trick_lang.specs.declared.cells.Cell.{Cell}
 use Rattle.trick_lang.specs.declared.job.JobId.{JobId}
 use Rattle.trick_lang.specs.declared.program.Program.{Program}
 use Rattle.trick_lang.specs.declared.scalar.Scalar.{Scalar}
-use Rattle.trick_model.specs.Names.{deed_of}
+use Rattle.trick_model.proofs.Found.{all_among}
+use Rattle.trick_model.specs.Names.{deeds_of}
 use Rattle.trick_base.specs.Time.{tic_limit}
-use Rattle.trick_model.specs.Valid.{IsDoable, IsPair, can_depend}
+use Rattle.trick_model.specs.Valid.{IsDeedAmong, IsPair, can_depend}
 use Rattle.trick_model.specs.declared.action.Action.{Action}
+use Rattle.trick_model.specs.declared.deed.Deed.{Deed}
 use Rattle.trick_model.specs.declared.depends.Depends.{Depends}
 use Rattle.trick_model.specs.declared.read_at.ReadAt.{ReadAt}
 use Rattle.trick_model.specs.declared.thread.Thread.{Thread}
@@ -91,6 +92,7 @@ module _ (jobs : Jobs) (threads : List Thread) where
       let q = first_passed (is_none fit) fault.OutOfRange [] new e p.1 in
       subst (Keeps jobs threads d) (is_answer new e q.1) (record {
         cells = refl;
+        deeds = λ action deed is. is;
         right = λ right. record {
           cells = right.cells;
           flagged = right.flagged;
@@ -132,6 +134,7 @@ module _ (jobs : Jobs) (threads : List Thread) where
       let found = neither (is_none first) (is_none second) p.0 in
       subst (Keeps jobs threads d) (is_answer new e q.1) (record {
         cells = refl;
+        deeds = λ action deed is. is;
         right = λ right. record {
           cells = right.cells;
           flagged = right.flagged;
@@ -156,6 +159,7 @@ module _ (jobs : Jobs) (threads : List Thread) where
       let p = first_passed (is_none job) fault.UnknownJob [] new e h in
       subst (Keeps jobs threads d) (is_answer new e p.1) (record {
         cells = refl;
+        deeds = λ action deed is. is;
         right = λ right. record {
           cells = right.cells;
           flagged = length-set d.jobs.on (or_job job).0 on ∙ right.flagged;
@@ -171,21 +175,29 @@ module _ (jobs : Jobs) (threads : List Thread) where
 
   -- ---- actions
 
-  pub doable : (d : Draft) (actions : Option (List Action)) → can_do_all jobs d actions ≡ true
-      → All (IsDoable (names_of jobs d)) (or_none actions)
-  doable d None h = absurd (cc h)
-  doable d (Some actions) h = AllPass-from_list_all (can_do jobs d) actions h
+  -- what the actions of a line ask for is about the names so far
+  pub deeds_among : (d : Draft) (actions : Option (List Action)) → is_none (deeds_in jobs d actions) ≡ false
+      → All (IsDeedAmong (names_of jobs d)) (or_none (deeds_in jobs d actions))
+  deeds_among d None h = absurd (cc h)
+  deeds_among d (Some actions) h = by (deeds_of (names_of jobs d) actions) h (all_among (names_of jobs d) actions)
+    where
+      by : (o : Option (List Deed)) → is_none o ≡ false → IfSome o (All (IsDeedAmong (names_of jobs d)))
+          → All (IsDeedAmong (names_of jobs d)) (or_none o)
+      by None h all = absurd (cc h)
+      by (Some deeds) h all = all
 
   pub add_read : (tic : ℕ) → tic ≤ tic_limit → (actions : Option (List Action)) (d e : Draft)
       → add_read_line jobs tic actions d ≡ Ok e → Keeps jobs threads d e
   add_read tic early actions d e h =
-      let read : ReadAt = record { tic = tic; actions = or_none actions } in
+      let deeds = deeds_in jobs d actions in
+      let read : ReadAt = record { tic = tic; actions = or_none deeds } in
       let new : Draft = record d { reads = d.reads ++ read ∷ [] } in
-      let p = first_passed (not (can_do_all jobs d actions)) fault.BadAction
+      let p = first_passed (is_none deeds) fault.BadAction
       ((is_full d.reads 4096, fault.TooMany 4096) ∷ []) new e h in
       let q = first_passed (is_full d.reads 4096) (fault.TooMany 4096) [] new e p.1 in
       subst (Keeps jobs threads d) (is_answer new e q.1) (record {
         cells = refl;
+        deeds = λ action deed is. is;
         right = λ right. record {
           cells = right.cells;
           flagged = right.flagged;
@@ -194,8 +206,8 @@ module _ (jobs : Jobs) (threads : List Thread) where
           reads = record {
             few = room d.reads read 4096 q.0;
             times = All-push (λ (r : ReadAt). r.tic ≤ tic_limit) d.reads read right.reads.times early;
-            doable = All-push (λ (r : ReadAt). All (IsDoable (names_of jobs d)) r.actions) d.reads read
-                right.reads.doable (doable d actions (holds (can_do_all jobs d actions) p.0));
+            deeds = All-push (λ (r : ReadAt). All (IsDeedAmong (names_of jobs d)) r.actions) d.reads read
+                right.reads.deeds (deeds_among d actions p.0);
           };
           groups = right.groups;
           events = right.events;
@@ -212,7 +224,7 @@ begun_right p threads = record {
   flagged = length-replicate (length p.jobs) true;
   assigns = of_none _;
   depends = record { few = omega arith; right = of_none _ };
-  reads = record { few = omega arith; times = of_none _; doable = of_none _ };
+  reads = record { few = omega arith; times = of_none _; deeds = of_none _ };
   groups = of_none _;
   events = of_none _;
   added_groups = record { few = omega arith; differ = refl; there = of_none _ };

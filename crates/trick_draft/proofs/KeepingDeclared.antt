@@ -1,18 +1,20 @@
 -- What a declaration keeps of a draft.
-use Rattle.std.proofs.Common.{◌≡◌, ◌∙◌, ◌+◌, ◌<◌, ◌≤◌, ◌++◌, ◌∷◌, [], ℕ, zero, suc, ℤ, Bool, true, false, nat_lt, List, Option, Some, None, is_some, Result, Ok, All, length, map, append_assoc, append-nil, refl, sym, ap, subst, arith, if◌then◌else◌}
+use Rattle.std.proofs.Common.{◌≡◌, ◌∙◌, ◌+◌, ◌<◌, ◌≤◌, ◌++◌, ◌∷◌, [], ℕ, zero, suc, ℤ, Bool, true, false, nat_lt, List, Option, Some, None, is_some, Ok, All, length, append_assoc, append-nil, refl, sym, ap, subst, arith, if◌then◌else◌}
 use Rattle.std.proofs.lemmas.List.Elements.{All-weaker}
 use Rattle.std.proofs.lemmas.List.{length-append, length-map}
-use Rattle.trick_declare.proofs.Plans.{HasMore, doable_more}
+use Rattle.trick_declare.proofs.Plans.{HasMore, among_more}
 use Rattle.trick_declare.specs.Cells.{cells_of, count_of}
 use Rattle.trick_declare.specs.declared.declaration.Declaration.{Declaration}
 use Rattle.trick_draft.proofs.Grows.{Allows, events_grow, reads_grow}
 use Rattle.trick_draft.proofs.Lists.{map_append}
 use Rattle.trick_draft.proofs.Mirrored.{mirrored, scalars_known}
 use Rattle.trick_draft.proofs.Passed.{first_passed, is_answer}
+use Rattle.trick_draft.proofs.Stays.{stays_more}
 use Rattle.trick_draft.specs.Cells.{is_taken_in, only_names, with_cell, with_cells}
 use Rattle.trick_draft.specs.Drafts.{names_of}
 use Rattle.trick_draft.specs.Jobs.{Jobs}
 use Rattle.trick_draft.specs.Kept.{IsDraftOf, IsGroup, IsSet, Mirrors}
+use Rattle.trick_draft.specs.Laws.{KeepsDeeds}
 use Rattle.trick_draft.specs.Lines.{declare_line}
 use Rattle.trick_draft.specs.declared.cells.KnownCells.{KnownCells}
 use Rattle.trick_draft.specs.declared.draft.Draft.{Draft}
@@ -20,7 +22,7 @@ use Rattle.trick_draft.specs.declared.fault.LineFault.TheVariants as fault
 use Rattle.trick_draft.specs.declared.group.GroupDraft.{GroupDraft}
 use Rattle.trick_lang.specs.Effect.{scalars_of}
 use Rattle.trick_lang.specs.SyntaxTree.{Name}
-use Rattle.trick_lang.specs.Wrap.{IsInRange, IsOf, scalar_at}
+use Rattle.trick_lang.specs.Wrap.{IsOf, scalar_at}
 use Rattle.trick_lang.specs.declared.cells.Cell.{Cell}
 use Rattle.trick_lang.specs.declared.program.Program.{Program}
 use Rattle.trick_lang.specs.declared.scalar.Scalar.{Scalar}
@@ -77,6 +79,36 @@ group_grows n m larger group is = record {
   there = All-weaker (IsCell n) (IsCell m) (λ cell lt. omega (arith, lt, larger)) group.cells is.there;
 }
 
+module _ (jobs : Jobs) (threads : List Thread) where
+  has_more : (d : Draft) (cells : List Variable) → IsDraftOf jobs threads d
+      → HasMore (names_of jobs d) (names_of jobs (record d { cells = with_cells cells d.cells }))
+  has_more d cells right =
+      let names = names_grow cells d.cells in
+      record {
+        names = only_names names.0;
+        scalars = scalars_of cells;
+        cells = ap (λ (ns : Names Cell). only_names ns) names.1
+            ∙ map_append (λ (known : Name × Cell). known.0) d.cells.names names.0;
+        types = scalars_known cells d.cells;
+        as_many = length-map d.cells.names (λ (known : Name × Cell). known.0) ∙ right.cells.typed;
+        job_names = refl;
+        jobs = refl;
+        groups = refl;
+        events = refl;
+      }
+
+  pub declare_deeds : (declared : Option Declaration) (d e : Draft) → declare_line declared d ≡ Ok e → IsDraftOf jobs threads d
+      → KeepsDeeds jobs d e
+  declare_deeds None d e h right = absurd (cc h)
+  declare_deeds (Some declared) d e h right =
+      let new : Draft = record d { cells = with_cells (cells_of declared) d.cells } in
+      let many = nat_lt 65536 (length d.cells.scalars + count_of declared.lengths) in
+      let a = first_passed (is_taken_in d.cells declared.name) fault.TwiceNamed
+      ((many, fault.TooMany 65536) ∷ []) new e h in
+      let b = first_passed many (fault.TooMany 65536) [] new e a.1 in
+      subst (KeepsDeeds jobs d) (is_answer new e b.1)
+      (stays_more (names_of jobs d) (names_of jobs new) (has_more d (cells_of declared) right))
+
 module _ (jobs : Jobs) (threads : List Thread) (p : Program) where
   grown_right : (d : Draft) (cells : List Variable) → Mirrors p (record d { cells = with_cells cells d.cells })
       → IsDraftOf jobs threads d → IsDraftOf jobs threads (record d { cells = with_cells cells d.cells })
@@ -85,21 +117,9 @@ module _ (jobs : Jobs) (threads : List Thread) (p : Program) where
       let old_scalars = d.cells.scalars in
       let more = scalars_of cells in
       let scalars : new.cells.scalars ≡ old_scalars ++ more = scalars_known cells d.cells in
-      let names = names_grow cells d.cells in
-      let has : HasMore (names_of jobs d) (names_of jobs new) = record {
-        names = only_names names.0;
-        scalars = more;
-        cells = ap (λ (ns : Names Cell). only_names ns) names.1
-            ∙ map_append (λ (known : Name × Cell). known.0) d.cells.names names.0;
-        types = scalars;
-        as_many = length-map d.cells.names (λ (known : Name × Cell). known.0) ∙ right.cells.typed;
-        job_names = refl;
-        jobs = refl;
-        groups = refl;
-        events = refl;
-      } in
+      let has = has_more jobs threads d cells right in
       let allows : Allows (names_of jobs d) (names_of jobs new) =
-      doable_more (names_of jobs d) (names_of jobs new) has in
+      among_more (names_of jobs d) (names_of jobs new) has in
       let larger : length old_scalars ≤ length new.cells.scalars =
       subst (λ (ss : List Scalar). length old_scalars ≤ length ss) (sym scalars) (longer old_scalars more) in
       record {

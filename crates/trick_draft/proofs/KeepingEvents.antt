@@ -1,17 +1,17 @@
 -- What lines about events keep of a draft.
-use Rattle.std.proofs.Common.{rules, ◌≡◌, ◌∙◌, ◌<◌, ◌≤◌, ◌++◌, ◌∷◌, [], ◌==◌, ℕ, zero, suc, Bool, true, false, not, ◌&&◌, ◌||◌, nat_lt, nat_eq, List, Option, Some, None, is_none, is_some, Result, Ok, All, length, map, slice_get, append-nil, refl, sym, ap, ap₂, subst, arith, if◌then◌else◌}
+use Rattle.std.proofs.Common.{rules, ◌≡◌, ◌∙◌, ◌≤◌, ◌++◌, ◌∷◌, [], ◌==◌, ℕ, Bool, true, false, not, ◌&&◌, ◌||◌, nat_lt, List, Option, Some, None, is_none, is_some, Ok, All, length, slice_get, append-nil, refl, sym, ap, ap₂, subst, arith}
 use Rattle.std.proofs.lemmas.Bool.Decides.{nat_tests}
 use Rattle.std.proofs.lemmas.List.Elements.{All-push}
-use Rattle.trick_condition.specs.Conditions.{is_plain, term}
 use Rattle.trick_condition.specs.Laws.{PlainConditionsHold}
 use Rattle.trick_draft.proofs.Added.{known_last, more_places, one_added}
-use Rattle.trick_draft.proofs.Grows.{Allows, HasAdded, doable_added, events_grow, reads_grow}
-use Rattle.trick_draft.proofs.Keeping.{doable, of_none}
+use Rattle.trick_draft.proofs.Grows.{Allows, HasAdded, among_added, events_grow, reads_grow}
+use Rattle.trick_draft.proofs.Keeping.{deeds_among, of_none}
 use Rattle.trick_draft.proofs.KeepingGroups.{group_changed, keeps_on, place_there}
 use Rattle.trick_draft.proofs.Lists.{all_changed_at, get_mapped, map_append, map_changed_at}
 use Rattle.trick_draft.proofs.Mirrored.{cell_there}
-use Rattle.trick_draft.proofs.Passed.{first_passed, holds, is_answer, neither, not_there, there}
+use Rattle.trick_draft.proofs.Passed.{first_passed, holds, is_answer, not_there, there}
 use Rattle.trick_draft.proofs.Rising.{all_with, rises_with}
+use Rattle.trick_draft.proofs.Stays.{stays_added}
 use Rattle.trick_draft.specs.Cells.{only_names}
 use Rattle.trick_draft.specs.Drafts.{as_event, asked, asked_of_event, event_of, group_of, item_at, names_of, new_event, with_event, with_group}
 use Rattle.trick_draft.specs.Jobs.{Jobs}
@@ -21,13 +21,13 @@ use Rattle.trick_draft.specs.declared.draft.Draft.{Draft}
 use Rattle.trick_draft.specs.declared.fault.LineFault.TheVariants as fault
 use Rattle.trick_draft.specs.declared.handle.Handle.{Handle}
 use Rattle.trick_draft.specs.declared.handle.Handle.TheVariants as handle
-use Rattle.trick_draft.specs.Lines.{Numbered, activate_line, add_event_line, can_do_all, has_number, is_full, is_right, is_unknown_in, known_in, new_event_line, or_none, or_zero, resolved, set_action_line, set_condition_line, set_cycle_line, this_own_line, with_numbered}
+use Rattle.trick_draft.specs.Lines.{Numbered, activate_line, add_event_line, deeds_in, has_number, is_full, is_right, is_unknown_in, known_in, new_event_line, or_none, or_zero, resolved, set_action_line, set_condition_line, set_cycle_line, this_own_line, with_numbered}
 use Rattle.trick_draft.specs.declared.event.EventDraft.{EventDraft}
 use Rattle.trick_draft.specs.declared.group.GroupDraft.{GroupDraft}
 use Rattle.trick_lang.specs.SyntaxTree.{Expression, Name}
 use Rattle.trick_model.specs.Names as model
 use Rattle.trick_base.specs.Time.{tic_limit}
-use Rattle.trick_model.specs.Valid.{IsCycle, IsDoable}
+use Rattle.trick_model.specs.Valid.{IsCycle, IsDeedAmong}
 use Rattle.trick_model.specs.declared.action.Action.{Action}
 use Rattle.trick_model.specs.declared.thread.Thread.{Thread}
 use Rattle.trick_names.specs.Names.{Names, meaning_of, with_name}
@@ -68,6 +68,7 @@ module _ (jobs : Jobs) (threads : List Thread) where
       → Keeps jobs threads d (with_event variable change d)
   event_changed d variable change same keeps = record {
     cells = refl;
+    deeds = λ action deed is. is;
     right = λ right. record {
       cells = right.cells;
       flagged = right.flagged;
@@ -107,8 +108,7 @@ module _ (jobs : Jobs) (threads : List Thread) where
         condition = event.condition;
         rising = event.rising;
         in_range = event.in_range;
-        doable =
-            event.doable;
+        deeds = event.deeds;
       }))
       (group_changed jobs threads half variable of_group (λ x. refl)
       (λ right k x is at group. record { cycle = cycle; few = group.few; there = group.there })))
@@ -117,7 +117,7 @@ module _ (jobs : Jobs) (threads : List Thread) where
   this_own variable d e h =
       let p = first_passed (is_none (group_of d variable) && is_none (event_of d variable)) fault.UnknownName
       [] d e h in
-      subst (Keeps jobs threads d) (is_answer d e p.1) (record { cells = refl; right = λ right. right })
+      subst (Keeps jobs threads d) (is_answer d e p.1) (record { cells = refl; right = λ right. right; deeds = λ a deed is. is })
 
   -- ---- events
 
@@ -136,6 +136,7 @@ module _ (jobs : Jobs) (threads : List Thread) where
       [] new e h in
       subst (Keeps jobs threads d) (is_answer new e p.1) (record {
         cells = refl;
+        deeds = λ action deed is. is;
         right = λ right. record {
           cells = right.cells;
           flagged = right.flagged;
@@ -145,7 +146,7 @@ module _ (jobs : Jobs) (threads : List Thread) where
           groups = right.groups;
           events =
               All-push (IsEvent (names_of jobs d) n) d.events event right.events
-              (record { cycle = cycle; condition = tt; rising = refl; in_range = of_none _; doable = of_none _ });
+              (record { cycle = cycle; condition = tt; rising = refl; in_range = of_none _; deeds = of_none _ });
           added_groups = right.added_groups;
           added_events =
               subst (λ (names : List Name). AreAdded 256 names d.added_events)
@@ -179,26 +180,27 @@ module _ (jobs : Jobs) (threads : List Thread) where
         condition = condition_right plain d right condition (holds (is_right condition) r.0);
         rising = event.rising;
         in_range = event.in_range;
-        doable = event.doable;
+        deeds = event.deeds;
       }))
 
   pub set_action : (variable : Name) (number : ℕ) (actions : Option (List Action)) (d e : Draft)
       → set_action_line jobs variable number actions d ≡ Ok e → Keeps jobs threads d e
   set_action variable number actions d e h =
-      let new_list : Numbered = (number, or_none actions) in
+      let deeds = deeds_in jobs d actions in
+      let new_list : Numbered = (number, or_none deeds) in
       let change : EventDraft → EventDraft = λ event. record event { actions = with_numbered new_list event.actions } in
       let given : EventDraft → Bool = λ event. has_number number event.actions in
       let new = with_event variable change d in
       let p = first_passed (is_none (event_of d variable)) fault.UnknownName
       ((nat_lt 15 number, fault.OutOfRange) ∷ (asked_of_event given false d variable, fault.TwiceNamed)
-      ∷ (not (can_do_all jobs d actions), fault.BadAction) ∷ []) new e h in
+      ∷ (is_none deeds, fault.BadAction) ∷ []) new e h in
       let q = first_passed (nat_lt 15 number) fault.OutOfRange
       ((asked_of_event given false d variable, fault.TwiceNamed)
-      ∷ (not (can_do_all jobs d actions), fault.BadAction) ∷ []) new e p.1 in
+      ∷ (is_none deeds, fault.BadAction) ∷ []) new e p.1 in
       let r = first_passed (asked_of_event given false d variable) fault.TwiceNamed
-      ((not (can_do_all jobs d actions), fault.BadAction) ∷ []) new e q.1 in
-      let s = first_passed (not (can_do_all jobs d actions)) fault.BadAction [] new e r.1 in
-      let done = doable jobs threads d actions (holds (can_do_all jobs d actions) s.0) in
+      ((is_none deeds, fault.BadAction) ∷ []) new e q.1 in
+      let s = first_passed (is_none deeds) fault.BadAction [] new e r.1 in
+      let done = deeds_among jobs threads d actions s.0 in
       subst (Keeps jobs threads d) (is_answer new e s.1)
       (event_changed d variable change (λ x. refl) (λ right k x is at event.
       let free : has_number number x.actions ≡ false = sym (asked_there given false d variable k x is at) ∙ r.0 in
@@ -207,8 +209,8 @@ module _ (jobs : Jobs) (threads : List Thread) where
         condition = event.condition;
         rising = rises_with new_list x.actions event.rising free;
         in_range = all_with (λ (list : Numbered). list.0 ≤ 15) new_list x.actions (at_most number q.0) event.in_range;
-        doable = all_with (λ (list : Numbered). All (IsDoable (names_of jobs d)) list.1) new_list x.actions done
-            event.doable;
+        deeds = all_with (λ (list : Numbered). All (IsDeedAmong (names_of jobs d)) list.1) new_list x.actions done
+            event.deeds;
       }))
 
   pub activate : (variable : Name) (d e : Draft) → activate_line variable d ≡ Ok e → Keeps jobs threads d e
@@ -224,7 +226,7 @@ module _ (jobs : Jobs) (threads : List Thread) where
         rising = event.rising;
         in_range =
             event.in_range;
-        doable = event.doable;
+        deeds = event.deeds;
       }))
 
   -- an event is added at its place
@@ -245,9 +247,10 @@ module _ (jobs : Jobs) (threads : List Thread) where
             (map_append (λ (known : Name × ℕ). known.0) d.added_events ((name, place) ∷ []));
       } in
       let allows : Allows (names_of jobs d) (names_of jobs new) =
-      doable_added (names_of jobs d) (names_of jobs new) has in
+      among_added (names_of jobs d) (names_of jobs new) has in
       record {
         cells = refl;
+        deeds = stays_added (names_of jobs d) (names_of jobs new) has;
         right = λ right. record {
           cells = right.cells;
           flagged = right.flagged;

@@ -1,12 +1,13 @@
 -- What lines about groups keep of a draft.
-use Rattle.std.proofs.Common.{rules, ◌≡◌, ◌∙◌, ◌<◌, ◌≤◌, ◌++◌, ◌∷◌, [], ◌==◌, ℕ, zero, suc, Bool, true, false, ◌&&◌, ◌||◌, nat_lt, List, Option, Some, None, is_none, is_some, Result, Ok, All, length, map, slice_get, append-nil, refl, sym, ap, ap₂, subst, arith, if◌then◌else◌}
+use Rattle.std.proofs.Common.{rules, ◌≡◌, ◌∙◌, ◌<◌, ◌++◌, ◌∷◌, [], ℕ, zero, suc, Bool, true, false, ◌||◌, nat_lt, List, Option, Some, None, is_none, is_some, Ok, length, slice_get, append-nil, refl, sym, ap, ap₂, subst, arith, if◌then◌else◌}
 use Rattle.std.proofs.lemmas.List.Elements.{All-push}
 use Rattle.trick_draft.proofs.Added.{known_last, more_places, one_added, room}
-use Rattle.trick_draft.proofs.Grows.{Allows, HasAdded, doable_added, events_grow, reads_grow}
+use Rattle.trick_draft.proofs.Grows.{Allows, HasAdded, among_added, events_grow, reads_grow}
 use Rattle.trick_draft.proofs.Keeping.{of_none}
 use Rattle.trick_draft.proofs.Lists.{all_changed_at, get_mapped, map_append, map_changed_at}
 use Rattle.trick_draft.proofs.Mirrored.{cell_there}
 use Rattle.trick_draft.proofs.Passed.{first_passed, is_answer, neither, not_there, there}
+use Rattle.trick_draft.proofs.Stays.{stays_added}
 use Rattle.trick_draft.specs.Cells.{only_names}
 use Rattle.trick_draft.specs.Drafts.{as_group, asked, asked_of_group, group_of, item_at, names_of, new_group, place_in, with_group}
 use Rattle.trick_draft.specs.Jobs.{Jobs}
@@ -81,6 +82,7 @@ module _ (jobs : Jobs) (threads : List Thread) where
       → Keeps jobs threads d (with_group variable change d)
   group_changed d variable change same keeps = record {
     cells = refl;
+    deeds = λ action deed is. is;
     right = λ right. record {
       cells = right.cells;
       flagged = right.flagged;
@@ -99,7 +101,11 @@ module _ (jobs : Jobs) (threads : List Thread) where
   }
 
   pub keeps_on : (a b c : Draft) → Keeps jobs threads a b → Keeps jobs threads b c → Keeps jobs threads a c
-  keeps_on a b c h k = record { cells = k.cells ∙ h.cells; right = λ right. k.right (h.right right) }
+  keeps_on a b c h k = record {
+    cells = k.cells ∙ h.cells;
+    right = λ right. k.right (h.right right);
+    deeds = λ action deed is. k.deeds action deed (h.deeds action deed is);
+  }
 
   pub set_group : (variable : Name) (on : Bool) (d e : Draft) → set_group_line variable on d ≡ Ok e
       → Keeps jobs threads d e
@@ -162,6 +168,7 @@ module _ (jobs : Jobs) (threads : List Thread) where
       [] new e h in
       subst (Keeps jobs threads d) (is_answer new e p.1) (record {
         cells = refl;
+        deeds = λ action deed is. is;
         right = λ right. record {
           cells = right.cells;
           flagged = right.flagged;
@@ -202,9 +209,10 @@ module _ (jobs : Jobs) (threads : List Thread) where
             (sym (append-nil (only_names d.added_events)));
       } in
       let allows : Allows (names_of jobs d) (names_of jobs new) =
-      doable_added (names_of jobs d) (names_of jobs new) has in
+      among_added (names_of jobs d) (names_of jobs new) has in
       record {
         cells = refl;
+        deeds = stays_added (names_of jobs d) (names_of jobs new) has;
         right = λ right. record {
           cells = right.cells;
           flagged = right.flagged;

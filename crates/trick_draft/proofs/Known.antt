@@ -1,36 +1,16 @@
 -- Names that are known, and their places.
-use Rattle.std.proofs.Common.{◌≡◌, ◌∙◌, ◌+◌, ◌∷◌, [], ℕ, suc, ℤ, Bool, true, false, List, Option, Some, None, is_some, refl, sym, ap, add-zero, arith, if◌then◌else◌}
-use Rattle.std.specs.Ordering.{int_eq}
+use Rattle.std.proofs.Common.{◌≡◌, ◌∙◌, ◌+◌, ◌∷◌, [], ℕ, zero, suc, ℤ, Bool, true, false, List, Option, Some, None, drop, slice_get, refl, sym, subst, ap, add-zero, arith, if◌then◌else◌}
 use Rattle.std.specs.Prelude.{option_map}
 use Rattle.std.specs.Str.{bytes_eq}
-use Rattle.trick_deed.specs.Deeds.{fitting}
 use Rattle.trick_draft.specs.Cells.{AreNumbered, numbered, only_names, with_objects, with_object}
 use Rattle.trick_draft.specs.declared.cells.KnownCells.{KnownCells}
 use Rattle.trick_lang.specs.SyntaxTree.{Name}
-use Rattle.trick_lang.specs.Wrap.{scalar_at, wrap}
 use Rattle.trick_lang.specs.declared.cells.Cell.{Cell}
 use Rattle.trick_lang.specs.declared.object.Object.{Object}
-use Rattle.trick_lang.specs.declared.scalar.Scalar.{Scalar}
-use Rattle.trick_model.specs.Names.{Deed, SetCell, find_name, one_more, set_in_range}
+use Rattle.trick_model.specs.Names.{find_name, one_more, set_in_range}
 use Rattle.trick_names.specs.Names.{Names, meaning_of}
 
 -- ---- places of names
-
--- a name has a place where it is known
-pub place_known : {T : Type 0} (name : Name) (names : Names T) → is_some (find_name name (only_names names))
-    ≡ is_some (meaning_of name names)
-place_known name [] = refl
-place_known name (known ∷ rest) = by (bytes_eq name known.0) (place_known name rest)
-  where
-    counted : (o : Option ℕ) → is_some (one_more o) ≡ is_some o
-    counted None = refl
-    counted (Some k) = refl
-
-    by : (b : Bool) → is_some (find_name name (only_names rest)) ≡ is_some (meaning_of name rest)
-        → is_some (elim b [ true ↦ Some 0 | false ↦ one_more (find_name name (only_names rest)) ])
-        ≡ is_some (if b then Some known.1 else meaning_of name rest)
-    by true same = refl
-    by false same = counted (find_name name (only_names rest)) ∙ same
 
 -- a place counted from k on
 abbrev pub from : ℕ → Option ℕ → Option ℕ
@@ -41,9 +21,39 @@ from_next : (k : ℕ) (o : Option ℕ) → from (suc k) o ≡ from k (one_more o
 from_next k None = refl
 from_next k (Some j) = ap (λ (n : ℕ). Some n) (omega arith)
 
-from_first : (o : Option ℕ) → from 0 o ≡ o
+pub from_first : (o : Option ℕ) → from 0 o ≡ o
 from_first None = refl
 from_first (Some j) = ap (λ (n : ℕ). Some n) (omega arith)
+
+-- ---- places of names, one after another
+
+from_known : (names : Names ℕ) (at : ℕ) (known : Name × ℕ) → slice_get names at ≡ Some known
+    → only_names (drop at names) ≡ known.0 ∷ only_names (drop (at + 1) names)
+from_known [] at known h = cc h
+from_known (other ∷ names) zero known h =
+    let is : other ≡ known = cc h in ap (λ (k : Name × ℕ). k.0 ∷ only_names names) is
+from_known (other ∷ names) (suc at) known h =
+    let one : suc at + 1 ≡ suc (at + 1) = omega arith in
+    subst (λ (n : ℕ). only_names (drop at names) ≡ known.0 ∷ only_names (drop n (other ∷ names))) (sym one)
+    (from_known names at known h)
+
+module _ (name : Name) (names : Names ℕ) (at : ℕ) (known : Name × ℕ) (here : slice_get names at ≡ Some known) where
+  -- the name stands here
+  pub this_place : bytes_eq name known.0 ≡ true → Some at ≡ from at (find_name name (only_names (drop at names)))
+  this_place same =
+      ap (λ (n : ℕ). Some n) (sym (add-zero at))
+      ∙ sym (ap (λ (ns : List Name). from at (find_name name ns)) (from_known names at known here)
+      ∙ ap (λ (b : Bool). from at (elim b [ true ↦ Some 0 | false ↦ one_more (find_name name (only_names (drop (at + 1) names))) ])) same)
+
+  -- it stands later, if at all
+  pub next_place : bytes_eq name known.0 ≡ false
+      → from (at + 1) (find_name name (only_names (drop (at + 1) names))) ≡ from at (find_name name (only_names (drop at names)))
+  next_place other =
+      let rest = find_name name (only_names (drop (at + 1) names)) in
+      let one : at + 1 ≡ suc at = omega arith in
+      ap (λ (n : ℕ). from n rest) one ∙ (from_next at rest
+      ∙ sym (ap (λ (ns : List Name). from at (find_name name ns)) (from_known names at known here)
+      ∙ ap (λ (b : Bool). from at (elim b [ true ↦ Some 0 | false ↦ one_more rest ])) other))
 
 abbrev pub number_of : Cell → ℕ
 number_of cell = cell.0
@@ -69,31 +79,20 @@ number_is_place name known numbers =
 
 -- ---- numbers that cells can get
 
-fits : (scalars : List Scalar) (number : ℤ) (place : ℕ)
-    → is_some (fitting (scalar_at scalars place) number) ≡ is_some (set_in_range scalars number (Some place))
-fits scalars number place = by (int_eq (wrap (scalar_at scalars place) number) number)
-  where
-    by : (b : Bool) → is_some (elim b as (λ _. Option ℤ) [ true ↦ Some number | false ↦ None ])
-        ≡ is_some (elim b as (λ _. Option Deed) [ true ↦ Some (SetCell place number) | false ↦ None ])
-    by true = refl
-    by false = refl
-
--- a cell of this name can get the number
-pub can_get : (known : KnownCells) (name : Name) (number : ℤ) (cell : Cell) → AreNumbered known
+-- what the setting of a cell of this name asks for
+pub cell_place : (known : KnownCells) (name : Name) (number : ℤ) (cell : Cell) → AreNumbered known
     → meaning_of name known.names ≡ Some cell
-    → is_some (fitting (scalar_at known.scalars cell.0) number)
-    ≡ is_some (set_in_range known.scalars number (find_name name (only_names known.names)))
-can_get known name number cell numbers is =
-    fits known.scalars number cell.0
-    ∙ ap (λ (o : Option ℕ). is_some (set_in_range known.scalars number o))
+    → set_in_range known.scalars number (Some cell.0)
+    ≡ set_in_range known.scalars number (find_name name (only_names known.names))
+cell_place known name number cell numbers is =
+    ap (λ (o : Option ℕ). set_in_range known.scalars number o)
     (sym (ap (option_map number_of) is) ∙ number_is_place name known numbers)
 
 -- there is no cell of this name
-pub cannot_get : (known : KnownCells) (name : Name) (number : ℤ) → AreNumbered known → meaning_of name known.names
-    ≡ None
-    → false ≡ is_some (set_in_range known.scalars number (find_name name (only_names known.names)))
-cannot_get known name number numbers is =
-    ap (λ (o : Option ℕ). is_some (set_in_range known.scalars number o))
+pub none_set : (known : KnownCells) (name : Name) (number : ℤ) → AreNumbered known → meaning_of name known.names ≡ None
+    → None ≡ set_in_range known.scalars number (find_name name (only_names known.names))
+none_set known name number numbers is =
+    ap (λ (o : Option ℕ). set_in_range known.scalars number o)
     (sym (ap (option_map number_of) is) ∙ number_is_place name known numbers)
 
 -- ---- objects

@@ -4,7 +4,7 @@ pub mod Lists
 pub mod Passed
 -- names that are known, and their places
 pub mod Known
--- a list of actions at its place by number
+-- a list of deeds at its place by number
 pub mod Inserted
 -- a name is taken in a draft where it is taken in the program
 pub mod Taken
@@ -12,9 +12,13 @@ pub mod Taken
 pub mod Declaring
 -- the cells of a program, as a draft knows them
 pub mod Mirrored
--- what can be done can be done among more names
+-- a deed about some names is about more names
 pub mod Grows
--- lists of actions by rising number
+-- what actions ask for, one after another
+pub mod Asked
+-- what an action asks for stays the same among more names
+pub mod Stays
+-- lists of deeds by rising number
 pub mod Rising
 -- groups and events that are added, each once
 pub mod Added

@@ -1,12 +1,12 @@
 -- The cells of a program, as a draft knows them.
-use Rattle.std.proofs.Common.{◌≡◌, ◌∙◌, ◌<◌, ◌++◌, ◌∷◌, [], ℕ, zero, suc, Bool, true, false, not, ◌&&◌, List, Option, Some, None, is_some, length, map, IsTrue, refl, sym, ap, subst, arith, append_assoc, append-nil, if◌then◌else◌}
+use Rattle.std.proofs.Common.{◌≡◌, ◌∙◌, ◌<◌, ◌++◌, ◌∷◌, [], ℕ, zero, suc, Bool, true, false, not, List, Option, Some, None, is_some, length, refl, sym, ap, subst, arith, append_assoc, append-nil, if◌then◌else◌}
 use Rattle.std.proofs.lemmas.Bool.{and_parts}
 use Rattle.std.proofs.lemmas.Slice.Eq.{bytes_eq-Decides}
 use Rattle.std.specs.List.{list_all}
 use Rattle.std.specs.Prelude.{option_map}
 use Rattle.std.specs.Str.{bytes_eq}
 use Rattle.trick_draft.proofs.Known.{no_cell_more, number_is_place, number_of}
-use Rattle.trick_draft.specs.Cells.{AreNumbered, known_cells, no_cells, numbered, only_names, with_cell, with_cells, with_object, with_objects}
+use Rattle.trick_draft.specs.Cells.{no_cells, numbered, only_names, with_cell, with_cells, with_object, with_objects}
 use Rattle.trick_draft.specs.Kept.{AreCells, IsMirrored, Mirrors}
 use Rattle.trick_draft.specs.declared.cells.KnownCells.{KnownCells}
 use Rattle.trick_draft.specs.declared.draft.Draft.{Draft}
@@ -20,7 +20,7 @@ use Rattle.trick_lang.specs.declared.scalar.Scalar.{Scalar}
 use Rattle.trick_lang.specs.declared.variable.Variable.{Variable}
 use Rattle.trick_model.specs.Names.{find_name, one_more}
 use Rattle.trick_model.specs.Valid.{cell_names}
-use Rattle.trick_names.specs.Names.{Names, meaning_of, with_name}
+use Rattle.trick_names.specs.Names.{Names, meaning_of}
 
 -- ---- names that are not known
 

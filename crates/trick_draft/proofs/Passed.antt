@@ -1,5 +1,5 @@
 -- A line that is not refused: none of its tests holds, and what is after them is its answer.
-use Rattle.std.proofs.Common.{◌≡◌, Bool, true, false, ◌||◌, not, List, [], ◌∷◌, Option, Some, None, is_none, is_some, Result, Ok, Err, refl}
+use Rattle.std.proofs.Common.{◌≡◌, Bool, true, false, ◌||◌, not, List, [], ◌∷◌, Option, Some, None, is_none, is_some, Ok, refl}
 use Rattle.trick_draft.specs.Lines.{unless}
 use Rattle.trick_draft.specs.declared.draft.Draft.{Draft}
 use Rattle.trick_draft.specs.declared.fault.LineFault.{LineFault}

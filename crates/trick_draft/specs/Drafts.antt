@@ -1,5 +1,5 @@
 -- What the lines so far have said.
-use Rattle.std.specs.Prelude.{ℕ, ℤ, nat_lt, Bool, true, false, List, [], ◌∷◌, length, map, replicate, slice_get, Option, Some, None, if◌then◌else◌}
+use Rattle.std.specs.Prelude.{ℕ, ℤ, nat_lt, true, false, List, [], ◌∷◌, length, replicate, slice_get, Option, Some, None, if◌then◌else◌}
 use Rattle.trick_draft.specs.Cells.{known_cells, only_names}
 use Rattle.trick_draft.specs.Changed.{changed_at}
 use Rattle.trick_draft.specs.Jobs.{Jobs}

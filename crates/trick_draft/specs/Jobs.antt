@@ -1,5 +1,5 @@
 -- The jobs that lines name.
-use Rattle.std.specs.Prelude.{ℕ, Bool, true, false, List, map, Option, Some, None, option_map, if◌then◌else◌}
+use Rattle.std.specs.Prelude.{ℕ, Bool, List, map, Option, Some, None, option_map, if◌then◌else◌}
 use Rattle.trick_lang.specs.Names.{job_name}
 use Rattle.trick_lang.specs.SyntaxTree.{Name}
 use Rattle.trick_lang.specs.declared.job.Job.{Job}

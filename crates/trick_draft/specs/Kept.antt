@@ -1,6 +1,6 @@
 -- What a draft keeps, whatever its lines say.
 use Rattle.std.specs.List.{All}
-use Rattle.std.specs.Prelude.{◌≡◌, ℕ, ◌<◌, ◌≤◌, ℤ, true, IsTrue, List, length, map, Option, Some, None, slice_get}
+use Rattle.std.specs.Prelude.{◌≡◌, ℕ, ◌≤◌, ℤ, IsTrue, List, length, map, Option, Some, None, slice_get}
 use Rattle.trick_draft.specs.Cells.{AreNumbered, known_cells, only_names}
 use Rattle.trick_draft.specs.Drafts.{names_of}
 use Rattle.trick_draft.specs.Jobs.{Jobs}
@@ -19,7 +19,7 @@ use Rattle.trick_lang.specs.declared.scalar.Scalar.{Scalar}
 use Rattle.trick_model.specs.Condition.{is_condition}
 use Rattle.trick_model.specs.Names as model
 use Rattle.trick_base.specs.Time.{tic_limit}
-use Rattle.trick_model.specs.Valid.{all_differ, cell_names, IsCell, IsCycle, IsDoable, IsPair, rises}
+use Rattle.trick_model.specs.Valid.{all_differ, AreDeedsAmong, cell_names, IsCell, IsCycle, IsDeedAmong, IsPair, rises}
 use Rattle.trick_model.specs.declared.depends.Depends.{Depends}
 use Rattle.trick_model.specs.declared.read_at.ReadAt.{ReadAt}
 use Rattle.trick_model.specs.declared.thread.Thread.{Thread}
@@ -54,11 +54,11 @@ pub record ArePairs (jobs : Jobs) (threads : List Thread) (depends : List Depend
   pub few : length depends ≤ 512
   pub right : All (IsPair jobs.all threads) depends
 
--- There are at most 4,096 reads, each at a time, whose actions can be done.
+-- There are at most 4,096 reads, each at a time, whose deeds are about these names.
 pub record AreReads (names : model.Names) (reads : List ReadAt) : Type 0 where
   pub few : length reads ≤ 4096
   pub times : All (λ (read : ReadAt). read.tic ≤ tic_limit) reads
-  pub doable : All (λ (read : ReadAt). All (IsDoable names) read.actions) reads
+  pub deeds : All (λ (read : ReadAt). All (IsDeedAmong names) read.actions) reads
 
 -- ---- groups and events
 
@@ -73,13 +73,13 @@ abbrev pub IsCondition : ℕ → Option Term → Type 0
 IsCondition cells None = Unit {0}
 IsCondition cells (Some e) = (count : ℕ) → cells ≤ count → IsTrue (is_condition count e)
 
--- An event has a cycle, a condition that cannot fault, and actions by rising number that can be done.
+-- An event has a cycle, a condition that cannot fault, and deeds by rising number that are about these names.
 pub record IsEvent (names : model.Names) (cells : ℕ) (event : EventDraft) : Type 0 where
   pub cycle : IsCycle event.cycle
   pub condition : IsCondition cells event.condition
   pub rising : IsTrue (rises (map (λ (list : Numbered). list.0) event.actions))
   pub in_range : All (λ (list : Numbered). list.0 ≤ 15) event.actions
-  pub doable : All (λ (list : Numbered). All (IsDoable names) list.1) event.actions
+  pub deeds : AreDeedsAmong names event.actions
 
 -- a name that is added is that of the group or event at its place
 abbrev pub IsOfPlace : List Name → Name × ℕ → Type 0

@@ -1,6 +1,6 @@
 -- Laws of drafts.
-use Rattle.std.specs.Prelude.{◌≡◌, ℕ, ◌≤◌, ℤ, Bool, List, Option, Ok}
-use Rattle.trick_draft.specs.Drafts.{begun}
+use Rattle.std.specs.Prelude.{◌≡◌, ℕ, ◌≤◌, ℤ, Bool, List, Option, Some, Ok}
+use Rattle.trick_draft.specs.Drafts.{begun, names_of}
 use Rattle.trick_draft.specs.Jobs.{Jobs, jobs_of, waiting_job}
 use Rattle.trick_draft.specs.Kept.{IsDraftOf, IsMirrored, Mirrors}
 use Rattle.trick_draft.specs.Lines.{activate_line, add_event_line, add_group_line, add_read_line, add_variable_line, assign_line, declare_line, depend_line, new_event_line, new_group_line, set_action_line, set_changes_line, set_condition_line, set_cycle_line, set_group_line, set_job_line, this_own_line}
@@ -10,14 +10,24 @@ use Rattle.trick_lang.specs.SyntaxTree.{Expression, Name}
 use Rattle.trick_lang.specs.declared.job.JobId.{JobId}
 use Rattle.trick_lang.specs.declared.program.Program.{Program}
 use Rattle.trick_base.specs.Time.{tic_limit}
+use Rattle.trick_model.specs.Names.{deed_of}
 use Rattle.trick_model.specs.Valid.{IsCycle}
 use Rattle.trick_model.specs.declared.action.Action.{Action}
+use Rattle.trick_model.specs.declared.deed.Deed.{Deed}
 use Rattle.trick_model.specs.declared.thread.Thread.{Thread}
 
--- The second draft knows the same cells, and is right where the first one is.
+-- What an action asks for among the names of the first draft it asks for among those of the second, too: what was
+-- added before keeps its number.
+abbrev pub KeepsDeeds : Jobs → Draft → Draft → Type 0
+KeepsDeeds jobs d e =
+    (action : Action) (deed : Deed) → deed_of (names_of jobs d) action ≡ Some deed
+    → deed_of (names_of jobs e) action ≡ Some deed
+
+-- The second draft knows the same cells, and is right where the first one is; deeds are the same.
 pub record Keeps (jobs : Jobs) (threads : List Thread) (d e : Draft) : Type 0 where
   pub cells : e.cells ≡ d.cells
   pub right : IsDraftOf jobs threads d → IsDraftOf jobs threads e
+  pub deeds : KeepsDeeds jobs d e
 
 -- what every line that is taken keeps of a draft, but for a declaration
 pub record LinesKeep (jobs : Jobs) (threads : List Thread) : Type 0 where
@@ -68,6 +78,14 @@ DeclarationsKeep =
     → Mirrors p e
     → IsDraftOf jobs threads d
     → IsDraftOf jobs threads e
+
+-- What an action asks for stays the same with a declaration, where the draft was right before.
+abbrev pub DeclarationsKeepDeeds : Type 0
+DeclarationsKeepDeeds =
+    (jobs : Jobs) (threads : List Thread) (declared : Option Declaration) (d e : Draft)
+    → declare_line declared d ≡ Ok e
+    → IsDraftOf jobs threads d
+    → KeepsDeeds jobs d e
 
 -- The draft before the first line is right.
 abbrev pub BeginsRight : Type 0

@@ -1,6 +1,6 @@
 -- What each line says, given the lines before it.
-use Rattle.std.specs.List.{list_all, list_any}
-use Rattle.std.specs.Prelude.{◌≡◌, ℕ, zero, ◌+◌, ◌==◌, nat_lt, ℤ, pos, Bool, true, false, not, ◌&&◌, ◌||◌, List, [], ◌∷◌, ◌++◌, length, slice_set, Option, Some, None, is_none, is_some, Result, Ok, Err, if◌then◌else◌}
+use Rattle.std.specs.List.{list_any}
+use Rattle.std.specs.Prelude.{◌≡◌, ℕ, ◌+◌, ◌==◌, nat_lt, ℤ, pos, Bool, true, false, not, ◌&&◌, ◌||◌, List, [], ◌∷◌, ◌++◌, length, slice_set, Option, Some, None, is_none, is_some, Result, Ok, Err, if◌then◌else◌}
 use Rattle.trick_condition.specs.Conditions.{has_unknown, is_plain, term}
 use Rattle.trick_condition.specs.Held.{known_by}
 use Rattle.trick_condition.specs.Places.{Known}
@@ -21,8 +21,9 @@ use Rattle.trick_lang.specs.Tree.{Term}
 use Rattle.trick_lang.specs.Wrap.{scalar_at}
 use Rattle.trick_lang.specs.declared.cells.Cell.{Cell}
 use Rattle.trick_lang.specs.declared.job.JobId.{JobId}
-use Rattle.trick_model.specs.Names.{deed_of}
+use Rattle.trick_model.specs.Names.{deeds_of}
 use Rattle.trick_model.specs.declared.action.Action.{Action}
+use Rattle.trick_model.specs.declared.deed.Deed.{Deed}
 use Rattle.trick_names.specs.Names.{meaning_of, with_name}
 
 -- ---- lines and their tests
@@ -106,27 +107,21 @@ declare_line (Some declared) d =
 
 -- ---- actions
 
--- the action asks for something that can be done
-abbrev pub can_do : Jobs → Draft → Action → Bool
-can_do jobs d action = is_some (deed_of (names_of jobs d) action)
+-- what the actions of a line ask for, where they read and all of that can be done
+abbrev pub deeds_in : Jobs → Draft → Option (List Action) → Option (List Deed)
+deeds_in jobs d None = None
+deeds_in jobs d (Some actions) = deeds_of (names_of jobs d) actions
 
--- the actions read, and all of them can be done
-abbrev pub can_do_all : Jobs → Draft → Option (List Action) → Bool
-can_do_all jobs d None = false
-can_do_all jobs d (Some actions) = list_all (can_do jobs d) actions
-
-abbrev pub or_none : Option (List Action) → List Action
+abbrev pub or_none : Option (List Deed) → List Deed
 or_none None = []
-or_none (Some actions) = actions
+or_none (Some deeds) = deeds
 
 -- `trick.add_read(TIME, "actions")`, by its tic
 abbrev pub add_read_line : Jobs → ℕ → Option (List Action) → Draft → Result Draft LineFault
 add_read_line jobs tic actions d =
-    unless (
-    (not (can_do_all jobs d actions), fault.BadAction)
-    ∷ (is_full d.reads 4096, fault.TooMany 4096)
-    ∷ [])
-    (record d { reads = d.reads ++ record { tic = tic; actions = or_none actions } ∷ [] })
+    let deeds = deeds_in jobs d actions in
+    unless ((is_none deeds, fault.BadAction) ∷ (is_full d.reads 4096, fault.TooMany 4096) ∷ [])
+    (record d { reads = d.reads ++ record { tic = tic; actions = or_none deeds } ∷ [] })
 
 -- ---- groups
 
@@ -235,13 +230,13 @@ set_condition_line variable condition d =
     (with_event variable (λ (event : EventDraft). record event { condition = resolved d condition }) d)
 
 abbrev pub Numbered : Type 0
-Numbered = ℕ × List Action
+Numbered = ℕ × List Deed
 
--- there are actions of this number
+-- there are deeds of this number
 abbrev pub has_number : ℕ → List Numbered → Bool
 has_number number lists = list_any (λ (list : Numbered). list.0 == number) lists
 
--- actions at their place by number
+-- deeds at their place by number
 abbrev pub with_numbered : Numbered → List Numbered → List Numbered
 with_numbered new [] = new ∷ []
 with_numbered new (list ∷ lists) = if nat_lt new.0 list.0 then new ∷ list ∷ lists else list ∷ with_numbered new lists
@@ -249,14 +244,15 @@ with_numbered new (list ∷ lists) = if nat_lt new.0 list.0 then new ∷ list �
 -- `v.action(K, "actions")`, by the actions, where they read
 abbrev pub set_action_line : Jobs → Name → ℕ → Option (List Action) → Draft → Result Draft LineFault
 set_action_line jobs variable number actions d =
+    let deeds = deeds_in jobs d actions in
     unless (
     (is_none (event_of d variable), fault.UnknownName)
     ∷ (nat_lt 15 number, fault.OutOfRange)
     ∷ (asked_of_event (λ (event : EventDraft). has_number number event.actions) false d variable, fault.TwiceNamed)
-    ∷ (not (can_do_all jobs d actions), fault.BadAction)
+    ∷ (is_none deeds, fault.BadAction)
     ∷ [])
     (with_event variable
-    (λ (event : EventDraft). record event { actions = with_numbered (number, or_none actions) event.actions }) d)
+    (λ (event : EventDraft). record event { actions = with_numbered (number, or_none deeds) event.actions }) d)
 
 -- `v.activate()`
 abbrev pub activate_line : Name → Draft → Result Draft LineFault

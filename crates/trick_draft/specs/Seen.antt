@@ -5,6 +5,7 @@ use Rattle.trick_condition.specs.Conditions.{has_unknown, term}
 use Rattle.trick_condition.specs.Places.{Known}
 use Rattle.trick_declare.specs.Cells.{cells_of, count_of}
 use Rattle.trick_declare.specs.declared.declaration.Declaration.{Declaration}
+use Rattle.trick_declare.specs.declared.spelled.SpelledDeclaration.{SpelledDeclaration}
 use Rattle.trick_draft.specs.declared.fault.LineFault.{LineFault}
 use Rattle.trick_draft.specs.declared.fault.LineFault.TheVariants as fault
 use Rattle.trick_lang.specs.Syntax.{expression_of}
@@ -14,9 +15,9 @@ use Rattle.trick_lang.specs.declared.syntax.expression.Expr.{Expr}
 use Rattle.trick_lang.specs.declared.variable.Variable.{Variable}
 
 -- a declaration after its reference
-abbrev pub declared_in : Option (Bor Declaration) → Option Declaration
+abbrev pub declared_in : Option (Bor SpelledDeclaration) → Option Declaration
 declared_in None = None
-declared_in (Some declaration) = Some declaration.now
+declared_in (Some known) = Some known.now.declaration
 
 -- the tree of a condition after its reference
 abbrev pub condition_in : Option (Bor Expr) → Option Expression

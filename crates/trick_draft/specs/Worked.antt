@@ -1,16 +1,14 @@
 -- Worked lines: each test of each line once, and what each line adds.
-use Rattle.std.specs.Prelude.{◌≡◌, ℕ, ℤ, pos, negsuc, true, false, List, [], ◌∷◌, ◌++◌, codes, replicate, Option, Some, None, Result, Ok, Err}
-use Rattle.trick_declare.specs.declared.declaration.Declaration.{Declaration}
+use Rattle.std.specs.Prelude.{◌≡◌, ℕ, ℤ, pos, negsuc, true, false, [], ◌∷◌, ◌++◌, codes, replicate, Some, None, Ok, Err}
 use Rattle.trick_draft.specs.Drafts.{new_event, new_group}
 use Rattle.trick_draft.specs.Jobs.{Jobs}
 use Rattle.trick_draft.specs.Lines.{activate_line, add_event_line, add_group_line, add_read_line, add_variable_line, assign_line, declare_line, depend_line, new_event_line, new_group_line, set_action_line, set_changes_line, set_condition_line, set_cycle_line, set_group_line, set_job_line, this_own_line}
 use Rattle.trick_draft.specs.declared.draft.Draft.{Draft}
 use Rattle.trick_draft.specs.declared.event.EventDraft.{EventDraft}
-use Rattle.trick_draft.specs.declared.fault.LineFault.{LineFault}
 use Rattle.trick_draft.specs.declared.fault.LineFault.TheVariants as fault
 use Rattle.trick_draft.specs.declared.group.GroupDraft.{GroupDraft}
 use Rattle.trick_draft.specs.declared.handle.Handle.TheVariants as handle
-use Rattle.trick_lang.specs.SyntaxTree.{Expression, Named, NoPart, Member, Index, Prefixed, Chain, Link, NoLink, Whole, path}
+use Rattle.trick_lang.specs.SyntaxTree.{Expression, Named, NoPart, Member, Index, Chain, Link, NoLink, Whole, path}
 use Rattle.trick_lang.specs.Tree as tree
 use Rattle.trick_lang.specs.declared.cells.Cell.{Cell}
 use Rattle.trick_lang.specs.declared.job.JobId.{JobId}
@@ -19,6 +17,8 @@ use Rattle.trick_lang.specs.declared.operator.Operator.TheVariants.{Arithmetic}
 use Rattle.trick_lang.specs.declared.scalar.Scalar.TheVariants.{Char, Int}
 use Rattle.trick_model.specs.declared.action.Action.{Action}
 use Rattle.trick_model.specs.declared.action.Action.TheVariants as action
+use Rattle.trick_model.specs.declared.deed.Deed.{Deed}
+use Rattle.trick_model.specs.declared.deed.Deed.TheVariants as deed
 
 -- ---- a draft
 
@@ -65,6 +65,10 @@ after change = record draft { events = change (new_event (codes "late") 1000000)
 
 abbrev pub set : ℤ → Action
 set number = action.SetCell (codes "o.c") number
+
+-- what it asks for
+abbrev pub set_deed : ℤ → Deed
+set_deed number = deed.SetCell (cell 0) number
 
 -- `o.c` and `HIGH` in a condition
 abbrev pub place : Expression
@@ -122,7 +126,7 @@ pub record AreWorked : Type 0 where
   -- trick.add_read(.., "o.c = 5")
   pub read :
       add_read_line no_jobs 7 (Some (set (pos 5) ∷ [])) draft
-      ≡ Ok (record draft { reads = record { tic = 7; actions = set (pos 5) ∷ [] } ∷ [] })
+      ≡ Ok (record draft { reads = record { tic = 7; actions = set_deed (pos 5) ∷ [] } ∷ [] })
   pub read_badly : add_read_line no_jobs 7 None draft ≡ Err fault.BadAction
   -- trick.add_read(.., "o.c = 5; o.c = 128")
   pub read_too_much : add_read_line no_jobs 7 (Some (set (pos 5) ∷ set (pos 128) ∷ [])) draft ≡ Err fault.BadAction
@@ -241,7 +245,7 @@ pub record AreWorkedEvents : Type 0 where
   pub action :
       set_action_line no_jobs (codes "e") 2 (Some (set (pos 5) ∷ []))
       (after (λ (event : EventDraft). record event { actions = (3, []) ∷ [] }))
-      ≡ Ok (after (λ (event : EventDraft). record event { actions = (2, set (pos 5) ∷ []) ∷ (3, []) ∷ [] }))
+      ≡ Ok (after (λ (event : EventDraft). record event { actions = (2, set_deed (pos 5) ∷ []) ∷ (3, []) ∷ [] }))
   -- g.action(2, ..)
   pub action_of_a_group : set_action_line no_jobs (codes "g") 2 None draft ≡ Err fault.UnknownName
   -- e.action(16, ..)

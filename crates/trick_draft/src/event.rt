@@ -10,7 +10,7 @@ use crate::Condition;
 use std::alloc::{AllocError, Global};
 use std::mem;
 use trick_base::{Items, Word};
-use trick_model::Action;
+use trick_model::Deed;
 
 /// An event, as the lines so far have made it.
 #[derive(Drop)]
@@ -19,8 +19,8 @@ pub struct EventDraft {
     /// In tics; the software frame where no line says otherwise.
     pub cycle: u64,
     pub condition: Option<Condition>,
-    /// Lists of actions by rising number, from 0 to 15.
-    pub actions: Items<(u8, Items<Action>)>,
+    /// What its actions ask for: lists by rising number, from 0 to 15.
+    pub actions: Items<(u8, Items<Deed>)>,
     /// Whether the event begins active.
     pub on: bool,
 }
@@ -62,7 +62,7 @@ pub(crate) fn set_condition(
 }
 
 // The place of the first list of a larger number.
-fn place_of(lists: &[(u8, Items<Action>)], number: u8) -> usize
+fn place_of(lists: &[(u8, Items<Deed>)], number: u8) -> usize
     ensures place { result ≡ place_for number lists.now }
     ensures within { result ≤ length lists.now }
 {
@@ -74,12 +74,12 @@ fn place_of(lists: &[(u8, Items<Action>)], number: u8) -> usize
     lists.len()
 }
 
-// Adds a list of actions at its place by number.
+// Adds a list of deeds at its place by number.
 fn insert(
-    lists: Items<(u8, Items<Action>)>,
+    lists: Items<(u8, Items<Deed>)>,
     number: u8,
-    actions: Items<Action>,
-) -> Result<Items<(u8, Items<Action>)>, AllocError>
+    actions: Items<Deed>,
+) -> Result<Items<(u8, Items<Deed>)>, AllocError>
     ensures { IfOk result (λ all. all ≡ with_numbered (number, actions) lists) }
 {
     let mut all = lists.into_vec();
@@ -88,12 +88,12 @@ fn insert(
     Ok(Items::from_vec(all))
 }
 
-// Gives an event a list of actions.
+// Gives an event a list of deeds.
 fn give(
     alloc: Global,
     event: &mut EventDraft,
     number: u8,
-    actions: Items<Action>,
+    actions: Items<Deed>,
 ) -> Result<(), AllocError>
     ensures { OnOk result (event.new
         ≡ record event.old { actions = with_numbered (number, actions) event.old.actions }) }
@@ -103,13 +103,13 @@ fn give(
     Ok(())
 }
 
-// Gives an event a list of actions.
+// Gives an event a list of deeds.
 pub(crate) fn add_actions(
     alloc: Global,
     events: &mut Items<EventDraft>,
     at: usize,
     number: u8,
-    actions: Items<Action>,
+    actions: Items<Deed>,
 ) -> Result<(), AllocError>
     requires { at < length events.old }
     ensures { OnOk result (events.new ≡ changed

@@ -17,7 +17,7 @@ use trick_base::{Items, Word};
 use trick_condition::{ConditionFault, is_plain, resolve};
 use trick_lang::Program;
 use trick_lang::syntax::Expr;
-use trick_model::Action;
+use trick_model::{Action, Deed};
 
 fn new_event(alloc: Global, name: &Word, frame: u64) -> Result<EventDraft, AllocError>
     ensures { IfOk result (λ event. event ≡ new_event name.now frame) }
@@ -42,7 +42,7 @@ fn has_condition(events: &[EventDraft], at: usize) -> bool
 }
 
 // Whether there are actions of this number.
-fn has_number(lists: &[(u8, Items<Action>)], number: u64) -> bool
+fn has_number(lists: &[(u8, Items<Deed>)], number: u64) -> bool
     ensures { result ≡ has_number number lists.now }
 {
     lists.iter().any(|list| u64::from(list.0) == number)
@@ -148,13 +148,10 @@ impl Draft {
         if has_action(self.events.as_slice(), at, number) {
             return Err(LineFault::TwiceNamed);
         }
-        let Some(actions) = actions else {
+        let Some(deeds) = self.deeds_in(alloc, program, actions)? else {
             return Err(LineFault::BadAction);
         };
-        if !self.can_do_all(program, actions.as_slice()) {
-            return Err(LineFault::BadAction);
-        }
-        add_actions(alloc, &mut self.events, at, number as u8, actions)?;
+        add_actions(alloc, &mut self.events, at, number as u8, deeds)?;
         Ok(())
     }
 

@@ -1,7 +1,7 @@
 //! Laws of drafts. A function that calls one of them may rest on what it says; the call itself does
 //! nothing.
 
-ghost use Rattle.trick_draft.specs.Laws.{AllLinesKeep, BeginsRight, CellsAreMirrored, DeclarationsKeep};
+ghost use Rattle.trick_draft.specs.Laws.{AllLinesKeep, BeginsRight, CellsAreMirrored, DeclarationsKeep, DeclarationsKeepDeeds};
 ghost use Rattle.trick_draft.specs.Worked.{AreWorked, AreWorkedEvents, AreWorkedGroups};
 
 /// The draft before the first line is right.
@@ -9,7 +9,8 @@ pub fn begins_right()
     ensures { BeginsRight }
 {}
 
-/// A line that is taken keeps a draft right, and the cells that it knows.
+/// A line that is taken keeps a draft right, and the cells that it knows; and what an action asked for
+/// before the line it asks for after it.
 pub fn lines_keep()
     ensures { AllLinesKeep }
 {
@@ -19,6 +20,11 @@ pub fn lines_keep()
 /// A declaration that is taken keeps a draft right.
 pub fn declarations_keep()
     ensures { DeclarationsKeep }
+{}
+
+/// What an action asked for before a declaration it asks for after it.
+pub fn declarations_keep_deeds()
+    ensures { DeclarationsKeepDeeds }
 {}
 
 /// What a draft knows of the cells of a program.

@@ -4,7 +4,7 @@
 
 mod cells;
 mod condition;
-mod doable;
+mod deeds;
 mod draft;
 mod event;
 mod event_lines;

@@ -12,7 +12,7 @@ use crate::limits::{PAIR_LIMIT, READ_LIMIT};
 use crate::{Draft, LineFault};
 use std::alloc::Global;
 use trick_base::{CELL_LIMIT, Items, Word};
-use trick_declare::{Declaration, DeclareFault, add};
+use trick_declare::{DeclareFault, SpelledDeclaration, add};
 use trick_lang::{JobId, Program};
 use trick_model::{Action, Depends, ReadAt};
 
@@ -20,13 +20,13 @@ use trick_model::{Action, Depends, ReadAt};
 fn add_declared(
     alloc: Global,
     program: &mut Program,
-    declaration: &Declaration,
+    known: &SpelledDeclaration,
 ) -> Result<(), LineFault>
-    requires free { is_taken declaration.now.name program.old.objects program.old.cells ≡ false }
-    ensures cells { AddsDeclared result program.old.cells program.new.cells declaration.now }
+    requires free { is_taken known.now.declaration.name program.old.objects program.old.cells ≡ false }
+    ensures cells { AddsDeclared result program.old.cells program.new.cells known.now.declaration }
     ensures rest { KeepsRest program.old program.new }
 {
-    match add(alloc, program, declaration) {
+    match add(alloc, program, known) {
         Ok(()) => Ok(()),
         Err(DeclareFault::TooManyCells { count: _ }) => Err(LineFault::TooMany {
             limit: CELL_LIMIT,
@@ -98,21 +98,21 @@ impl Draft {
         &mut self,
         alloc: Global,
         program: &mut Program,
-        declared: Option<&Declaration>,
+        declared: Option<&SpelledDeclaration>,
     ) -> Result<(), LineFault>
         requires { Mirrors program.old self.old }
         ensures line { Did result self.new (declare_line (declared_in declared.entry) self.old) }
         ensures cells { OnOk result (Mirrors program.new self.new) }
         ensures rest { KeepsRest program.old program.new }
     {
-        let Some(declaration) = declared else {
+        let Some(known) = declared else {
             return Err(LineFault::BadAction);
         };
-        if self.cells.is_taken(alloc, &declaration.name)? {
+        if self.cells.is_taken(alloc, &known.declaration.name)? {
             return Err(LineFault::TwiceNamed);
         }
         let count = program.cells.len();
-        add_declared(alloc, program, declaration)?;
+        add_declared(alloc, program, known)?;
         self.cells
             .add_cells(alloc, &program.cells.as_slice()[count..])?;
         Ok(())
@@ -122,6 +122,7 @@ impl Draft {
     /// read (None) or cannot all be done are `BadAction`, and the 4,097th read is `TooMany`.
     pub fn add_read(
         &mut self,
+        alloc: Global,
         program: &Program,
         tic: u64,
         actions: Option<Items<Action>>,
@@ -129,12 +130,9 @@ impl Draft {
         requires { AreNumbered self.old.cells }
         ensures { Did result self.new (add_read_line (jobs_of program.now) tic actions self.old) }
     {
-        let Some(actions) = actions else {
+        let Some(actions) = self.deeds_in(alloc, program, actions)? else {
             return Err(LineFault::BadAction);
         };
-        if !self.can_do_all(program, actions.as_slice()) {
-            return Err(LineFault::BadAction);
-        }
         if self.reads.len() >= READ_LIMIT {
             return Err(LineFault::TooMany {
                 limit: READ_LIMIT as u64,

@@ -26,8 +26,8 @@ use Rattle.trick_lang.specs.declared.variable.Variable.{Variable}
 use Rattle.trick_model.specs.Condition.{is_condition_of}
 use Rattle.trick_model.specs.Names as model
 use Rattle.trick_base.specs.Time.{tic_limit}
-use Rattle.trick_model.specs.Valid.{all_differ, AreDoable, AreNumbered, cell_names, event_names, group_names, ids, IsAssignment, IsCell, IsCycle, IsDoable, IsFrame, IsPair, names_in, queues_of, rises}
-use Rattle.trick_model.specs.declared.action.Action.{Action}
+use Rattle.trick_model.specs.Valid.{all_differ, AreDeedsAmong, AreNumbered, cell_names, event_names, group_names, ids, IsAssignment, IsCell, IsCycle, IsDeedAmong, IsFrame, IsPair, names_in, queues_of, rises}
+use Rattle.trick_model.specs.declared.deed.Deed.{Deed}
 use Rattle.trick_model.specs.declared.depends.Depends.{Depends}
 use Rattle.trick_model.specs.declared.event.Event.{Event}
 use Rattle.trick_model.specs.declared.flags.Flags.{Flags}
@@ -202,6 +202,15 @@ same_names p d groups events mirrors of_groups of_events =
     ∙ (ap (λ (ns : List Name). of (cell_names p.cells) (scalars_of p.cells) ns (only_names d.added_events)) (sym of_groups)
     ∙ ap (λ (ns : List Name). of (cell_names p.cells) (scalars_of p.cells) (group_names groups) ns) (sym of_events)))
 
+pub names_kept : (p : Program) (d : Draft) (s : Settings) (parts : Parts) → IsMirrored p d
+    → IsDraftOf (jobs_of p) s.threads d → AreParts d s parts
+    → names_of (jobs_of p) d ≡ names_in p parts.groups parts.events
+names_kept p d s parts mirrors draft are =
+    same_names p d parts.groups parts.events mirrors
+    (names_of_plan_groups (length d.cells.scalars) d.groups d.added_groups parts.groups are.groups draft.added_groups)
+    (names_of_plan_events (names_of (jobs_of p) d) (length d.cells.scalars) d.events d.added_events parts.events are.events
+    draft.added_events)
+
 pub right : (p : Program) (d : Draft) (s : Settings) (parts : Parts) → IsMirrored p d → IsDraftOf (jobs_of p) s.threads d
     → AreThreads p.jobs s.threads → IsFrame s.frame → s.limit ≤ tic_limit + 1 → AreParts d s parts
     → map ids parts.queues ≡ queues_of p.jobs
@@ -231,12 +240,11 @@ right p d s parts mirrors draft threads frame limit are queues = record {
       (λ (group : Group). All (IsCell count) group.cells) draft.groups (λ group is. is.there));
   assigns_right = right_assigns p.cells d.cells.scalars parts.assigns mirrors.scalars
       (subst (All (IsSet d.cells.scalars)) (sym are.assigns) draft.assigns);
-  event_actions = subst (λ (all : model.Names). All (AreDoable all) parts.events) same
+  event_actions = subst (λ (all : model.Names). All (λ (event : Event). AreDeedsAmong all event.actions) parts.events) same
       (each_event names count d.events d.added_events parts.events are.events
-      (λ (tree : EventTree). All (λ (numbered : ℕ × List Action). All (IsDoable names) numbered.1) tree.actions)
-      draft.events (λ event is. is.doable));
-  read_actions = subst (λ (all : model.Names). All (λ (read : ReadAt). All (IsDoable all) read.actions) parts.reads) same
-      (subst (All (λ (read : ReadAt). All (IsDoable names) read.actions)) (sym are.reads) draft.reads.doable);
+      (λ (tree : EventTree). AreDeedsAmong names tree.actions) draft.events (λ event is. is.deeds));
+  read_actions = subst (λ (all : model.Names). All (λ (read : ReadAt). All (IsDeedAmong all) read.actions) parts.reads) same
+      (subst (All (λ (read : ReadAt). All (IsDeedAmong names) read.actions)) (sym are.reads) draft.reads.deeds);
   conditions_right = plain_conditions names count d.events d.added_events parts.events are.events
       (length p.cells) as_many draft.events;
   actions_numbered = All-weaker
@@ -259,8 +267,8 @@ right p d s parts mirrors draft threads frame limit are queues = record {
   where
     AreRising : EventTree → Type 0
     AreRising tree =
-        IsTrue (rises (map (λ (numbered : ℕ × List Action). numbered.0) tree.actions))
-        × All (λ (numbered : ℕ × List Action). numbered.0 ≤ 15) tree.actions
+        IsTrue (rises (map (λ (numbered : ℕ × List Deed). numbered.0) tree.actions))
+        × All (λ (numbered : ℕ × List Deed). numbered.0 ≤ 15) tree.actions
 
     names : model.Names
     names = names_of (jobs_of p) d
@@ -281,4 +289,4 @@ right p d s parts mirrors draft threads frame limit are queues = record {
     of_events = names_of_plan_events (names_of (jobs_of p) d) (length d.cells.scalars) d.events d.added_events parts.events are.events draft.added_events
 
     same : names_of (jobs_of p) d ≡ names_in p parts.groups parts.events
-    same = same_names p d parts.groups parts.events mirrors of_groups of_events
+    same = names_kept p d s parts mirrors draft are

@@ -1,5 +1,7 @@
 -- The plan that the lines of an input give, once all of them were taken.
 use Rattle.std.specs.Prelude.{◌≡◌, ℕ, List, map, Option, option_map}
+use Rattle.trick_draft.specs.Drafts.{names_of}
+use Rattle.trick_draft.specs.Jobs.{jobs_of}
 use Rattle.trick_draft.specs.declared.draft.Draft.{Draft}
 use Rattle.trick_draft.specs.declared.event.EventDraft.{EventDraft}
 use Rattle.trick_draft.specs.declared.group.GroupDraft.{GroupDraft}
@@ -9,7 +11,8 @@ use Rattle.trick_lang.specs.SyntaxTree.{Name}
 use Rattle.trick_lang.specs.Tree.{Term}
 use Rattle.trick_lang.specs.TreeOf.{term_of}
 use Rattle.trick_lang.specs.declared.program.Program.{Program}
-use Rattle.trick_model.specs.declared.action.Action.{Action}
+use Rattle.trick_model.specs.Valid.{names_in}
+use Rattle.trick_model.specs.declared.deed.Deed.{Deed}
 use Rattle.trick_model.specs.declared.event.Event.{Event}
 use Rattle.trick_model.specs.declared.group.Group.{Group}
 use Rattle.trick_model.specs.declared.plan.Plan.{Plan}
@@ -21,12 +24,12 @@ use Rattle.trick_settings.specs.declared.settings.Settings.{Settings}
 abbrev pub plan_group : GroupDraft → Group
 plan_group draft = record { name = draft.name; cycle = draft.cycle; changes = draft.changes; cells = draft.cells }
 
--- an event with the tree of its condition, which it may lack, and its actions by rising number
+-- an event with the tree of its condition, which it may lack, and its deeds by rising number
 pub record EventTree : Type 0 where
   pub name : Name
   pub cycle : ℕ
   pub condition : Option Term
-  pub actions : List (ℕ × List Action)
+  pub actions : List (ℕ × List Deed)
 
 -- the tree of an event
 abbrev pub event_tree : Event → EventTree
@@ -86,3 +89,5 @@ pub record AreParts (d : Draft) (s : Settings) (parts : Parts) : Type 0 where
 pub record IsEnding (p : Program) (d : Draft) (s : Settings) (plan : Plan) : Type 0 where
   pub program : plan.program ≡ p
   pub parts : AreParts d s (parts_of plan)
+  -- actions can have the same names
+  pub names : names_of (jobs_of p) d ≡ names_in plan.program plan.groups plan.events

@@ -6,7 +6,7 @@ use Rattle.trick_lang.specs.declared.program.Program.{Program}
 use Rattle.trick_model.specs.Condition.{is_condition_of}
 use Rattle.trick_model.specs.Plan.{has_thread}
 use Rattle.trick_base.specs.Time.{tic_limit}
-use Rattle.trick_model.specs.Valid.{all_differ, AreDoable, AreNumbered, event_names, group_names, ids, IsAssignment, IsCell, IsCycle, IsDoable, IsFrame, IsMainRight, IsPair, is_there, names_in, queues_of, rises, thread_numbers}
+use Rattle.trick_model.specs.Valid.{all_differ, AreDeedsAmong, AreNumbered, event_names, group_names, ids, IsAssignment, IsCell, IsCycle, IsDeedAmong, IsFrame, IsMainRight, IsPair, is_there, names_in, queues_of, rises, thread_numbers}
 use Rattle.trick_model.specs.declared.event.Event.{Event}
 use Rattle.trick_model.specs.declared.group.Group.{Group}
 use Rattle.trick_model.specs.declared.read_at.ReadAt.{ReadAt}
@@ -32,8 +32,8 @@ pub record AreRight (p : Program) (parts : Parts) : Type 0 where
   pub pairs_right : All (IsPair p.jobs parts.threads) parts.depends
   pub group_cells : All (λ (group : Group). All (IsCell (length p.cells)) group.cells) parts.groups
   pub assigns_right : All (IsAssignment p.cells) parts.assigns
-  pub event_actions : All (AreDoable (names_in p parts.groups parts.events)) parts.events
-  pub read_actions : All (λ (read : ReadAt). All (IsDoable (names_in p parts.groups parts.events)) read.actions)
+  pub event_actions : All (λ (event : Event). AreDeedsAmong (names_in p parts.groups parts.events) event.actions) parts.events
+  pub read_actions : All (λ (read : ReadAt). All (IsDeedAmong (names_in p parts.groups parts.events)) read.actions)
       parts.reads
   pub conditions_right : All (λ (event : Event). IsTrue (is_condition_of (length p.cells) event.condition)) parts.events
   pub actions_numbered : All AreNumbered parts.events

@@ -7,7 +7,6 @@ use Rattle.trick_event.proofs.Steps.{reads_next}
 use Rattle.trick_event.specs.Due.{AreLeft, no_read, tic_left, tic_of}
 use Rattle.trick_event.specs.Event.{read_done}
 use Rattle.trick_model.specs.Events.{Asking, act_all, reads_done}
-use Rattle.trick_model.specs.Plan.{Plan}
 use Rattle.trick_base.specs.Time.{tic_limit}
 use Rattle.trick_model.specs.declared.read_at.ReadAt.{ReadAt}
 use Rattle.trick_queue.proofs.Trees.{below_or, same_or}
@@ -138,52 +137,52 @@ passing_ends before reads tics tic passed p all = record {
 -- ---- reads that are left out
 
 -- a read of another tic does nothing
-other_read : (p : Plan) (tic : ℕ) (read : ReadAt) (a : Asking) → read.tic ≢ tic → read_done p tic read a ≡ a
-other_read p tic read a ne =
+other_read : (tic : ℕ) (read : ReadAt) (a : Asking) → read.tic ≢ tic → read_done tic read a ≡ a
+other_read tic read a ne =
     let test : (read.tic == tic) ≡ false = grind (arith, nat_tests) in
-    ap (λ (b : Bool). elim b [ true ↦ act_all p tic read.actions a | false ↦ a ]) test
+    ap (λ (b : Bool). elim b [ true ↦ act_all tic read.actions a | false ↦ a ]) test
 
-skip : (p : Plan) (tic : ℕ) (reads : List ReadAt) (a all : Asking) (from n : ℕ) → from + n ≤ length reads
+skip : (tic : ℕ) (reads : List ReadAt) (a all : Asking) (from n : ℕ) → from + n ≤ length reads
     → ((k : ℕ) → from ≤ k → k < from + n → tic_of reads k ≢ tic)
-    → reads_done p tic (drop from reads) a ≡ all → reads_done p tic (drop (from + n) reads) a ≡ all
-skip p tic reads a all from zero fits none told =
-    let e : from + zero ≡ from = omega arith in ap (λ (i : ℕ). reads_done p tic (drop i reads) a) e ∙ told
-skip p tic reads a all from (suc n) fits none told =
+    → reads_done tic (drop from reads) a ≡ all → reads_done tic (drop (from + n) reads) a ≡ all
+skip tic reads a all from zero fits none told =
+    let e : from + zero ≡ from = omega arith in ap (λ (i : ℕ). reads_done tic (drop i reads) a) e ∙ told
+skip tic reads a all from (suc n) fits none told =
     let e : from + suc n ≡ (from + n) + 1 = omega arith in
-    let before = skip p tic reads a all from n (omega arith) (λ k low high. none k low (omega arith)) told in
-    let next = reads_next p tic (from + n) reads no_read a all (omega arith) before in
-    let same = other_read p tic (get_or reads (from + n) no_read) a (none (from + n) (omega arith) (omega arith)) in
-    ap (λ (i : ℕ). reads_done p tic (drop i reads) a) e
-    ∙ sym (ap (λ (b : Asking). reads_done p tic (drop (from + n + 1) reads) b) same) ∙ next
+    let before = skip tic reads a all from n (omega arith) (λ k low high. none k low (omega arith)) told in
+    let next = reads_next tic (from + n) reads no_read a all (omega arith) before in
+    let same = other_read tic (get_or reads (from + n) no_read) a (none (from + n) (omega arith) (omega arith)) in
+    ap (λ (i : ℕ). reads_done tic (drop i reads) a) e
+    ∙ sym (ap (λ (b : Asking). reads_done tic (drop (from + n + 1) reads) b) same) ∙ next
 
-pub skip_to : (p : Plan) (tic : ℕ) (reads : List ReadAt) (a all : Asking) (from to : ℕ) → from ≤ to → to ≤ length reads
+pub skip_to : (tic : ℕ) (reads : List ReadAt) (a all : Asking) (from to : ℕ) → from ≤ to → to ≤ length reads
     → ((k : ℕ) → from ≤ k → k < to → tic_of reads k ≢ tic)
-    → reads_done p tic (drop from reads) a ≡ all → reads_done p tic (drop to reads) a ≡ all
-skip_to p tic reads a all from to le fits none told =
+    → reads_done tic (drop from reads) a ≡ all → reads_done tic (drop to reads) a ≡ all
+skip_to tic reads a all from to le fits none told =
     let e : to ≡ from + (to - from) = omega arith in
-    ap (λ (i : ℕ). reads_done p tic (drop i reads) a) e
-    ∙ skip p tic reads a all from (to - from) (omega arith) (λ k low high. none k low (omega arith)) told
+    ap (λ (i : ℕ). reads_done tic (drop i reads) a) e
+    ∙ skip tic reads a all from (to - from) (omega arith) (λ k low high. none k low (omega arith)) told
 
 -- one more read that is found
-pub found_next : (p : Plan) (before : ℕ) (reads : List ReadAt) (tics : List ℕ) (tic passed place : ℕ) (a all : Asking) → before ≤ tic → tic ≤ tic_limit
+pub found_next : (before : ℕ) (reads : List ReadAt) (tics : List ℕ) (tic passed place : ℕ) (a all : Asking) → before ≤ tic → tic ≤ tic_limit
     → IsPassing before reads tics tic passed → IsFirst tics tic place
-    → reads_done p tic (drop passed reads) a ≡ all
-    → reads_done p tic (drop (place + 1) reads) (read_done p tic (get_or reads place no_read) a) ≡ all
-found_next p before reads tics tic passed place a all le in_range passing first told =
+    → reads_done tic (drop passed reads) a ≡ all
+    → reads_done tic (drop (place + 1) reads) (read_done tic (get_or reads place no_read) a) ≡ all
+found_next before reads tics tic passed place a all le in_range passing first told =
     let as_many : length tics ≡ length reads = passing.as_many in
     let there : place < length tics = first.in_list in
     let low : passed ≤ place = passing_on before reads tics tic passed place in_range passing first in
-    reads_next p tic place reads no_read a all (omega arith)
-    (skip_to p tic reads a all passed place low (omega arith)
+    reads_next tic place reads no_read a all (omega arith)
+    (skip_to tic reads a all passed place low (omega arith)
     (λ k first_k last. left_other before tic (tic_of reads k) le (passing_between before reads tics tic passed place (omega arith) passing first.before k first_k last)) told)
 
 -- where none is found, none that is left is of the tic
-pub none_next : (p : Plan) (before : ℕ) (reads : List ReadAt) (tics : List ℕ) (tic passed : ℕ) (a all : Asking) → before ≤ tic
+pub none_next : (before : ℕ) (reads : List ReadAt) (tics : List ℕ) (tic passed : ℕ) (a all : Asking) → before ≤ tic
     → IsPassing before reads tics tic passed → AreLater tics tic (length tics)
-    → reads_done p tic (drop passed reads) a ≡ all → a ≡ all
-none_next p before reads tics tic passed a all le passing later told =
+    → reads_done tic (drop passed reads) a ≡ all → a ≡ all
+none_next before reads tics tic passed a all le passing later told =
     let as_many : length tics ≡ length reads = passing.as_many in
-    sym (at_drop_all (λ (xs : List ReadAt). reads_done p tic xs a) reads (length reads) (omega arith))
-    ∙ skip_to p tic reads a all passed (length reads) passing.bound (omega arith)
+    sym (at_drop_all (λ (xs : List ReadAt). reads_done tic xs a) reads (length reads) (omega arith))
+    ∙ skip_to tic reads a all passed (length reads) passing.bound (omega arith)
     (λ k first_k last. left_other before tic (tic_of reads k) le
     (passing_between before reads tics tic passed (length reads) (omega arith) passing (subst (λ (n : ℕ). AreLater tics tic n) as_many later) k first_k last)) told

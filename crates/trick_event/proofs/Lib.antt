@@ -8,3 +8,5 @@ pub mod NextDue
 pub mod Places
 -- the next tic at which one of the first events is due
 pub mod NextEvent
+-- deeds about the names of a plan
+pub mod Deeds

@@ -1,10 +1,10 @@
 -- Which deeds can be done to a memory.
-use Rattle.std.specs.Prelude.{ℕ, ◌≤◌, ◌<◌, List, Option, IfSome}
-use Rattle.trick_deed.specs.declared.deed.Deed.{Deed}
-use Rattle.trick_deed.specs.declared.deed.Deed.TheVariants as deed
+use Rattle.std.specs.Prelude.{ℕ, ◌≤◌, ◌<◌, All, List, Option, IfSome}
+use Rattle.trick_base.specs.Time.{tic_limit}
 use Rattle.trick_lang.specs.Wrap.{IsInRange}
 use Rattle.trick_lang.specs.declared.scalar.Scalar.{Scalar}
-use Rattle.trick_base.specs.Time.{tic_limit}
+use Rattle.trick_model.specs.declared.deed.Deed.TheVariants as deed
+use Rattle.trick_model.specs.declared.deed.Deed.{Deed}
 
 -- A stop has a time of a run, or none.
 abbrev pub IsTimeOf : Option ℕ → Type 0
@@ -20,3 +20,7 @@ CanDo cells scalars (deed.Stop at) = IsTimeOf at
 CanDo cells scalars deed.Checkpoint = Unit {0}
 CanDo cells scalars (deed.SetGroup group on) = Unit {0}
 CanDo cells scalars (deed.SetEvent event on) = Unit {0}
+
+-- All deeds of numbered lists can be done.
+abbrev pub CanDoLists : ℕ → List Scalar → List (ℕ × List Deed) → Type 0
+CanDoLists cells scalars lists = All (λ (numbered : ℕ × List Deed). All (CanDo cells scalars) numbered.1) lists

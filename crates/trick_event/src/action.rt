@@ -1,18 +1,14 @@
-//! What an action does.
+//! What a deed does.
 
 ghost use Rattle.std.specs.Prelude.{◌≡◌, length};
 ghost use Rattle.trick_event.specs.Asking.{asking, IsTimely, moment_of};
-ghost use Rattle.trick_deed.specs.Deeds.{deed_as};
 ghost use Rattle.trick_event.specs.Deeds.{CanDo, IsTimeOf};
-ghost use Rattle.trick_job.specs.Belongs.{IsMemoryOf};
-ghost use Rattle.trick_model.specs.Events.{act as acted, do_deed, stopped};
-ghost use Rattle.trick_model.specs.PlanOf.{plan_of};
+ghost use Rattle.trick_model.specs.Events.{do_deed, stopped};
 ghost use Rattle.trick_model.specs.State.{seen};
 
 use crate::{Asked, Moment};
-use trick_deed::{Deed, deed_in_plan};
 use trick_lang::Cells;
-use trick_model::{Action, Plan, State};
+use trick_model::{Deed, State};
 
 // The limit after a stop.
 fn limit<M: Cells>(state: &State<M>, moment: Moment, at: Option<u64>) -> u64
@@ -28,12 +24,13 @@ fn limit<M: Cells>(state: &State<M>, moment: Moment, at: Option<u64>) -> u64
     }
 }
 
-// Does what an action asks for.
-fn perform<M: Cells>(deed: Deed, state: &mut State<M>, asked: &mut Asked, moment: Moment)
+/// Does a deed to a memory that has its cell. A freeze and a checkpoint are remembered in `asked`; all
+/// else is done at once. It looks no name up, and takes no memory.
+pub fn act<M: Cells>(deed: Deed, state: &mut State<M>, asked: &mut Asked, moment: Moment)
     requires moment { IsTimely moment }
-    requires can { CanDo (length (M.numbers state.old.memory)) (M.scalars state.old.memory) deed }
+    requires deed { CanDo (length (M.numbers state.old.memory)) (M.scalars state.old.memory) deed }
     ensures done { asking M.numbers state.new asked.new
-        ≡ do_deed (moment_of moment) (deed_as deed) (asking M.numbers state.old asked.old) }
+        ≡ do_deed (moment_of moment) deed (asking M.numbers state.old asked.old) }
     ensures length { length (M.numbers state.new.memory) ≡ length (M.numbers state.old.memory) }
     ensures scalars { M.scalars state.new.memory ≡ M.scalars state.old.memory }
 {
@@ -45,26 +42,5 @@ fn perform<M: Cells>(deed: Deed, state: &mut State<M>, asked: &mut Asked, moment
         Deed::Checkpoint => asked.checkpoint = true,
         Deed::SetGroup { group, on } => state.groups.turn(group, on),
         Deed::SetEvent { event, on } => state.events.turn(event, on),
-    }
-}
-
-/// Does an action. One that names what is not there, or has a number out of its cell's range or a
-/// time out of range, changes nothing. A freeze and a checkpoint are remembered in `asked`. It looks
-/// the name up among those of its kind, and takes no memory.
-pub fn act<M: Cells>(
-    plan: &Plan,
-    state: &mut State<M>,
-    asked: &mut Asked,
-    action: &Action,
-    moment: Moment,
-)
-    requires memory { IsMemoryOf plan.now.program (M.numbers state.old.memory) (M.scalars state.old.memory) }
-    requires moment { IsTimely moment }
-    ensures acted { asking M.numbers state.new asked.new
-        ≡ acted (plan_of plan.now) (moment_of moment) action.now (asking M.numbers state.old asked.old) }
-    ensures memory { IsMemoryOf plan.now.program (M.numbers state.new.memory) (M.scalars state.new.memory) }
-{
-    if let Some(deed) = deed_in_plan(plan, action) {
-        perform(deed, state, asked, moment);
     }
 }

@@ -95,7 +95,7 @@ fn reads_done<M: Cells>(
     requires left { AreLeftBy tic plan.now.reads tics.old }
     requires range { tic ≤ tic_limit }
     ensures done { asking M.numbers state.new asked.new
-        ≡ reads_done (plan_of plan.now) tic plan.now.reads (asking M.numbers state.old asked.old) }
+        ≡ reads_done tic plan.now.reads (asking M.numbers state.old asked.old) }
     ensures memory { IsMemoryOf plan.now.program (M.numbers state.new.memory) (M.scalars state.new.memory) }
     ensures left { AreLeft (tic + 1) plan.now.reads tics.new }
 {

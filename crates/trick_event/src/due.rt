@@ -1,8 +1,9 @@
 //! The reads and the events of a tic.
 
 ghost use Rattle.std.specs.List.{slice_index_or};
-ghost use Rattle.std.specs.Prelude.{◌≡◌, ◌<◌, ◌≤◌, IsTrue, length};
+ghost use Rattle.std.specs.Prelude.{◌≡◌, ◌<◌, ◌≤◌, All, IsTrue, length};
 ghost use Rattle.trick_event.specs.Asking.{asking};
+ghost use Rattle.trick_event.specs.Deeds.{CanDo, CanDoLists};
 ghost use Rattle.trick_event.specs.Event.{event_done, read_done};
 ghost use Rattle.trick_job.specs.Belongs.{IsMemoryOf};
 ghost use Rattle.trick_model.specs.Condition.{is_condition_of};
@@ -18,43 +19,38 @@ use crate::condition::holds;
 use crate::{Asked, Moment};
 use trick_base::Items;
 use trick_lang::Cells;
-use trick_model::{Action, Event, Plan, State};
+use trick_model::{Deed, Event, Plan, State};
 
-// Does actions one after another, in a tic.
-fn act_all<M: Cells>(
-    plan: &Plan,
-    state: &mut State<M>,
-    asked: &mut Asked,
-    actions: &[Action],
-    tic: u64,
-)
-    requires memory { IsMemoryOf plan.now.program (M.numbers state.old.memory) (M.scalars state.old.memory) }
+// Does deeds one after another, in a tic.
+fn act_all<M: Cells>(deeds: &[Deed], state: &mut State<M>, asked: &mut Asked, tic: u64)
+    requires deeds { All (CanDo (length (M.numbers state.old.memory)) (M.scalars state.old.memory)) deeds.now }
     requires tic { tic ≤ tic_limit }
     ensures acted { asking M.numbers state.new asked.new
-        ≡ act_all (plan_of plan.now) tic actions.now (asking M.numbers state.old asked.old) }
-    ensures memory { IsMemoryOf plan.now.program (M.numbers state.new.memory) (M.scalars state.new.memory) }
+        ≡ act_all tic deeds.now (asking M.numbers state.old asked.old) }
+    ensures length { length (M.numbers state.new.memory) ≡ length (M.numbers state.old.memory) }
+    ensures scalars { M.scalars state.new.memory ≡ M.scalars state.old.memory }
 {
-    for action in actions {
-        act(plan, state, asked, action, Moment::Tic(tic));
+    for deed in deeds {
+        act(*deed, state, asked, Moment::Tic(tic));
     }
 }
 
-// Does the actions of an event, by rising number.
+// Does the deeds of an event, by rising number.
 fn event_acts<M: Cells>(
-    plan: &Plan,
+    numbered: &[(u8, Items<Deed>)],
     state: &mut State<M>,
     asked: &mut Asked,
-    numbered: &[(u8, Items<Action>)],
     tic: u64,
 )
-    requires memory { IsMemoryOf plan.now.program (M.numbers state.old.memory) (M.scalars state.old.memory) }
+    requires deeds { CanDoLists (length (M.numbers state.old.memory)) (M.scalars state.old.memory) numbered.now }
     requires tic { tic ≤ tic_limit }
     ensures acted { asking M.numbers state.new asked.new
-        ≡ event_acts (plan_of plan.now) tic numbered.now (asking M.numbers state.old asked.old) }
-    ensures memory { IsMemoryOf plan.now.program (M.numbers state.new.memory) (M.scalars state.new.memory) }
+        ≡ event_acts tic numbered.now (asking M.numbers state.old asked.old) }
+    ensures length { length (M.numbers state.new.memory) ≡ length (M.numbers state.old.memory) }
+    ensures scalars { M.scalars state.new.memory ≡ M.scalars state.old.memory }
 {
-    for (_, actions) in numbered {
-        act_all(plan, state, asked, actions.as_slice(), tic);
+    for (_, deeds) in numbered {
+        act_all(deeds.as_slice(), state, asked, tic);
     }
 }
 
@@ -67,7 +63,7 @@ fn fires<M: Cells>(event: &Event, place: usize, state: &State<M>, tic: u64) -> b
     state.events.is_on(place) && tic % event.cycle == 0 && holds(&event.condition, &state.memory)
 }
 
-// The event of a place, which fires or does nothing. It is inactive after its actions.
+// The event of a place, which fires or does nothing. It is inactive after its deeds.
 fn event_done<M: Cells>(
     plan: &Plan,
     state: &mut State<M>,
@@ -79,13 +75,13 @@ fn event_done<M: Cells>(
     requires place { place < length plan.now.events }
     requires tic { tic ≤ tic_limit }
     ensures done { (none : EventOf) → asking M.numbers state.new asked.new
-        ≡ event_done (plan_of plan.now) tic place (slice_index_or (plan_of plan.now).events place none)
+        ≡ event_done tic place (slice_index_or (plan_of plan.now).events place none)
         (asking M.numbers state.old asked.old) }
     ensures memory { IsMemoryOf plan.now.program (M.numbers state.new.memory) (M.scalars state.new.memory) }
 {
     let event = &plan.events.as_slice()[place];
     if fires(event, place, state, tic) {
-        event_acts(plan, state, asked, event.actions.as_slice(), tic);
+        event_acts(event.actions.as_slice(), state, asked, tic);
         state.events.turn(place, false);
     }
 }
@@ -95,7 +91,7 @@ pub(crate) fn events_done<M: Cells>(plan: &Plan, state: &mut State<M>, asked: &m
     requires memory { IsMemoryOf plan.now.program (M.numbers state.old.memory) (M.scalars state.old.memory) }
     requires tic { tic ≤ tic_limit }
     ensures done { asking M.numbers state.new asked.new
-        ≡ events_done (plan_of plan.now) tic 0 (plan_of plan.now).events (asking M.numbers state.old asked.old) }
+        ≡ events_done tic 0 (plan_of plan.now).events (asking M.numbers state.old asked.old) }
     ensures memory { IsMemoryOf plan.now.program (M.numbers state.new.memory) (M.scalars state.new.memory) }
 {
     for place in 0..plan.events.len() {
@@ -115,13 +111,13 @@ pub(crate) fn read_done<M: Cells>(
     requires place { place < length plan.now.reads }
     requires tic { tic ≤ tic_limit }
     ensures done { (none : ReadAt) → asking M.numbers state.new asked.new
-        ≡ read_done (plan_of plan.now) tic (slice_index_or plan.now.reads place none)
+        ≡ read_done tic (slice_index_or plan.now.reads place none)
         (asking M.numbers state.old asked.old) }
     ensures memory { IsMemoryOf plan.now.program (M.numbers state.new.memory) (M.scalars state.new.memory) }
 {
     let read = &plan.reads.as_slice()[place];
     if read.tic == tic {
-        act_all(plan, state, asked, read.actions.as_slice(), tic);
+        act_all(read.actions.as_slice(), state, asked, tic);
     }
 }
 
@@ -130,7 +126,7 @@ fn reads_done<M: Cells>(plan: &Plan, state: &mut State<M>, asked: &mut Asked, ti
     requires memory { IsMemoryOf plan.now.program (M.numbers state.old.memory) (M.scalars state.old.memory) }
     requires tic { tic ≤ tic_limit }
     ensures done { asking M.numbers state.new asked.new
-        ≡ reads_done (plan_of plan.now) tic plan.now.reads (asking M.numbers state.old asked.old) }
+        ≡ reads_done tic plan.now.reads (asking M.numbers state.old asked.old) }
     ensures memory { IsMemoryOf plan.now.program (M.numbers state.new.memory) (M.scalars state.new.memory) }
 {
     for place in 0..plan.reads.len() {
@@ -139,8 +135,9 @@ fn reads_done<M: Cells>(plan: &Plan, state: &mut State<M>, asked: &mut Asked, ti
 }
 
 /// Does the reads of a tic, in the order of their lines, and then its events, in the order in which
-/// the input added them. It looks at each read and each event of the plan; [`Agenda`](crate::Agenda)
-/// does the same at the cost of the reads that are due. Takes no memory.
+/// the input added them. It looks at each read and each event of the plan. This is the plain form, a
+/// yardstick that no run calls: [`Agenda`](crate::Agenda) does the same at the cost of the reads that
+/// are due. Takes no memory.
 pub fn fire<M: Cells>(plan: &Plan, state: &mut State<M>, asked: &mut Asked, tic: u64)
     requires memory { IsMemoryOf plan.now.program (M.numbers state.old.memory) (M.scalars state.old.memory) }
     requires tic { tic ≤ tic_limit }

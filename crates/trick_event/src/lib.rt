@@ -1,4 +1,4 @@
-//! Reads, events, and what their actions do to a state; and the next tic at which a read or an event
+//! Deeds, and the reads and events that do them to a state; and the next tic at which a read or an event
 //! may do something, so that a run can leave out the tics before it.
 #![tactic(auto)]
 

@@ -7,7 +7,7 @@ use Rattle.trick_hear.specs.Sessions.{AreHeard, joining, numbers_of}
 use Rattle.trick_hear.proofs.PlaceLemmas.{rises_front}
 use Rattle.trick_model.specs.Commands.{command_of}
 use Rattle.trick_model.specs.Events.{names_of}
-use Rattle.trick_model.specs.Names.{Deed, deed_of}
+use Rattle.trick_model.specs.Names.{deed_of}
 use Rattle.trick_model.specs.Plan.{Plan}
 use Rattle.trick_model.specs.PlanOf.{plan_of}
 use Rattle.trick_model.specs.Session.{Answer, acted, added, answered, bad, joined, quiet}
@@ -15,6 +15,7 @@ use Rattle.trick_model.specs.Turn.{Hearing, changed, hear, session_of}
 use Rattle.trick_model.specs.Valid.{rises}
 use Rattle.trick_model.specs.declared.command.Command.{Command}
 use Rattle.trick_model.specs.declared.command.Command.TheVariants as command
+use Rattle.trick_model.specs.declared.deed.Deed.{Deed}
 use Rattle.trick_model.specs.declared.entry.Entry.{Entry}
 use Rattle.trick_model.specs.declared.entry.Entry.TheVariants.{Join, Said, Leave, Publish}
 use Rattle.trick_model.specs.declared.plan.Plan.{Plan as PlanValue}

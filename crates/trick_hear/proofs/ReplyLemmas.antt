@@ -1,14 +1,14 @@
 -- Entries, and the replies to them, one after another.
 use Rattle.std.proofs.Common.{◌≡◌, ◌∙◌, ℕ, suc, ◌+◌, ◌<◌, List, [], ◌∷◌, ◌++◌, length, get_or, drop, add-one, ap, append_assoc, drop-cons, sym}
 use Rattle.std.specs.Prelude.{map}
-use Rattle.trick_model.specs.Events.{Asking, names_of}
+use Rattle.trick_model.specs.Events.{Asking}
 use Rattle.trick_model.specs.Plan.{Plan}
 use Rattle.trick_model.specs.Session.{Answer, Message, answered}
 use Rattle.trick_model.specs.Turn.{Hearing, changed, do_between, hear, heard, replies, reply, resumed, session_of}
 use Rattle.trick_model.specs.declared.entry.Entry.TheVariants.{Said}
 use Rattle.trick_model.specs.declared.entry.Entry.{Entry}
 use Rattle.trick_model.specs.declared.session.Session.{Session}
-use Rattle.trick_session.specs.Answers.{answer_in, asked, messages}
+use Rattle.trick_session.specs.Answers.{answer_in, messages}
 use Rattle.trick_session.specs.declared.reply.Reply.{Reply}
 
 -- the first of those that are left, and the others
@@ -32,9 +32,9 @@ module _ (p : Plan) (entry : Entry) (left rest : List Entry) (old now : Hearing)
 
 module _ (p : Plan) (number : ℕ) (line : List ℕ) (h : Hearing) (session : Session) (said : Reply) where
   pub said_heard : (asking : Asking) (sessions : List Session)
-      → answer_in (names_of p) session said ≡ answered p (p.command line) (session_of number h.sessions)
+      → answer_in session said ≡ answered p (p.command line) (session_of number h.sessions)
       → sessions ≡ changed (λ (old : Session). session) number h.sessions
-      → asking ≡ resumed p said.run (do_between p (asked (names_of p) said.act) h.asking)
+      → asking ≡ resumed p said.run (do_between p said.act h.asking)
       → record { asking = asking; sessions = sessions } ≡ hear p (Said number line) h
   said_heard asking sessions is change asks =
       let one = asks ∙ ap (λ (a : Answer). resumed p a.resume (do_between p a.deed h.asking)) is in
@@ -42,7 +42,7 @@ module _ (p : Plan) (number : ℕ) (line : List ℕ) (h : Hearing) (session : Se
       λ i. record { asking = one i; sessions = two i }
 
   pub said_reply : (messages_are : List Message)
-      → answer_in (names_of p) session said ≡ answered p (p.command line) (session_of number h.sessions)
+      → answer_in session said ≡ answered p (p.command line) (session_of number h.sessions)
       → messages_are ≡ map (λ (bytes : List ℕ). (number, bytes)) (messages said.bytes.items)
       → messages_are ≡ reply p (Said number line) h
   said_reply messages_are is are = are ∙ ap (λ (a : Answer). map (λ (bytes : List ℕ). (number, bytes)) a.reply) is

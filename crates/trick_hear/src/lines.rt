@@ -1,13 +1,13 @@
 //! A client's line, and its reply.
 
-ghost use Rattle.std.specs.Prelude.{◌≡◌, ◌≤◌, IfOk, IsTrue, length, map};
+ghost use Rattle.std.specs.Prelude.{◌≡◌, ◌≤◌, IfOk, IfSome, IsTrue, length, map};
 ghost use Rattle.trick_hear.specs.Hearing.{messages_in};
 ghost use Rattle.trick_hear.specs.Sessions.{numbers_of};
 ghost use Rattle.trick_model.specs.Events.{names_of};
 ghost use Rattle.trick_model.specs.PlanOf.{plan_of};
 ghost use Rattle.trick_model.specs.Session.{answered};
 ghost use Rattle.trick_model.specs.Turn.{changed, session_of};
-ghost use Rattle.trick_model.specs.Valid.{rises};
+ghost use Rattle.trick_model.specs.Valid.{IsDeedAmong, rises};
 ghost use Rattle.trick_model.specs.declared.session.Session.{Session as SessionValue};
 ghost use Rattle.trick_session.specs.Answers.{answer_in, messages};
 
@@ -29,10 +29,11 @@ pub(crate) fn answer(
 ) -> Result<Reply, AllocError>
     requires rising { IsTrue (rises (numbers_of sessions.old)) }
     requires line { length line.now ≤ 4096 }
-    ensures { IfOk result (λ reply. (session : SessionValue)
-        × (answer_in (names_of (plan_of plan.now)) session reply
+    ensures answer { IfOk result (λ reply. (session : SessionValue)
+        × (answer_in session reply
         ≡ answered (plan_of plan.now) ((plan_of plan.now).command line.now) (session_of number sessions.old))
         × (sessions.new ≡ changed (λ old. session) number sessions.old)) }
+    ensures there { IfOk result (λ reply. IfSome reply.act (IsDeedAmong (names_of (plan_of plan.now)))) }
 {
     let command = command(alloc, line)?;
     match place(sessions, number) {

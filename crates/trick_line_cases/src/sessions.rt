@@ -5,7 +5,6 @@ ghost use Rattle.trick_session.specs.Kept.{AreThere, IsSession};
 
 use crate::bytes::push_named;
 use crate::checkpoints::{refusal, state_of};
-use crate::clients::push_action;
 use crate::texts::Texts;
 use std::alloc::{AllocError, Global};
 use trick_base::{Line, Word};
@@ -84,16 +83,14 @@ fn push_session(text: &mut String, session: &Session) -> Result<(), AllocError> 
     text.push_str("\n")
 }
 
-// Adds a reply: the message, the action that is to be done, and whether Freeze is to be left.
+// Adds a reply: the message, the deed that is to be done, and whether Freeze is to be left.
 fn push_reply(text: &mut String, reply: &Reply) -> Result<(), AllocError> {
     if !reply.bytes.is_empty() {
         push_named(text, "> message", reply.bytes.as_slice())?;
         text.push_str("\n")?;
     }
-    if let Some(action) = &reply.act {
-        text.push_str("> act ")?;
-        push_action(text, action)?;
-        text.push_str("\n")?;
+    if let Some(deed) = reply.act {
+        write!(text, "> act {deed:?}\n")?;
     }
     if reply.run {
         text.push_str("> run\n")?;

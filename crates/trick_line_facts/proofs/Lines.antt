@@ -5,7 +5,7 @@ use Rattle.trick_lang.specs.declared.class.Class.TheVariants as class
 use Rattle.trick_line_facts.specs.Lines.{AllApplySame, ApplySame, line_texts, rows_and_checkpoints, threads_in}
 use Rattle.trick_model.specs.Beside.{publish_round}
 use Rattle.trick_model.specs.Events.{Asking, names_of}
-use Rattle.trick_model.specs.Names.{Deed, deed_of}
+use Rattle.trick_model.specs.Names.{deed_of}
 use Rattle.trick_model.specs.Plan.{Plan}
 use Rattle.trick_model.specs.Run.{after_turns}
 use Rattle.trick_model.specs.Running.{run_class}
@@ -15,6 +15,7 @@ use Rattle.trick_model.specs.Tic.{Ticked, frame}
 use Rattle.trick_model.specs.Turn.{Hearing, begun, checkpoint_jobs, checkpoint_writes, counted, do_between, framed, frozen, hear, heard, publish_all, resumed, rounds, runs, session_of, turn}
 use Rattle.trick_model.specs.declared.command.Command.{Command}
 use Rattle.trick_model.specs.declared.command.Command.TheVariants as command
+use Rattle.trick_model.specs.declared.deed.Deed.{Deed}
 use Rattle.trick_model.specs.declared.entry.Entry.{Entry}
 use Rattle.trick_model.specs.declared.entry.Entry.TheVariants.{Join, Said, Leave, Publish}
 use Rattle.trick_model.specs.declared.session.Session.{Session}

@@ -6,7 +6,7 @@ use Rattle.std.specs.List.{list_any}
 use Rattle.std.specs.Prelude.{◌||◌}
 use Rattle.trick_line_facts.specs.Silence.{all_newcomers, newcomers, numbers_of}
 use Rattle.trick_model.specs.Events.{names_of}
-use Rattle.trick_model.specs.Names.{Deed, deed_of}
+use Rattle.trick_model.specs.Names.{deed_of}
 use Rattle.trick_model.specs.Plan.{Plan}
 use Rattle.trick_model.specs.Run.{after_turns}
 use Rattle.trick_model.specs.Session.{Answer, acted, answered, bad, joined, quiet, staying}
@@ -15,6 +15,7 @@ use Rattle.trick_model.specs.Turn.{Hearing, begun, changed, hear, heard, session
 use Rattle.trick_model.specs.Valid.{rises}
 use Rattle.trick_model.specs.declared.command.Command.{Command}
 use Rattle.trick_model.specs.declared.command.Command.TheVariants as command
+use Rattle.trick_model.specs.declared.deed.Deed.{Deed}
 use Rattle.trick_model.specs.declared.entry.Cause.{Cause}
 use Rattle.trick_model.specs.declared.entry.Entry.{Entry}
 use Rattle.trick_model.specs.declared.entry.Entry.TheVariants.{Join, Said, Leave, Publish}

@@ -9,7 +9,7 @@ use Rattle.trick_model.proofs.Samples.{Ends, all_on, cells, effects, one_of, job
 use Rattle.trick_model.specs.Plan.{Plan}
 use Rattle.trick_model.specs.Run.{IsOwnJournal, lists_of, start}
 use Rattle.trick_model.specs.State.{number_at}
-use Rattle.trick_model.specs.declared.action.Action.TheVariants as action
+use Rattle.trick_model.specs.declared.deed.Deed.TheVariants as deed
 use Rattle.trick_model.specs.declared.entry.Entry.TheVariants.{Publish}
 use Rattle.trick_model.specs.declared.mode.Mode.TheVariants as mode
 use Rattle.trick_model.specs.declared.thread.Process.TheVariants as process
@@ -57,7 +57,7 @@ relay = record (plan_of_cells (codes "o.n" ∷ codes "o.y" ∷ codes "o.z" ∷ [
   reads = cells ((0 ∷ []) ∷ (2 ∷ []) ∷ (0 ∷ []) ∷ []);
   writes = cells ((0 ∷ []) ∷ (1 ∷ []) ∷ (2 ∷ []) ∷ []);
   threads = main_thread ∷ thread 1 process.MustFinish 2 ∷ thread 2 process.MustFinish 2 ∷ [];
-  read_ats = read 5 (action.SetJob (codes "o.first") 1 false ∷ []) ∷ [];
+  read_ats = read 5 (deed.SetJob (record { 0 = 2 }) false ∷ []) ∷ [];
   groups = record { name = codes "g"; cycle = 2; changes = false; cells = record { 0 = 1 } ∷ record { 0 = 2 } ∷ [] } ∷ [];
   jobs_on = all_on 3;
   groups_on = all_on 1;

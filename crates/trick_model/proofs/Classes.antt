@@ -14,7 +14,7 @@ use Rattle.trick_model.specs.Journal.{Noted}
 use Rattle.trick_model.specs.Plan.{Plan, Event}
 use Rattle.trick_model.specs.Run.{lists_of, start}
 use Rattle.trick_model.specs.State.{number_at}
-use Rattle.trick_model.specs.declared.action.Action.TheVariants as action
+use Rattle.trick_model.specs.declared.deed.Deed.TheVariants as deed
 use Rattle.trick_model.specs.declared.entry.Entry.TheVariants.{Join, Said}
 use Rattle.trick_model.specs.declared.mode.Mode.TheVariants as mode
 use Rattle.trick_text.specs.Pieces as pieces
@@ -48,8 +48,8 @@ freezing = record {
   condition = Some (λ m. number_of (int_le (pos 15) (number_at m 0) && not (int_eq (number_at m 1) (pos 0))));
   reads = [];
   actions =
-      (0, action.SetCell (codes "o.a") (pos 16) ∷ [])
-      ∷ (1, action.Freeze ∷ action.SetCell (codes "o.s") (pos 100) ∷ []) ∷ [];
+      (0, deed.SetCell (record { 0 = 0 }) (pos 16) ∷ [])
+      ∷ (1, deed.Freeze ∷ deed.SetCell (record { 0 = 1 }) (pos 100) ∷ []) ∷ [];
 }
 
 abbrev pub classes : Plan

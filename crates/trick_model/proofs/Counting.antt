@@ -8,8 +8,8 @@ use Rattle.trick_model.proofs.Samples.{Ends, all_on, cells, effects, plan_of_cel
 use Rattle.trick_model.specs.Plan.{Plan, Event}
 use Rattle.trick_model.specs.Run.{start}
 use Rattle.trick_model.specs.State.{number_at}
-use Rattle.trick_model.specs.declared.action.Action.{Action}
-use Rattle.trick_model.specs.declared.action.Action.TheVariants as action
+use Rattle.trick_model.specs.declared.deed.Deed.{Deed}
+use Rattle.trick_model.specs.declared.deed.Deed.TheVariants as deed
 
 -- `counter.n` is counted up at tics 0, 2, 4 and 6
 abbrev pub counter : Plan
@@ -45,21 +45,21 @@ nothing_ends = record { goes = refl; over = refl; files = refl }
 -- ---- events
 
 -- an event with a cycle that does something where the count is at least so much
-abbrev pub at_count : ℤ → List Action → Event
-at_count count actions = record {
+abbrev pub at_count : ℤ → List Deed → Event
+at_count count deeds = record {
   name = codes "e";
   cycle = 1;
   condition = Some (λ m. number_of (int_le count (number_at m 0)));
   reads = record { first = record { 0 = 0 }; last = record { 0 = 0 } } ∷ [];
-  actions = (0, actions) ∷ [];
+  actions = (0, deeds) ∷ [];
 }
 
-abbrev pub with_event : ℤ → List Action → Plan
-with_event count actions =
-    record counter { limit = 21; events = at_count count actions ∷ []; events_on = all_on 1 }
+abbrev pub with_event : ℤ → List Deed → Plan
+with_event count deeds =
+    record counter { limit = 21; events = at_count count deeds ∷ []; events_on = all_on 1 }
 
 -- The event fires before the jobs of tic 4 and freezes the run at the end of that turn; no line comes.
-pub frozen_by_event : Ends (with_event (pos 2) (action.Freeze ∷ [])) (start (with_event (pos 2) (action.Freeze ∷ []))) (turns 2) (
+pub frozen_by_event : Ends (with_event (pos 2) (deed.Freeze ∷ [])) (start (with_event (pos 2) (deed.Freeze ∷ []))) (turns 2) (
     (codes "final.chk", codes "checkpoint = 1;\nturn = 2;\ntic = 4;\nlimit = 21;\nmode = Shutdown;\n" ++ codes "counter.n = 2;\njob[0] = 1;\nevent[0] = 0;\nfaults = 0;\nend;\n")
     ∷ (codes "journal.txt", codes "tricks journal 1\nfrom 0\nend 2\n")
     ∷ [])
@@ -67,15 +67,15 @@ unfolding int_wrap digits
 frozen_by_event = record { goes = refl; over = refl; files = refl }
 
 -- After its actions the event is inactive, even if one of them activates it.
-pub fires_once : Ends (with_event (pos 2) (action.SetCell (codes "counter.n") (pos 0) ∷ action.SetEvent (codes "e") true ∷ []))
-    (start (with_event (pos 2) (action.SetCell (codes "counter.n") (pos 0) ∷ action.SetEvent (codes "e") true ∷ []))) (turns 11) (
+pub fires_once : Ends (with_event (pos 2) (deed.SetCell (record { 0 = 0 }) (pos 0) ∷ deed.SetEvent 0 true ∷ []))
+    (start (with_event (pos 2) (deed.SetCell (record { 0 = 0 }) (pos 0) ∷ deed.SetEvent 0 true ∷ []))) (turns 11) (
     (codes "final.chk", codes "checkpoint = 1;\nturn = 11;\ntic = 21;\nlimit = 21;\nmode = Shutdown;\n" ++ codes "counter.n = 9;\njob[0] = 1;\nevent[0] = 0;\nfaults = 0;\nend;\n") ∷ [])
 unfolding int_wrap digits
 fires_once = record { goes = refl; over = refl; files = refl }
 
 -- a stop within a frame of four tics, at tic 5: this tic still runs, and no later one
 abbrev pub stopped_early : Plan
-stopped_early = record (with_event (pos 3) (action.Stop None ∷ [])) {
+stopped_early = record (with_event (pos 3) (deed.Stop None ∷ [])) {
   frame = 4;
   groups = record { name = codes "g"; cycle = 1; changes = false; cells = record { 0 = 0 } ∷ [] } ∷ [];
   groups_on = all_on 1;
@@ -91,7 +91,7 @@ stopped_by_event = record { goes = refl; over = refl; files = refl }
 
 -- A read lowers the limit within a frame, and a later one may raise it again.
 abbrev pub stopped_by_read : Plan
-stopped_by_read = record counter { frame = 8; read_ats = read 1 (action.Stop (Some 3) ∷ []) ∷ read 3 (action.Stop (Some 5) ∷ []) ∷ [] }
+stopped_by_read = record counter { frame = 8; read_ats = read 1 (deed.Stop (Some 3) ∷ []) ∷ read 3 (deed.Stop (Some 5) ∷ []) ∷ [] }
 
 pub limit_moves : Ends stopped_by_read (start stopped_by_read) (turns 1) (
     (codes "final.chk", codes "checkpoint = 1;\nturn = 1;\ntic = 6;\nlimit = 6;\nmode = Shutdown;\n" ++ codes "counter.n = 3;\njob[0] = 1;\nfaults = 0;\nend;\n")

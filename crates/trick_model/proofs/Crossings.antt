@@ -16,24 +16,24 @@ use Rattle.trick_lang.proofs.cells.Cell.TheSendSync as cell
 use Rattle.trick_lang.proofs.job.JobId.TheSendSync as job_id
 use Rattle.trick_lang.specs.contracts.cells.Cell as Cell
 use Rattle.trick_model.proofs.ProgramCrossings as program
-use Rattle.trick_model.proofs.action.Action.TheSendSync as action
+use Rattle.trick_model.proofs.deed.Deed.TheSendSync as deed
 use Rattle.trick_model.proofs.depends.Depends.TheSendSync as depends
 use Rattle.trick_model.proofs.flags.Flags.TheSendSync as flags
 use Rattle.trick_model.proofs.group.Group.TheSendSync as group
 use Rattle.trick_model.proofs.read_at.ReadAt.TheSendSync as read_at
 use Rattle.trick_model.proofs.thread.Thread.TheSendSync as thread
 use Rattle.trick_model.specs.contracts.accepted.Accepted as Accepted
-use Rattle.trick_model.specs.contracts.action.Action as Action
+use Rattle.trick_model.specs.contracts.deed.Deed as Deed
 use Rattle.trick_model.specs.contracts.event.Event as Event
 use Rattle.trick_model.specs.contracts.plan.Plan as Plan
 
-actions_send : IsSend (Tuple (u8 ∷ Items.the_row Action.the_row ∷ []))
-actions_send = recorded_send (tuple_field (u8 ∷ Items.the_row Action.the_row ∷ [])).row _ _ (tuple_type (u8 ∷
-    Items.the_row Action.the_row ∷ [])).to_one (struct_send (shape (tuple_type (u8 ∷ Items.the_row Action.the_row
-    ∷ []))) (plain_send _ _ _ _ _, (items.the_send Action.the_row action.the_send, tt)))
+deeds_send : IsSend (Tuple (u8 ∷ Items.the_row Deed.the_row ∷ []))
+deeds_send = recorded_send (tuple_field (u8 ∷ Items.the_row Deed.the_row ∷ [])).row _ _ (tuple_type (u8 ∷
+    Items.the_row Deed.the_row ∷ [])).to_one (struct_send (shape (tuple_type (u8 ∷ Items.the_row Deed.the_row
+    ∷ []))) (plain_send _ _ _ _ _, (items.the_send Deed.the_row deed.the_send, tt)))
 
 event_send : IsSend Event.the_row
-event_send = search (program.expr_send, actions_send, option.the_field_send, items.the_send, sendable) depth 20
+event_send = search (program.expr_send, deeds_send, option.the_field_send, items.the_send, sendable) depth 20
 
 assign_send : IsSend (Tuple (Cell.the_row ∷ i64 ∷ []))
 assign_send = recorded_send (tuple_field (Cell.the_row ∷ i64 ∷ [])).row _ _ (tuple_type (Cell.the_row ∷ i64 ∷
@@ -67,13 +67,13 @@ plan_send = search (plan_field_send, sendable) depth 20
 pub accepted_send : IsSend Accepted.the_row
 accepted_send = search (plan_field_send, sendable) depth 20
 
-actions_sync : IsSync (Tuple (u8 ∷ Items.the_row Action.the_row ∷ []))
-actions_sync = recorded_sync (tuple_field (u8 ∷ Items.the_row Action.the_row ∷ [])).row _ _ (tuple_type (u8 ∷
-    Items.the_row Action.the_row ∷ [])).to_one (struct_sync (shape (tuple_type (u8 ∷ Items.the_row Action.the_row
-    ∷ []))) (plain_sync _ _ _ _ _, (items.the_sync Action.the_row action.the_sync, tt)))
+deeds_sync : IsSync (Tuple (u8 ∷ Items.the_row Deed.the_row ∷ []))
+deeds_sync = recorded_sync (tuple_field (u8 ∷ Items.the_row Deed.the_row ∷ [])).row _ _ (tuple_type (u8 ∷
+    Items.the_row Deed.the_row ∷ [])).to_one (struct_sync (shape (tuple_type (u8 ∷ Items.the_row Deed.the_row
+    ∷ []))) (plain_sync _ _ _ _ _, (items.the_sync Deed.the_row deed.the_sync, tt)))
 
 event_sync : IsSync Event.the_row
-event_sync = search (program.expr_sync, actions_sync, option.the_field_sync, items.the_sync, sendable) depth 20
+event_sync = search (program.expr_sync, deeds_sync, option.the_field_sync, items.the_sync, sendable) depth 20
 
 assign_sync : IsSync (Tuple (Cell.the_row ∷ i64 ∷ []))
 assign_sync = recorded_sync (tuple_field (Cell.the_row ∷ i64 ∷ [])).row _ _ (tuple_type (Cell.the_row ∷ i64 ∷

@@ -28,20 +28,20 @@ none_right : (x : Bool) → x && false ≡ false
 none_right true = refl
 none_right false = refl
 
-pub reads_idle : (p : Plan) (tic : ℕ) (reads : List ReadAt) (a : Asking)
-    → list_any (λ (read : ReadAt). read.tic == tic) reads ≡ false → reads_done p tic reads a ≡ a
-reads_idle p tic [] a e = refl
-reads_idle p tic (read ∷ reads) a e =
-    let both = or_false (read.tic == tic) _ e in rw both.0 (reads_idle p tic reads a both.1)
+pub reads_idle : (tic : ℕ) (reads : List ReadAt) (a : Asking)
+    → list_any (λ (read : ReadAt). read.tic == tic) reads ≡ false → reads_done tic reads a ≡ a
+reads_idle tic [] a e = refl
+reads_idle tic (read ∷ reads) a e =
+    let both = or_false (read.tic == tic) _ e in rw both.0 (reads_idle tic reads a both.1)
 
-pub events_idle : (p : Plan) (tic k : ℕ) (events : List Event) (a : Asking)
-    → event_is_due tic k events a.state ≡ false → events_done p tic k events a ≡ a
-events_idle p tic k [] a e = refl
-events_idle p tic k (event ∷ events) a e =
+pub events_idle : (tic k : ℕ) (events : List Event) (a : Asking)
+    → event_is_due tic k events a.state ≡ false → events_done tic k events a ≡ a
+events_idle tic k [] a e = refl
+events_idle tic k (event ∷ events) a e =
     let both = or_false (is_on a.state.events k && ((tic % event.cycle) == 0)) _ e in
     let off : fires tic k event a.state ≡ false =
     and_more (is_on a.state.events k) ((tic % event.cycle) == 0) (holds event.condition a.state.memory) both.0 in
-    rw off (events_idle p tic (suc k) events a both.1)
+    rw off (events_idle tic (suc k) events a both.1)
 
 pub threads_idle : (step : ℕ → Thread → State → State) (tic place : ℕ) (threads : List Thread) (s : State)
     → list_any (ends_at tic) threads ≡ false → each_thread (where_ends step tic) place threads s ≡ s
@@ -83,8 +83,8 @@ pub tic_passes : (p : Plan) (a : Asking) → IsIdle p a.state → tic p a ≡ re
 tic_passes p a i =
     let now = a.state.tic in
     let early : fire p now a ≡ a =
-    ap (λ (b : Asking). events_done p now 0 p.events b) (reads_idle p now p.read_ats a i.reads)
-    ∙ events_idle p now 0 p.events a i.events in
+    ap (λ (b : Asking). events_done now 0 p.events b) (reads_idle now p.read_ats a i.reads)
+    ∙ events_idle now 0 p.events a i.events in
     let still : jobs_done p now (must_finish p now a.state) ≡ a.state =
     ap (λ (s : State). jobs_done p now s) (must_idle p now a.state i.threads) ∙ jobs_idle p now a.state i.jobs in
     let rest = rows_idle now 0 p.groups a.state i.groups in

@@ -28,6 +28,8 @@ pub mod Sizes
 pub mod Keys
 -- Lists whose entries keep what their places ask for.
 pub mod Ranges
+-- What an action asks for among names is about them.
+pub mod Found
 -- Each part of a turn keeps what a valid state keeps.
 pub mod States
 -- A turn, and the start of a run, keep what a valid state keeps.
@@ -37,5 +39,7 @@ pub mod Continue
 -- A program, and a plan, may cross threads.
 pub mod ProgramCrossings
 pub mod Crossings
+-- The names of a plan, and its deeds, which are about them.
+pub mod PlanNames
 -- The jobs of a plan stand in queues by class, and are jobs of its program.
 pub mod PlanJobs

@@ -7,7 +7,7 @@ use Rattle.trick_lang.specs.declared.class.Class.TheVariants as class
 use Rattle.trick_lang.specs.declared.job.Job.{Job}
 use Rattle.trick_lang.specs.declared.job.JobId.{JobId}
 use Rattle.trick_model.proofs.Ranges.{Below, filter_below, jobs_below, order_below}
-use Rattle.trick_model.specs.Order.{classes, is_of_class, jobs_in, rank}
+use Rattle.trick_model.specs.Order.{is_of_class, jobs_in, rank}
 use Rattle.trick_model.specs.Plan.{job_numbers}
 use Rattle.trick_model.specs.Valid.{ids, queues_of}
 

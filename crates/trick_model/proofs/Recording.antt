@@ -7,7 +7,7 @@ use Rattle.trick_model.proofs.Samples.{Ends, all_on, cells, effects, main_thread
 use Rattle.trick_model.specs.Plan.{Plan}
 use Rattle.trick_model.specs.Run.{after_turns, opened, start}
 use Rattle.trick_model.specs.State.{State, number_at}
-use Rattle.trick_model.specs.declared.action.Action.TheVariants as action
+use Rattle.trick_model.specs.declared.deed.Deed.TheVariants as deed
 use Rattle.trick_model.specs.declared.thread.Process.TheVariants as process
 
 -- ---- rows on change
@@ -17,7 +17,7 @@ abbrev pub changing : Plan
 changing = record (plan_of_cells (codes "o.v" ∷ [])) {
   limit = 9;
   assigns = (record { 0 = 0 }, pos 5) ∷ [];
-  read_ats = read 4 (action.SetCell (codes "o.v") (pos 7) ∷ []) ∷ read 8 (action.SetCell (codes "o.v") (pos 5) ∷ []) ∷ [];
+  read_ats = read 4 (deed.SetCell (record { 0 = 0 }) (pos 7) ∷ []) ∷ read 8 (deed.SetCell (record { 0 = 0 }) (pos 5) ∷ []) ∷ [];
   groups = record { name = codes "g"; cycle = 2; changes = true; cells = record { 0 = 0 } ∷ [] } ∷ [];
   groups_on = all_on 1;
 }
@@ -35,8 +35,8 @@ changing_ends = record { goes = refl; over = refl; files = refl }
 abbrev pub muted : Plan
 muted = record changing {
   read_ats =
-      read 2 (action.SetGroup (codes "g") false ∷ []) ∷ read 4 (action.SetCell (codes "o.v") (pos 7) ∷ [])
-      ∷ read 6 (action.SetGroup (codes "g") true ∷ []) ∷ [];
+      read 2 (deed.SetGroup 0 false ∷ []) ∷ read 4 (deed.SetCell (record { 0 = 0 }) (pos 7) ∷ [])
+      ∷ read 6 (deed.SetGroup 0 true ∷ []) ∷ [];
   groups =
       record { name = codes "g"; cycle = 2; changes = true; cells = record { 0 = 0 } ∷ record { 0 = 0 } ∷ [] }
       ∷ record { name = codes "h"; cycle = 2; changes = true; cells = [] } ∷ [];
@@ -66,7 +66,7 @@ saving = record (plan_of_cells (codes "o.n" ∷ codes "o.y" ∷ [])) {
   writes = cells ((0 ∷ []) ∷ (1 ∷ []) ∷ []);
   threads = main_thread ∷ thread 1 process.MustFinish 4 ∷ [];
   groups = record { name = codes "g"; cycle = 1; changes = true; cells = record { 0 = 1 } ∷ [] } ∷ [];
-  read_ats = read 5 (action.Checkpoint ∷ []) ∷ [];
+  read_ats = read 5 (deed.Checkpoint ∷ []) ∷ [];
   jobs_on = all_on 2;
   groups_on = all_on 1;
 }

@@ -14,7 +14,7 @@ use Rattle.trick_model.specs.Files.{file}
 use Rattle.trick_model.specs.Plan.{Plan}
 use Rattle.trick_model.specs.Run.{after_turns, goes_on, is_over, opened}
 use Rattle.trick_model.specs.State.{State, number_at}
-use Rattle.trick_model.specs.declared.action.Action.{Action}
+use Rattle.trick_model.specs.declared.deed.Deed.{Deed}
 use Rattle.trick_model.specs.declared.entry.Entry.{Entry}
 use Rattle.trick_model.specs.declared.flags.Flags.{Flags}
 use Rattle.trick_model.specs.declared.read_at.ReadAt.{ReadAt}
@@ -113,8 +113,8 @@ plan_of_cells names = record {
 -- ---- runs
 
 -- a read at a tic
-abbrev pub read : ℕ → List Action → ReadAt
-read tic actions = record { tic = tic; actions = actions }
+abbrev pub read : ℕ → List Deed → ReadAt
+read tic deeds = record { tic = tic; actions = deeds }
 
 -- the flags of so many entries that are on
 abbrev pub all_on : ℕ → Flags

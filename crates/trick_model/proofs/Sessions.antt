@@ -2,7 +2,7 @@
 use Rattle.std.proofs.Common.{◌≡◌, ℕ, nat_lt, List, [], ◌∷◌, ◌++◌, length, Bool, true, false, Option, Some, None, refl, sym, ◌∙◌}
 use Rattle.trick_model.specs.Events.{names_of}
 use Rattle.trick_model.specs.Laws.{SessionsDoNotMatter}
-use Rattle.trick_model.specs.Names.{Deed, deed_of}
+use Rattle.trick_model.specs.Names.{deed_of}
 use Rattle.trick_model.specs.Plan.{Plan}
 use Rattle.trick_model.specs.Session.{Answer, acted, added, answered, bad, quiet}
 use Rattle.trick_model.specs.Turn.{Hearing, begun, checkpoint_jobs, checkpoint_writes, counted, do_between, framed, hear, heard, noted, resumed, rounds, runs, session_of}
@@ -11,6 +11,7 @@ use Rattle.trick_model.specs.State.{State}
 use Rattle.trick_model.specs.Tic.{Ticked}
 use Rattle.trick_model.specs.declared.command.Command.{Command}
 use Rattle.trick_model.specs.declared.command.Command.TheVariants as command
+use Rattle.trick_model.specs.declared.deed.Deed.{Deed}
 use Rattle.trick_model.specs.declared.entry.Entry.{Entry}
 use Rattle.trick_model.specs.declared.entry.Entry.TheVariants.{Join, Said, Leave, Publish}
 use Rattle.trick_model.specs.declared.session.Session.{Session}

@@ -7,10 +7,9 @@ use Rattle.trick_lang.specs.declared.class.Class.TheVariants as class
 use Rattle.trick_lang.specs.declared.fault.Stop.{Stop}
 use Rattle.trick_model.specs.Access.{may_write}
 use Rattle.trick_model.specs.Beside.{each_thread, ends_at, find_thread, has_round, held_work, must_finish, publish, published, publish_round, replaced, start_round, take, taken_from, where_ends, work}
-use Rattle.trick_model.specs.Events.{Asking, Between, InTic, Moment, act_all, do_deed, do_found, enter_freeze, event_acts, events_done, fire, fired, fires, leave_freeze, names_of, reads_done}
+use Rattle.trick_model.specs.Events.{Asking, Between, InTic, Moment, act_all, do_deed, enter_freeze, event_acts, events_done, fire, fired, fires, leave_freeze, reads_done}
 use Rattle.trick_model.specs.Laws.{KeepsSizes}
 use Rattle.trick_model.specs.ValidState.{sizes}
-use Rattle.trick_model.specs.Names.{Deed, SetCell, SetJob, Freeze, Stop as StopRun, Checkpoint, SetGroup, SetEvent, deed_of}
 use Rattle.trick_model.specs.Order.{jobs_at, jobs_in}
 use Rattle.trick_model.specs.Plan.{Event, Plan, is_on, threads_beside}
 use Rattle.trick_model.specs.Records.{row_of, rows, writes_row}
@@ -20,7 +19,8 @@ use Rattle.trick_model.specs.State.{State, nothing_taken, taken_at}
 use Rattle.trick_model.specs.Tic.{Ticked, frame, jobs_done, tic, tic_below_limit, tics}
 use Rattle.trick_model.specs.Time.{tics_left}
 use Rattle.trick_model.specs.Turn.{Hearing, begun, checkpoint_jobs, do_between, framed, frozen, hear, heard, publish_all, resumed, rounds, runs, session_of}
-use Rattle.trick_model.specs.declared.action.Action.{Action}
+use Rattle.trick_model.specs.declared.deed.Deed.{Deed}
+use Rattle.trick_model.specs.declared.deed.Deed.TheVariants.{SetCell, SetJob, Freeze, Stop as StopRun, Checkpoint, SetGroup, SetEvent}
 use Rattle.trick_model.specs.declared.entry.Entry.{Entry}
 use Rattle.trick_model.specs.declared.entry.Entry.TheVariants.{Join, Said, Leave, Publish}
 use Rattle.trick_model.specs.declared.group.Group.{Group}
@@ -71,9 +71,9 @@ class_keeps p c s = settled_keeps (after_jobs p (is_on s.jobs) s.tic (jobs_in p.
 -- ---- events
 
 pub deed_keeps : (moment : Moment) (deed : Deed) (a : Asking) → sizes (do_deed moment deed a).state ≡ sizes a.state
-deed_keeps moment (SetCell cell number) a = let s = a.state in ap (λ (n : ℕ). n ∷ others s) (length-set s.memory cell number)
+deed_keeps moment (SetCell cell number) a = let s = a.state in ap (λ (n : ℕ). n ∷ others s) (length-set s.memory cell.0 number)
 deed_keeps moment (SetJob job on) a = let s = a.state in
-    ap (λ (n : ℕ). length s.memory ∷ n ∷ length s.events.on ∷ length s.groups.on ∷ length s.last ∷ length s.taken ∷ []) (length-set s.jobs.on job on)
+    ap (λ (n : ℕ). length s.memory ∷ n ∷ length s.events.on ∷ length s.groups.on ∷ length s.last ∷ length s.taken ∷ []) (length-set s.jobs.on job.0 on)
 deed_keeps moment Freeze a = refl
 deed_keeps moment (StopRun at) a = refl
 deed_keeps moment Checkpoint a = refl
@@ -82,31 +82,27 @@ deed_keeps moment (SetGroup group on) a = let s = a.state in
 deed_keeps moment (SetEvent event on) a = let s = a.state in
     ap (λ (n : ℕ). length s.memory ∷ length s.jobs.on ∷ n ∷ length s.groups.on ∷ length s.last ∷ length s.taken ∷ []) (length-set s.events.on event on)
 
-found_keeps : (moment : Moment) (deed : Option Deed) (a : Asking) → sizes (do_found moment deed a).state ≡ sizes a.state
-found_keeps moment None a = refl
-found_keeps moment (Some deed) a = deed_keeps moment deed a
+acts_keep : (tic : ℕ) (deeds : List Deed) (a : Asking) → sizes (act_all tic deeds a).state ≡ sizes a.state
+acts_keep tic [] a = refl
+acts_keep tic (deed ∷ deeds) a = acts_keep tic deeds (do_deed (InTic tic) deed a) ∙ deed_keeps (InTic tic) deed a
 
-acts_keep : (p : Plan) (tic : ℕ) (actions : List Action) (a : Asking) → sizes (act_all p tic actions a).state ≡ sizes a.state
-acts_keep p tic [] a = refl
-acts_keep p tic (action ∷ actions) a = acts_keep p tic actions _ ∙ found_keeps (InTic tic) (deed_of (names_of p) action) a
+reads_keep : (tic : ℕ) (reads : List ReadAt) (a : Asking) → sizes (reads_done tic reads a).state ≡ sizes a.state
+reads_keep tic [] a = refl
+reads_keep tic (read ∷ reads) a =
+    reads_keep tic reads _ ∙ pick (λ (b : Asking). sizes b.state) (read.tic == tic) _ a _ (acts_keep tic read.actions a) refl
 
-reads_keep : (p : Plan) (tic : ℕ) (reads : List ReadAt) (a : Asking) → sizes (reads_done p tic reads a).state ≡ sizes a.state
-reads_keep p tic [] a = refl
-reads_keep p tic (read ∷ reads) a =
-    reads_keep p tic reads _ ∙ pick (λ (b : Asking). sizes b.state) (read.tic == tic) _ a _ (acts_keep p tic read.actions a) refl
+event_acts_keep : (tic : ℕ) (numbered : List (ℕ × List Deed)) (a : Asking) → sizes (event_acts tic numbered a).state ≡ sizes a.state
+event_acts_keep tic [] a = refl
+event_acts_keep tic (one ∷ more) a = event_acts_keep tic more _ ∙ acts_keep tic one.1 a
 
-event_acts_keep : (p : Plan) (tic : ℕ) (numbered : List (ℕ × List Action)) (a : Asking) → sizes (event_acts p tic numbered a).state ≡ sizes a.state
-event_acts_keep p tic [] a = refl
-event_acts_keep p tic (one ∷ more) a = event_acts_keep p tic more _ ∙ acts_keep p tic one.1 a
+fired_keeps : (tic k : ℕ) (event : Event) (a : Asking) → sizes (fired tic k event a).state ≡ sizes a.state
+fired_keeps tic k event a =
+    deed_keeps (InTic tic) (SetEvent k false) (event_acts tic event.actions a) ∙ event_acts_keep tic event.actions a
 
-fired_keeps : (p : Plan) (tic k : ℕ) (event : Event) (a : Asking) → sizes (fired p tic k event a).state ≡ sizes a.state
-fired_keeps p tic k event a =
-    deed_keeps (InTic tic) (SetEvent k false) (event_acts p tic event.actions a) ∙ event_acts_keep p tic event.actions a
-
-events_keep : (p : Plan) (tic k : ℕ) (events : List Event) (a : Asking) → sizes (events_done p tic k events a).state ≡ sizes a.state
-events_keep p tic k [] a = refl
-events_keep p tic k (event ∷ events) a =
-    events_keep p tic (suc k) events _ ∙ pick (λ (b : Asking). sizes b.state) (fires tic k event a.state) _ a _ (fired_keeps p tic k event a) refl
+events_keep : (tic k : ℕ) (events : List Event) (a : Asking) → sizes (events_done tic k events a).state ≡ sizes a.state
+events_keep tic k [] a = refl
+events_keep tic k (event ∷ events) a =
+    events_keep tic (suc k) events _ ∙ pick (λ (b : Asking). sizes b.state) (fires tic k event a.state) _ a _ (fired_keeps tic k event a) refl
 
 -- ---- beside the tics
 
@@ -160,7 +156,7 @@ tic_keeps p a =
     let b = fire p now a in
     let t = must_finish p now b.state in
     rows_keep now 0 p.groups (jobs_done p now t) ∙ jobs_keep p now t ∙ must_keeps p now b.state
-    ∙ events_keep p now 0 p.events _ ∙ reads_keep p now p.read_ats a
+    ∙ events_keep now 0 p.events _ ∙ reads_keep now p.read_ats a
 
 tics_keep : (p : Plan) (count : ℕ) (a : Asking) → sizes (tics p count a).asking.state ≡ sizes a.state
 tics_keep p zero a = refl

@@ -1,30 +1,31 @@
 -- Each part of a turn keeps what a valid state keeps.
-use Rattle.std.proofs.Common.{◌≡◌, ℕ, suc, ◌+◌, ◌-◌, ◌<◌, ◌≤◌, ◌==◌, min, max, nat_lt, nat_le, ℤ, pos, List, [], ◌∷◌, ◌++◌, length, Bool, true, false, ◌&&◌, Option, Some, None, Result, Ok, Err, refl, ◌∙◌}
+use Rattle.std.proofs.Common.{◌≡◌, ℕ, suc, ◌+◌, ◌-◌, ◌<◌, ◌≤◌, ◌==◌, min, max, nat_lt, ℤ, pos, List, [], ◌∷◌, ◌++◌, length, Bool, true, false, ◌&&◌, Option, Some, None, Result, Ok, Err, refl, ◌∙◌}
 use Rattle.std.proofs.lemmas.List.{length-append}
-use Rattle.std.proofs.lemmas.List.Elements.{All-push}
-use Rattle.std.proofs.lemmas.Bool.Decides.{Decides-int_eq}
-use Rattle.std.specs.Ordering.{int_eq}
-use Rattle.std.specs.Prelude.{◌^◌, All, slice_set, if◌then◌else◌}
+use Rattle.std.proofs.lemmas.List.Elements.{All-head, All-push, All-tail}
+use Rattle.std.specs.Prelude.{◌^◌, All, IfSome, slice_set, if◌then◌else◌}
 use native.Mathlib.Omega.{arith}
-use Rattle.trick_lang.specs.Wrap.{IsInRange, wrap, scalar_at}
+use Rattle.trick_lang.specs.Wrap.{IsInRange}
 use Rattle.trick_lang.specs.declared.class.Class.{Class}
 use Rattle.trick_lang.specs.declared.class.Class.TheVariants as class
 use Rattle.trick_lang.specs.declared.fault.JobFault.{JobFault}
 use Rattle.trick_lang.specs.declared.fault.Stop.{Stop}
+use Rattle.trick_model.proofs.Found.{found_among}
 use Rattle.trick_model.proofs.Ranges.{Below, filter_below, jobs_below, order_below, over_each, set_each}
 use Rattle.trick_model.proofs.Sizes.{deed_keeps, jobs_length, settled_keeps, taken_keeps}
-use Rattle.trick_model.specs.Events.{Asking, Between, InTic, Moment, act_all, do_deed, do_found, enter_freeze, event_acts, events_done, fire, fired, fires, leave_freeze, names_of, reads_done, with_flag}
+use Rattle.trick_model.specs.Events.{Asking, Between, InTic, Moment, act_all, do_deed, enter_freeze, event_acts, events_done, fire, fired, fires, leave_freeze, names_of, reads_done, with_flag}
 use Rattle.trick_model.specs.FaultList.{FaultList, kept, with_fault, with_faults}
-use Rattle.trick_model.specs.Names.{Deed, SetCell, SetJob, Freeze, Stop as StopRun, Checkpoint, SetGroup, SetEvent, deed_of, find_job, find_name, on_found, set_in_range, stop_after}
+use Rattle.trick_model.specs.Names.{deed_of}
 use Rattle.trick_model.specs.Order.{is_due, is_of_class, jobs_at, jobs_in}
 use Rattle.trick_model.specs.Plan.{Event, Plan, is_on, is_on_scheduled, job_numbers}
 use Rattle.trick_model.specs.Running.{After, after_jobs, apply, outcome, run_class, settled}
 use Rattle.trick_model.specs.State.{State, nothing_taken}
 use Rattle.trick_base.specs.Time.{tic_limit}
 use Rattle.trick_model.specs.Time.{last_turn}
+use Rattle.trick_model.specs.Valid.{AreDeedsAmong, IsDeedAmong}
 use Rattle.trick_model.specs.ValidState.{AreInRange, IsFault, IsLastRow, IsRecord, IsSound, IsStateOf, OfGroup, OfThread, sizes}
 use Rattle.trick_model.specs.declared.action.Action.{Action}
-use Rattle.trick_model.specs.declared.action.Action.TheVariants as action
+use Rattle.trick_model.specs.declared.deed.Deed.{Deed}
+use Rattle.trick_model.specs.declared.deed.Deed.TheVariants.{SetCell, SetJob, Freeze, Stop as StopRun, Checkpoint, SetGroup, SetEvent}
 use Rattle.trick_model.specs.declared.flags.Flags.{Flags}
 use Rattle.trick_model.specs.declared.mode.Mode.{Mode}
 use Rattle.trick_model.specs.declared.mode.Mode.TheVariants as mode
@@ -248,7 +249,7 @@ due_right p sound tic s fits good =
 
 -- what a deed sets is in its range
 abbrev pub IsDeed : Plan → Deed → Type 0
-IsDeed p (SetCell cell number) = IsInRange p.scalars cell number
+IsDeed p (SetCell cell number) = IsInRange p.scalars cell.0 number
 IsDeed p (SetJob job on) = Unit {0}
 IsDeed p Freeze = Unit {0}
 IsDeed p (StopRun None) = Unit {0}
@@ -261,37 +262,25 @@ abbrev pub IsFound : Plan → Option Deed → Type 0
 IsFound p None = Unit {0}
 IsFound p (Some deed) = IsDeed p deed
 
-set_found : (p : Plan) (cell : ℕ) (number : ℤ) (b : Bool) → int_eq (wrap (scalar_at p.scalars cell) number) number ≡ b
-    → IsFound p (elim b [ true ↦ Some (SetCell cell number) | false ↦ None ])
-set_found p cell number true e = (Decides-int_eq (wrap (scalar_at p.scalars cell) number) number).0 e
-set_found p cell number false e = tt
+-- what is about the plan's names sets what is in its range
+among_right : (p : Plan) (deed : Deed) → IsDeedAmong (names_of p) deed → IsDeed p deed
+among_right p (SetCell cell number) is = is.1
+among_right p (SetJob job on) is = tt
+among_right p Freeze is = tt
+among_right p (StopRun None) is = tt
+among_right p (StopRun (Some at)) is = is
+among_right p Checkpoint is = tt
+among_right p (SetGroup group on) is = tt
+among_right p (SetEvent event on) is = tt
 
-range_found : (p : Plan) (number : ℤ) (found : Option ℕ) → IsFound p (set_in_range p.scalars number found)
-range_found p number None = tt
-range_found p number (Some cell) = set_found p cell number _ refl
-
-time_found : (p : Plan) (at : ℕ) (b : Bool) → nat_le at tic_limit ≡ b → IsFound p (elim b [ true ↦ Some (StopRun (Some at)) | false ↦ None ])
-time_found p at true e = grind (arith, e)
-time_found p at false e = tt
-
-stop_found : (p : Plan) (at : Option ℕ) → IsFound p (stop_after at)
-stop_found p None = tt
-stop_found p (Some at) = time_found p at _ refl
-
-flag_found : (p : Plan) (deed : ℕ → Deed) → ((k : ℕ) → IsDeed p (deed k)) → (found : Option ℕ) → IsFound p (on_found deed found)
-flag_found p deed right None = tt
-flag_found p deed right (Some k) = right k
+is_found : (p : Plan) (o : Option Deed) → IfSome o (IsDeedAmong (names_of p)) → IsFound p o
+is_found p None is = tt
+is_found p (Some deed) is = among_right p deed is
 
 pub action_found : (p : Plan) (a : Action) → IsFound p (deed_of (names_of p) a)
-action_found p (action.SetCell name number) = range_found p number (find_name name p.names)
-action_found p (action.SetJob name instance on) = flag_found p (λ k. SetJob k on) (λ k. tt) (find_job name instance p.job_names p.jobs)
-action_found p action.Freeze = tt
-action_found p (action.Stop at) = stop_found p at
-action_found p action.Checkpoint = tt
-action_found p (action.SetGroup name on) = flag_found p (λ k. SetGroup k on) (λ k. tt) (find_name name (names_of p).groups)
-action_found p (action.SetEvent name on) = flag_found p (λ k. SetEvent k on) (λ k. tt) (find_name name (names_of p).events)
+action_found p a = is_found p (deed_of (names_of p) a) (found_among (names_of p) a)
 
--- an action in a tic is at a tic that is a time
+-- a deed in a tic is at a tic that is a time
 abbrev pub IsMoment : Moment → Type 0
 IsMoment (InTic tic) = tic ≤ tic_limit
 IsMoment Between = Unit {0}
@@ -306,10 +295,10 @@ stop_right p Between (Some at) a fits right good = with_limit p a.state (max (at
 pub deed_right : (p : Plan) (moment : Moment) (deed : Deed) (a : Asking) → IsMoment moment → IsDeed p deed
     → IsStateOf p a.state → IsStateOf p (do_deed moment deed a).state
 deed_right p moment (SetCell cell number) a fits right good =
-    with_memory p a.state (slice_set a.state.memory cell number)
-    (set_each (IsInRange p.scalars) (pos 0) a.state.memory cell number right good.memory) (deed_keeps moment (SetCell cell number) a) good
+    with_memory p a.state (slice_set a.state.memory cell.0 number)
+    (set_each (IsInRange p.scalars) (pos 0) a.state.memory cell.0 number right good.memory) (deed_keeps moment (SetCell cell number) a) good
 deed_right p moment (SetJob job on) a fits right good =
-    with_flags p a.state (with_flag a.state.jobs job on) a.state.events a.state.groups (deed_keeps moment (SetJob job on) a) good
+    with_flags p a.state (with_flag a.state.jobs job.0 on) a.state.events a.state.groups (deed_keeps moment (SetJob job on) a) good
 deed_right p moment Freeze a fits right good = good
 deed_right p moment (StopRun at) a fits right good = stop_right p moment at a fits right good
 deed_right p moment Checkpoint a fits right good = good
@@ -318,41 +307,59 @@ deed_right p moment (SetGroup group on) a fits right good =
 deed_right p moment (SetEvent event on) a fits right good =
     with_flags p a.state a.state.jobs (with_flag a.state.events event on) a.state.groups (deed_keeps moment (SetEvent event on) a) good
 
-pub found_right : (p : Plan) (moment : Moment) (deed : Option Deed) (a : Asking) → IsMoment moment → IsFound p deed
-    → IsStateOf p a.state → IsStateOf p (do_found moment deed a).state
-found_right p moment None a fits right good = good
-found_right p moment (Some deed) a fits right good = deed_right p moment deed a fits right good
-
-acts_right : (p : Plan) (tic : ℕ) (actions : List Action) (a : Asking) → tic ≤ tic_limit → IsStateOf p a.state → IsStateOf p (act_all p tic actions a).state
-acts_right p tic [] a fits good = good
-acts_right p tic (one ∷ actions) a fits good =
-    acts_right p tic actions _ fits (found_right p (InTic tic) (deed_of (names_of p) one) a fits (action_found p one) good)
+acts_right : (p : Plan) (tic : ℕ) (deeds : List Deed) (a : Asking) → tic ≤ tic_limit → All (IsDeedAmong (names_of p)) deeds
+    → IsStateOf p a.state → IsStateOf p (act_all tic deeds a).state
+acts_right p tic [] a fits all good = good
+acts_right p tic (deed ∷ deeds) a fits all good =
+    acts_right p tic deeds (do_deed (InTic tic) deed a) fits (All-tail (IsDeedAmong (names_of p)) deed deeds all)
+    (deed_right p (InTic tic) deed a fits (among_right p deed (All-head (IsDeedAmong (names_of p)) deed deeds all)) good)
 
 either_asking : (p : Plan) (b : Bool) (x y : Asking) → IsStateOf p x.state → IsStateOf p y.state → (let c : Asking = elim b [ true ↦ x | false ↦ y ] in IsStateOf p c.state)
 either_asking p true x y hx hy = hx
 either_asking p false x y hx hy = hy
 
-reads_right : (p : Plan) (tic : ℕ) (reads : List ReadAt) (a : Asking) → tic ≤ tic_limit → IsStateOf p a.state → IsStateOf p (reads_done p tic reads a).state
-reads_right p tic [] a fits good = good
-reads_right p tic (read ∷ reads) a fits good =
-    reads_right p tic reads _ fits (either_asking p (read.tic == tic) _ a (acts_right p tic read.actions a fits good) good)
+abbrev pub AreReadDeeds : Plan → ReadAt → Type 0
+AreReadDeeds p read = All (IsDeedAmong (names_of p)) read.actions
 
-event_acts_right : (p : Plan) (tic : ℕ) (numbered : List (ℕ × List Action)) (a : Asking) → tic ≤ tic_limit
-    → IsStateOf p a.state → IsStateOf p (event_acts p tic numbered a).state
-event_acts_right p tic [] a fits good = good
-event_acts_right p tic (one ∷ more) a fits good = event_acts_right p tic more _ fits (acts_right p tic one.1 a fits good)
+reads_right : (p : Plan) (tic : ℕ) (reads : List ReadAt) (a : Asking) → tic ≤ tic_limit → All (AreReadDeeds p) reads
+    → IsStateOf p a.state → IsStateOf p (reads_done tic reads a).state
+reads_right p tic [] a fits all good = good
+reads_right p tic (read ∷ reads) a fits all good =
+    reads_right p tic reads _ fits (All-tail (AreReadDeeds p) read reads all)
+    (either_asking p (read.tic == tic) _ a
+    (acts_right p tic read.actions a fits (All-head (AreReadDeeds p) read reads all) good) good)
 
-fired_right : (p : Plan) (tic k : ℕ) (event : Event) (a : Asking) → tic ≤ tic_limit → IsStateOf p a.state → IsStateOf p (fired p tic k event a).state
-fired_right p tic k event a fits good =
-    deed_right p (InTic tic) (SetEvent k false) (event_acts p tic event.actions a) fits tt (event_acts_right p tic event.actions a fits good)
+abbrev AreListed : Plan → ℕ × List Deed → Type 0
+AreListed p numbered = All (IsDeedAmong (names_of p)) numbered.1
 
-events_right : (p : Plan) (tic k : ℕ) (events : List Event) (a : Asking) → tic ≤ tic_limit → IsStateOf p a.state → IsStateOf p (events_done p tic k events a).state
-events_right p tic k [] a fits good = good
-events_right p tic k (event ∷ events) a fits good =
-    events_right p tic (suc k) events _ fits (either_asking p (fires tic k event a.state) _ a (fired_right p tic k event a fits good) good)
+event_acts_right : (p : Plan) (tic : ℕ) (numbered : List (ℕ × List Deed)) (a : Asking) → tic ≤ tic_limit
+    → All (AreListed p) numbered → IsStateOf p a.state → IsStateOf p (event_acts tic numbered a).state
+event_acts_right p tic [] a fits all good = good
+event_acts_right p tic (one ∷ more) a fits all good =
+    event_acts_right p tic more _ fits (All-tail (AreListed p) one more all)
+    (acts_right p tic one.1 a fits (All-head (AreListed p) one more all) good)
 
-pub fire_right : (p : Plan) (tic : ℕ) (a : Asking) → tic ≤ tic_limit → IsStateOf p a.state → IsStateOf p (fire p tic a).state
-fire_right p tic a fits good = events_right p tic 0 p.events _ fits (reads_right p tic p.read_ats a fits good)
+abbrev pub AreEventDeeds : Plan → Event → Type 0
+AreEventDeeds p event = AreDeedsAmong (names_of p) event.actions
+
+fired_right : (p : Plan) (tic k : ℕ) (event : Event) (a : Asking) → tic ≤ tic_limit → AreEventDeeds p event
+    → IsStateOf p a.state → IsStateOf p (fired tic k event a).state
+fired_right p tic k event a fits all good =
+    deed_right p (InTic tic) (SetEvent k false) (event_acts tic event.actions a) fits tt
+    (event_acts_right p tic event.actions a fits all good)
+
+events_right : (p : Plan) (tic k : ℕ) (events : List Event) (a : Asking) → tic ≤ tic_limit → All (AreEventDeeds p) events
+    → IsStateOf p a.state → IsStateOf p (events_done tic k events a).state
+events_right p tic k [] a fits all good = good
+events_right p tic k (event ∷ events) a fits all good =
+    events_right p tic (suc k) events _ fits (All-tail (AreEventDeeds p) event events all)
+    (either_asking p (fires tic k event a.state) _ a
+    (fired_right p tic k event a fits (All-head (AreEventDeeds p) event events all) good) good)
+
+pub fire_right : (p : Plan) → All (AreEventDeeds p) p.events → All (AreReadDeeds p) p.read_ats → (tic : ℕ) (a : Asking)
+    → tic ≤ tic_limit → IsStateOf p a.state → IsStateOf p (fire p tic a).state
+fire_right p events reads tic a fits good =
+    events_right p tic 0 p.events _ fits events (reads_right p tic p.read_ats a fits reads good)
 
 -- ---- Freeze
 

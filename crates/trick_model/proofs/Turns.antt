@@ -15,7 +15,7 @@ use Rattle.trick_model.specs.Access.{may_write, scope}
 use Rattle.trick_model.specs.Beside.{each_thread, ends_at, find_thread, flag_in, has_round, held_work, must_finish, one_later, publish, publish_round, published, spread, start_round, take, taken_from, tics_from, where_ends, work, zeros}
 use Rattle.trick_model.specs.Events.{Asking, Between, fire, names_of}
 use Rattle.trick_model.specs.Laws.{KeepsValidity, StartsValid}
-use Rattle.trick_model.specs.Names.{Deed, SetCell, SetJob, Freeze, Stop as StopRun, Checkpoint, SetGroup, SetEvent, deed_of}
+use Rattle.trick_model.specs.Names.{deed_of}
 use Rattle.trick_model.specs.Order.{in_key_order, is_due}
 use Rattle.trick_model.specs.Plan.{Plan, is_on, job_numbers, jobs_of, thread_of, threads_beside}
 use Rattle.trick_model.specs.Records.{row_kept, row_of, rows, writes_row}
@@ -30,6 +30,8 @@ use Rattle.trick_model.specs.Turn.{Hearing, begun, checkpoint_jobs, counted, do_
 use Rattle.trick_model.specs.ValidState.{AreInRange, AreNumbersOf, Each, IsLastRow, IsRecord, IsSound, IsStateOf, OfGroup, OfThread, sizes, sizes_of}
 use Rattle.trick_model.specs.declared.command.Command.{Command}
 use Rattle.trick_model.specs.declared.command.Command.TheVariants as command
+use Rattle.trick_model.specs.declared.deed.Deed.{Deed}
+use Rattle.trick_model.specs.declared.deed.Deed.TheVariants.{SetCell, SetJob, Freeze, Stop as StopRun, Checkpoint, SetGroup, SetEvent}
 use Rattle.trick_model.specs.declared.entry.Entry.{Entry}
 use Rattle.trick_model.specs.declared.entry.Entry.TheVariants.{Join, Said, Leave, Publish}
 use Rattle.trick_model.specs.declared.flags.Flags.{Flags}
@@ -209,7 +211,7 @@ tic_right p sound a below good =
     let fits : now ≤ tic_limit = omega (arith, below, good.limit) in
     let later : now ≤ tic_limit + 1 = omega (arith, fits) in
     let b = fire p now a in
-    let must = must_right p sound now b.state later (fire_right p now a fits good) in
+    let must = must_right p sound now b.state later (fire_right p sound.event_deeds sound.read_deeds now a fits good) in
     let jobs = due_right p sound now (must_finish p now b.state) later must in
     with_tic p _ (now + 1) (omega (arith, fits)) (rows_right p now 0 p.groups (jobs_done p now (must_finish p now b.state)) (all_groups_at p) jobs)
 

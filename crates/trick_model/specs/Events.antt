@@ -1,12 +1,13 @@
--- Reads, events, and what their actions do; entering and leaving Freeze.
+-- Deeds, reads and events; entering and leaving Freeze.
 use Rattle.std.specs.Prelude.{ℕ, suc, ◌+◌, ◌%◌, ◌==◌, max, ℤ, Bool, true, false, ◌&&◌, List, [], ◌∷◌, map, slice_set, Option, Some, None}
 use Rattle.trick_lang.specs.Numbers.{is_true}
 use Rattle.trick_lang.specs.declared.class.Class.TheVariants as class
-use Rattle.trick_model.specs.Names.{Names, Deed, SetCell, SetJob, Freeze, Stop, Checkpoint, SetGroup, SetEvent, deed_of}
+use Rattle.trick_model.specs.Names.{Names}
 use Rattle.trick_model.specs.Plan.{Plan, Event, is_on}
 use Rattle.trick_model.specs.Running.{run_class}
 use Rattle.trick_model.specs.State.{State}
-use Rattle.trick_model.specs.declared.action.Action.{Action}
+use Rattle.trick_model.specs.declared.deed.Deed.{Deed}
+use Rattle.trick_model.specs.declared.deed.Deed.TheVariants.{SetCell, SetJob, Freeze, Stop, Checkpoint, SetGroup, SetEvent}
 use Rattle.trick_model.specs.declared.flags.Flags.{Flags}
 use Rattle.trick_model.specs.declared.group.Group.{Group}
 use Rattle.trick_model.specs.declared.mode.Mode.TheVariants as mode
@@ -30,9 +31,9 @@ leave_freeze p s = elim (s.mode) [
   | mode.Shutdown ↦ s
 ]
 
--- ---- what actions do
+-- ---- deeds
 
--- An action is done in a tic, by a read or an event, or between two tics, by a client.
+-- A deed is done in a tic, by a read or an event, or between two tics, by a client.
 pub data Moment : Type 0 where
   InTic : (tic : ℕ) → Moment
   Between : Moment
@@ -69,9 +70,9 @@ stopped Between (Some at) s = max (at + 1) s.tic
 -- A freeze and a checkpoint are remembered; all else is done at once.
 abbrev pub do_deed : Moment → Deed → Asking → Asking
 do_deed moment (SetCell cell number) a =
-    let s = a.state in record a { state = record s { memory = slice_set s.memory cell number } }
+    let s = a.state in record a { state = record s { memory = slice_set s.memory cell.0 number } }
 do_deed moment (SetJob job on) a =
-    let s = a.state in record a { state = record s { jobs = with_flag s.jobs job on } }
+    let s = a.state in record a { state = record s { jobs = with_flag s.jobs job.0 on } }
 do_deed moment Freeze a = record a { freeze = true }
 do_deed moment (Stop at) a =
     let s = a.state in record a { state = record s { limit = stopped moment at s } }
@@ -81,32 +82,23 @@ do_deed moment (SetGroup group on) a =
 do_deed moment (SetEvent event on) a =
     let s = a.state in record a { state = record s { events = with_flag s.events event on } }
 
--- An action that cannot be done changes nothing.
-abbrev pub do_found : Moment → Option Deed → Asking → Asking
-do_found moment None a = a
-do_found moment (Some deed) a = do_deed moment deed a
-
--- one action
-abbrev pub act : Plan → Moment → Action → Asking → Asking
-act p moment action a = do_found moment (deed_of (names_of p) action) a
-
--- actions one after another, in a tic
-abbrev pub act_all : Plan → ℕ → List Action → Asking → Asking
-act_all p tic [] a = a
-act_all p tic (action ∷ actions) a = act_all p tic actions (act p (InTic tic) action a)
+-- deeds one after another, in a tic
+abbrev pub act_all : ℕ → List Deed → Asking → Asking
+act_all tic [] a = a
+act_all tic (deed ∷ deeds) a = act_all tic deeds (do_deed (InTic tic) deed a)
 
 -- ---- reads and events
 
 -- The reads of a tic are done in the order of their lines.
-abbrev pub reads_done : Plan → ℕ → List ReadAt → Asking → Asking
-reads_done p tic [] a = a
-reads_done p tic (read ∷ reads) a =
-    reads_done p tic reads (elim (read.tic == tic) [ true ↦ act_all p tic read.actions a | false ↦ a ])
+abbrev pub reads_done : ℕ → List ReadAt → Asking → Asking
+reads_done tic [] a = a
+reads_done tic (read ∷ reads) a =
+    reads_done tic reads (elim (read.tic == tic) [ true ↦ act_all tic read.actions a | false ↦ a ])
 
--- the actions of an event, by rising number
-abbrev pub event_acts : Plan → ℕ → List (ℕ × List Action) → Asking → Asking
-event_acts p tic [] a = a
-event_acts p tic (numbered ∷ others) a = event_acts p tic others (act_all p tic numbered.1 a)
+-- the deeds of an event, by rising number
+abbrev pub event_acts : ℕ → List (ℕ × List Deed) → Asking → Asking
+event_acts tic [] a = a
+event_acts tic (numbered ∷ others) a = event_acts tic others (act_all tic numbered.1 a)
 
 -- Without a condition an event never fires.
 abbrev pub holds : Option (List ℤ → ℤ) → List ℤ → Bool
@@ -117,18 +109,18 @@ holds (Some condition) memory = is_true (condition memory)
 abbrev pub fires : ℕ → ℕ → Event → State → Bool
 fires tic k event s = is_on s.events k && ((tic % event.cycle == 0) && holds event.condition s.memory)
 
--- Its actions are done, and after them it is inactive.
-abbrev pub fired : Plan → ℕ → ℕ → Event → Asking → Asking
-fired p tic k event a =
-    let b = event_acts p tic event.actions a in
+-- Its deeds are done, and after them it is inactive.
+abbrev pub fired : ℕ → ℕ → Event → Asking → Asking
+fired tic k event a =
+    let b = event_acts tic event.actions a in
     let s = b.state in record b { state = record s { events = with_flag s.events k false } }
 
 -- The events of a tic, in the order in which the input added them; k is the number of the first.
-abbrev pub events_done : Plan → ℕ → ℕ → List Event → Asking → Asking
-events_done p tic k [] a = a
-events_done p tic k (event ∷ events) a =
-    events_done p tic (suc k) events (elim (fires tic k event a.state) [ true ↦ fired p tic k event a | false ↦ a ])
+abbrev pub events_done : ℕ → ℕ → List Event → Asking → Asking
+events_done tic k [] a = a
+events_done tic k (event ∷ events) a =
+    events_done tic (suc k) events (elim (fires tic k event a.state) [ true ↦ fired tic k event a | false ↦ a ])
 
 -- the reads of a tic, and then its events
 abbrev pub fire : Plan → ℕ → Asking → Asking
-fire p tic a = events_done p tic 0 p.events (reads_done p tic p.read_ats a)
+fire p tic a = events_done tic 0 p.events (reads_done tic p.read_ats a)

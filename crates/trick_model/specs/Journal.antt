@@ -1,5 +1,5 @@
 -- Journals: their rules and texts, and their entries turn by turn.
-use Rattle.std.specs.Prelude.{ℕ, zero, suc, ◌+◌, ◌-◌, ◌==◌, nat_le, nat_lt, Bool, true, false, ◌&&◌, ◌||◌, not, List, [], ◌∷◌, ◌++◌, codes, decimal, filter, map, length}
+use Rattle.std.specs.Prelude.{ℕ, zero, suc, ◌+◌, ◌==◌, nat_le, nat_lt, Bool, true, false, ◌&&◌, ◌||◌, not, List, [], ◌∷◌, ◌++◌, codes, decimal, filter, map, length}
 use Rattle.std.specs.List.{list_any}
 use Rattle.trick_model.specs.Time.{last_turn}
 use Rattle.trick_model.specs.declared.entry.Cause.{Cause}

@@ -16,7 +16,7 @@ pub mod State
 pub mod Running
 -- What names stand for, and what an action asks for.
 pub mod Names
--- Reads, events, and what their actions do.
+-- Deeds, reads and events.
 pub mod Events
 -- Work beside the tics.
 pub mod Beside

@@ -1,6 +1,6 @@
 -- What names stand for, and what an action asks for.
 use Rattle.std.specs.Ordering.{int_eq}
-use Rattle.std.specs.Prelude.{ℕ, suc, ◌==◌, nat_le, ℤ, Bool, true, false, ◌&&◌, List, [], ◌∷◌, Option, Some, None}
+use Rattle.std.specs.Prelude.{ℕ, suc, ◌==◌, nat_le, ℤ, true, false, ◌&&◌, List, [], ◌∷◌, Option, Some, None, option_map}
 use Rattle.std.specs.Str.{bytes_eq}
 use Rattle.trick_lang.specs.Wrap.{wrap, scalar_at}
 use Rattle.trick_lang.specs.declared.job.Job.{Job}
@@ -8,6 +8,8 @@ use Rattle.trick_lang.specs.declared.scalar.Scalar.{Scalar}
 use Rattle.trick_base.specs.Time.{tic_limit}
 use Rattle.trick_model.specs.declared.action.Action.{Action}
 use Rattle.trick_model.specs.declared.action.Action.TheVariants as action
+use Rattle.trick_model.specs.declared.deed.Deed.{Deed}
+use Rattle.trick_model.specs.declared.deed.Deed.TheVariants.{SetCell, SetJob, Freeze, Stop, Checkpoint, SetGroup, SetEvent}
 
 -- the names that an action can have: full names of cells with the cells' types, names of jobs with
 -- the jobs, names of groups and of events
@@ -40,21 +42,11 @@ find_job name instance (other ∷ others) (job ∷ jobs) =
       | false ↦ one_more (find_job name instance others jobs)
     ]
 
--- What an action asks for, by numbers.
-pub data Deed : Type 0 where
-  SetCell : (cell : ℕ) (number : ℤ) → Deed
-  SetJob : (job : ℕ) (on : Bool) → Deed
-  Freeze : Deed
-  Stop : (at : Option ℕ) → Deed
-  Checkpoint : Deed
-  SetGroup : (group : ℕ) (on : Bool) → Deed
-  SetEvent : (event : ℕ) (on : Bool) → Deed
-
 -- A number is set only where it is in the range of the cell's type.
 abbrev pub set_in_range : List Scalar → ℤ → Option ℕ → Option Deed
 set_in_range scalars number None = None
 set_in_range scalars number (Some cell) =
-    elim (int_eq (wrap (scalar_at scalars cell) number) number) [ true ↦ Some (SetCell cell number) | false ↦ None ]
+    elim (int_eq (wrap (scalar_at scalars cell) number) number) [ true ↦ Some (SetCell (record { 0 = cell }) number) | false ↦ None ]
 
 -- A stop is after no tic, or after one that is a time.
 abbrev pub stop_after : Option ℕ → Option Deed
@@ -71,9 +63,17 @@ on_found deed (Some k) = Some (deed k)
 abbrev pub deed_of : Names → Action → Option Deed
 deed_of names (action.SetCell name number) = set_in_range names.scalars number (find_name name names.cells)
 deed_of names (action.SetJob name instance on) =
-    on_found (λ k. SetJob k on) (find_job name instance names.job_names names.jobs)
+    on_found (λ k. SetJob (record { 0 = k }) on) (find_job name instance names.job_names names.jobs)
 deed_of names action.Freeze = Some Freeze
 deed_of names (action.Stop at) = stop_after at
 deed_of names action.Checkpoint = Some Checkpoint
 deed_of names (action.SetGroup name on) = on_found (λ k. SetGroup k on) (find_name name names.groups)
 deed_of names (action.SetEvent name on) = on_found (λ k. SetEvent k on) (find_name name names.events)
+
+-- What actions ask for, where each asks for something that can be done.
+abbrev pub deeds_of : Names → List Action → Option (List Deed)
+deeds_of names [] = Some []
+deeds_of names (action ∷ actions) = elim (deed_of names action) [
+  | None ↦ None
+  | Some deed ↦ option_map (λ deeds. deed ∷ deeds) (deeds_of names actions)
+]

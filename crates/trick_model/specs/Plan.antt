@@ -7,8 +7,8 @@ use Rattle.trick_lang.specs.declared.fault.Stop.{Stop}
 use Rattle.trick_lang.specs.declared.job.Job.{Job}
 use Rattle.trick_lang.specs.declared.range.CellRange.{CellRange}
 use Rattle.trick_lang.specs.declared.scalar.Scalar.{Scalar}
-use Rattle.trick_model.specs.declared.action.Action.{Action}
 use Rattle.trick_model.specs.declared.command.Command.{Command}
+use Rattle.trick_model.specs.declared.deed.Deed.{Deed}
 use Rattle.trick_model.specs.declared.depends.Depends.{Depends}
 use Rattle.trick_model.specs.declared.flags.Flags.{Flags}
 use Rattle.trick_model.specs.declared.group.Group.{Group}
@@ -17,7 +17,7 @@ use Rattle.trick_model.specs.declared.thread.Process.{Process}
 use Rattle.trick_model.specs.declared.thread.Process.TheVariants as process
 use Rattle.trick_model.specs.declared.thread.Thread.{Thread}
 
--- An event has a name, a cycle, a condition, and numbered lists of actions.
+-- An event has a name, a cycle, a condition, and numbered lists of deeds.
 pub record Event : Type 0 where
   pub name : List ℕ
   pub cycle : ℕ
@@ -25,8 +25,8 @@ pub record Event : Type 0 where
   pub condition : Option (List ℤ → ℤ)
   -- the cells of the condition
   pub reads : List CellRange
-  -- by rising number
-  pub actions : List (ℕ × List Action)
+  -- what its actions ask for, by rising number
+  pub actions : List (ℕ × List Deed)
 
 -- What jobs, conditions and clients' lines mean is given by functions, so that no rule of the run
 -- speaks of trees or texts.

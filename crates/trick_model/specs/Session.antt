@@ -4,11 +4,12 @@ use Rattle.std.specs.Prelude.{ℕ, ◌/◌, nat_lt, ℤ, Bool, true, false, ◌&
 use Rattle.std.specs.Str.{bytes_eq}
 use Rattle.trick_lang.specs.declared.cells.Cell.{Cell}
 use Rattle.trick_model.specs.Events.{names_of}
-use Rattle.trick_model.specs.Names.{Deed, deed_of, find_name}
+use Rattle.trick_model.specs.Names.{deed_of, find_name}
 use Rattle.trick_model.specs.Plan.{Plan}
 use Rattle.trick_model.specs.State.{State, number_at}
 use Rattle.trick_model.specs.declared.command.Command.{Command}
 use Rattle.trick_model.specs.declared.command.Command.TheVariants as command
+use Rattle.trick_model.specs.declared.deed.Deed.{Deed}
 use Rattle.trick_model.specs.declared.session.Session.{Session}
 
 -- A session that joins has no variables, a cycle of 100,000 tics and copy mode 1, and is not paused.
@@ -25,7 +26,7 @@ joined number = record {
 
 -- ---- lines
 
--- What a line comes to: the session after it, its reply, an action that is to be done, and whether
+-- What a line comes to: the session after it, its reply, a deed that is to be done, and whether
 -- Freeze is to be left.
 pub record Answer : Type 0 where
   pub session : Session

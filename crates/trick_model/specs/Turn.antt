@@ -6,13 +6,14 @@ use Rattle.trick_model.specs.Beside.{is_in_flight, publish_round, start_rounds}
 use Rattle.trick_model.specs.Checkpoint.{checkpoint_text}
 use Rattle.trick_model.specs.Events.{Asking, Between, do_deed, enter_freeze, leave_freeze}
 use Rattle.trick_model.specs.Journal.{is_of_session}
-use Rattle.trick_model.specs.Names.{Deed, SetCell, SetJob, Freeze, Stop, Checkpoint, SetGroup, SetEvent}
 use Rattle.trick_model.specs.Plan.{Plan}
 use Rattle.trick_model.specs.Running.{run_class}
 use Rattle.trick_model.specs.Session.{Message, answered, joined, samples, staying}
 use Rattle.trick_model.specs.State.{State, World}
 use Rattle.trick_model.specs.Tic.{Ticked, frame}
 use Rattle.trick_model.specs.Time.{last_turn}
+use Rattle.trick_model.specs.declared.deed.Deed.{Deed}
+use Rattle.trick_model.specs.declared.deed.Deed.TheVariants.{SetCell, SetJob, Freeze, Stop, Checkpoint, SetGroup, SetEvent}
 use Rattle.trick_model.specs.declared.entry.Entry.{Entry}
 use Rattle.trick_model.specs.declared.entry.Entry.TheVariants.{Join, Said, Leave, Publish}
 use Rattle.trick_model.specs.declared.mode.Mode.{Mode}
@@ -26,7 +27,7 @@ pub record Hearing : Type 0 where
   pub asking : Asking
   pub sessions : List Session
 
--- From a client a freeze is entered at once; all else is done as an action between two tics.
+-- From a client a freeze is entered at once; all else is done as a deed between two tics.
 abbrev pub do_between : Plan → Option Deed → Asking → Asking
 do_between p None a = a
 do_between p (Some (SetCell cell number)) a = do_deed Between (SetCell cell number) a

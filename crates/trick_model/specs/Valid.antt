@@ -1,6 +1,7 @@
 -- What a valid plan keeps.
+use Rattle.std.proofs.Props.{props}
 use Rattle.std.specs.List.{list_any}
-use Rattle.std.specs.Prelude.{◌≡◌, ℕ, ◌<◌, ◌≤◌, ◌^◌, nat_lt, not, ℤ, Bool, true, ◌&&◌, ◌||◌, ◌==◌, IsTrue, All, List, [], ◌∷◌, length, map, is_some}
+use Rattle.std.specs.Prelude.{◌≡◌, ℕ, ◌<◌, ◌≤◌, ◌^◌, nat_lt, not, ℤ, Bool, true, ◌&&◌, ◌||◌, ◌==◌, IsTrue, All, IfSome, List, [], ◌∷◌, length, map}
 use Rattle.std.specs.Str.{bytes_eq}
 use Rattle.trick_lang.specs.Effect.{scalars_of}
 use Rattle.trick_lang.specs.Names.{job_name}
@@ -11,11 +12,12 @@ use Rattle.trick_lang.specs.declared.job.Job.{Job}
 use Rattle.trick_lang.specs.declared.job.JobId.{JobId}
 use Rattle.trick_lang.specs.declared.program.Program.{Program}
 use Rattle.trick_lang.specs.declared.variable.Variable.{Variable}
-use Rattle.trick_model.specs.Names.{Names, deed_of}
+use Rattle.trick_model.specs.Names.{Names}
 use Rattle.trick_model.specs.Order.{classes, is_of_class, jobs_in}
 use Rattle.trick_model.specs.Plan.{has_job, is_on_scheduled}
 use Rattle.trick_base.specs.Time.{tic_limit}
-use Rattle.trick_model.specs.declared.action.Action.{Action}
+use Rattle.trick_model.specs.declared.deed.Deed.{Deed}
+use Rattle.trick_model.specs.declared.deed.Deed.TheVariants as deed
 use Rattle.trick_model.specs.declared.depends.Depends.{Depends}
 use Rattle.trick_model.specs.declared.event.Event.{Event}
 use Rattle.trick_model.specs.declared.group.Group.{Group}
@@ -114,15 +116,32 @@ pub record IsAssignment (cells : List Variable) (assign : Cell × ℤ) : Type 0 
   pub there : IsCell (length cells) assign.0
   pub in_range : IsInRange (scalars_of cells) (assign.0).0 assign.1
 
--- an action asks for something that can be done
-abbrev pub IsDoable : Names → Action → Type 0
-IsDoable names action = IsTrue (is_some (deed_of names action))
+-- What a deed is about is among these names: its cell, whose range has the number, its job, group or
+-- event; and its tic is one of a run.
+abbrev pub IsDeedAmong : Names → Deed → Type 0
+IsDeedAmong names (deed.SetCell cell number) = (cell.0 < length names.cells) × IsInRange names.scalars cell.0 number
+IsDeedAmong names (deed.SetJob job on) = job.0 < length names.jobs
+IsDeedAmong names deed.Freeze = Unit {0}
+IsDeedAmong names (deed.Stop at) = IfSome at (λ tic. tic ≤ tic_limit)
+IsDeedAmong names deed.Checkpoint = Unit {0}
+IsDeedAmong names (deed.SetGroup group on) = group < length names.groups
+IsDeedAmong names (deed.SetEvent event on) = event < length names.events
 
--- the actions of an event have rising numbers, from 0 to 15
+-- that has one proof at most, so that a plan can keep it
+pub among-prop : (names : Names) (deed : Deed) → IsProp (IsDeedAmong names deed)
+among-prop names (deed.SetCell cell number) = Prim.hlevel props
+among-prop names (deed.SetJob job on) = Prim.hlevel props
+among-prop names deed.Freeze = Prim.hlevel props
+among-prop names (deed.Stop at) = Prim.hlevel props
+among-prop names deed.Checkpoint = Prim.hlevel props
+among-prop names (deed.SetGroup group on) = Prim.hlevel props
+among-prop names (deed.SetEvent event on) = Prim.hlevel props
+
+-- all deeds of numbered lists are about these names
+abbrev pub AreDeedsAmong : Names → List (ℕ × List Deed) → Type 0
+AreDeedsAmong names lists = All (λ (numbered : ℕ × List Deed). All (IsDeedAmong names) numbered.1) lists
+
+-- the lists of an event have rising numbers, from 0 to 15
 pub record AreNumbered (event : Event) : Type 0 where
-  pub rising : IsTrue (rises (map (λ (numbered : ℕ × List Action). numbered.0) event.actions))
-  pub in_range : All (λ (numbered : ℕ × List Action). numbered.0 ≤ 15) event.actions
-
--- all actions of an event can be done
-abbrev pub AreDoable : Names → Event → Type 0
-AreDoable names event = All (λ (numbered : ℕ × List Action). All (IsDoable names) numbered.1) event.actions
+  pub rising : IsTrue (rises (map (λ (numbered : ℕ × List Deed). numbered.0) event.actions))
+  pub in_range : All (λ (numbered : ℕ × List Deed). numbered.0 ≤ 15) event.actions

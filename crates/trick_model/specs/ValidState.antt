@@ -7,11 +7,14 @@ use Rattle.trick_lang.specs.declared.fault.JobFault.{JobFault}
 use Rattle.trick_lang.specs.declared.scalar.Scalar.{Scalar}
 use Rattle.trick_model.specs.Access.{scope}
 use Rattle.trick_model.specs.FaultList.{kept}
-use Rattle.trick_model.specs.Plan.{Plan, jobs_of, threads_beside}
+use Rattle.trick_model.specs.Events.{names_of}
+use Rattle.trick_model.specs.Plan.{Event, Plan, jobs_of, threads_beside}
 use Rattle.trick_model.specs.State.{State, nothing_taken}
 use Rattle.trick_base.specs.Time.{tic_limit}
 use Rattle.trick_model.specs.Time.{last_turn}
+use Rattle.trick_model.specs.Valid.{AreDeedsAmong, IsDeedAmong}
 use Rattle.trick_model.specs.declared.group.Group.{Group}
+use Rattle.trick_model.specs.declared.read_at.ReadAt.{ReadAt}
 use Rattle.trick_model.specs.declared.taken.Taken.{Taken}
 use Rattle.trick_model.specs.declared.thread.Thread.{Thread}
 
@@ -91,11 +94,13 @@ pub record IsStateOf (p : Plan) (s : State) : Type 0 where
 
 -- ---- plans
 
--- What the states of a plan rest on: jobs store numbers in the ranges of their cells, and what a state
--- starts with is right.
+-- What the states of a plan rest on: jobs store numbers in the ranges of their cells, deeds are about
+-- what the plan names, and what a state starts with is right.
 pub record IsSound (p : Plan) : Type 0 where
   pub effects : (k cell : ℕ) (memory : List ℤ) (stored : List (Option ℤ)) (n : ℤ) → p.effect k memory ≡ Ok stored
       → slice_index_or stored cell None ≡ Some n → IsInRange p.scalars cell n
+  pub event_deeds : All (λ (event : Event). AreDeedsAmong (names_of p) event.actions) p.events
+  pub read_deeds : All (λ (read : ReadAt). All (IsDeedAmong (names_of p)) read.actions) p.read_ats
   pub limit : p.limit ≤ tic_limit + 1
   pub assigns : All (λ (a : Cell × ℤ). IsInRange p.scalars (a.0).0 a.1) p.assigns
   pub jobs_flagged : length p.jobs_on.on ≡ length p.jobs

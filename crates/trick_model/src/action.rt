@@ -1,7 +1,7 @@
 use trick_base::Word;
 
-/// What an input's reads and events and a client's line can ask for. Jobs, cells, groups and events
-/// go by their names, since a client knows no numbers.
+/// What the lines of an input and of a client say that is to be done. Jobs, cells, groups and events
+/// go by their names; a [`Deed`](crate::Deed) has their numbers.
 #[derive(Debug, Drop)]
 pub enum Action {
     /// The cell of this full name gets a number.

@@ -1,4 +1,4 @@
-use crate::Action;
+use crate::Deed;
 use trick_base::{Items, Word};
 use trick_lang::Expr;
 
@@ -10,6 +10,6 @@ pub struct Event {
     pub cycle: u64,
     /// Without one it never fires. It has no `/`, no `%` and literal indexes alone.
     pub condition: Option<Expr>,
-    /// Lists of actions by rising number, from 0 to 15.
-    pub actions: Items<(u8, Items<Action>)>,
+    /// What its actions ask for: lists by rising number, from 0 to 15.
+    pub actions: Items<(u8, Items<Deed>)>,
 }

@@ -5,6 +5,7 @@
 mod accepted;
 mod action;
 mod command;
+mod deed;
 mod depends;
 mod entry;
 mod event;
@@ -28,6 +29,7 @@ mod world;
 pub use accepted::Accepted;
 pub use action::Action;
 pub use command::Command;
+pub use deed::Deed;
 pub use depends::Depends;
 pub use entry::{Cause, Entry};
 pub use event::Event;

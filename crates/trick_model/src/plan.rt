@@ -1,9 +1,10 @@
+ghost use Rattle.std.proofs.Props.{props};
 ghost use Rattle.std.specs.Prelude.{◌≡◌, ◌+◌, ◌≤◌, All, IsTrue, length, map};
 ghost use Rattle.trick_lang.specs.declared.job.Job.{Job};
 ghost use Rattle.trick_model.specs.Condition.{is_condition_of};
 ghost use Rattle.trick_model.specs.Plan.{has_thread};
 ghost use Rattle.trick_base.specs.Time.{tic_limit};
-ghost use Rattle.trick_model.specs.Valid.{all_differ, AreDoable, AreNumbered, event_names, group_names, ids, IsAssignment, IsCell, IsCycle, IsDoable, IsFrame, IsMainRight, IsPair, is_there, names_in, queues_of, rises, thread_numbers};
+ghost use Rattle.trick_model.specs.Valid.{all_differ, among-prop, AreDeedsAmong, AreNumbered, event_names, group_names, ids, IsAssignment, IsCell, IsCycle, IsDeedAmong, IsFrame, IsMainRight, IsPair, is_there, names_in, queues_of, rises, thread_numbers};
 ghost use Rattle.trick_model.specs.declared.event.Event.{Event};
 ghost use Rattle.trick_model.specs.declared.group.Group.{Group};
 ghost use Rattle.trick_model.specs.declared.read_at.ReadAt.{ReadAt};
@@ -62,13 +63,14 @@ pub struct Plan {
     // No two groups, and no two events, have one name.
     pub ghost groups_differ: { IsTrue (all_differ (group_names groups)) },
     pub ghost events_differ: { IsTrue (all_differ (event_names events)) },
-    // Each cell and job that is named is there, and each number that is set is in its range.
+    // Each cell, job, group and event is there, and each number that is set is in its range.
     pub ghost pairs_right: { All (IsPair program.jobs threads) depends },
     pub ghost group_cells: { All (λ (group : Group). All (IsCell (length program.cells)) group.cells) groups },
     pub ghost assigns_right: { All (IsAssignment program.cells) assigns },
-    pub ghost event_actions: { All (AreDoable (names_in program groups events)) events },
-    pub ghost read_actions: { All (λ (read : ReadAt). All (IsDoable (names_in program groups events)) read.actions)
-        reads },
+    pub ghost event_actions: { All (λ (event : Event). AreDeedsAmong (names_in program groups events) event.actions)
+        events } by { Prim.hlevel (among-prop, props) },
+    pub ghost read_actions: { All (λ (read : ReadAt). All (IsDeedAmong (names_in program groups events)) read.actions)
+        reads } by { Prim.hlevel (among-prop, props) },
     // A condition cannot fault.
     pub ghost conditions_right: { All (λ (event : Event). IsTrue
         (is_condition_of (length program.cells) event.condition)) events },

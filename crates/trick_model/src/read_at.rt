@@ -1,9 +1,9 @@
-use crate::Action;
+use crate::Deed;
 use trick_base::Items;
 
-/// Actions that are done at a tic, at most 10^15.
+/// What the actions of a read ask for, at a tic of at most 10^15.
 #[derive(Debug, Drop)]
 pub struct ReadAt {
     pub tic: u64,
-    pub actions: Items<Action>,
+    pub actions: Items<Deed>,
 }

@@ -1,5 +1,5 @@
 -- A plan means what the lines have said.
-use Rattle.std.proofs.Common.{◌≡◌, ◌∙◌, ℕ, suc, ℤ, pos, Bool, List, [], ◌∷◌, Option, Some, None, Result, Ok, length, map, slice_index_or, refl, sym, ap}
+use Rattle.std.proofs.Common.{◌≡◌, ◌∙◌, ℕ, suc, ℤ, pos, Bool, List, [], ◌∷◌, Option, Some, None, Ok, length, map, slice_index_or, refl, sym, ap}
 use Rattle.std.specs.Prelude.{option_map, replicate, slice_get}
 use Rattle.trick_declare.specs.Cells.{KeepsRest}
 use Rattle.trick_draft.specs.Cells.{only_names}

@@ -1,6 +1,6 @@
 -- What a plan means, by what the lines have said.
 use Rattle.std.specs.List.{slice_index_or}
-use Rattle.std.specs.Prelude.{ℕ, ℤ, pos, List, [], length, map, replicate, Option, Some, None, option_map, Result, Ok}
+use Rattle.std.specs.Prelude.{ℤ, pos, List, [], length, map, replicate, Option, Some, None, option_map, Result, Ok}
 use Rattle.trick_draft.specs.Cells.{only_names}
 use Rattle.trick_draft.specs.declared.draft.Draft.{Draft}
 use Rattle.trick_draft.specs.declared.event.EventDraft.{EventDraft}

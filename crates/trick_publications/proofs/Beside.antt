@@ -1,10 +1,10 @@
 -- Must-finish work on both sides, and what asynchronous threads do on one.
-use Rattle.std.proofs.Common.{◌≡◌, ◌∙◌, ℕ, suc, ◌+◌, ◌%◌, ◌==◌, ℤ, List, [], ◌∷◌, Bool, true, false, Option, Some, None, ap, arith, refl, subst, sym}
+use Rattle.std.proofs.Common.{◌≡◌, ◌∙◌, ℕ, ◌+◌, ◌%◌, ◌==◌, ℤ, List, [], ◌∷◌, Bool, true, false, Option, Some, None, ap, arith, refl, subst, sym}
 use Rattle.std.specs.Prelude.{slice_set}
 use Rattle.trick_lang.proofs.Tests.{both_left}
 use Rattle.trick_model.proofs.Turns.{FoundAt, IsAt, all_at, find_at}
 use Rattle.trick_model.specs.Access.{may_write, scope}
-use Rattle.trick_model.specs.Beside.{ends_at, find_thread, flag_in, has_round, held_work, must_finish, one_later, publish, publish_round, published, spread, start_round, take, taken_from, where_ends, work, zeros}
+use Rattle.trick_model.specs.Beside.{ends_at, find_thread, flag_in, has_round, held_work, must_finish, publish, publish_round, published, spread, start_round, take, taken_from, where_ends, work, zeros}
 use Rattle.trick_model.specs.Plan.{Plan, is_async, jobs_of, threads_beside}
 use Rattle.trick_model.specs.Running.{after_jobs, settled}
 use Rattle.trick_model.specs.State.{State, nothing_taken, taken_at}

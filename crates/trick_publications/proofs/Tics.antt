@@ -6,15 +6,15 @@ use Rattle.trick_base.specs.Files.{Write, Append}
 use Rattle.trick_lang.specs.declared.cells.Cell.{Cell}
 use Rattle.trick_model.specs.Access.{IsReached}
 use Rattle.trick_model.specs.Beside.{must_finish}
-use Rattle.trick_model.specs.Events.{Asking, Between, InTic, Moment, act_all, do_deed, do_found, event_acts, events_done, fire, fired, fires, names_of, reads_done, stopped, with_flag}
-use Rattle.trick_model.specs.Names.{Deed, SetCell, SetJob, Freeze, Stop as StopRun, Checkpoint, SetGroup, SetEvent, deed_of}
+use Rattle.trick_model.specs.Events.{Asking, Between, InTic, Moment, act_all, do_deed, event_acts, events_done, fire, fired, fires, reads_done, stopped, with_flag}
 use Rattle.trick_model.specs.Order.{jobs_at}
 use Rattle.trick_model.specs.Plan.{Event, Plan, is_on}
 use Rattle.trick_model.specs.Records.{is_new, log_name, row, row_kept, row_of, row_writes, rows, writes_row}
 use Rattle.trick_model.specs.State.{State, number_at}
 use Rattle.trick_model.specs.Tic.{Ticked, frame, jobs_done, tic, tic_below_limit, tics}
 use Rattle.trick_model.specs.Time.{tics_left}
-use Rattle.trick_model.specs.declared.action.Action.{Action}
+use Rattle.trick_model.specs.declared.deed.Deed.{Deed}
+use Rattle.trick_model.specs.declared.deed.Deed.TheVariants.{SetCell, SetJob, Freeze, Stop as StopRun, Checkpoint, SetGroup, SetEvent}
 use Rattle.trick_model.specs.declared.group.Group.{Group}
 use Rattle.trick_model.specs.declared.read_at.ReadAt.{ReadAt}
 use Rattle.trick_publications.proofs.Beside.{must_alike}
@@ -71,9 +71,9 @@ stop_keeps p Between (Some at) s v h = record { work = v; suits = h; is = refl }
 
 pub deed_alike : (p : Plan) (moment : Moment) (deed : Deed) (a b : Asking) → AreAskingAlike p a b → AreAskingAlike p (do_deed moment deed a) (do_deed moment deed b)
 deed_alike p moment (SetCell cell number) a b h =
-    with_state p a b _ _ h (both p (λ (s : State). record s { memory = slice_set s.memory cell number }) (set_keeps p cell number) a.state b.state h.state)
+    with_state p a b _ _ h (both p (λ (s : State). record s { memory = slice_set s.memory cell.0 number }) (set_keeps p cell.0 number) a.state b.state h.state)
 deed_alike p moment (SetJob job on) a b h =
-    with_state p a b _ _ h (both p (λ (s : State). record s { jobs = with_flag s.jobs job on }) (λ s v suits. record { work = v; suits = suits; is = refl }) a.state b.state h.state)
+    with_state p a b _ _ h (both p (λ (s : State). record s { jobs = with_flag s.jobs job.0 on }) (λ s v suits. record { work = v; suits = suits; is = refl }) a.state b.state h.state)
 deed_alike p moment Freeze a b h = record { state = h.state; freeze = refl; checkpoint = h.checkpoint }
 deed_alike p moment (StopRun at) a b h =
     with_state p a b _ _ h (both p (λ (s : State). record s { limit = stopped moment at s }) (stop_keeps p moment at) a.state b.state h.state)
@@ -83,33 +83,27 @@ deed_alike p moment (SetGroup group on) a b h =
 deed_alike p moment (SetEvent event on) a b h =
     with_state p a b _ _ h (both p (λ (s : State). record s { events = with_flag s.events event on }) (λ s v suits. record { work = v; suits = suits; is = refl }) a.state b.state h.state)
 
-found_alike : (p : Plan) (moment : Moment) (deed : Option Deed) (a b : Asking) → AreAskingAlike p a b
-    → AreAskingAlike p (do_found moment deed a) (do_found moment deed b)
-found_alike p moment None a b h = h
-found_alike p moment (Some deed) a b h = deed_alike p moment deed a b h
-
-acts_alike : (p : Plan) (tic : ℕ) (actions : List Action) (a b : Asking) → AreAskingAlike p a b
-    → AreAskingAlike p (act_all p tic actions a) (act_all p tic actions b)
+acts_alike : (p : Plan) (tic : ℕ) (deeds : List Deed) (a b : Asking) → AreAskingAlike p a b
+    → AreAskingAlike p (act_all tic deeds a) (act_all tic deeds b)
 acts_alike p tic [] a b h = h
-acts_alike p tic (action ∷ actions) a b h =
-    acts_alike p tic actions _ _ (found_alike p (InTic tic) (deed_of (names_of p) action) a b h)
+acts_alike p tic (deed ∷ deeds) a b h = acts_alike p tic deeds _ _ (deed_alike p (InTic tic) deed a b h)
 
 -- ---- reads and events
 
 reads_alike : (p : Plan) (tic : ℕ) (reads : List ReadAt) (a b : Asking) → AreAskingAlike p a b
-    → AreAskingAlike p (reads_done p tic reads a) (reads_done p tic reads b)
+    → AreAskingAlike p (reads_done tic reads a) (reads_done tic reads b)
 reads_alike p tic [] a b h = h
 reads_alike p tic (read ∷ reads) a b h =
     reads_alike p tic reads _ _ (choose_asking p (read.tic == tic) (read.tic == tic) _ _ a b refl (acts_alike p tic read.actions a b h) h)
 
-event_acts_alike : (p : Plan) (tic : ℕ) (numbered : List (ℕ × List Action)) (a b : Asking) → AreAskingAlike p a b
-    → AreAskingAlike p (event_acts p tic numbered a) (event_acts p tic numbered b)
+event_acts_alike : (p : Plan) (tic : ℕ) (numbered : List (ℕ × List Deed)) (a b : Asking) → AreAskingAlike p a b
+    → AreAskingAlike p (event_acts tic numbered a) (event_acts tic numbered b)
 event_acts_alike p tic [] a b h = h
 event_acts_alike p tic (one ∷ more) a b h = event_acts_alike p tic more _ _ (acts_alike p tic one.1 a b h)
 
-fired_alike : (p : Plan) (tic k : ℕ) (event : Event) (a b : Asking) → AreAskingAlike p a b → AreAskingAlike p (fired p tic k event a) (fired p tic k event b)
+fired_alike : (p : Plan) (tic k : ℕ) (event : Event) (a b : Asking) → AreAskingAlike p a b → AreAskingAlike p (fired tic k event a) (fired tic k event b)
 fired_alike p tic k event a b h =
-    deed_alike p (InTic tic) (SetEvent k false) (event_acts p tic event.actions a) (event_acts p tic event.actions b)
+    deed_alike p (InTic tic) (SetEvent k false) (event_acts tic event.actions a) (event_acts tic event.actions b)
     (event_acts_alike p tic event.actions a b h)
 
 -- an event fires on both sides or on neither
@@ -119,7 +113,7 @@ fires_same p tic k event decided s t h =
     (λ v suits. ap (λ (b : Bool). is_on s.events k && ((tic % event.cycle == 0) && b)) (decided s.memory v.memory suits.memory_alike))
 
 events_alike : (p : Plan) (tic k : ℕ) (events : List Event) → Every (IsDecided p) events → (a b : Asking) → AreAskingAlike p a b
-    → AreAskingAlike p (events_done p tic k events a) (events_done p tic k events b)
+    → AreAskingAlike p (events_done tic k events a) (events_done tic k events b)
 events_alike p tic k [] decided a b h = h
 events_alike p tic k (event ∷ events) decided a b h =
     events_alike p tic (suc k) events decided.1 _ _

@@ -9,12 +9,13 @@ use Rattle.trick_model.specs.Checkpoint.{checkpoint_text}
 use Rattle.trick_model.specs.Events.{Asking, Between, enter_freeze, leave_freeze}
 use Rattle.trick_model.specs.Files.{journal_name, note, turn_writes}
 use Rattle.trick_model.specs.Journal.{entry_lines, is_of_session}
-use Rattle.trick_model.specs.Names.{Deed, SetCell, SetJob, Freeze, Stop as StopRun, Checkpoint, SetGroup, SetEvent}
 use Rattle.trick_model.specs.Plan.{Plan}
 use Rattle.trick_model.specs.Running.{run_class}
 use Rattle.trick_model.specs.Session.{Answer, answered, joined, staying}
 use Rattle.trick_model.specs.State.{State, World}
 use Rattle.trick_model.specs.Turn.{Hearing, Turned, begun, changed, checkpoint_jobs, checkpoint_name, checkpoint_writes, counted, do_between, framed, frozen, hear, heard, publish_all, resumed, rounds, run_frame, runs, session_of, turn}
+use Rattle.trick_model.specs.declared.deed.Deed.{Deed}
+use Rattle.trick_model.specs.declared.deed.Deed.TheVariants.{SetCell, SetJob, Freeze, Stop as StopRun, Checkpoint, SetGroup, SetEvent}
 use Rattle.trick_model.specs.declared.entry.Entry.{Entry}
 use Rattle.trick_model.specs.declared.entry.Entry.TheVariants.{Join, Said, Leave, Publish}
 use Rattle.trick_model.specs.declared.session.Session.{Session}

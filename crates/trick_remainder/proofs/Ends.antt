@@ -1,11 +1,10 @@
 -- What a run writes first and last.
-use Rattle.std.proofs.Common.{◌≡◌, ◌∙◌, ◌≢◌, ℕ, zero, suc, ◌<◌, arith, drop, length, List, [], ◌∷◌, ◌++◌, Bool, true, false, not, ◌&&◌, cond, Some, unwrap_or, ap, append_assoc, refl, subst, sym}
+use Rattle.std.proofs.Common.{◌≡◌, ◌∙◌, ℕ, zero, suc, ◌<◌, arith, drop, length, List, [], ◌∷◌, ◌++◌, Bool, true, false, not, ◌&&◌, cond, Some, unwrap_or, ap, refl, sym}
 use Rattle.std.proofs.lemmas.List.{append_cancel_right}
 use Rattle.std.proofs.lemmas.Slice.Eq.{bytes_eq-Decides}
 use Rattle.std.specs.List.{list_any}
-use Rattle.std.specs.Prelude.{◌||◌, All, IsTrue, Option, codes, flat_map, map}
+use Rattle.std.specs.Prelude.{◌||◌, All, IsTrue, Option, codes, flat_map}
 use Rattle.std.specs.Str.{bytes_eq}
-use Rattle.trick_base.proofs.ContentLemmas.{content-append}
 use Rattle.trick_base.proofs.FileLemmas.{name_itself, names_differ}
 use Rattle.trick_base.specs.Content.{content, same_name}
 use Rattle.trick_base.specs.Files.{Write}

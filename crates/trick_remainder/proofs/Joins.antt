@@ -1,5 +1,5 @@
 -- Sessions that are there join in front of the entries of the first turn.
-use Rattle.std.proofs.Common.{◌≡◌, ◌∙◌, ℕ, ◌+◌, List, [], ◌∷◌, ◌++◌, Bool, true, false, not, ◌&&◌, cond, Some, unwrap_or, ap, append-nil, append_assoc, refl, subst, sym}
+use Rattle.std.proofs.Common.{◌≡◌, ◌∙◌, ℕ, List, [], ◌∷◌, ◌++◌, Bool, true, false, not, ◌&&◌, cond, Some, unwrap_or, ap, append-nil, append_assoc, refl, sym}
 use Rattle.std.specs.List.{list_any}
 use Rattle.std.specs.Prelude.{◌||◌, IsTrue, Option, filter, map, nat_le}
 use Rattle.trick_base.proofs.ContentLemmas.{content-append}
@@ -9,9 +9,9 @@ use Rattle.trick_model.specs.Files.{journal_name, note, turn_writes, turns_write
 use Rattle.trick_model.specs.Journal.{entry_line, entry_lines, is_of_session, with_joins}
 use Rattle.trick_model.specs.Laws.{JoinsAreNoted, SessionsDoNotMatter}
 use Rattle.trick_model.specs.Plan.{Plan}
-use Rattle.trick_model.specs.Run.{Fits, after_turns, final, goes_on, has_session_entry, is_over, is_shut, opened, shut}
+use Rattle.trick_model.specs.Run.{after_turns, goes_on, has_session_entry, is_over, is_shut, opened}
 use Rattle.trick_model.specs.State.{State, World}
-use Rattle.trick_model.specs.Turn.{Turned, is_frozen, turn}
+use Rattle.trick_model.specs.Turn.{is_frozen, turn}
 use Rattle.trick_model.specs.declared.entry.Entry.{Entry}
 use Rattle.trick_model.specs.declared.entry.Entry.TheVariants.{Join}
 use Rattle.trick_remainder.proofs.Contents.{added_append}

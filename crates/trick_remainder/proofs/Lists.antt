@@ -1,5 +1,5 @@
 -- The lists of a journal, cut in two at a turn.
-use Rattle.std.proofs.Common.{◌≡◌, ◌∙◌, ℕ, zero, suc, ◌+◌, ◌-◌, ◌<◌, ◌≤◌, List, [], ◌∷◌, ◌++◌, Bool, true, false, not, ap, arith, refl, subst, sym}
+use Rattle.std.proofs.Common.{◌≡◌, ◌∙◌, ℕ, zero, suc, ◌+◌, ◌-◌, ◌<◌, ◌≤◌, List, [], ◌∷◌, ◌++◌, Bool, true, false, not, ap, arith, refl, sym}
 use Rattle.std.specs.Prelude.{◌&&◌, ◌||◌, nat_le, IsTrue}
 use Rattle.trick_model.proofs.Runs.{and_left}
 use Rattle.trick_model.specs.Journal.{Noted, entries_at, lists_from, live_before, with_joins}

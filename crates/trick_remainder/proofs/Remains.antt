@@ -1,26 +1,25 @@
 -- The files of the whole run, and those of the run that goes on.
-use Rattle.std.proofs.Common.{◌≡◌, ◌∙◌, ℕ, ◌-◌, ◌<◌, ◌≤◌, List, [], ◌∷◌, ◌++◌, Bool, true, false, Some, ap, append_assoc, refl, subst, sym}
-use Rattle.std.specs.Prelude.{All, IsTrue, Option, codes}
+use Rattle.std.proofs.Common.{◌≡◌, ◌∙◌, ℕ, ◌-◌, ◌<◌, ◌≤◌, List, [], ◌++◌, false, Some, ap, append_assoc, subst, sym}
+use Rattle.std.specs.Prelude.{All, Option, codes}
 use Rattle.trick_base.proofs.ContentLemmas.{content-append}
 use Rattle.trick_base.specs.Content.{content, same_name, IsKept}
 use Rattle.trick_base.specs.Files.{Write}
-use Rattle.trick_model.specs.Files.{end_writes, file, journal_name, run_writes, start_writes, turns_writes}
+use Rattle.trick_model.specs.Files.{end_writes, journal_name, run_writes, start_writes, turns_writes}
 use Rattle.trick_model.specs.Journal.{Noted, first_lines, last_line, lists_from, live_before, with_joins}
-use Rattle.trick_model.specs.Laws.{Continues, JoinsAreNoted, RunsContinue, SessionsDoNotMatter}
+use Rattle.trick_model.specs.Laws.{JoinsAreNoted, RunsContinue, SessionsDoNotMatter}
 use Rattle.trick_model.specs.Plan.{Plan}
 use Rattle.trick_model.specs.PlanOf.{plan_of}
 use Rattle.trick_model.specs.Records.{header, log_name}
-use Rattle.trick_model.specs.Run.{Fits, after_turns, final, goes_on, is_over, lists_of, opened, shut}
-use Rattle.trick_model.specs.State.{State, World}
+use Rattle.trick_model.specs.Run.{Fits, final, is_over, lists_of, opened, shut}
+use Rattle.trick_model.specs.State.{State}
 use Rattle.trick_model.specs.declared.entry.Entry.{Entry}
 use Rattle.trick_model.specs.declared.group.Group.{Group}
-use Rattle.trick_model.specs.declared.plan.Plan.{Plan as PlanValue}
 use Rattle.trick_remainder.proofs.Contents.{kept_adds, made_forgets}
 use Rattle.trick_remainder.proofs.Ends.{IsBegun, end_faults, end_final, end_journal, end_log, journal_is_no_checkpoint, log_is_no_checkpoint, log_is_no_journal, starts_journal, starts_logs}
 use Rattle.trick_remainder.proofs.Joins.{are_joined, joins_are_lines, joins_leave, lines_for}
 use Rattle.trick_remainder.proofs.Lists.{cut, joins_came, joins_come}
 use Rattle.trick_remainder.proofs.Turns.{turns_kept}
-use Rattle.trick_remainder.specs.Remainder.{IsJournalRest, IsLogRest, IsRemainder, RemaindersAreWritten, added, early_lists, early_writes, is_made, late_lists, late_writes, lists_after, resumed_file, state_at, whole_file}
+use Rattle.trick_remainder.specs.Remainder.{IsJournalRest, IsLogRest, RemaindersAreWritten, added, early_lists, early_writes, late_lists, late_writes, lists_after, resumed_file, state_at, whole_file}
 
 -- A file after writes in four parts, one after another.
 four : (name : List ℕ) (one two three last : List Write) (before : Option (List ℕ))

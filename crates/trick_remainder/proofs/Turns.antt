@@ -1,5 +1,5 @@
 -- What turns write makes no log and no journal anew.
-use Rattle.std.proofs.Common.{◌≡◌, ◌∙◌, ℕ, zero, suc, ◌+◌, ◌%◌, ◌==◌, List, [], ◌∷◌, ◌++◌, Bool, true, false, not, nat_lt, ap, refl, sym}
+use Rattle.std.proofs.Common.{◌≡◌, ℕ, zero, suc, List, [], ◌∷◌, ◌++◌, Bool, true, false, not, nat_lt}
 use Rattle.std.specs.Prelude.{filter}
 use Rattle.trick_base.specs.Content.{same_name, IsKept}
 use Rattle.trick_base.specs.Files.{Write}
@@ -9,10 +9,9 @@ use Rattle.trick_model.specs.Files.{note, turn_writes, turns_writes}
 use Rattle.trick_model.specs.Journal.{is_of_session}
 use Rattle.trick_model.specs.Plan.{Plan}
 use Rattle.trick_model.specs.Records.{row_kept, row_writes, rows, writes_row}
-use Rattle.trick_model.specs.Run.{after_turns}
 use Rattle.trick_model.specs.Running.{run_class}
 use Rattle.trick_model.specs.State.{State, World}
-use Rattle.trick_model.specs.Tic.{Ticked, frame, jobs_done, tic, tic_below_limit, tics}
+use Rattle.trick_model.specs.Tic.{Ticked, tic, tic_below_limit, tics}
 use Rattle.trick_model.specs.Time.{tics_left}
 use Rattle.trick_model.specs.Turn.{begun, checkpoint_jobs, checkpoint_name, checkpoint_writes, counted, framed, heard, publish_all, rounds, runs, turn}
 use Rattle.trick_model.specs.declared.entry.Entry.{Entry}

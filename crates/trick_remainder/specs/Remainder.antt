@@ -1,6 +1,5 @@
 -- What a run that goes on from a state of another run writes: the remainder of that run's files.
-use Rattle.std.specs.List.{list_any}
-use Rattle.std.specs.Prelude.{◌≡◌, ℕ, ◌-◌, ◌<◌, ◌≤◌, Bool, true, false, ◌||◌, All, cond, IsTrue, List, [], ◌∷◌, ◌++◌, codes, map, Option, Some}
+use Rattle.std.specs.Prelude.{◌≡◌, ℕ, ◌-◌, ◌<◌, ◌≤◌, Bool, false, ◌||◌, All, cond, IsTrue, List, [], ◌∷◌, ◌++◌, codes, map, Option, Some}
 use Rattle.trick_base.specs.Content.{same_name}
 use Rattle.trick_base.specs.Files.{Write, Create, Append}
 use Rattle.trick_model.specs.Files.{file, journal_name, turns_writes}
@@ -9,7 +8,7 @@ use Rattle.trick_model.specs.Plan.{Plan}
 use Rattle.trick_model.specs.PlanOf.{plan_of}
 use Rattle.trick_model.specs.Records.{header, log_name}
 use Rattle.trick_model.specs.Run.{Fits, after_turns, final, lists_of, opened}
-use Rattle.trick_model.specs.State.{State, World}
+use Rattle.trick_model.specs.State.{State}
 use Rattle.trick_model.specs.declared.entry.Entry.{Entry}
 use Rattle.trick_model.specs.declared.entry.Entry.TheVariants.{Join}
 use Rattle.trick_model.specs.declared.group.Group.{Group}

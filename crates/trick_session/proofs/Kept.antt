@@ -7,13 +7,14 @@ use Rattle.trick_lang.specs.declared.cells.Cell.{Cell}
 use Rattle.trick_model.specs.Commands.{action_of, command_forms, command_in, command_of, command_or_bad, copy_command, cycle_command, whole_at}
 use Rattle.trick_model.specs.Events.{names_of}
 use Rattle.trick_model.specs.Forms.{Form, Value, read_forms, read_pieces}
-use Rattle.trick_model.specs.Names.{Deed, deed_of, find_name, one_more}
+use Rattle.trick_model.specs.Names.{deed_of, find_name, one_more}
 use Rattle.trick_model.specs.Plan.{Plan}
 use Rattle.trick_model.specs.Session.{Answer, acted, added, answered, bad, cell_found, joined, quiet, without}
 use Rattle.trick_model.specs.Words.{Lexeme, words}
 use Rattle.trick_model.specs.declared.action.Action.{Action}
 use Rattle.trick_model.specs.declared.command.Command.{Command}
 use Rattle.trick_model.specs.declared.command.Command.TheVariants as command
+use Rattle.trick_model.specs.declared.deed.Deed.{Deed}
 use Rattle.trick_model.specs.declared.session.Session.{Session}
 use Rattle.trick_session.specs.Kept.{AreThere, IsRight, IsSession}
 

@@ -1,9 +1,7 @@
 -- What a reply of the code says, and when a sample is sent.
 use Rattle.std.specs.Prelude.{ℕ, true, false, List, [], ◌∷◌, Option, Some, None}
-use Rattle.trick_model.specs.Names.{Names, Deed, deed_of}
 use Rattle.trick_model.specs.Session.{Answer, is_sampled, sample}
 use Rattle.trick_model.specs.State.{State}
-use Rattle.trick_model.specs.declared.action.Action.{Action}
 use Rattle.trick_model.specs.declared.session.Session.{Session}
 use Rattle.trick_session.specs.declared.reply.Reply.{Reply}
 
@@ -12,17 +10,12 @@ abbrev pub messages : List ℕ → List (List ℕ)
 messages [] = []
 messages (b ∷ bs) = (b ∷ bs) ∷ []
 
--- what the action of a reply asks for
-abbrev pub asked : Names → Option Action → Option Deed
-asked names None = None
-asked names (Some action) = deed_of names action
-
 -- the answer that a session and a reply are
-abbrev pub answer_in : Names → Session → Reply → Answer
-answer_in names session reply = record {
+abbrev pub answer_in : Session → Reply → Answer
+answer_in session reply = record {
   session = session;
   reply = messages reply.bytes.items;
-  deed = asked names reply.act;
+  deed = reply.act;
   resume = reply.run;
 }
 

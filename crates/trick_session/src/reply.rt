@@ -1,15 +1,15 @@
 ghost use Rattle.std.specs.Prelude.{◌≡◌, [], IfOk, None, codes, false, true};
 
 use std::alloc::{AllocError, Global};
-use trick_model::Action;
+use trick_model::Deed;
 
 /// What a line comes to, besides what it changes in its session.
 #[derive(Debug, Drop)]
 pub struct Reply {
     /// The message to the client, with its line feed; no byte where there is none.
     pub bytes: Vec<u8>,
-    /// An action that is to be done. It asks for something that can be done.
-    pub act: Option<Action>,
+    /// A deed that is to be done.
+    pub act: Option<Deed>,
     /// Whether Freeze is to be left.
     pub run: bool,
 }
@@ -50,15 +50,15 @@ impl Reply {
         Reply::message(alloc, b"4\tbad command\n")
     }
 
-    // An action that is to be done.
-    pub(crate) fn act(alloc: Global, action: Action) -> Self
+    // A deed that is to be done.
+    pub(crate) fn act(alloc: Global, deed: Deed) -> Self
         ensures bytes { result.bytes.items ≡ [] }
-        ensures act { result.act ≡ Some action }
+        ensures act { result.act ≡ Some deed }
         ensures run { result.run ≡ false }
     {
         Reply {
             bytes: Vec::new(alloc),
-            act: Some(action),
+            act: Some(deed),
             run: false,
         }
     }

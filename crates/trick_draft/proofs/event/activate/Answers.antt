@@ -1,8 +1,6 @@
-use Rattle.std.proofs.Common.{◌∙◌, ◌∷◌, ◌++◌, [], List, Some, true, refl, ap}
+use Rattle.std.proofs.Common.{◌∙◌, true, refl}
 use Rattle.trick_draft.proofs.Lists.{is_changed}
-use Rattle.trick_draft.specs.Lines.{with_numbered}
 use Rattle.trick_draft.specs.declared.event.EventDraft.{EventDraft}
-use Rattle.trick_lang.specs.declared.cells.Cell.{Cell}
 use Rattle.trick_draft.proofs.event.activate.Goals as goal
 
 pub returns : goal.returns

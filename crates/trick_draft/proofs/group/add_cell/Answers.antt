@@ -1,6 +1,5 @@
-use Rattle.std.proofs.Common.{◌∙◌, ◌∷◌, ◌++◌, [], List, Some, true, refl, ap}
+use Rattle.std.proofs.Common.{◌∙◌, ◌∷◌, ◌++◌, [], List, ap}
 use Rattle.trick_draft.proofs.Lists.{is_changed}
-use Rattle.trick_draft.specs.Lines.{with_numbered}
 use Rattle.trick_draft.specs.declared.group.GroupDraft.{GroupDraft}
 use Rattle.trick_lang.specs.declared.cells.Cell.{Cell}
 use Rattle.trick_draft.proofs.group.add_cell.Goals as goal

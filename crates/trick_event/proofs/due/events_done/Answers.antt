@@ -13,10 +13,10 @@ loop-place-preserved g c =
     let none : Event = record { name = []; cycle = 1; condition = None; reads = []; actions = [] } in
     let place = c.loop-place.place in
     let before = asking g.M.Cells.numbers c.loop-place.state c.loop-place.asked in
-    let all = events_done p c.args.tic 0 p.events (asking g.M.Cells.numbers c.args.state.now c.args.asked.now) in
+    let all = events_done c.args.tic 0 p.events (asking g.M.Cells.numbers c.args.state.now c.args.asked.now) in
     let less : place < length p.events = omega (arith, length-map c.args.plan.now.events event_of) in
     record {
-      done = ap (λ a. events_done p c.args.tic (place + 1) (drop (place + 1) p.events) a) (c.event_done.ensures.done none)
-          ∙ events_next p c.args.tic place p.events none before all less c.loop-place.invariant.done;
+      done = ap (λ a. events_done c.args.tic (place + 1) (drop (place + 1) p.events) a) (c.event_done.ensures.done none)
+          ∙ events_next c.args.tic place p.events none before all less c.loop-place.invariant.done;
       memory = c.event_done.ensures.memory;
     }

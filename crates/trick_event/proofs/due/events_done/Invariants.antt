@@ -10,7 +10,7 @@ abbrev pub invariant-loop-place : goal.invariant-loop-place
 invariant-loop-place g l =
     let p = plan_of l.plan in
     record {
-      done : events_done p l.tic l.place (drop l.place p.events) (asking g.M.Cells.numbers l.state l.asked)
-          ≡ events_done p l.tic 0 p.events (asking g.M.Cells.numbers l.fn.state l.fn.asked);
+      done : events_done l.tic l.place (drop l.place p.events) (asking g.M.Cells.numbers l.state l.asked)
+          ≡ events_done l.tic 0 p.events (asking g.M.Cells.numbers l.fn.state l.fn.asked);
       memory : IsMemoryOf l.plan.program (g.M.Cells.numbers l.state.memory) (g.M.Cells.scalars l.state.memory);
     }

@@ -13,7 +13,7 @@ pub returns-in-Said-clause-heard : goal.returns-in-Said-clause-heard
 returns-in-Said-clause-heard g c =
     let p = plan_of c.args.plan.now in
     let h : Hearing = hearing_of g.M.Cells.numbers c.args.hearing.now in
-    let facts = rw c.deref_mut.ensures.value at c.in_ok-reply-in-Said.ensures in
+    let facts = rw c.deref_mut.ensures.value at c.in_ok-reply-in-Said.ensures.answer in
     let kept : length c.answer.new.sessions ≡ c.args.hearing.now.sessions.len =
     first_of (search rules, omega (arith, c.answer.auto.sessions, c.deref_mut.ensures.len), grind (arith, c.answer.auto.sessions, c.deref_mut.ensures.len)) in
     let items = with_items_is c.args.hearing.now.sessions c.answer.new.sessions kept in
@@ -25,5 +25,5 @@ pub returns-in-Said-clause-reply : goal.returns-in-Said-clause-reply
 returns-in-Said-clause-reply g c =
     let p = plan_of c.args.plan.now in
     let h : Hearing = hearing_of g.M.Cells.numbers c.args.hearing.now in
-    let facts = rw c.deref_mut.ensures.value at c.in_ok-reply-in-Said.ensures in
+    let facts = rw c.deref_mut.ensures.value at c.in_ok-reply-in-Said.ensures.answer in
     rw c.in-Said.is (said_reply p _ _ h facts.0 c.in_ok-reply-in-Said.reply (messages_in c.message.result) facts.1 c.message.ensures)

@@ -7,8 +7,8 @@ if_ok : {A E : Type 0} {P Q : A → Type 0} (r : Result A E) → ((a : A) → P 
 if_ok (Ok a) f h = f a h
 if_ok (Err e) f h = h
 
-pub returns-in-Some : goal.returns-in-Some
-returns-in-Some c =
+pub returns-in-Some-clause-answer : goal.returns-in-Some-clause-answer
+returns-in-Some-clause-answer c =
     let short : length c.args.line.now ≤ 16777216 = omega (arith, c.requires.line) in
     let said = c.in_ok-command.ensures.said short in
     let same = c.in-Some.ensures.1 c.index-sessions-place.result in
@@ -17,8 +17,8 @@ returns-in-Some c =
     (λ reply is. (session, cc (is, said, same, c.index-sessions-place.is), sym (c.in-Some.ensures.2 (λ (s : Session). session) c.index-sessions-place.result)))
     c.apply.ensures.answer
 
-pub returns-in-None : goal.returns-in-None
-returns-in-None c =
+pub returns-in-None-clause-answer : goal.returns-in-None-clause-answer
+returns-in-None-clause-answer c =
     let short : length c.args.line.now ≤ 16777216 = omega (arith, c.requires.line) in
     let said = c.in_ok-command.ensures.said short in
     let same = c.in-None.ensures.0 in

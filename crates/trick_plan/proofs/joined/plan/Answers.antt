@@ -7,7 +7,9 @@ use Rattle.trick_draft.specs.Kept.{Mirrors}
 use Rattle.trick_ending.specs.Ending.{AreParts, parts_of}
 use Rattle.trick_lang.specs.declared.job.Job.{Job}
 use Rattle.trick_lang.specs.declared.program.Program.{Program}
+use Rattle.trick_lines.specs.Deeds.{DeedsStay}
 use Rattle.trick_lines.specs.Drafted.{Drafted}
+use Rattle.trick_plan.proofs.Names.{names_stay}
 use Rattle.trick_plan.proofs.joined.plan.Goals as goal
 use Rattle.trick_settings.specs.declared.settings.Settings.{Settings}
 use Rattle.trick_threads.specs.Threads.{AreThreads}
@@ -38,6 +40,9 @@ returns c =
         rest = subst (KeepsRest p) (sym ending.program) c.in_ok-draft.ensures.rest;
         cells = subst (λ (q : Program). Mirrors q d) (sym ending.program) c.in_ok-draft.ensures.mirrors;
         parts = subst (λ (settings : Settings). AreParts d settings (parts_of c.in_ok-end.field-0)) same ending.parts;
+        names = names_stay p c.draft.new.program calls c.in_ok-end.field-0 d c.in_ok-draft.ensures.rest
+            (subst (λ (settings : Settings). DeedsStay (jobs_of p) settings calls (begun p) d) same
+            c.in_ok-draft.ensures.deeds) ending.names;
       },
     )
 

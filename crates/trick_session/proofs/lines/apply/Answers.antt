@@ -7,4 +7,4 @@ if_ok (Ok a) f h = f a h
 if_ok (Err e) f h = h
 
 pub returns-in-Exists-clause-answer : goal.returns-in-Exists-clause-answer
-returns-in-Exists-clause-answer c = if_ok c.exists.result (λ reply all. rw c.in-Exists.is (all c.args.session.now)) c.exists.ensures
+returns-in-Exists-clause-answer c = if_ok c.exists.result (λ reply all. rw c.in-Exists.is (all c.args.session.now)) c.exists.ensures.answer

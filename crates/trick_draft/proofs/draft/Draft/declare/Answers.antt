@@ -1,8 +1,8 @@
-use Rattle.std.proofs.Common.{◌≡◌, ◌∙◌, ◌+◌, ℕ, Bool, false, nat_lt, List, Option, Some, Result, Err, length, ◌≤◌, sym, ap, subst}
+use Rattle.std.proofs.Common.{◌≡◌, ◌∙◌, ◌+◌, ℕ, false, nat_lt, List, Option, Some, Result, Err, length, ◌≤◌, sym, ap, subst}
 use Rattle.std.proofs.lemmas.Result.{err_from_is_err_and}
 use Rattle.std.specs.Borrow.{Bor}
 use Rattle.trick_declare.specs.Cells.{cells_of, count_of}
-use Rattle.trick_declare.specs.declared.declaration.Declaration.{Declaration}
+use Rattle.trick_declare.specs.declared.spelled.SpelledDeclaration.{SpelledDeclaration}
 use Rattle.trick_draft.proofs.Declaring.{added_cells, as_many_cells, free_in, mirrors_more, room_left, says_more, says_refused}
 use Rattle.trick_draft.proofs.draft.Draft.declare.Goals as goal
 use Rattle.trick_draft.specs.Cells.{is_taken_in, with_cells}
@@ -14,20 +14,20 @@ use Rattle.trick_lang.specs.declared.variable.Variable.{Variable}
 
 pub add_declared-requires : goal.add_declared-requires
 add_declared-requires c = record {
-  free = free_in c.args.program.now c.args.self.now c.in-Some.declaration.now.name c.requires
+  free = free_in c.args.program.now c.args.self.now c.in-Some.known.now.declaration.name c.requires
       (sym c.in_ok-is_taken.ensures ∙ c.if-branch.false);
 }
 
 pub returns-in_err-add_declared-clause-line : goal.returns-in_err-add_declared-clause-line
 returns-in_err-add_declared-clause-line c =
     let d = c.args.self.now in
-    let declaration = c.in-Some.declaration.now in
+    let declaration = c.in-Some.known.now.declaration in
     let p = err_from_is_err_and c.from_residual-in_err-add_declared.result
     c.from_residual-in_err-add_declared.ensures.1 in
     let f = c.in_err-add_declared.field-0.0 in
     let free : is_taken_in d.cells declaration.name ≡ false = sym c.in_ok-is_taken.ensures ∙ c.if-branch.false in
     let said : declare_line (declared_in c.args.declared) d ≡ declare_line (Some declaration) d =
-    ap (λ (o : Option (Bor Declaration)). declare_line (declared_in o) d) c.in-Some.is in
+    ap (λ (o : Option (Bor SpelledDeclaration)). declare_line (declared_in o) d) c.in-Some.is in
     let done : Did (Err f) d (declare_line (Some declaration) d) =
     says_refused d declaration free f c.args.program.now.cells c.add_declared.new.program.cells d
     (as_many_cells c.args.program.now d c.requires) c.in_err-add_declared.ensures.cells in
@@ -49,10 +49,10 @@ returns-clause-line c =
     let d = c.args.self.now in
     let old = c.args.program.now in
     let q = c.add_declared.new.program in
-    let declaration = c.in-Some.declaration.now in
+    let declaration = c.in-Some.known.now.declaration in
     let free : is_taken_in d.cells declaration.name ≡ false = sym c.in_ok-is_taken.ensures ∙ c.if-branch.false in
     let said : declare_line (declared_in c.args.declared) d ≡ declare_line (Some declaration) d =
-    ap (λ (o : Option (Bor Declaration)). declare_line (declared_in o) d) c.in-Some.is in
+    ap (λ (o : Option (Bor SpelledDeclaration)). declare_line (declared_in o) d) c.in-Some.is in
     let cells = c.in_ok-add_declared.ensures.cells in
     let few : nat_lt 65536 (length d.cells.scalars + count_of declaration.lengths) ≡ false =
     ap (λ (n : ℕ). nat_lt 65536 (n + count_of declaration.lengths)) (as_many_cells old d c.requires) ∙ cells.0 in
@@ -67,7 +67,7 @@ returns-clause-cells c =
     let d = c.args.self.now in
     let old = c.args.program.now in
     let q = c.add_declared.new.program in
-    let declaration = c.in-Some.declaration.now in
+    let declaration = c.in-Some.known.now.declaration in
     let cells = c.in_ok-add_declared.ensures.cells in
     let more = added_cells old.cells q.cells c.as_slice.result.now
     (cells_of declaration) c.len-count.result c.as_slice.ensures c.len-count.ensures cells.1 in

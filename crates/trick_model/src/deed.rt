@@ -1,6 +1,6 @@
 use trick_lang::{Cell, JobId};
 
-/// What an action asks for, by numbers.
+/// What an action asks for, by numbers: after planning no name is looked up.
 #[derive(Clone, Copy, Debug, PartialEq, Eq)]
 pub enum Deed {
     /// A cell gets a number of its range.
