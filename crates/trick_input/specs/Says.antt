@@ -6,6 +6,12 @@ use Rattle.trick_input.specs.Forms.{fits}
 use Rattle.trick_input.specs.Lexemes.{Lexeme}
 use Rattle.trick_input.specs.declared.call.Form.{Form}
 use Rattle.trick_input.specs.declared.call.Form.TheVariants as form
+use Rattle.trick_input.specs.declared.call.RunForm.TheVariants as run
+use Rattle.trick_input.specs.declared.call.JobForm.TheVariants as job
+use Rattle.trick_input.specs.declared.call.GroupForm.TheVariants as group
+use Rattle.trick_input.specs.declared.call.EventForm.TheVariants as event
+use Rattle.trick_input.specs.declared.call.VariableForm.TheVariants as variable
+use Rattle.trick_input.specs.declared.call.TextForm.TheVariants as text
 use Rattle.trick_input.specs.declared.class.Class.{Class}
 use Rattle.trick_input.specs.declared.class.Class.TheVariants as the
 use Rattle.trick_input.specs.declared.form.Row.{Row}
@@ -66,35 +72,35 @@ process_of class =
 
 -- what a line of this form says
 abbrev pub form_of : Row → List Lexeme → Form
-form_of row.ThisOwn ls = form.ThisOwn (bytes_at ls 0)
-form_of row.ThisOwnMinus ls = form.ThisOwn (bytes_at ls 0)
+form_of row.ThisOwn ls = form.Variable (variable.ThisOwn (bytes_at ls 0))
+form_of row.ThisOwnMinus ls = form.Variable (variable.ThisOwn (bytes_at ls 0))
 form_of row.Assign ls = form.Assign (path_name ls) (pos (literal_at ls (last_of ls)))
 form_of row.AssignMinus ls = form.Assign (path_name ls) (neg_ℤ (pos (number_at ls (last_of ls))))
 form_of row.TrickAssign ls = form.Assign (path_name ls) (pos (literal_at ls (last_of ls)))
 form_of row.TrickAssignMinus ls = form.Assign (path_name ls) (neg_ℤ (pos (number_at ls (last_of ls))))
 form_of row.TrickIndexed ls = form.Assign (path_name ls) (pos (literal_at ls (last_of ls)))
 form_of row.TrickIndexedMinus ls = form.Assign (path_name ls) (neg_ℤ (pos (number_at ls (last_of ls))))
-form_of row.SoftwareFrame ls = form.SoftwareFrame (time_at ls 4)
-form_of row.Stop ls = form.Stop (time_at ls 4)
-form_of row.TerminateTime ls = form.Stop (time_at ls 4)
-form_of row.Freeze ls = form.Freeze
-form_of row.ProcessType ls = form.ProcessType (number_at ls 4) (process_of (lexeme_at ls 8).class)
-form_of row.AmfCycle ls = form.AmfCycle (number_at ls 4) (time_at ls 6)
-form_of row.DependsOn ls = form.DependsOn (text_at ls 4) (number_at ls 6) (text_at ls 8) (number_at ls 10)
-form_of row.SetJob ls = form.SetJob (text_at ls 4) (number_at ls 6) (not (literal_at ls 8 == 0))
-form_of row.SetJobMinus ls = form.SetJob (text_at ls 4) (number_at ls 6) (not (number_at ls 9 == 0))
+form_of row.SoftwareFrame ls = form.Run (run.SoftwareFrame (time_at ls 4))
+form_of row.Stop ls = form.Run (run.Stop (time_at ls 4))
+form_of row.TerminateTime ls = form.Run (run.Stop (time_at ls 4))
+form_of row.Freeze ls = form.Run run.Freeze
+form_of row.ProcessType ls = form.Run (run.ProcessType (number_at ls 4) (process_of (lexeme_at ls 8).class))
+form_of row.AmfCycle ls = form.Run (run.AmfCycle (number_at ls 4) (time_at ls 6))
+form_of row.DependsOn ls = form.Job (job.DependsOn (text_at ls 4) (number_at ls 6) (text_at ls 8) (number_at ls 10))
+form_of row.SetJob ls = form.Job (job.SetJob (text_at ls 4) (number_at ls 6) (not (literal_at ls 8 == 0)))
+form_of row.SetJobMinus ls = form.Job (job.SetJob (text_at ls 4) (number_at ls 6) (not (number_at ls 9 == 0)))
 form_of row.Declare ls = form.Declare (text_at ls 4)
-form_of row.AddRead ls = form.AddRead (time_at ls 4) (text_at ls 6)
-form_of row.NewGroup ls = form.NewGroup (bytes_at ls 0) (text_at ls 6)
-form_of row.NewEvent ls = form.NewEvent (bytes_at ls 0) (text_at ls 6)
-form_of row.SetCycle ls = form.SetCycle (bytes_at ls 0) (time_at ls 4)
-form_of row.AddVariable ls = form.AddVariable (bytes_at ls 0) (text_at ls 4)
-form_of row.Enable ls = form.SetGroup (bytes_at ls 0) true
-form_of row.Disable ls = form.SetGroup (bytes_at ls 0) false
-form_of row.SetChanges ls = form.SetChanges (bytes_at ls 0) (is (lexeme_at ls 6).class the.Changes)
-form_of row.AddGroup ls = form.AddGroup (bytes_at ls 4)
-form_of row.AddGroupBuffer ls = form.AddGroup (bytes_at ls 4)
-form_of row.SetCondition ls = form.SetCondition (bytes_at ls 0) (text_at ls 6)
-form_of row.SetAction ls = form.SetAction (bytes_at ls 0) (number_at ls 4) (text_at ls 6)
-form_of row.Activate ls = form.Activate (bytes_at ls 0)
-form_of row.AddEvent ls = form.AddEvent (bytes_at ls 4)
+form_of row.AddRead ls = form.Text (text.AddRead (time_at ls 4) (text_at ls 6))
+form_of row.NewGroup ls = form.Group (group.NewGroup (bytes_at ls 0) (text_at ls 6))
+form_of row.NewEvent ls = form.Event (event.NewEvent (bytes_at ls 0) (text_at ls 6))
+form_of row.SetCycle ls = form.Variable (variable.SetCycle (bytes_at ls 0) (time_at ls 4))
+form_of row.AddVariable ls = form.Group (group.AddVariable (bytes_at ls 0) (text_at ls 4))
+form_of row.Enable ls = form.Group (group.SetGroup (bytes_at ls 0) true)
+form_of row.Disable ls = form.Group (group.SetGroup (bytes_at ls 0) false)
+form_of row.SetChanges ls = form.Group (group.SetChanges (bytes_at ls 0) (is (lexeme_at ls 6).class the.Changes))
+form_of row.AddGroup ls = form.Group (group.AddGroup (bytes_at ls 4))
+form_of row.AddGroupBuffer ls = form.Group (group.AddGroup (bytes_at ls 4))
+form_of row.SetCondition ls = form.Text (text.SetCondition (bytes_at ls 0) (text_at ls 6))
+form_of row.SetAction ls = form.Text (text.SetAction (bytes_at ls 0) (number_at ls 4) (text_at ls 6))
+form_of row.Activate ls = form.Event (event.Activate (bytes_at ls 0))
+form_of row.AddEvent ls = form.Event (event.AddEvent (bytes_at ls 4))

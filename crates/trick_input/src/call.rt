@@ -20,31 +20,43 @@ pub struct Call {
 #[derive(Drop)]
 pub enum Form {
     /// The cell of this full name begins with a number, from -(2^63) to 2^63.
-    Assign {
-        name: Word,
-        number: i128,
-    },
+    Assign { name: Word, number: i128 },
+    /// Cells are declared, by a text of its own.
+    Declare { declaration: Word },
+    /// Of the run or of one of its threads, whatever the order of the lines.
+    Run(RunForm),
+    /// Of jobs.
+    Job(JobForm),
+    /// Of a data record group.
+    Group(GroupForm),
+    /// Of an event, without a text of its own.
+    Event(EventForm),
+    /// Of the group or the event that a variable stands for.
+    Variable(VariableForm),
+    /// Of actions or of a condition, by a text of their own.
+    Text(TextForm),
+}
+
+/// What a line says of the run or of one of its threads. It holds for the whole input, and of two lines that say
+/// one thing the last counts.
+#[derive(Drop)]
+pub enum RunForm {
     /// The software frame.
-    SoftwareFrame {
-        time: Time,
-    },
+    SoftwareFrame { time: Time },
     /// The run stops after this time.
-    Stop {
-        time: Time,
-    },
+    Stop { time: Time },
     /// The run starts in Freeze.
     Freeze,
     /// How the jobs of a thread run.
-    ProcessType {
-        thread: u64,
-        process: Process,
-    },
+    ProcessType { thread: u64, process: Process },
     /// The cycle of a must-finish thread.
-    AmfCycle {
-        thread: u64,
-        time: Time,
-    },
-    /// A job waits for another one. Each goes by its name and its instance.
+    AmfCycle { thread: u64, time: Time },
+}
+
+/// What a line says of jobs. Each goes by its name and its instance.
+#[derive(Drop)]
+pub enum JobForm {
+    /// A job waits for another one.
     DependsOn {
         target: Word,
         instance: u64,
@@ -57,70 +69,60 @@ pub enum Form {
         instance: u64,
         on: bool,
     },
-    /// Cells are declared, by a text of its own.
-    Declare {
-        declaration: Word,
-    },
-    /// Actions at a time, by a text of their own.
+}
+
+/// What a line says of a data record group.
+#[derive(Drop)]
+pub enum GroupForm {
+    /// A variable stands for a new group.
+    NewGroup { variable: Word, name: Word },
+    /// A cell is recorded by a group.
+    AddVariable { variable: Word, name: Word },
+    /// A group begins on or off.
+    SetGroup { variable: Word, on: bool },
+    /// Whether a group records changes alone.
+    SetChanges { variable: Word, changes: bool },
+    /// A group is added.
+    AddGroup { variable: Word },
+}
+
+/// What a line says of an event, but for its condition and its actions.
+#[derive(Drop)]
+pub enum EventForm {
+    /// A variable stands for a new event.
+    NewEvent { variable: Word, name: Word },
+    /// An event begins active.
+    Activate { variable: Word },
+    /// An event is added.
+    AddEvent { variable: Word },
+}
+
+/// What a line says of a group and of an event alike.
+#[derive(Drop)]
+pub enum VariableForm {
+    /// Its cycle.
+    SetCycle { variable: Word, time: Time },
+    /// It is accepted and changes nothing.
+    ThisOwn { variable: Word },
+}
+
+/// What a line says by a text of its own, of what is done or when.
+#[derive(Drop)]
+pub enum TextForm {
+    /// Actions at a time.
     AddRead {
         time: Time,
         actions: Word,
     },
-    /// A variable stands for a new data record group.
-    NewGroup {
-        variable: Word,
-        name: Word,
-    },
-    /// A variable stands for a new event.
-    NewEvent {
-        variable: Word,
-        name: Word,
-    },
-    /// The cycle of a group or an event.
-    SetCycle {
-        variable: Word,
-        time: Time,
-    },
-    /// A cell is recorded by a group.
-    AddVariable {
-        variable: Word,
-        name: Word,
-    },
-    /// A group begins on or off.
-    SetGroup {
-        variable: Word,
-        on: bool,
-    },
-    /// Whether a group records changes alone.
-    SetChanges {
-        variable: Word,
-        changes: bool,
-    },
-    /// It is accepted and changes nothing.
-    ThisOwn {
-        variable: Word,
-    },
-    /// A group is added.
-    AddGroup {
-        variable: Word,
-    },
-    /// The condition of an event, by a text of its own.
+    /// The condition of an event.
     SetCondition {
         variable: Word,
         condition: Word,
     },
-    /// A list of actions of an event, by a text of its own.
+    /// A list of actions of an event.
     SetAction {
         variable: Word,
         number: u64,
         actions: Word,
-    },
-    /// An event begins active.
-    Activate {
-        variable: Word,
-    },
-    /// An event is added.
-    AddEvent {
-        variable: Word,
     },
 }

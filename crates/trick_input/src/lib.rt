@@ -13,6 +13,6 @@ mod plain;
 mod reader;
 mod says;
 
-pub use call::{Call, Form, Time};
+pub use call::{Call, EventForm, Form, GroupForm, JobForm, RunForm, TextForm, Time, VariableForm};
 pub use fault::InputFault;
 pub use reader::read_input;

@@ -5,7 +5,7 @@ ghost use Rattle.trick_input.specs.Says.{bytes_at, form_of, last_of, lexeme_at, 
 ghost use Rattle.trick_input.specs.Seen.{all_seen, seen};
 ghost use Rattle.trick_text.specs.Tokens.{inner};
 
-use crate::call::{Form, Time};
+use crate::call::{EventForm, Form, GroupForm, JobForm, RunForm, TextForm, Time, VariableForm};
 use crate::class::Class;
 use crate::form::{Row, Sort, fits};
 use crate::lexeme::Lexeme;
@@ -152,31 +152,31 @@ fn assign_minus(alloc: Global, line: &[Lexeme]) -> Result<Form, AllocError>
 fn depends_on(alloc: Global, line: &[Lexeme]) -> Result<Form, AllocError>
     ensures { IfOk result (λ form. form ≡ form_of Row.DependsOn (all_seen line.now)) }
 {
-    Ok(Form::DependsOn {
+    Ok(Form::Job(JobForm::DependsOn {
         target: text_at(alloc, line, 4)?,
         instance: number_at(line, 6),
         depended: text_at(alloc, line, 8)?,
         depended_instance: number_at(line, 10),
-    })
+    }))
 }
 
 fn this_own(alloc: Global, line: &[Lexeme]) -> Result<Form, AllocError>
     ensures { IfOk result (λ form. form ≡ form_of Row.ThisOwn (all_seen line.now)) }
 {
-    Ok(Form::ThisOwn {
+    Ok(Form::Variable(VariableForm::ThisOwn {
         variable: word_at(alloc, line, 0)?,
-    })
+    }))
 }
 
 fn set_job(alloc: Global, line: &[Lexeme], on: bool) -> Result<Form, AllocError>
-    ensures { IfOk result (λ form. form ≡ Form.SetJob (text_at (all_seen line.now) 4)
-        (number_at (all_seen line.now) 6) on) }
+    ensures { IfOk result (λ form. form ≡ Form.Job (JobForm.SetJob (text_at (all_seen line.now) 4)
+        (number_at (all_seen line.now) 6) on)) }
 {
-    Ok(Form::SetJob {
+    Ok(Form::Job(JobForm::SetJob {
         name: text_at(alloc, line, 4)?,
         instance: number_at(line, 6),
         on,
-    })
+    }))
 }
 
 fn declare(alloc: Global, line: &[Lexeme]) -> Result<Form, AllocError>
@@ -190,107 +190,107 @@ fn declare(alloc: Global, line: &[Lexeme]) -> Result<Form, AllocError>
 fn add_read(alloc: Global, line: &[Lexeme]) -> Result<Form, AllocError>
     ensures { IfOk result (λ form. form ≡ form_of Row.AddRead (all_seen line.now)) }
 {
-    Ok(Form::AddRead {
+    Ok(Form::Text(TextForm::AddRead {
         time: time_at(line, 4),
         actions: text_at(alloc, line, 6)?,
-    })
+    }))
 }
 
 fn new_group(alloc: Global, line: &[Lexeme]) -> Result<Form, AllocError>
     ensures { IfOk result (λ form. form ≡ form_of Row.NewGroup (all_seen line.now)) }
 {
-    Ok(Form::NewGroup {
+    Ok(Form::Group(GroupForm::NewGroup {
         variable: word_at(alloc, line, 0)?,
         name: text_at(alloc, line, 6)?,
-    })
+    }))
 }
 
 fn new_event(alloc: Global, line: &[Lexeme]) -> Result<Form, AllocError>
     ensures { IfOk result (λ form. form ≡ form_of Row.NewEvent (all_seen line.now)) }
 {
-    Ok(Form::NewEvent {
+    Ok(Form::Event(EventForm::NewEvent {
         variable: word_at(alloc, line, 0)?,
         name: text_at(alloc, line, 6)?,
-    })
+    }))
 }
 
 fn set_cycle(alloc: Global, line: &[Lexeme]) -> Result<Form, AllocError>
     ensures { IfOk result (λ form. form ≡ form_of Row.SetCycle (all_seen line.now)) }
 {
-    Ok(Form::SetCycle {
+    Ok(Form::Variable(VariableForm::SetCycle {
         variable: word_at(alloc, line, 0)?,
         time: time_at(line, 4),
-    })
+    }))
 }
 
 fn add_variable(alloc: Global, line: &[Lexeme]) -> Result<Form, AllocError>
     ensures { IfOk result (λ form. form ≡ form_of Row.AddVariable (all_seen line.now)) }
 {
-    Ok(Form::AddVariable {
+    Ok(Form::Group(GroupForm::AddVariable {
         variable: word_at(alloc, line, 0)?,
         name: text_at(alloc, line, 4)?,
-    })
+    }))
 }
 
 fn set_group(alloc: Global, line: &[Lexeme], on: bool) -> Result<Form, AllocError>
-    ensures { IfOk result (λ form. form ≡ Form.SetGroup (bytes_at (all_seen line.now) 0) on) }
+    ensures { IfOk result (λ form. form ≡ Form.Group (GroupForm.SetGroup (bytes_at (all_seen line.now) 0) on)) }
 {
-    Ok(Form::SetGroup {
+    Ok(Form::Group(GroupForm::SetGroup {
         variable: word_at(alloc, line, 0)?,
         on,
-    })
+    }))
 }
 
 fn set_changes(alloc: Global, line: &[Lexeme]) -> Result<Form, AllocError>
     ensures { IfOk result (λ form. form ≡ form_of Row.SetChanges (all_seen line.now)) }
 {
-    Ok(Form::SetChanges {
+    Ok(Form::Group(GroupForm::SetChanges {
         variable: word_at(alloc, line, 0)?,
         changes: class_at(line, 6).is(Class::Changes),
-    })
+    }))
 }
 
 fn add_group(alloc: Global, line: &[Lexeme]) -> Result<Form, AllocError>
     ensures { IfOk result (λ form. form ≡ form_of Row.AddGroup (all_seen line.now)) }
 {
-    Ok(Form::AddGroup {
+    Ok(Form::Group(GroupForm::AddGroup {
         variable: word_at(alloc, line, 4)?,
-    })
+    }))
 }
 
 fn set_condition(alloc: Global, line: &[Lexeme]) -> Result<Form, AllocError>
     ensures { IfOk result (λ form. form ≡ form_of Row.SetCondition (all_seen line.now)) }
 {
-    Ok(Form::SetCondition {
+    Ok(Form::Text(TextForm::SetCondition {
         variable: word_at(alloc, line, 0)?,
         condition: text_at(alloc, line, 6)?,
-    })
+    }))
 }
 
 fn set_action(alloc: Global, line: &[Lexeme]) -> Result<Form, AllocError>
     ensures { IfOk result (λ form. form ≡ form_of Row.SetAction (all_seen line.now)) }
 {
-    Ok(Form::SetAction {
+    Ok(Form::Text(TextForm::SetAction {
         variable: word_at(alloc, line, 0)?,
         number: number_at(line, 4),
         actions: text_at(alloc, line, 6)?,
-    })
+    }))
 }
 
 fn activate(alloc: Global, line: &[Lexeme]) -> Result<Form, AllocError>
     ensures { IfOk result (λ form. form ≡ form_of Row.Activate (all_seen line.now)) }
 {
-    Ok(Form::Activate {
+    Ok(Form::Event(EventForm::Activate {
         variable: word_at(alloc, line, 0)?,
-    })
+    }))
 }
 
 fn add_event(alloc: Global, line: &[Lexeme]) -> Result<Form, AllocError>
     ensures { IfOk result (λ form. form ≡ form_of Row.AddEvent (all_seen line.now)) }
 {
-    Ok(Form::AddEvent {
+    Ok(Form::Event(EventForm::AddEvent {
         variable: word_at(alloc, line, 4)?,
-    })
+    }))
 }
 
 /// What a line of this form says.
@@ -306,24 +306,24 @@ pub fn form_of(alloc: Global, row: Row, line: &[Lexeme]) -> Result<Form, AllocEr
         Row::TrickAssignMinus => assign_minus(alloc, line),
         Row::TrickIndexed => assign(alloc, line),
         Row::TrickIndexedMinus => assign_minus(alloc, line),
-        Row::SoftwareFrame => Ok(Form::SoftwareFrame {
+        Row::SoftwareFrame => Ok(Form::Run(RunForm::SoftwareFrame {
             time: time_at(line, 4),
-        }),
-        Row::Stop => Ok(Form::Stop {
+        })),
+        Row::Stop => Ok(Form::Run(RunForm::Stop {
             time: time_at(line, 4),
-        }),
-        Row::TerminateTime => Ok(Form::Stop {
+        })),
+        Row::TerminateTime => Ok(Form::Run(RunForm::Stop {
             time: time_at(line, 4),
-        }),
-        Row::Freeze => Ok(Form::Freeze),
-        Row::ProcessType => Ok(Form::ProcessType {
+        })),
+        Row::Freeze => Ok(Form::Run(RunForm::Freeze)),
+        Row::ProcessType => Ok(Form::Run(RunForm::ProcessType {
             thread: number_at(line, 4),
             process: process_of(class_at(line, 8)),
-        }),
-        Row::AmfCycle => Ok(Form::AmfCycle {
+        })),
+        Row::AmfCycle => Ok(Form::Run(RunForm::AmfCycle {
             thread: number_at(line, 4),
             time: time_at(line, 6),
-        }),
+        })),
         Row::DependsOn => depends_on(alloc, line),
         Row::SetJob => set_job(alloc, line, literal_at(line, 8) != 0),
         Row::SetJobMinus => set_job(alloc, line, number_at(line, 9) != 0),

@@ -5,6 +5,7 @@ use Rattle.trick_draft.specs.declared.draft.Draft.{Draft}
 use Rattle.trick_input.specs.declared.call.Call.{Call}
 use Rattle.trick_input.specs.declared.call.Form.{Form}
 use Rattle.trick_input.specs.declared.call.Form.TheVariants as form
+use Rattle.trick_input.specs.declared.call.TextForm.TheVariants as text_form
 use Rattle.trick_lines.specs.Drafted.{Answers, DoesLine, Drafted, Then, answered, told, unless_time}
 use Rattle.trick_lines.specs.Said.{said}
 use Rattle.trick_lines.specs.Texts.{AreTexts, Texts}
@@ -21,7 +22,7 @@ no_texts = record { declaration = None; condition = None }
 -- a line with a time has neither
 timed : (line : ℕ) (f : Form) (late : TimeFault) → fault_of_time line (time_in f) ≡ Some late → AreTexts f no_texts
 timed line (form.Declare text) late is = absurd (cc is)
-timed line (form.SetCondition variable text) late is = absurd (cc is)
+timed line (form.Text (text_form.SetCondition variable text)) late is = absurd (cc is)
 timed line other late is = tt
 
 module _ (jobs : Jobs) (settings : Settings) where

@@ -2,24 +2,31 @@
 use Rattle.std.proofs.Common.{rules, ◌≡◌, ◌∙◌, ◌≤◌, ℕ, Bool, true, false, nat_le, List, [], ◌∷◌, map, Option, Some, None, Result, Ok, Err, refl, sym, ap, subst, arith, if◌then◌else◌}
 use Rattle.trick_command.specs.Answers.{actions_in}
 use Rattle.trick_declare.specs.Cells.{KeepsRest}
+use Rattle.trick_draft.specs.Drafts.{names_of}
 use Rattle.trick_draft.specs.Jobs.{Jobs, jobs_of}
 use Rattle.trick_draft.specs.Kept.{IsDraftOf, Mirrors}
-use Rattle.trick_draft.specs.Laws.{AllLinesKeep, DeclarationsKeep, Keeps}
+use Rattle.trick_draft.specs.Laws.{AllLinesKeep, DeclarationsKeep, DeclarationsKeepDeeds, Keeps, KeepsDeeds}
 use Rattle.trick_draft.specs.Lines.{unless}
 use Rattle.trick_draft.specs.declared.draft.Draft.{Draft}
 use Rattle.trick_draft.specs.declared.fault.LineFault.{LineFault}
 use Rattle.trick_input.specs.declared.call.Form.{Form}
 use Rattle.trick_input.specs.declared.call.Form.TheVariants as form
+use Rattle.trick_input.specs.declared.call.RunForm.TheVariants as run_form
+use Rattle.trick_input.specs.declared.call.JobForm.TheVariants as job_form
+use Rattle.trick_input.specs.declared.call.GroupForm.TheVariants as group_form
+use Rattle.trick_input.specs.declared.call.EventForm.TheVariants as event_form
+use Rattle.trick_input.specs.declared.call.VariableForm.TheVariants as variable_form
+use Rattle.trick_input.specs.declared.call.TextForm.TheVariants as text_form
 use Rattle.trick_lang.specs.Names.{job_name}
 use Rattle.trick_lang.specs.declared.job.Job.{Job}
 use Rattle.trick_lang.specs.declared.method.Method.{Method}
 use Rattle.trick_lang.specs.declared.object.Object.{Object}
 use Rattle.trick_lang.specs.declared.program.Program.{Program}
-use Rattle.trick_lines.specs.Kinds.{is_declaration}
-use Rattle.trick_lines.specs.Said.{said}
+use Rattle.trick_lines.specs.Said.{is_declaration, said}
 use Rattle.trick_lines.specs.Texts.{Texts}
 use Rattle.trick_lines.specs.Times.{fault_of_time, tics_of, time_in}
 use Rattle.trick_base.specs.Time.{tic_limit}
+use Rattle.trick_model.specs.Names.{deed_of}
 use Rattle.trick_model.specs.Valid.{IsCycle, IsFrame}
 use Rattle.trick_model.specs.declared.thread.Thread.{Thread}
 use Rattle.trick_settings.specs.declared.settings.Settings.{Settings}
@@ -45,7 +52,11 @@ cycle_of_frame frame is = record { some = is.some; in_range = omega (arith, is.i
 
 module _ (jobs : Jobs) (threads : List Thread) where
   pub same : (d e : Draft) → d ≡ e → Keeps jobs threads d e
-  same d e is = record { cells = ap (λ (d : Draft). d.cells) (sym is); right = λ right. subst (IsDraftOf jobs threads) is right }
+  same d e is = record {
+    cells = ap (λ (d : Draft). d.cells) (sym is);
+    right = λ right. subst (IsDraftOf jobs threads) is right;
+    deeds = λ action deed told. subst (λ (x : Draft). deed_of (names_of jobs x) action ≡ Some deed) is told;
+  }
 
   -- a line with one test that changes nothing
   pub unchanged : (test : Bool) (fault : LineFault) (d e : Draft) → unless ((test, fault) ∷ []) d ≡ Ok e
@@ -59,44 +70,44 @@ pub keeps : AllLinesKeep → (jobs : Jobs) (settings : Settings) → IsFrame set
     → said jobs settings texts f d ≡ Ok e → Keeps jobs settings.threads d e
 keeps law jobs settings frame texts line (form.Assign name number) d e other_kind fine h =
     (law jobs settings.threads).assign name number d e h
-keeps law jobs settings frame texts line (form.SoftwareFrame time) d e other_kind fine h =
+keeps law jobs settings frame texts line (form.Run (run_form.SoftwareFrame time)) d e other_kind fine h =
     unchanged jobs settings.threads _ _ d e h
-keeps law jobs settings frame texts line (form.Stop time) d e other_kind fine h = same jobs settings.threads d e (cc h)
-keeps law jobs settings frame texts line form.Freeze d e other_kind fine h = same jobs settings.threads d e (cc h)
-keeps law jobs settings frame texts line (form.ProcessType thread process) d e other_kind fine h =
+keeps law jobs settings frame texts line (form.Run (run_form.Stop time)) d e other_kind fine h = same jobs settings.threads d e (cc h)
+keeps law jobs settings frame texts line (form.Run run_form.Freeze) d e other_kind fine h = same jobs settings.threads d e (cc h)
+keeps law jobs settings frame texts line (form.Run (run_form.ProcessType thread process)) d e other_kind fine h =
     unchanged jobs settings.threads _ _ d e h
-keeps law jobs settings frame texts line (form.AmfCycle thread time) d e other_kind fine h =
+keeps law jobs settings frame texts line (form.Run (run_form.AmfCycle thread time)) d e other_kind fine h =
     unchanged jobs settings.threads _ _ d e h
-keeps law jobs settings frame texts line (form.DependsOn target instance depended depended_instance) d e other_kind fine h =
+keeps law jobs settings frame texts line (form.Job (job_form.DependsOn target instance depended depended_instance)) d e other_kind fine h =
     (law jobs settings.threads).depend target instance depended depended_instance d e h
-keeps law jobs settings frame texts line (form.SetJob name instance on) d e other_kind fine h =
+keeps law jobs settings frame texts line (form.Job (job_form.SetJob name instance on)) d e other_kind fine h =
     (law jobs settings.threads).set_job _ on d e h
 keeps law jobs settings frame texts line (form.Declare text) d e other_kind fine h = absurd (cc other_kind)
-keeps law jobs settings frame texts line (form.AddRead time text) d e other_kind fine h =
+keeps law jobs settings frame texts line (form.Text (text_form.AddRead time text)) d e other_kind fine h =
     (law jobs settings.threads).add_read (tics_of time) (in_range line time fine) (actions_in text) d e h
-keeps law jobs settings frame texts line (form.NewGroup variable name) d e other_kind fine h =
+keeps law jobs settings frame texts line (form.Group (group_form.NewGroup variable name)) d e other_kind fine h =
     (law jobs settings.threads).new_group variable name d e h
-keeps law jobs settings frame texts line (form.NewEvent variable name) d e other_kind fine h =
+keeps law jobs settings frame texts line (form.Event (event_form.NewEvent variable name)) d e other_kind fine h =
     (law jobs settings.threads).new_event variable name settings.frame (cycle_of_frame settings.frame frame) d e h
-keeps law jobs settings frame texts line (form.SetCycle variable time) d e other_kind fine h =
+keeps law jobs settings frame texts line (form.Variable (variable_form.SetCycle variable time)) d e other_kind fine h =
     (law jobs settings.threads).set_cycle variable (tics_of time) (in_range line time fine) d e h
-keeps law jobs settings frame texts line (form.AddVariable variable name) d e other_kind fine h =
+keeps law jobs settings frame texts line (form.Group (group_form.AddVariable variable name)) d e other_kind fine h =
     (law jobs settings.threads).add_variable variable name d e h
-keeps law jobs settings frame texts line (form.SetGroup variable on) d e other_kind fine h =
+keeps law jobs settings frame texts line (form.Group (group_form.SetGroup variable on)) d e other_kind fine h =
     (law jobs settings.threads).set_group variable on d e h
-keeps law jobs settings frame texts line (form.SetChanges variable changes) d e other_kind fine h =
+keeps law jobs settings frame texts line (form.Group (group_form.SetChanges variable changes)) d e other_kind fine h =
     (law jobs settings.threads).set_changes variable changes d e h
-keeps law jobs settings frame texts line (form.ThisOwn variable) d e other_kind fine h =
+keeps law jobs settings frame texts line (form.Variable (variable_form.ThisOwn variable)) d e other_kind fine h =
     (law jobs settings.threads).this_own variable d e h
-keeps law jobs settings frame texts line (form.AddGroup variable) d e other_kind fine h =
+keeps law jobs settings frame texts line (form.Group (group_form.AddGroup variable)) d e other_kind fine h =
     (law jobs settings.threads).add_group variable d e h
-keeps law jobs settings frame texts line (form.SetCondition variable text) d e other_kind fine h =
+keeps law jobs settings frame texts line (form.Text (text_form.SetCondition variable text)) d e other_kind fine h =
     (law jobs settings.threads).set_condition variable texts.condition d e h
-keeps law jobs settings frame texts line (form.SetAction variable number text) d e other_kind fine h =
+keeps law jobs settings frame texts line (form.Text (text_form.SetAction variable number text)) d e other_kind fine h =
     (law jobs settings.threads).set_action variable number (actions_in text) d e h
-keeps law jobs settings frame texts line (form.Activate variable) d e other_kind fine h =
+keeps law jobs settings frame texts line (form.Event (event_form.Activate variable)) d e other_kind fine h =
     (law jobs settings.threads).activate variable d e h
-keeps law jobs settings frame texts line (form.AddEvent variable) d e other_kind fine h =
+keeps law jobs settings frame texts line (form.Event (event_form.AddEvent variable)) d e other_kind fine h =
     (law jobs settings.threads).add_event variable d e h
 
 -- a declaration that is taken
@@ -106,6 +117,24 @@ pub declares : DeclarationsKeep → (jobs : Jobs) (settings : Settings) (texts :
 declares law jobs settings texts p (form.Declare text) d e kind h mirrors right =
     law jobs settings.threads p texts.declaration d e h mirrors right
 declares law jobs settings texts p other d e kind h mirrors right = absurd (cc kind)
+
+-- what actions ask for after a declaration that is taken
+declares_deeds : DeclarationsKeepDeeds → (jobs : Jobs) (settings : Settings) (texts : Texts) (f : Form) (d e : Draft)
+    → is_declaration f ≡ true → said jobs settings texts f d ≡ Ok e → IsDraftOf jobs settings.threads d
+    → KeepsDeeds jobs d e
+declares_deeds law jobs settings texts (form.Declare text) d e kind h right =
+    law jobs settings.threads texts.declaration d e h right
+declares_deeds law jobs settings texts other d e kind h right = absurd (cc kind)
+
+-- what they ask for after any line that is taken
+pub deeds_after : AllLinesKeep → DeclarationsKeepDeeds → (jobs : Jobs) (settings : Settings) → IsFrame settings.frame
+    → (texts : Texts) (line : ℕ) (f : Form) (d e : Draft) → fault_of_time line (time_in f) ≡ None
+    → said jobs settings texts f d ≡ Ok e → IsDraftOf jobs settings.threads d → KeepsDeeds jobs d e
+deeds_after lines declarations jobs settings frame texts line f d e fine h right = by (is_declaration f) refl
+  where
+    by : (b : Bool) → is_declaration f ≡ b → KeepsDeeds jobs d e
+    by true is = declares_deeds declarations jobs settings texts f d e is h right
+    by false is = (keeps lines jobs settings frame texts line f d e is fine h).deeds
 
 -- What a line that is taken keeps of a draft, over a program and the program after it.
 module _ (lines : AllLinesKeep) (declarations : DeclarationsKeep) (jobs : Jobs) (settings : Settings)

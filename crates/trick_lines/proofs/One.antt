@@ -9,6 +9,7 @@ use Rattle.trick_draft.specs.declared.fault.LineFault.{LineFault}
 use Rattle.trick_input.specs.declared.call.Call.{Call}
 use Rattle.trick_input.specs.declared.call.Form.{Form}
 use Rattle.trick_input.specs.declared.call.Form.TheVariants as form
+use Rattle.trick_input.specs.declared.call.TextForm.TheVariants as text_form
 use Rattle.trick_lang.specs.SyntaxTree.{Expression}
 use Rattle.trick_lines.specs.Drafted.{Drafted, Then, answered, told, unless_time}
 use Rattle.trick_lines.specs.Said.{said}
@@ -38,7 +39,7 @@ module _ (declares : DeclaresOne) (one : OneList) (jobs : Jobs) (settings : Sett
       → said jobs settings t f d ≡ said jobs settings u f d
   says_one (form.Declare text) t u d a b =
       ap (λ (o : Option Declaration). declare_line o d) (declares text t.declaration u.declaration a b)
-  says_one (form.SetCondition variable text) t u d a b =
+  says_one (form.Text (text_form.SetCondition variable text)) t u d a b =
       ap (λ (o : Option Expression). set_condition_line variable o d) (one_condition one text t.condition u.condition a b)
   says_one other t u d a b = refl
 

@@ -1,6 +1,7 @@
 -- What is kept of a program, and lists by their items.
-use Rattle.std.proofs.Common.{◌≡◌, ◌∙◌, ◌+◌, ◌<◌, ℕ, suc, List, ◌∷◌, length, drop, get_or, refl, sym, ap, add-one}
+use Rattle.std.proofs.Common.{◌≡◌, ◌∙◌, ◌+◌, ◌<◌, ◌++◌, ℕ, suc, List, [], ◌∷◌, length, drop, take, get_or, refl, sym, ap, add-one}
 use Rattle.std.proofs.Math.Seq.{drop-cons}
+use Rattle.std.proofs.lemmas.List.{take_more}
 use Rattle.trick_declare.specs.Cells.{KeepsRest}
 use Rattle.trick_lang.specs.declared.program.Program.{Program}
 
@@ -29,3 +30,7 @@ rest_then p q r first then = record {
 pub from_here : {A : Type 0} (xs : List A) (i : ℕ) (item : A) → i < length xs → item ≡ get_or xs i item
     → drop i xs ≡ item ∷ drop (i + 1) xs
 from_here xs i item h is = rw (add-one, drop-cons xs i item) (ap (λ x. x ∷ drop (suc i) xs) (sym is))
+
+pub up_to_here : {A : Type 0} (xs : List A) (i : ℕ) (item : A) → i < length xs → item ≡ get_or xs i item
+    → take (i + 1) xs ≡ take i xs ++ item ∷ []
+up_to_here {A} xs i item h is = take_more xs i item h ∙ ap (λ (x : A). take i xs ++ x ∷ []) (sym is)

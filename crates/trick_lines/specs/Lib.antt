@@ -4,10 +4,10 @@ pub mod Times
 pub mod Texts
 -- What each line says, given the lines before it.
 pub mod Said
--- The kinds of lines.
-pub mod Kinds
 -- All lines of an input, one after another.
 pub mod Drafted
+-- What actions ask for at their lines, and after all lines.
+pub mod Deeds
 -- Laws of drafts.
 pub mod Laws
 -- Worked lines.

@@ -3,12 +3,13 @@ use Rattle.std.specs.Prelude.{◌≡◌, ℕ, List, Option, None, option_map, �
 use Rattle.trick_body.specs.Answers.{condition}
 use Rattle.trick_body.specs.Lexemes.{lexemes_of}
 use Rattle.trick_body.specs.Symbols.{number_of}
-use Rattle.trick_declare.specs.Grammar.{Declares, read_or_none}
+use Rattle.trick_declare.specs.Grammar.{Declares, declaration_in, read_or_none}
 use Rattle.trick_declare.specs.declared.declaration.Declaration.{Declaration}
 use Rattle.trick_grammar.specs.Gives.{class_of}
 use Rattle.trick_grammar.specs.Text.{read_all}
 use Rattle.trick_input.specs.declared.call.Form.{Form}
 use Rattle.trick_input.specs.declared.call.Form.TheVariants as form
+use Rattle.trick_input.specs.declared.call.TextForm.TheVariants as text_form
 use Rattle.trick_lang.specs.Syntax.{expression_of}
 use Rattle.trick_lang.specs.SyntaxTree.{Expression}
 use Rattle.trick_lines.specs.declared.texts.ReadTexts.{ReadTexts}
@@ -35,9 +36,9 @@ pub record Texts : Type 0 where
 -- these are what the text of a line reads as
 abbrev pub AreTexts : Form → Texts → Type 0
 AreTexts (form.Declare text) texts = Declares text texts.declaration
-AreTexts (form.SetCondition variable text) texts = IsConditionOf text texts.condition
+AreTexts (form.Text (text_form.SetCondition variable text)) texts = IsConditionOf text texts.condition
 AreTexts other texts = Unit {0}
 
 -- texts of the code
 abbrev pub texts_in : ReadTexts → Texts
-texts_in texts = record { declaration = texts.declaration; condition = option_map expression_of texts.condition }
+texts_in texts = record { declaration = declaration_in texts.declaration; condition = option_map expression_of texts.condition }

@@ -3,17 +3,20 @@ use Rattle.std.specs.Prelude.{ℕ, nat_le, Option, Some, None, Result, Ok, Err, 
 use Rattle.trick_input.specs.declared.call.Call.{Call}
 use Rattle.trick_input.specs.declared.call.Form.{Form}
 use Rattle.trick_input.specs.declared.call.Form.TheVariants as form
+use Rattle.trick_input.specs.declared.call.RunForm.TheVariants as run_form
+use Rattle.trick_input.specs.declared.call.VariableForm.TheVariants as variable_form
+use Rattle.trick_input.specs.declared.call.TextForm.TheVariants as text_form
 use Rattle.trick_base.specs.Time.{tic_limit}
 use Rattle.trick_text.specs.declared.fault.TimeFault.{TimeFault}
 use Rattle.trick_text.specs.declared.fault.TimeFault.TheVariants as fault
 
 -- the time of a line, where it has one
 abbrev pub time_in : Form → Option (Result ℕ TimeFault)
-time_in (form.SoftwareFrame time) = Some time
-time_in (form.Stop time) = Some time
-time_in (form.AmfCycle thread time) = Some time
-time_in (form.AddRead time actions) = Some time
-time_in (form.SetCycle variable time) = Some time
+time_in (form.Run (run_form.SoftwareFrame time)) = Some time
+time_in (form.Run (run_form.Stop time)) = Some time
+time_in (form.Run (run_form.AmfCycle thread time)) = Some time
+time_in (form.Text (text_form.AddRead time actions)) = Some time
+time_in (form.Variable (variable_form.SetCycle variable time)) = Some time
 time_in other = None
 
 -- why the time of a line is none; a time is at most 10^15 tics

@@ -5,6 +5,8 @@ ghost use Rattle.trick_declare.specs.Cells.{KeepsRest};
 ghost use Rattle.trick_draft.specs.Drafts.{begun};
 ghost use Rattle.trick_draft.specs.Jobs.{jobs_of};
 ghost use Rattle.trick_draft.specs.Kept.{IsDraftOf, Mirrors};
+ghost use Rattle.trick_draft.specs.Laws.{KeepsDeeds};
+ghost use Rattle.trick_lines.specs.Deeds.{DeedsStay};
 ghost use Rattle.trick_lines.specs.Drafted.{Answers, DoesLine, Drafted};
 ghost use Rattle.trick_model.specs.Valid.{IsFrame};
 
@@ -34,9 +36,11 @@ fn add_line(
     ensures rest { KeepsRest program.old program.new }
     ensures mirrors { OnOk result (Mirrors program.new draft.new) }
     ensures right { OnOk result (IsDraftOf (jobs_of program.new) settings.now.threads draft.new) }
+    ensures deeds { OnOk result (KeepsDeeds (jobs_of program.old) draft.old draft.new) }
 {
     trick_draft::laws::lines_keep();
     trick_draft::laws::declarations_keep();
+    trick_draft::laws::declarations_keep_deeds();
     if let Some(fault) = time_fault(call) {
         return Err(JoinFault::Time(fault));
     }
@@ -64,8 +68,10 @@ pub fn draft(
     ensures rest { KeepsRest program.old program.new }
     ensures mirrors { IfOk result (λ draft. Mirrors program.new draft) }
     ensures right { IfOk result (λ draft. IsDraftOf (jobs_of program.new) settings.now.threads draft) }
+    ensures deeds { IfOk result (DeedsStay (jobs_of program.old) settings.now calls.now (begun program.old)) }
 {
     trick_draft::laws::begins_right();
+    crate::laws::lines_answer_one();
     let mut draft = Draft::new(alloc, program)?;
     for call in calls {
         add_line(alloc, program, settings, call, &mut draft)?;

@@ -3,20 +3,18 @@
 ghost use Rattle.std.specs.Prelude.{◌≡◌, OnOk, true, false};
 ghost use Rattle.trick_declare.specs.Cells.{KeepsRest};
 ghost use Rattle.trick_draft.specs.Cells.{AreNumbered};
-ghost use Rattle.trick_draft.specs.Jobs.{Jobs, jobs_of};
+ghost use Rattle.trick_draft.specs.Jobs.{jobs_of};
 ghost use Rattle.trick_draft.specs.Kept.{Mirrors};
 ghost use Rattle.trick_draft.specs.Lines.{Did};
 ghost use Rattle.trick_draft.specs.declared.draft.Draft.{Draft};
-ghost use Rattle.trick_lines.specs.Kinds.{is_declaration, is_event_line, is_group_line, is_job_line, is_run_line, is_text_line};
-ghost use Rattle.trick_lines.specs.Said.{amf_cycle_line, frame_line, said, thread_line};
-ghost use Rattle.trick_lines.specs.Texts.{Texts, texts_in};
-ghost use Rattle.trick_settings.specs.declared.settings.Settings.{Settings};
+ghost use Rattle.trick_lines.specs.Said.{amf_cycle_line, event_line, frame_line, group_line, is_declaration, job_line, run_line, said, text_line, thread_line, variable_line};
+ghost use Rattle.trick_lines.specs.Texts.{texts_in};
 
 use crate::texts::{ReadTexts, actions_of};
 use crate::times::tics_of;
 use std::alloc::Global;
 use trick_draft::{Draft, LineFault, job_of, waiting_job};
-use trick_input::Form;
+use trick_input::{EventForm, Form, GroupForm, JobForm, RunForm, TextForm, VariableForm};
 use trick_lang::Program;
 use trick_settings::{Settings, is_frame};
 
@@ -59,35 +57,30 @@ fn amf_cycle_line(thread: u64, tics: u64) -> Result<(), LineFault>
 }
 
 // A line of the run or of its threads, which changes nothing of the draft.
-fn run_line(form: &Form) -> Result<(), LineFault>
-    requires { is_run_line form.now ≡ true }
-    ensures { (jobs : Jobs) (settings : Settings) (texts : Texts) (d : Draft)
-        → Did result d (said jobs settings texts form.now d) }
+fn run_line(form: &RunForm) -> Result<(), LineFault>
+    ensures { (d : Draft) → Did result d (run_line form.now d) }
 {
     match form {
-        Form::SoftwareFrame { time } => frame_line(tics_of(*time)),
-        Form::Stop { time: _ } => Ok(()),
-        Form::Freeze => Ok(()),
-        Form::ProcessType { thread, process: _ } => thread_line(*thread),
-        Form::AmfCycle { thread, time } => amf_cycle_line(*thread, tics_of(*time)),
-        _ => unreachable!(),
+        RunForm::SoftwareFrame { time } => frame_line(tics_of(*time)),
+        RunForm::Stop { time: _ } => Ok(()),
+        RunForm::Freeze => Ok(()),
+        RunForm::ProcessType { thread, process: _ } => thread_line(*thread),
+        RunForm::AmfCycle { thread, time } => amf_cycle_line(*thread, tics_of(*time)),
     }
 }
 
-// A line that names cells or jobs.
+// A line of jobs, by the threads of the whole input.
 fn job_line(
     program: &Program,
     settings: &Settings,
-    form: &Form,
+    form: &JobForm,
     draft: &mut Draft,
 ) -> Result<(), LineFault>
-    requires { is_job_line form.now ≡ true }
-    ensures { (texts : Texts) → Did result draft.new
-        (said (jobs_of program.now) settings.now texts form.now draft.old) }
+    ensures { Did result draft.new
+        (job_line (jobs_of program.now) settings.now.threads form.now draft.old) }
 {
     match form {
-        Form::Assign { name, number } => draft.assign(name, *number),
-        Form::DependsOn {
+        JobForm::DependsOn {
             target,
             instance,
             depended,
@@ -98,75 +91,79 @@ fn job_line(
             let depended = waiting_job(program, threads, depended, *depended_instance);
             draft.depend(target, depended)
         }
-        Form::SetJob { name, instance, on } => {
+        JobForm::SetJob { name, instance, on } => {
             draft.set_job(job_of(program, name, *instance), *on)
         }
-        _ => unreachable!(),
     }
 }
 
-// A line of groups, or of groups and events alike.
-fn group_line(alloc: Global, form: &Form, draft: &mut Draft) -> Result<(), LineFault>
-    requires { is_group_line form.now ≡ true }
-    ensures { (jobs : Jobs) (settings : Settings) (texts : Texts)
-        → Did result draft.new (said jobs settings texts form.now draft.old) }
+// A line of a group.
+fn group_line(alloc: Global, form: &GroupForm, draft: &mut Draft) -> Result<(), LineFault>
+    ensures { Did result draft.new (group_line form.now draft.old) }
 {
     match form {
-        Form::NewGroup { variable, name } => draft.new_group(alloc, variable, name),
-        Form::AddVariable { variable, name } => draft.add_variable(alloc, variable, name),
-        Form::SetGroup { variable, on } => draft.set_group(alloc, variable, *on),
-        Form::SetChanges { variable, changes } => draft.set_changes(alloc, variable, *changes),
-        Form::AddGroup { variable } => draft.add_group(variable),
-        Form::SetCycle { variable, time } => draft.set_cycle(alloc, variable, tics_of(*time)),
-        Form::ThisOwn { variable } => draft.this_own(variable),
-        _ => unreachable!(),
+        GroupForm::NewGroup { variable, name } => draft.new_group(alloc, variable, name),
+        GroupForm::AddVariable { variable, name } => draft.add_variable(alloc, variable, name),
+        GroupForm::SetGroup { variable, on } => draft.set_group(alloc, variable, *on),
+        GroupForm::SetChanges { variable, changes } => {
+            draft.set_changes(alloc, variable, *changes)
+        }
+        GroupForm::AddGroup { variable } => draft.add_group(variable),
     }
 }
 
-// A line of events without a text.
+// A line of an event, by the software frame of the whole input.
 fn event_line(
     alloc: Global,
     settings: &Settings,
-    form: &Form,
+    form: &EventForm,
     draft: &mut Draft,
 ) -> Result<(), LineFault>
-    requires { is_event_line form.now ≡ true }
-    ensures { (jobs : Jobs) (texts : Texts)
-        → Did result draft.new (said jobs settings.now texts form.now draft.old) }
+    ensures { Did result draft.new (event_line settings.now.frame form.now draft.old) }
 {
     match form {
-        Form::NewEvent { variable, name } => {
+        EventForm::NewEvent { variable, name } => {
             draft.new_event(alloc, variable, name, settings.frame)
         }
-        Form::Activate { variable } => draft.activate(alloc, variable),
-        Form::AddEvent { variable } => draft.add_event(variable),
-        _ => unreachable!(),
+        EventForm::Activate { variable } => draft.activate(alloc, variable),
+        EventForm::AddEvent { variable } => draft.add_event(variable),
     }
 }
 
-// A line with a text that says what is done, or when.
+// A line of a group or an event alike.
+fn variable_line(alloc: Global, form: &VariableForm, draft: &mut Draft) -> Result<(), LineFault>
+    ensures { Did result draft.new (variable_line form.now draft.old) }
+{
+    match form {
+        VariableForm::SetCycle { variable, time } => {
+            draft.set_cycle(alloc, variable, tics_of(*time))
+        }
+        VariableForm::ThisOwn { variable } => draft.this_own(variable),
+    }
+}
+
+// A line with actions or a condition.
 fn text_line(
     alloc: Global,
     program: &Program,
-    form: &Form,
+    form: &TextForm,
     texts: &ReadTexts,
     draft: &mut Draft,
 ) -> Result<(), LineFault>
-    requires kind { is_text_line form.now ≡ true }
     requires numbered { AreNumbered draft.old.cells }
-    ensures { (settings : Settings) → Did result draft.new
-        (said (jobs_of program.now) settings (texts_in texts.now) form.now draft.old) }
+    ensures { Did result draft.new
+        (text_line (jobs_of program.now) (texts_in texts.now).condition form.now draft.old) }
 {
     match form {
-        Form::AddRead { time, actions } => {
+        TextForm::AddRead { time, actions } => {
             let actions = actions_of(alloc, actions)?;
-            draft.add_read(program, tics_of(*time), actions)
+            draft.add_read(alloc, program, tics_of(*time), actions)
         }
-        Form::SetCondition {
+        TextForm::SetCondition {
             variable,
             condition: _,
         } => draft.set_condition(alloc, variable, texts.condition.as_ref()),
-        Form::SetAction {
+        TextForm::SetAction {
             variable,
             number,
             actions,
@@ -174,41 +171,6 @@ fn text_line(
             let actions = actions_of(alloc, actions)?;
             draft.set_action(alloc, program, variable, *number, actions)
         }
-        _ => unreachable!(),
-    }
-}
-
-// A line that declares nothing.
-fn other_line(
-    alloc: Global,
-    program: &Program,
-    settings: &Settings,
-    line: &Line,
-    draft: &mut Draft,
-) -> Result<(), LineFault>
-    requires kind { is_declaration line.now.form.now ≡ false }
-    requires numbered { AreNumbered draft.old.cells }
-    ensures { Did result draft.new
-        (said (jobs_of program.now) settings.now (texts_in line.now.texts) line.now.form.now draft.old) }
-{
-    let form = line.form;
-    match form {
-        Form::SoftwareFrame { .. }
-        | Form::Stop { .. }
-        | Form::Freeze
-        | Form::ProcessType { .. }
-        | Form::AmfCycle { .. } => run_line(form),
-        Form::Assign { .. } | Form::DependsOn { .. } | Form::SetJob { .. } => {
-            job_line(program, settings, form, draft)
-        }
-        Form::NewEvent { .. } | Form::Activate { .. } | Form::AddEvent { .. } => {
-            event_line(alloc, settings, form, draft)
-        }
-        Form::AddRead { .. } | Form::SetCondition { .. } | Form::SetAction { .. } => {
-            text_line(alloc, program, form, &line.texts, draft)
-        }
-        Form::Declare { .. } => unreachable!(),
-        _ => group_line(alloc, form, draft),
     }
 }
 
@@ -229,9 +191,15 @@ pub(crate) fn said(
     ensures rest { KeepsRest program.old program.new }
 {
     match line.form {
+        Form::Assign { name, number } => draft.assign(name, *number),
         Form::Declare { declaration: _ } => {
             draft.declare(alloc, program, line.texts.declaration.as_ref())
         }
-        _ => other_line(alloc, program, settings, line, draft),
+        Form::Run(form) => run_line(form),
+        Form::Job(form) => job_line(program, settings, form, draft),
+        Form::Group(form) => group_line(alloc, form, draft),
+        Form::Event(form) => event_line(alloc, settings, form, draft),
+        Form::Variable(form) => variable_line(alloc, form, draft),
+        Form::Text(form) => text_line(alloc, program, form, &line.texts, draft),
     }
 }

@@ -9,15 +9,15 @@ use std::alloc::{AllocError, Global};
 use trick_base::{Items, Word};
 use trick_body::BodyFault;
 use trick_command::ActionFault;
-use trick_declare::Declaration;
-use trick_input::Form;
+use trick_declare::SpelledDeclaration;
+use trick_input::{Form, TextForm};
 use trick_lang::syntax::Expr;
 use trick_model::Action;
 
 // The declaration and the condition of a line, where it has them and they read.
 #[derive(Drop)]
 pub(crate) struct ReadTexts {
-    pub declaration: Option<Declaration>,
+    pub declaration: Option<SpelledDeclaration>,
     pub condition: Option<Expr>,
 }
 
@@ -60,13 +60,10 @@ pub(crate) fn texts_of(alloc: Global, form: &Form) -> Result<ReadTexts, AllocErr
 {
     match form {
         Form::Declare { declaration } => Ok(ReadTexts {
-            declaration: Declaration::read(alloc, declaration.as_slice())?,
+            declaration: SpelledDeclaration::read(alloc, declaration.as_slice())?,
             condition: None,
         }),
-        Form::SetCondition {
-            variable: _,
-            condition,
-        } => Ok(ReadTexts {
+        Form::Text(TextForm::SetCondition { condition, .. }) => Ok(ReadTexts {
             declaration: None,
             condition: condition_of(alloc, condition)?,
         }),

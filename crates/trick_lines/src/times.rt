@@ -4,7 +4,7 @@ ghost use Rattle.std.specs.Prelude.{◌≡◌};
 ghost use Rattle.trick_lines.specs.Times.{fault_of_time, tics_of, time_fault, time_in};
 
 use trick_base::TIC_LIMIT;
-use trick_input::{Call, Form, Time};
+use trick_input::{Call, Form, RunForm, TextForm, Time, VariableForm};
 use trick_text::TimeFault;
 
 // The time of a line, where it has one.
@@ -12,11 +12,11 @@ fn time_in(form: &Form) -> Option<Time>
     ensures { result ≡ time_in form.now }
 {
     match form {
-        Form::SoftwareFrame { time } => Some(*time),
-        Form::Stop { time } => Some(*time),
-        Form::AmfCycle { thread: _, time } => Some(*time),
-        Form::AddRead { time, actions: _ } => Some(*time),
-        Form::SetCycle { variable: _, time } => Some(*time),
+        Form::Run(RunForm::SoftwareFrame { time }) => Some(*time),
+        Form::Run(RunForm::Stop { time }) => Some(*time),
+        Form::Run(RunForm::AmfCycle { thread: _, time }) => Some(*time),
+        Form::Text(TextForm::AddRead { time, actions: _ }) => Some(*time),
+        Form::Variable(VariableForm::SetCycle { variable: _, time }) => Some(*time),
         _ => None,
     }
 }

@@ -1,5 +1,5 @@
 -- Facts of each item of a list.
-use Rattle.std.proofs.Common.{ℕ, zero, suc, ◌+◌, ◌<◌, List, [], ◌∷◌, length, All, arith}
+use Rattle.std.proofs.Common.{zero, suc, List, [], ◌∷◌, All, arith}
 
 -- each item has the property
 abbrev pub Each : {X : Type 0} → (X → Type 0) → List X → Type 0

@@ -1,16 +1,16 @@
 -- The ranges of what lines say of the run and of its threads.
-use Rattle.std.proofs.Common.{rules, ◌≡◌, ◌∙◌, ℕ, zero, suc, ◌+◌, ◌^◌, ◌≤◌, ◌<◌, ◌==◌, ◌&&◌, Bool, true, false, nat_lt, nat_le, List, [], ◌∷◌, ◌++◌, length, All, Option, Some, None, Ok, unwrap_or, refl, sym, ap, subst, arith, if◌then◌else◌}
+use Rattle.std.proofs.Common.{rules, ◌≡◌, ℕ, zero, suc, ◌+◌, ◌≤◌, ◌<◌, ◌==◌, ◌&&◌, Bool, true, false, nat_lt, nat_le, List, [], ◌∷◌, ◌++◌, All, Option, Some, None, Ok, unwrap_or, refl, subst, arith, if◌then◌else◌}
 use Rattle.std.proofs.lemmas.Bool.{and_parts}
 use Rattle.std.specs.Option.{ForSome}
 use Rattle.trick_input.specs.declared.call.Call.{Call}
 use Rattle.trick_input.specs.declared.call.Form.{Form}
 use Rattle.trick_input.specs.declared.call.Form.TheVariants as form
+use Rattle.trick_input.specs.declared.call.RunForm.TheVariants as run
 use Rattle.trick_base.specs.Time.{tic_limit}
 use Rattle.trick_model.specs.Valid.{IsCycle, IsFrame}
 use Rattle.trick_settings.proofs.Lists.{Each, each_all}
 use Rattle.trick_settings.specs.Settings.{cycle_said, frame_of, frame_said, is_frame, later, latest, limit_of, limit_said, setting_of, settings_below, settings_by_number}
 use Rattle.trick_threads.specs.Threads.{HasCycle}
-use Rattle.trick_threads.specs.declared.setting.Setting.{Setting}
 
 less : (a b : ℕ) → nat_lt a b ≡ true → a < b
 less a b e = search rules
@@ -55,7 +55,7 @@ frame_is tics e =
     record { some = omega (arith, some); in_range = omega (arith, few) }
 
 frame_fits : (f : Form) → IfThere IsFrame (frame_said f)
-frame_fits (form.SoftwareFrame (Ok tics)) = by (is_frame tics) refl
+frame_fits (form.Run (run.SoftwareFrame (Ok tics))) = by (is_frame tics) refl
   where
     by : (b : Bool) → is_frame tics ≡ b → IfThere IsFrame (let none : Option ℕ = None in if b then Some tics else none)
     by true e = frame_is tics e
@@ -70,7 +70,7 @@ abbrev IsLimit : ℕ → Type 0
 IsLimit limit = limit ≤ tic_limit + 1
 
 limit_fits : (f : Form) → IfThere IsLimit (limit_said f)
-limit_fits (form.Stop (Ok tics)) = by (nat_le tics tic_limit) refl
+limit_fits (form.Run (run.Stop (Ok tics))) = by (nat_le tics tic_limit) refl
   where
     by : (b : Bool) → nat_le tics tic_limit ≡ b → IfThere IsLimit (let none : Option ℕ = None in if b then Some (tics + 1) else none)
     by true e = let few = at_most tics tic_limit e in omega (arith, few)
@@ -84,7 +84,7 @@ limit_right calls =
 -- ---- threads
 
 cycle_fits : (number : ℕ) (f : Form) → IfThere IsCycle (cycle_said number f)
-cycle_fits number (form.AmfCycle thread (Ok tics)) = by ((thread == number) && (nat_lt 0 tics && nat_le tics tic_limit)) refl
+cycle_fits number (form.Run (run.AmfCycle thread (Ok tics))) = by ((thread == number) && (nat_lt 0 tics && nat_le tics tic_limit)) refl
   where
     by : (b : Bool) → ((thread == number) && (nat_lt 0 tics && nat_le tics tic_limit)) ≡ b → IfThere IsCycle (let none : Option ℕ = None in if b then Some tics else none)
     by true e =
@@ -109,6 +109,3 @@ cycles_below calls (suc count) = each_last HasCycle (settings_below calls count)
 
 pub cycles_right : (calls : List Call) → All HasCycle (settings_by_number calls)
 cycles_right calls = each_all HasCycle (settings_by_number calls) (cycles_below calls 16)
-
-pub sixteen : (calls : List Call) → length (settings_by_number calls) ≡ 16
-sixteen calls = refl

@@ -2,7 +2,7 @@ use Rattle.std.proofs.Common.{◌∙◌, subst, sym}
 use Rattle.trick_draft.specs.Jobs.{Jobs, jobs_of}
 use Rattle.trick_draft.specs.Kept.{IsDraftOf}
 use Rattle.trick_lines.proofs.Going.{late}
-use Rattle.trick_lines.proofs.Keeping.{mirrors_after, right_after, same_jobs}
+use Rattle.trick_lines.proofs.Keeping.{deeds_after, mirrors_after, right_after, same_jobs}
 use Rattle.trick_lines.proofs.lines.add_line.Goals as goal
 use Rattle.trick_lines.specs.Texts.{texts_in}
 
@@ -26,3 +26,9 @@ returns-in-Ok-clause-right c =
     c.requires.frame (texts_in c.in_ok-texts_of.field-0) c.args.call.now.line c.said.new.program
     c.args.call.now.form c.args.draft.now c.said.new.draft (sym c.time_fault.ensures ∙ c.in_default.is)
     c.in-Ok.ensures.said c.in-Ok.ensures.declared c.requires.right)
+
+pub returns-in-Ok-clause-deeds : goal.returns-in-Ok-clause-deeds
+returns-in-Ok-clause-deeds c =
+    deeds_after c.lines_keep.ensures c.declarations_keep_deeds.ensures (jobs_of c.args.program.now) c.args.settings.now
+    c.requires.frame (texts_in c.in_ok-texts_of.field-0) c.args.call.now.line c.args.call.now.form c.args.draft.now
+    c.said.new.draft (sym c.time_fault.ensures ∙ c.in_default.is) c.in-Ok.ensures.said c.requires.right

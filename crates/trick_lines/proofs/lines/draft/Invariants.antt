@@ -1,10 +1,11 @@
-use Rattle.std.proofs.Common.{Result, drop}
+use Rattle.std.proofs.Common.{Result, Ok, drop, take}
 use Rattle.trick_declare.specs.Cells.{KeepsRest}
 use Rattle.trick_draft.specs.Drafts.{begun}
 use Rattle.trick_draft.specs.Jobs.{jobs_of}
 use Rattle.trick_draft.specs.Kept.{IsDraftOf, Mirrors}
 use Rattle.trick_draft.specs.declared.draft.Draft.{Draft}
 use Rattle.trick_lines.proofs.lines.draft.Given as goal
+use Rattle.trick_lines.specs.Deeds.{DeedsStay}
 use Rattle.trick_lines.specs.Drafted.{Drafted}
 use Rattle.trick_lines.specs.declared.fault.JoinFault.{JoinFault}
 
@@ -18,4 +19,6 @@ invariant-loop-call l = record {
   rest : KeepsRest l.fn.program l.program;
   mirrors : Mirrors l.program l.draft;
   right : IsDraftOf (jobs_of l.program) l.fn.settings.threads l.draft;
+  drafted : Drafted (jobs_of l.fn.program) l.fn.settings (take l.call-index l.calls) (begun l.fn.program) (Ok l.draft);
+  deeds : DeedsStay (jobs_of l.fn.program) l.fn.settings (take l.call-index l.calls) (begun l.fn.program) l.draft;
 }
