@@ -8,7 +8,7 @@ ghost use Rattle.trick_model.specs.Records.{fields, header as header_text};
 ghost use Rattle.trick_model.specs.Valid.{cell_names};
 ghost use Rattle.trick_record.specs.Added.{group_at};
 
-use crate::fields::{first, last, put};
+use crate::fields::{first, last, line_writer, lines_of, put};
 use crate::group_of::group_of;
 use std::alloc::{AllocError, Global};
 use trick_lang::{Cell, Variable};
@@ -33,11 +33,13 @@ pub(crate) fn header_of(
     ensures { IfOk result (λ text. text.items ≡ codes "tic" ++
         fields (map (λ (cell : Cell). slice_index_or (cell_names variables.now) cell.0 []) cells.now)) }
 {
-    let mut writer = first(Vec::new(alloc), b"tic")?;
+    let mut writer = line_writer(Vec::new(alloc));
+    first(&mut writer, b"tic")?;
     for cell in cells {
         put(&mut writer, name_of(variables, *cell))?;
     }
-    last(writer)
+    last(&mut writer)?;
+    lines_of(writer)
 }
 
 /// The first line of a group's log: `tic`, and the full names of the variables that the group

@@ -6,30 +6,43 @@ ghost use Rattle.trick_model.specs.Records.{log_name, row as row_text, row_kept,
 ghost use Rattle.trick_model.specs.State.{number_at, seen};
 ghost use Rattle.trick_record.specs.Added.{added, group_at};
 
+use crate::fields::{line_writer, lines_of};
 use crate::group_of::group_of;
 use crate::last_rows::{is_new, keep};
-use crate::values::text_of;
+use crate::values::write_row;
+use csv::Writer;
 use std::alloc::{AllocError, Global};
 use std::marker::Model;
 use std::mem::replace;
 use trick_lang::{Cell, Cells};
 use trick_model::{Group, Plan, State};
 
-/// Makes the rows of a run's groups in one buffer, which is made once and kept. Contracts see the text of
-/// the last row that it made.
+/// Makes the rows of a run's groups by one writer, which is made once and kept, one row after another in one
+/// buffer. Contracts see the text of the last row that it made.
 #[derive(Drop)]
 pub struct Recorder {
     alloc: Global,
-    text: Vec<u8>,
+    writer: Writer<Vec<u8>>,
+    // Where the last row begins among those that the buffer still holds.
+    start: usize,
 }
 
 impl Model for Recorder {
-    ghost use Rattle.std.specs.Prelude.{ℕ, List};
+    ghost use Rattle.csv.specs.Writing.{writer_under};
+    ghost use Rattle.std.specs.Prelude.{ℕ, ◌≤◌, List, Some, drop, length};
+    ghost use Rattle.trick_record.specs.Held.{Rests};
 
     ghost Value = { List ℕ };
 
-    ghost view = { λ recorder. recorder.text.items };
+    ghost view = { λ recorder. drop recorder.start (writer_under recorder.writer).items };
+
+    ghost invariant = { λ recorder. Rests (λ v. Some v.items) recorder.writer (writer_under recorder.writer).items
+        × (recorder.start ≤ length (writer_under recorder.writer).items) };
 }
+
+// The most bytes of earlier rows that stand before a row. A writer lets go of what it wrote only at its end, so
+// a new one is made where there are more, in the same buffer.
+const KEPT_ROOM: usize = 65_536;
 
 // The most bytes of a number and what stands behind it.
 const NUMBER_ROOM: usize = 21;
@@ -61,15 +74,31 @@ impl Recorder {
         for group in plan.groups.as_slice() {
             longest = longest.max(room(group));
         }
-        let text = Vec::with_capacity(alloc, longest)?;
-        Ok(Recorder { alloc, text })
+        let rows = Vec::with_capacity(alloc, longest.saturating_add(KEPT_ROOM))?;
+        Ok(Recorder {
+            alloc,
+            writer: line_writer(rows),
+            start: 0,
+        })
     }
 
     /// The text of the last row, as it was made.
     pub fn text(&self) -> &[u8]
         ensures { result.now ≡ self.now }
     {
-        &self.text
+        &self.writer.get_ref().as_slice()[self.start..]
+    }
+
+    // Forgets the rows that were made, and keeps their memory.
+    fn forget(&mut self)
+        ensures { self.new ≡ [] }
+    {
+        let rows = lines_of(replace(&mut self.writer, line_writer(Vec::new(self.alloc))));
+        if let Ok(mut rows) = rows {
+            rows.clear();
+            self.writer = line_writer(rows);
+        }
+        self.start = 0;
     }
 
     // Makes the text of a row: the tic and the numbers of these cells.
@@ -77,10 +106,17 @@ impl Recorder {
         ensures { OnOk result (self.new
             ≡ row_text tic (map (λ (cell : Cell). number_at (M.numbers memory.now) cell.0) cells.now)) }
     {
-        let mut line = replace(&mut self.text, Vec::new(self.alloc));
-        line.clear();
-        self.text = text_of(line, tic, memory, cells)?;
-        Ok(())
+        if self.writer.get_ref().len() > KEPT_ROOM {
+            self.forget();
+        }
+        self.start = self.writer.get_ref().len();
+        let made = write_row(&mut self.writer, tic, memory, cells);
+        if made.is_err() {
+            // The line that was begun is in the way of the next one.
+            self.writer = line_writer(Vec::new(self.alloc));
+            self.start = 0;
+        }
+        made
     }
 
     /// Makes the row that a group writes at a tic, and tells whether there is one. There is none where the

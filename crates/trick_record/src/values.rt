@@ -1,11 +1,13 @@
 //! The numbers of a row, and its text.
 
-ghost use Rattle.std.specs.Prelude.{◌≡◌, [], IfOk, length, map};
+ghost use Rattle.std.specs.Prelude.{◌≡◌, ◌++◌, IfOk, OnOk, Some, length, map};
 ghost use Rattle.trick_lang.specs.declared.cells.Cell.{Cell};
 ghost use Rattle.trick_model.specs.Records.{row as row_text, same_row};
 ghost use Rattle.trick_model.specs.State.{number_at};
+ghost use Rattle.trick_record.specs.Held.{Rests};
 
 use crate::fields::{first, last, put};
+use csv::Writer;
 use itoa::Buffer;
 use std::alloc::{AllocError, Global};
 use trick_base::Items;
@@ -63,21 +65,21 @@ pub(crate) fn renew<M: Cells>(memory: &M, cells: &[Cell], row: &mut Items<i64>)
     }
 }
 
-/// The text of a row in an empty buffer: the tic and the numbers of these cells.
-pub(crate) fn text_of<M: Cells>(
-    line: Vec<u8>,
+/// Writes a row: the tic and the numbers of these cells.
+pub(crate) fn write_row<M: Cells>(
+    writer: &mut Writer<Vec<u8>>,
     tic: u64,
     memory: &M,
     cells: &[Cell],
-) -> Result<Vec<u8>, AllocError>
-    requires { line.items ≡ [] }
-    ensures { IfOk result (λ text. text.items
-        ≡ row_text tic (map (λ (cell : Cell). number_at (M.numbers memory.now) cell.0) cells.now)) }
+) -> Result<(), AllocError>
+    ensures { OnOk result ((bytes : _) → Rests (λ v. Some v.items) writer.old bytes
+        → Rests (λ v. Some v.items) writer.new (bytes
+        ++ row_text tic (map (λ (cell : Cell). number_at (M.numbers memory.now) cell.0) cells.now))) }
 {
     let mut buffer = Buffer::new();
-    let mut writer = first(line, buffer.format(tic).as_bytes())?;
+    first(writer, buffer.format(tic).as_bytes())?;
     for cell in cells {
-        put(&mut writer, buffer.format(number(memory, *cell)).as_bytes())?;
+        put(writer, buffer.format(number(memory, *cell)).as_bytes())?;
     }
     last(writer)
 }
