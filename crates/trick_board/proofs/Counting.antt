@@ -12,7 +12,7 @@ use Rattle.trick_board.proofs.Stages.{all_idle, due_kept}
 use Rattle.trick_board.specs.Board.{AreDueAmong, IsOpenOf, opened_of}
 use Rattle.trick_board.specs.Counts.{AreCounted, IsCounted, count_anew, count_at, one_if, open_among, with_fewer}
 use Rattle.trick_board.specs.Search.{ArePassed, find_first, find_wanted, is_open, is_waiting}
-use Rattle.trick_board.specs.Tables.{IsFor, depended_of, followers_of, scheduled}
+use Rattle.trick_board.specs.Tables.{IsFor, awaits, depended_of, followers_of, scheduled}
 use Rattle.trick_board.specs.declared.search.Wanted.TheVariants as wanted
 use Rattle.trick_board.specs.declared.tables.Tables.{Tables}
 use Rattle.trick_lang.specs.declared.job.Job.{Job}
@@ -27,7 +27,7 @@ use Rattle.trick_model.specs.declared.plan.Plan.{Plan as PlanValue}
 use Rattle.trick_schedule.proofs.Due.{among_filter, due_there}
 use Rattle.trick_schedule.proofs.Keys.{among_cases, among_first, among_rest, before_among, none_among, not_itself, not_test, test_of}
 use Rattle.trick_schedule.specs.Play.{is_due, stage_at}
-use Rattle.trick_schedule.specs.Tics.{IsDueIn, depends_on, tic_of}
+use Rattle.trick_schedule.specs.Tics.{IsDueIn, tic_of}
 use Rattle.trick_schedule.specs.declared.stage.Stage.{Stage}
 use Rattle.trick_schedule.specs.declared.stage.Stage.TheVariants.{Done, Idle, InFlight, Waiting}
 
@@ -79,7 +79,7 @@ counts_match law plan tables right j k is_scheduled there_j there_k =
     ap (occurrences k) (right.followers j there_j)
     ∙ occurs_once plan.program.jobs (followers_of p j) k (tested_order law plan depends)
     ∙ ap one_if (among_filter depends k (scheduled p) ∙ ap (λ (b : Bool). depends k && b) is_scheduled ∙ and_true (depends k))
-    ∙ sym (occurs_once plan.program.jobs (depended_of p k) j (tested_order law plan (depends_on plan.depends k)))
+    ∙ sym (occurs_once plan.program.jobs (depended_of p k) j (tested_order law plan (awaits plan.program.jobs plan.depends k)))
     ∙ sym (ap (occurrences j) (right.depended k there_k))
 
 -- ---- counts that are lowered

@@ -4,7 +4,7 @@ use Rattle.std.specs.List.{slice_index_or}
 use Rattle.std.specs.Option.{IfSome}
 use Rattle.std.specs.Prelude.{filter, if◌then◌else◌}
 use Rattle.trick_board.specs.Search.{find_first, find_wanted, meets, other_than}
-use Rattle.trick_board.specs.Tables.{IsFor, scheduled}
+use Rattle.trick_board.specs.Tables.{IsFor, awaits, scheduled}
 use Rattle.trick_board.specs.declared.search.Wanted.{Wanted}
 use Rattle.trick_board.specs.declared.tables.Tables.{Tables}
 use Rattle.trick_lang.specs.declared.class.Class.TheVariants as class
@@ -14,7 +14,6 @@ use Rattle.trick_model.specs.Order.{is_of_class}
 use Rattle.trick_model.specs.Plan.{Plan, job_numbers, thread_of}
 use Rattle.trick_model.specs.Valid.{ids}
 use Rattle.trick_schedule.specs.Play.{stage_at}
-use Rattle.trick_schedule.specs.Tics.{depends_on}
 use Rattle.trick_schedule.specs.declared.stage.Stage.{Stage}
 
 found_below : (test : ℕ → Bool) (n : ℕ) (jobs : List JobId) → Below n (ids jobs)
@@ -47,7 +46,7 @@ pub in_depended : (p : Plan) (tables : Tables) → IsFor p tables → (kind : Wa
     → IfSome (find_wanted kind stages (slice_index_or tables.depended k [])) (λ (job : JobId). job.0 < length p.jobs)
 in_depended p tables right kind stages k there =
     found_below (λ j. meets kind (stage_at stages j)) (length p.jobs) (slice_index_or tables.depended k [])
-    (subst (Below (length p.jobs)) (sym (right.depended k there)) (scheduled_below p (depends_on p.depends k)))
+    (subst (Below (length p.jobs)) (sym (right.depended k there)) (scheduled_below p (awaits p.jobs p.depends k)))
 
 -- a job that is another one
 pub other_below : (job : JobId) (n : ℕ) (found : Option JobId) → IfSome found (λ (j : JobId). j.0 < n)

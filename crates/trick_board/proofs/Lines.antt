@@ -1,11 +1,11 @@
 -- The tables of a plan: threads that no job can have, and the pairs of one target.
 use Rattle.std.proofs.Common.{◌≡◌, ℕ, ◌≤◌, ◌==◌, ◌&&◌, ◌||◌, nat_le, Bool, true, false, cond, List, [], ◌∷◌, length, refl, sym, ◌∙◌, ap, subst, arith, inl, inr}
-use Rattle.std.proofs.lemmas.Bool.{cases_lt}
+use Rattle.std.proofs.lemmas.Bool.{and_left, cases_lt}
 use Rattle.std.proofs.lemmas.Bool.Decides.{nat_tests}
 use Rattle.std.proofs.lemmas.List.{get_or_past}
 use Rattle.std.proofs.lemmas.List.Sums.{AllPass-from_list_all}
-use Rattle.std.specs.Prelude.{filter}
-use Rattle.trick_board.specs.Tables.{depended_of, line_of, scheduled}
+use Rattle.std.specs.Prelude.{filter, not}
+use Rattle.trick_board.specs.Tables.{awaits, depended_of, is_ahead, line_of, scheduled}
 use Rattle.trick_lang.specs.Valid.{have_right_threads}
 use Rattle.trick_lang.specs.declared.job.Job.{Job}
 use Rattle.trick_model.specs.Plan.{Plan, no_job, thread_of}
@@ -38,7 +38,7 @@ no_line p thread right large =
 -- ---- pairs
 
 -- the pairs of a target alone say what it depends on
-pub own_pairs : (pairs : List Depends) (k a : ℕ) → depends_on (filter (λ (pair : Depends). (pair.target).0 == k) pairs) k a ≡ depends_on pairs k a
+own_pairs : (pairs : List Depends) (k a : ℕ) → depends_on (filter (λ (pair : Depends). (pair.target).0 == k) pairs) k a ≡ depends_on pairs k a
 own_pairs [] k a = refl
 own_pairs (pair ∷ pairs) k a = by_test (own_pairs pairs k a) ((pair.target).0 == k) refl
   where
@@ -51,5 +51,10 @@ own_pairs (pair ∷ pairs) k a = by_test (own_pairs pairs k a) ((pair.target).0 
 -- a job without pairs depends on none
 pub no_depended : (p : Plan) (k : ℕ) → filter (λ (pair : Depends). (pair.target).0 == k) p.depends ≡ [] → depended_of p k ≡ []
 no_depended p k none =
-    none_pass (depends_on p.depends k) (scheduled p)
-    (λ a. sym (own_pairs p.depends k a) ∙ ap (λ (pairs : List Depends). depends_on pairs k a) none)
+    none_pass (awaits p.jobs p.depends k) (scheduled p)
+    (λ a. and_left _ _ (sym (own_pairs p.depends k a) ∙ ap (λ (pairs : List Depends). depends_on pairs k a) none))
+
+-- the pairs of a target alone say what it waits for
+pub own_awaits : (jobs : List Job) (pairs : List Depends) (k a : ℕ)
+    → awaits jobs (filter (λ (pair : Depends). (pair.target).0 == k) pairs) k a ≡ awaits jobs pairs k a
+own_awaits jobs pairs k a = ap (λ (b : Bool). b && not (is_ahead jobs k a)) (own_pairs pairs k a)

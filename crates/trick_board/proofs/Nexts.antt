@@ -1,14 +1,14 @@
 -- What a thread can do next, by the tables of a plan.
 use Rattle.std.proofs.Common.{◌≡◌, ◌⊎◌, inl, inr, ℕ, ◌==◌, Bool, true, false, cond, List, [], ◌∷◌, Option, Some, None, IsTrue, refl, sym, ◌∙◌, ap, subst}
-use Rattle.std.proofs.lemmas.Bool.{both_ways}
+use Rattle.std.proofs.lemmas.Bool.{and_from, and_parts, both_ways}
 use Rattle.std.specs.List.{slice_index_or}
-use Rattle.std.specs.Prelude.{filter}
+use Rattle.std.specs.Prelude.{filter, not}
 use Rattle.trick_board.proofs.Own.{before_all, before_first, before_thread, before_within, none_opens, open_some}
 use Rattle.trick_board.proofs.Firsts.{Found, among_tested, due_scheduled, find_none, find_some, tested, tested_order}
 use Rattle.trick_board.specs.Answers.{CanDo, IsLeast, IsMissing, WaitsOn}
 use Rattle.trick_board.specs.Counts.{before_on, own_anew}
 use Rattle.trick_board.specs.Search.{AreFirst, find_first, find_wanted, is_in_flight, is_open, is_waiting, last_of, least_of, missing_in, next_by, next_in, other_than, ready_or}
-use Rattle.trick_board.specs.Tables.{IsFor, depended_of, line_of, scheduled, thread_in}
+use Rattle.trick_board.specs.Tables.{IsFor, awaits, depended_of, is_ahead, line_of, scheduled, thread_in}
 use Rattle.trick_board.specs.declared.search.Next.TheVariants.{Ready}
 use Rattle.trick_board.specs.declared.search.Wanted.TheVariants as wanted
 use Rattle.trick_board.specs.declared.tables.Tables.{Tables}
@@ -164,9 +164,9 @@ module _ (plan : PlanValue) (on : Flags) (number : ℕ) (tables : Tables) (stage
       IsDueIn (tic_of plan on number) a × (is_done (stage_at stages a) ≡ false)
       × IsTrue (precedes plan.program.jobs a k) × (thread_of plan.program.jobs a ≡ thread_of plan.program.jobs k)
 
-  -- one that the job depends on
+  -- another one that the job depends on
   abbrev Depended : ℕ → ℕ → Type 0
-  Depended k a = IsDueIn (tic_of plan on number) a × (is_done (stage_at stages a) ≡ false) × IsTrue (depends_on plan.depends k a)
+  Depended k a = IsDueIn (tic_of plan on number) a × (is_done (stage_at stages a) ≡ false) × IsTrue (awaits plan.program.jobs plan.depends k a)
 
   is_open_one : Sees plan on number tables stages → (a : ℕ) → IsDueIn (tic_of plan on number) a → is_done (stage_at stages a) ≡ false → IsTrue (is_open (stage_at stages a))
   is_open_one sees a due out = due_not_done (stage_at stages a) (sees.due a ∙ due) out
@@ -212,7 +212,7 @@ module _ (plan : PlanValue) (on : Flags) (number : ℕ) (tables : Tables) (stage
       same = sees.tables_are.depended job.0 (due_there (tic_of plan on number) job.0 due)
 
       among : (a : ℕ) → Depended job.0 a → IsTrue (is_among a (depended_of (plan_of plan) job.0))
-      among a is = among_tested (depends_on plan.depends job.0) a (scheduled (plan_of plan)) is.2 (due_scheduled sees.keys plan on number a is.0)
+      among a is = among_tested (awaits plan.program.jobs plan.depends job.0) a (scheduled (plan_of plan)) is.2 (due_scheduled sees.keys plan on number a is.0)
 
       by_found : (r : Option JobId) → find_wanted wanted.Open stages (slice_index_or tables.depended job.0 []) ≡ r
           → NoneOrLeast (tic_of plan on number) (Depended job.0) r
@@ -222,12 +222,12 @@ module _ (plan : PlanValue) (on : Flags) (number : ℕ) (tables : Tables) (stage
           let found : Found plan.program.jobs (λ k. is_open (stage_at stages k)) (depended_of (plan_of plan) job.0) d.0 =
           subst (λ (ks : List ℕ). Found plan.program.jobs (λ k. is_open (stage_at stages k)) ks d.0) same
           (find_some plan.program.jobs (λ k. is_open (stage_at stages k)) (slice_index_or tables.depended job.0 []) d
-          (subst (λ (ks : List ℕ). AreInKeyOrder plan.program.jobs ks) (sym same) (tested_order sees.keys plan (depends_on plan.depends job.0))) is) in
+          (subst (λ (ks : List ℕ). AreInKeyOrder plan.program.jobs ks) (sym same) (tested_order sees.keys plan (awaits plan.program.jobs plan.depends job.0))) is) in
           record {
             holds = (
               open_is_due sees d.0 (open_due (stage_at stages d.0) found.passes),
               open_not_done (stage_at stages d.0) found.passes,
-              tested (depends_on plan.depends job.0) d.0 (scheduled (plan_of plan)) found.among,
+              tested (awaits plan.program.jobs plan.depends job.0) d.0 (scheduled (plan_of plan)) found.among,
             );
             least = λ a depends first. found.least a (among a depends) (is_open_one sees a depends.0 depends.1) first;
           }
@@ -251,12 +251,17 @@ module _ (plan : PlanValue) (on : Flags) (number : ℕ) (tables : Tables) (stage
   of_missing : (k a : ℕ) → IsMissing (tic_of plan on number) stages k a → Before k a ⊎ Depended k a
   of_missing k a h = elim (h.0).before [
     | inl same ↦ inl ((h.0).due, h.1, same.0, same.1)
-    | inr depends ↦ inr ((h.0).due, h.1, depends)
+    | inr depends ↦ by_place depends (is_ahead plan.program.jobs k a) refl
   ]
+    where
+      by_place : IsTrue (depends_on plan.depends k a) → (b : Bool) → is_ahead plan.program.jobs k a ≡ b → Before k a ⊎ Depended k a
+      by_place depends true ahead =
+          let both = and_parts (precedes plan.program.jobs a k) _ ahead in inl ((h.0).due, h.1, both.0, same_of _ _ both.1)
+      by_place depends false behind = inr ((h.0).due, h.1, and_from _ _ depends (ap not behind))
 
   to_missing : (k a : ℕ) → Before k a ⊎ Depended k a → IsMissing (tic_of plan on number) stages k a
   to_missing k a (inl h) = (record { due = h.0; before = inl (h.2, h.3) }, h.1)
-  to_missing k a (inr h) = (record { due = h.0; before = inr h.2 }, h.1)
+  to_missing k a (inr h) = (record { due = h.0; before = inr (and_parts (depends_on plan.depends k a) _ h.2).0 }, h.1)
 
   as_missing : (k : ℕ) (r : Option JobId) → NoneOrLeast (tic_of plan on number) (λ a. Before k a ⊎ Depended k a) r
       → NoneOrLeast (tic_of plan on number) (IsMissing (tic_of plan on number) stages k) r

@@ -1,5 +1,5 @@
 -- How many of the predecessors of a due job are not committed, and how a commit lowers these counts. The
--- predecessors are of two kinds: the jobs that it depends on, and the due jobs before it on its thread.
+-- predecessors are of two kinds: the due jobs before it on its thread, and others that it depends on.
 use Rattle.std.specs.List.{slice_index_or}
 use Rattle.std.specs.Prelude.{◌≡◌, ℕ, ◌+◌, ◌-◌, ◌==◌, ◌&&◌, cond, Bool, true, false, IsTrue, List, [], ◌∷◌, slice_set}
 use Rattle.trick_board.specs.Search.{is_open}
@@ -23,9 +23,9 @@ open_among stages (job ∷ jobs) = one_if (is_open (stage_at stages job.0)) + op
 abbrev pub count_at : List ℕ → ℕ → ℕ
 count_at counts k = slice_index_or counts k 0
 
--- ---- the jobs that a job depends on
+-- ---- the jobs that a job depends on, but for those before it on its thread
 
--- The count of a job, made anew: how many of those that it depends on are due and not committed.
+-- The count of a job, made anew: how many of them are due and not committed.
 abbrev pub count_anew : Tables → List Stage → ℕ → ℕ
 count_anew tables stages k = open_among stages (slice_index_or tables.depended k [])
 

@@ -1,13 +1,15 @@
 -- Lists of jobs that a board looks up, which a plan settles.
 use Rattle.std.specs.List.{slice_index_or}
-use Rattle.std.specs.Prelude.{◌≡◌, ℕ, ◌<◌, ◌==◌, List, [], filter, length}
+use Rattle.std.specs.Prelude.{◌≡◌, ℕ, ◌<◌, ◌==◌, ◌&&◌, Bool, not, List, [], filter, length}
 use Rattle.trick_board.specs.declared.tables.Tables.{Tables}
 use Rattle.trick_lang.specs.declared.class.Class.TheVariants as class
+use Rattle.trick_lang.specs.declared.job.Job.{Job}
 use Rattle.trick_lang.specs.declared.job.JobId.{JobId}
 use Rattle.trick_model.specs.Laws.{is_among}
-use Rattle.trick_model.specs.Order.{jobs_in}
+use Rattle.trick_model.specs.Order.{jobs_in, precedes}
 use Rattle.trick_model.specs.Plan.{Plan, thread_of}
 use Rattle.trick_model.specs.Valid.{ids}
+use Rattle.trick_model.specs.declared.depends.Depends.{Depends}
 use Rattle.trick_schedule.specs.Tics.{depends_on}
 
 -- the jobs of class scheduled, in key order
@@ -18,11 +20,19 @@ scheduled p = jobs_in p.jobs class.Scheduled
 abbrev pub line_of : Plan → ℕ → List ℕ
 line_of p thread = filter (λ k. thread_of p.jobs k == thread) (scheduled p)
 
--- those of them that a job depends on
-abbrev pub depended_of : Plan → ℕ → List ℕ
-depended_of p k = filter (depends_on p.depends k) (scheduled p)
+-- another job comes before a job on its thread, so it waits for that one in any case
+abbrev pub is_ahead : List Job → ℕ → ℕ → Bool
+is_ahead jobs k a = precedes jobs a k && (thread_of jobs a == thread_of jobs k)
 
--- those of them that depend on a job
+-- a job waits for another one by a depends_on pair alone
+abbrev pub awaits : List Job → List Depends → ℕ → ℕ → Bool
+awaits jobs pairs k a = depends_on pairs k a && not (is_ahead jobs k a)
+
+-- those of them that a job waits for so
+abbrev pub depended_of : Plan → ℕ → List ℕ
+depended_of p k = filter (awaits p.jobs p.depends k) (scheduled p)
+
+-- those of them that wait so for a job
 abbrev pub followers_of : Plan → ℕ → List ℕ
 followers_of p a = filter (λ k. is_among a (depended_of p k)) (scheduled p)
 
@@ -35,7 +45,7 @@ abbrev pub thread_in : Tables → ℕ → ℕ
 thread_in tables k = slice_index_or tables.threads k 0
 
 -- The tables are those of the plan: the thread of each job, the jobs of each thread, those that each job
--- depends on, and those that depend on each job.
+-- waits for by pairs alone, and those that wait so for each job.
 pub record IsFor (p : Plan) (tables : Tables) : Type 0 where
   pub threads : (k : ℕ) → thread_in tables k ≡ thread_of p.jobs k
   pub lines : (thread : ℕ) → ids_at tables.lines thread ≡ line_of p thread

@@ -133,8 +133,8 @@ pub fn lower(jobs: &[JobId], counts: &mut Vec<usize>)
     }
 }
 
-/// The first job that a due job depends on and that is not committed. It searches only where the count
-/// says that there is one.
+/// The first job that a due job depends on, but for those before it on its thread, and that is not
+/// committed. It searches only where the count says that there is one.
 pub fn awaited(tables: &Tables, stages: &[Stage], counts: &[usize], job: JobId) -> Option<JobId>
     requires { IsCounted tables.now stages.now counts.now job.0 }
     ensures { result ≡ find_wanted Open stages.now (slice_index_or tables.now.depended job.0 []) }

@@ -1,6 +1,6 @@
 ghost use Rattle.std.specs.List.{slice_index_or};
 ghost use Rattle.std.specs.Prelude.{◌≡◌, ℕ, ◌==◌, ◌∷◌, ◌++◌, ◌<◌, [], IfOk, cond, filter, length};
-ghost use Rattle.trick_board.specs.Tables.{IsFor, depended_of, followers_of, ids_at, line_of, thread_in};
+ghost use Rattle.trick_board.specs.Tables.{IsFor, awaits as awaits_of, depended_of, followers_of, ids_at, is_ahead as is_ahead_of, line_of, thread_in};
 ghost use Rattle.trick_model.specs.Laws.{is_among};
 ghost use Rattle.trick_model.specs.Plan.{thread_of as thread_of_job};
 ghost use Rattle.trick_model.specs.PlanOf.{plan_of};
@@ -11,7 +11,7 @@ ghost use Rattle.trick_schedule.specs.Tics.{depends_on as depends_on_of};
 use std::alloc::{AllocError, Global};
 use trick_base::Items;
 use trick_lang::{Class, JobId};
-use trick_model::{Depends, Plan};
+use trick_model::{Depends, Plan, precedes};
 
 // Threads go from 0 to 15.
 pub(crate) const THREADS: u8 = 16;
@@ -23,9 +23,9 @@ pub struct Tables {
     pub(crate) threads: Items<u8>,
     /// By thread, its jobs.
     pub(crate) lines: Items<Items<JobId>>,
-    /// By job, those that it depends on.
+    /// By job, those that it depends on and that are not before it on its thread.
     pub(crate) depended: Items<Items<JobId>>,
-    /// By job, those that depend on it.
+    /// By job, those that wait for it so.
     pub(crate) followers: Items<Items<JobId>>,
 }
 
@@ -81,8 +81,29 @@ fn pairs_of(alloc: Global, pairs: &[Depends], target: JobId) -> Result<Items<Dep
     Ok(Items::from_vec(own))
 }
 
-// The jobs that a job depends on. It costs the pairs, and the jobs for each of its own.
+// Whether another job comes before a job on its thread.
+fn is_ahead(plan: &Plan, target: JobId, other: JobId) -> bool
+    requires target { target.0 < length plan.now.program.jobs }
+    requires other { other.0 < length plan.now.program.jobs }
+    ensures { result ≡ is_ahead_of plan.now.program.jobs target.0 other.0 }
+{
+    let (job, before) = (plan.job(target), plan.job(other));
+    precedes(before, job) && before.thread == job.thread
+}
+
+// Whether a job waits for another one by these pairs alone.
+fn awaits(plan: &Plan, pairs: &[Depends], target: JobId, other: JobId) -> bool
+    requires target { target.0 < length plan.now.program.jobs }
+    requires other { other.0 < length plan.now.program.jobs }
+    ensures { result ≡ awaits_of plan.now.program.jobs pairs.now target.0 other.0 }
+{
+    depends_on(pairs, target, other) && !is_ahead(plan, target, other)
+}
+
+// The jobs that a job depends on, but for those before it on its thread. It costs the pairs, and the jobs
+// for each of its own.
 fn depended(alloc: Global, plan: &Plan, target: JobId) -> Result<Items<JobId>, AllocError>
+    requires { target.0 < length plan.now.program.jobs }
     ensures { IfOk result (λ jobs. ids jobs ≡ depended_of (plan_of plan.now) target.0) }
 {
     let mut jobs = Items::new(alloc);
@@ -92,7 +113,7 @@ fn depended(alloc: Global, plan: &Plan, target: JobId) -> Result<Items<JobId>, A
     }
     let all = plan.jobs_of_class(Class::Scheduled);
     for job in all {
-        let wanted = depends_on(own.as_slice(), target, *job);
+        let wanted = awaits(plan, own.as_slice(), target, *job);
         add(&mut jobs, *job, wanted)?;
     }
     Ok(jobs)
@@ -109,7 +130,7 @@ fn lines(alloc: Global, plan: &Plan) -> Result<Items<Items<JobId>>, AllocError>
     Ok(lines)
 }
 
-// The jobs that each job depends on.
+// The jobs that each job depends on, but for those before it on its thread.
 fn all_depended(alloc: Global, plan: &Plan) -> Result<Items<Items<JobId>>, AllocError>
     ensures { IfOk result (λ all. (k : ℕ) → k < length plan.now.program.jobs
         → ids_at all k ≡ depended_of (plan_of plan.now) k) }
@@ -133,7 +154,7 @@ fn is_listed(jobs: &[JobId], job: JobId) -> bool
     false
 }
 
-// The jobs that depend on a job, by those that each job depends on.
+// The jobs that wait for a job, by those that each job waits for.
 fn followers(
     alloc: Global,
     plan: &Plan,
@@ -153,7 +174,7 @@ fn followers(
     Ok(jobs)
 }
 
-// The jobs that depend on each job.
+// The jobs that wait for each job.
 fn all_followers(
     alloc: Global,
     plan: &Plan,

@@ -92,3 +92,9 @@ returns-clause-jobs g c =
     few_late plan _ c.args.tic (λ d t. (c.due_test_is_exact.ensures d t).1) own small in
     subst (λ (q : QueuesView). c.pass_tic-taken.result ≤ late_jobs (plan_of plan) q.from c.args.tic + 1) c.self.view_is
     (omega (arith, few, c.pass_tic-taken.ensures.steps, c.pass_tic-taken.ensures.counted))
+
+pub returns-clause-steps : goal.returns-clause-steps
+returns-clause-steps g c = search rules
+
+pub returns-clause-counted : goal.returns-clause-counted
+returns-clause-counted g c = search rules
