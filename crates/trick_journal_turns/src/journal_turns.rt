@@ -189,6 +189,14 @@ impl<M: Cells> Turns<M> for JournalTurns {
 
     ghost takes = { λ turns session. Unit {0} };
 
+    fn gives_nothing(&mut self, state: &State<M>, _live: &[Session]) -> bool {
+        if is_frozen(state.mode) || self.end <= state.turn || !self.is_quiet() {
+            return false;
+        }
+        self.pass_quiet(false);
+        true
+    }
+
     fn entries(&mut self, alloc: Global, state: &State<M>, _live: &[Session]) -> Next {
         let frozen = is_frozen(state.mode);
         if self.is_done(frozen) {

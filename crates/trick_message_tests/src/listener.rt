@@ -50,6 +50,10 @@ impl<M: Cells> Turns<M> for Listener {
 
     ghost takes = { λ turns session. Unit {0} };
 
+    fn gives_nothing(&mut self, state: &State<M>, live: &[Session]) -> bool {
+        self.journal.gives_nothing(state, live)
+    }
+
     fn entries(&mut self, alloc: Global, state: &State<M>, live: &[Session]) -> Next {
         self.journal.entries(alloc, state, live)
     }

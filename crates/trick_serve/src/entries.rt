@@ -376,6 +376,13 @@ impl<M: Cells, I: Drop, O: Drop, R: Wait + Copy> Turns<M> for Served<I, O, R> {
 
     ghost takes = { λ turns session. (0 < session) × (session ≤ length turns.roll.seats.items) };
 
+    fn gives_nothing(&mut self, state: &State<M>, there: &[Session]) -> bool {
+        if self.mark != self.bell.mark() || is_frozen(state.mode) {
+            return false;
+        }
+        self.is_calm(there)
+    }
+
     fn entries(&mut self, alloc: Global, state: &State<M>, there: &[Session]) -> Next {
         self.next(&mut Brought, alloc, state, there)
     }

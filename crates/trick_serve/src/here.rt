@@ -51,6 +51,11 @@ where
 
     ghost takes = { λ turns session. (0 < session) × (session ≤ length turns.served.roll.seats.items) };
 
+    // Whoever asks the door himself does so in each turn, so that no turn passes without a look.
+    fn gives_nothing(&mut self, _state: &State<M>, _there: &[Session]) -> bool {
+        false
+    }
+
     fn entries(&mut self, alloc: Global, state: &State<M>, there: &[Session]) -> Next {
         self.served.next(&mut self.asking, alloc, state, there)
     }

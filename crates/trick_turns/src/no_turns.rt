@@ -23,6 +23,13 @@ impl<M: Cells> Turns<M> for NoTurns {
 
     ghost takes = { λ turns session. Unit {0} };
 
+    fn gives_nothing(&mut self, state: &State<M>, _live: &[Session]) -> bool {
+        match state.mode {
+            Mode::Freeze => false,
+            Mode::Run | Mode::Shutdown => true,
+        }
+    }
+
     fn entries(&mut self, _alloc: Global, state: &State<M>, _live: &[Session]) -> Next {
         match state.mode {
             Mode::Freeze => Next::NoMore,

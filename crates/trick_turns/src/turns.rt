@@ -1,6 +1,7 @@
-ghost use Rattle.std.specs.Prelude.{◌≡◌, ◌++◌, [], Bool, IsTrue, List, ℕ, Option};
+ghost use Rattle.std.specs.Prelude.{◌≡◌, ◌++◌, [], Bool, IsTrue, List, ℕ, Option, false, true};
 ghost use Rattle.trick_model.specs.Session.{Message};
 ghost use Rattle.trick_model.specs.State.{seen};
+ghost use Rattle.trick_turns.specs.declared.turns.Next.TheVariants.{Nothing};
 
 use std::alloc::{AllocError, Global};
 use trick_lang::Cells;
@@ -50,6 +51,17 @@ pub trait Turns<M: Cells> {
 
     /// It takes messages to the session of this number.
     ghost takes: { Self → ℕ → Type 0 };
+
+    /// Gives the turn that comes next no entry, in this state, where these sessions are there and it is known at once
+    /// that there is none; and tells whether it did. True means what `Next::Nothing` of `entries` means. Else nothing
+    /// changes, and `entries` says what the turn is given. It costs next to nothing, and takes no memory.
+    fn gives_nothing(&mut self, state: &State<M>, live: &[Session]) -> bool
+        ensures step { result ≡ true → went self.old (answered (seen M.numbers state.now) live.now Nothing) [] self.new }
+        ensures pays { result ≡ true → Pays (seen M.numbers state.now) Nothing (owes self.old) (owes self.new) }
+        ensures gives { result ≡ true → Gives (seen M.numbers state.now) (journal self.old) Nothing (journal self.new) }
+        ensures rules { result ≡ true → GoesOn (decided self.old) (sessions self.old) Nothing (sessions self.new) }
+        ensures decides { result ≡ true → decided self.new ≡ decided self.old }
+        ensures unchanged { result ≡ false → self.new ≡ self.old };
 
     /// The entries of the turn that comes next, in this state, where these sessions are there. Where it
     /// tells a journal, what it answers is what the journal says. A gap is what as many empty lists would be.
