@@ -37,7 +37,7 @@ gap_known p turns live _ _ _ _ ss (gap.more s count old mid now gives rest) are 
     gap_known p turns live (counted s) count mid now ss rest (idle_known p (turns.sessions old) (turns.sessions mid) ss ss are gives.there refl)
 
 -- a run is equipped after it
-pub equipped_later : (plan : PlanValue) (equipment : Equipment) (in_flight : ℕ → Option Started) (s : State) (scalars : List Scalar) (turns turn : ℕ)
+pub equipped_later : {L : Type 0} (plan : PlanValue) (equipment : Equipment L) (in_flight : ℕ → Option Started) (s : State) (scalars : List Scalar) (turns turn : ℕ)
     → min (s.turn + turns) last_turn ≡ turn → IsEquipped plan equipment in_flight s scalars
     → IsEquipped plan equipment in_flight (record s { turn = turn }) scalars
 equipped_later plan equipment in_flight s scalars turns turn is equipped =

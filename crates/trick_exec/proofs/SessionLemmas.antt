@@ -12,7 +12,7 @@ use Rattle.trick_hear.specs.Sessions.{joining, numbers_of}
 use Rattle.trick_model.proofs.Runs.{and_left, and_right}
 use Rattle.trick_model.specs.Events.{names_of}
 use Rattle.trick_model.specs.Journal.{is_entry}
-use Rattle.trick_model.specs.Names.{Deed, deed_of}
+use Rattle.trick_model.specs.Names.{deed_of}
 use Rattle.trick_model.specs.Plan.{Plan}
 use Rattle.trick_model.specs.Session.{Answer, Message, acted, answered, bad, is_sampled, joined, quiet, sample, samples, staying}
 use Rattle.trick_model.specs.State.{State}
@@ -20,6 +20,7 @@ use Rattle.trick_model.specs.Turn.{Hearing, changed, hear, heard, replies, reply
 use Rattle.trick_model.specs.Valid.{rises}
 use Rattle.trick_model.specs.declared.command.Command.{Command}
 use Rattle.trick_model.specs.declared.command.Command.TheVariants as command
+use Rattle.trick_model.specs.declared.deed.Deed.{Deed}
 use Rattle.trick_model.specs.declared.entry.Entry.{Entry}
 use Rattle.trick_model.specs.declared.entry.Entry.TheVariants.{Join, Said, Leave, Publish}
 use Rattle.trick_model.specs.declared.session.Session.{Session}

@@ -19,25 +19,25 @@ use Rattle.trick_turns.specs.Turns.{no_sessions}
 use Rattle.trick_turns.specs.declared.turns.Turns.{Ghosts as TurnsGhosts}
 
 -- A run works with the shelf, the workers and the source that another worked with.
-abbrev pub IsSame : {F H Q U : Type 0} → Run F H Q U → Run F H Q U → Type 0
+abbrev pub IsSame : {F H Q U L : Type 0} → Run F H Q U L → Run F H Q U L → Type 0
 IsSame old new = (new.shelf.ghost_name ≡ old.shelf.ghost_name) × (new.workers.ghost_name ≡ old.workers.ghost_name)
     × (new.turns.ghost_name ≡ old.turns.ghost_name)
 
 -- the hosts of a run at one moment
-abbrev pub place : {F H Q U : Type 0} → Run F H Q U → Place F U Q
+abbrev pub place : {F H Q U L : Type 0} → Run F H Q U L → Place F U Q
 place run = at run.shelf.now run.turns.now run.workers.now.posts
 
 -- The workers of a run are the plan's, and the run is under way with its equipment.
-pub record IsReady {F H Q U M : Type 0} (phase : PhasesGhosts H M) (post : PostsGhosts Q) (plan : PlanValue)
-    (run : Run F H Q U) (s : State) (scalars : List Scalar) : Type 0 where
+pub record IsReady {F H Q U M L : Type 0} (phase : PhasesGhosts H M) (post : PostsGhosts Q) (plan : PlanValue)
+    (run : Run F H Q U L) (s : State) (scalars : List Scalar) : Type 0 where
   pub own : phase.is_for run.workers.now.phases plan
   pub posts : post.plan run.workers.now.posts ≡ plan
   pub equipped : IsEquipped plan run.equipment.now (post.in_flight run.workers.now.posts) s scalars
 
 -- A run may start from a state: the workers are the plan's and have nothing in flight, what is kept is made for
 -- the state, and the source has given nothing.
-pub record MayStart {F H Q U M : Type 0} (phase : PhasesGhosts H M) (post : PostsGhosts Q) (turns : TurnsGhosts U M)
-    (plan : PlanValue) (run : Run F H Q U) (s : State) (scalars : List Scalar) : Type 0 where
+pub record MayStart {F H Q U M L : Type 0} (phase : PhasesGhosts H M) (post : PostsGhosts Q) (turns : TurnsGhosts U M)
+    (plan : PlanValue) (run : Run F H Q U L) (s : State) (scalars : List Scalar) : Type 0 where
   pub own : phase.is_for run.workers.now.phases plan
   pub posts : post.plan run.workers.now.posts ≡ plan
   pub free : IsFree (plan_of plan) (post.in_flight run.workers.now.posts)

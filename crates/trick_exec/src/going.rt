@@ -14,8 +14,10 @@ ghost use Rattle.trick_turns.specs.Turns.{no_sessions};
 
 use crate::idle::idles;
 use crate::lent::Run;
+use crate::source::ask;
 use crate::turn::Given;
 use crate::{Ended, World};
+use std::sync::ledger::Ledger;
 use trick_lang::Cells;
 use trick_model::{Accepted, LAST_TURN, Mode, State, laws};
 use trick_outside::{Shelf, Stop};
@@ -49,7 +51,7 @@ fn later(turn: u64, turns: u64) -> u64
     turn.saturating_add(turns).min(LAST_TURN)
 }
 
-impl<'a, F: Shelf, H, P: Posts, T> Run<'a, F, H, P, T> {
+impl<'a, F: Shelf, H, P: Posts, T, L: Ledger> Run<'a, F, H, P, T, L> {
     /// The turns of a run, until it is over. Before each its source is asked for the turn's entries. A turn that is
     /// given none and in which nothing is done costs next to nothing, and turns in Freeze without an entry pass at
     /// once. It stops as for want of memory where entries come without an end at the last turn that is counted.
@@ -80,10 +82,7 @@ impl<'a, F: Shelf, H, P: Posts, T> Run<'a, F, H, P, T> {
             if is_over(&world.state) {
                 return Ok(Ended::Done(world));
             }
-            match self
-                .turns
-                .entries(self.alloc, &world.state, &world.sessions)
-            {
+            match ask(self.turns, self.alloc, &world.state, &world.sessions) {
                 Next::Entries(entries) => {
                     let given = Given {
                         entries: &entries,

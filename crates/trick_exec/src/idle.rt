@@ -7,6 +7,7 @@ ghost use Rattle.trick_model.specs.State.{seen};
 ghost use Rattle.trick_pass.specs.Pass.{IsEquipped, passed, unasked};
 
 use crate::World;
+use std::sync::ledger::Ledger;
 use trick_lang::Cells;
 use trick_model::Accepted;
 use trick_pass::{Equipment, pass_idle};
@@ -14,10 +15,10 @@ use trick_post::Posts;
 
 /// Passes a turn without entries in place, where no session is there and nothing is due in it; and tells whether it was
 /// such a turn. Else it changes nothing. It costs next to nothing, and takes no memory.
-pub(crate) fn idles<M: Cells, P: Posts>(
+pub(crate) fn idles<M: Cells, P: Posts, L: Ledger>(
     accepted: &Accepted,
     world: &mut World<M>,
-    equipment: &mut Equipment,
+    equipment: &mut Equipment<L>,
     posts: &P,
 ) -> bool
     requires equipped { IsEquipped accepted.now.plan equipment.old (P.in_flight posts.now)

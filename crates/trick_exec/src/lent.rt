@@ -3,34 +3,35 @@
 ghost use Rattle.std.specs.Prelude.{◌≡◌};
 
 use std::alloc::Global;
+use std::sync::ledger::Ledger;
 use trick_pass::Equipment;
 use trick_tic::Workers;
 
 /// What a run keeps beside its world: where its memory comes from, its equipment, and at how many run frames
 /// the round of each thread beside the tics has stayed unpublished.
 #[derive(Drop)]
-pub(crate) struct Keeping {
+pub(crate) struct Keeping<L: Ledger> {
     pub(crate) alloc: Global,
-    pub(crate) equipment: Equipment,
+    pub(crate) equipment: Equipment<L>,
     pub(crate) waits: Vec<u64>,
 }
 
 /// A run, as what it is lent: where its memory comes from, what it keeps beside its world, and the shelf, the
 /// workers and the source that it works with.
 #[derive(Drop)]
-pub(crate) struct Run<'a, F, H, P, T> {
+pub(crate) struct Run<'a, F, H, P, T, L: Ledger> {
     pub(crate) alloc: Global,
-    pub(crate) equipment: &'a mut Equipment,
+    pub(crate) equipment: &'a mut Equipment<L>,
     pub(crate) waits: &'a mut Vec<u64>,
     pub(crate) shelf: &'a mut F,
     pub(crate) workers: &'a mut Workers<H, P>,
     pub(crate) turns: &'a mut T,
 }
 
-impl<'a, F, H, P, T> Run<'a, F, H, P, T> {
+impl<'a, F, H, P, T, L: Ledger> Run<'a, F, H, P, T, L> {
     /// The run that is lent these.
     pub(crate) fn new(
-        keeping: &'a mut Keeping,
+        keeping: &'a mut Keeping<L>,
         shelf: &'a mut F,
         workers: &'a mut Workers<H, P>,
         turns: &'a mut T,

@@ -11,6 +11,7 @@ mod lines;
 mod publish;
 mod rest;
 mod sending;
+mod source;
 mod start;
 mod turn;
 mod whole;

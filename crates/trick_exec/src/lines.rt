@@ -19,6 +19,7 @@ ghost use Rattle.trick_tic.specs.Course.{IsCourseOf, IsMadeFor};
 ghost use Rattle.trick_tic.specs.Steps.{steps_of};
 ghost use Rattle.trick_turns.specs.Turns.{Sessions as SessionsOf, may_all_come};
 
+use std::sync::ledger::Ledger;
 use trick_files::note;
 use trick_hear::{Hearing, Message, hear};
 use trick_lang::Cells;
@@ -54,7 +55,12 @@ pub(crate) fn count_lines(entries: &[Entry]) -> usize
 }
 
 // Looks at a course again, where a turn had lines, which may have changed flags.
-fn look_again<M: Cells>(plan: &Plan, lines: &[Entry], state: &State<M>, course: &mut Course)
+fn look_again<M: Cells, L: Ledger>(
+    plan: &Plan,
+    lines: &[Entry],
+    state: &State<M>,
+    course: &mut Course<L>,
+)
     requires made { IsMadeFor plan.now course.old state.now.tic }
     requires tic { state.now.tic ≤ tic_limit + 1 }
     requires same { lines.now ≡ [] → IsCourseOf plan.now course.old (seen M.numbers state.now) }
@@ -68,11 +74,11 @@ fn look_again<M: Cells>(plan: &Plan, lines: &[Entry], state: &State<M>, course: 
 /// Hears the lines of a turn: they are noted and then heard, and the replies are given. Where there are some, they
 /// may have changed flags, so that the course is looked at again. It stops where the shelf failed, or where there
 /// was no memory; the state is of no use then.
-pub(crate) fn hear_lines<M: Cells, F: Shelf>(
+pub(crate) fn hear_lines<M: Cells, F: Shelf, L: Ledger>(
     accepted: &Accepted,
     lines: &[Entry],
     hearing: &mut Hearing<M>,
-    equipment: &mut Equipment,
+    equipment: &mut Equipment<L>,
     shelf: &mut F,
 ) -> Result<Vec<Message>, Stop>
     requires valid { IsStateOf (plan_of accepted.now.plan) (seen M.numbers hearing.old.current.state) }

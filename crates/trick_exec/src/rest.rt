@@ -20,6 +20,7 @@ use crate::World;
 use crate::lent::Run;
 use crate::sending::send_all;
 use std::alloc::{AllocError, Global};
+use std::sync::ledger::Ledger;
 use trick_hear::{Hearing, Message, samples, stay};
 use trick_lang::Cells;
 use trick_model::{Accepted, Entry, Session, State};
@@ -46,7 +47,7 @@ fn send_samples<M: Cells, T: Turns<M>>(
     Ok(())
 }
 
-impl<'a, F: Shelf, H, P: Posts, T> Run<'a, F, H, P, T> {
+impl<'a, F: Shelf, H, P: Posts, T, L: Ledger> Run<'a, F, H, P, T, L> {
     /// The rest of a turn after its notes: its replies are handed over, its frame passes with its publications,
     /// and its samples are handed over. It stops where the shelf failed, or where there was no memory; the
     /// world is gone then.

@@ -14,6 +14,7 @@ use crate::World;
 use crate::lent::Run;
 use crate::lines::{count_lines, hear_lines};
 use crate::publish::{choose_publications, decided, note_publications};
+use std::sync::ledger::Ledger;
 use trick_event::Asked;
 use trick_hear::Hearing;
 use trick_lang::Cells;
@@ -31,7 +32,7 @@ pub(crate) struct Given<'a> {
     pub(crate) decides: bool,
 }
 
-impl<'a, F: Shelf, H, P: Posts, T> Run<'a, F, H, P, T> {
+impl<'a, F: Shelf, H, P: Posts, T, L: Ledger> Run<'a, F, H, P, T, L> {
     /// A turn that was given these entries: its lines are noted and heard, its publications are chosen, where
     /// its source does not decide them, and noted, and then the turn takes its course. No message is handed over
     /// before all entries are noted. It stops where the shelf failed, or where there was no memory; the world is

@@ -1,6 +1,6 @@
 //! A whole run.
 
-ghost use Rattle.std.specs.Prelude.{◌≡◌, ◌+◌, ◌≤◌, IfOk, false, map};
+ghost use Rattle.std.specs.Prelude.{◌≡◌, ◌+◌, ◌<◌, ◌≤◌, IfOk, false, map};
 ghost use Rattle.trick_beside.specs.Flight.{AsksNothing, GoesWith, IsFree};
 ghost use Rattle.trick_beside.specs.Stations.{AreStations};
 ghost use Rattle.trick_beside.specs.declared.station.Station.{Station as StationValue};
@@ -25,6 +25,8 @@ ghost use Rattle.trick_turns.specs.Turns.{no_sessions};
 use crate::lent::{Keeping, Run};
 use crate::{Ended, Start, World};
 use std::alloc::{AllocError, Global};
+use std::marker::Brand;
+use std::sync::ledger::{Blank, Ledger};
 use trick_beside::{Station, start_held};
 use trick_eval::Bench;
 use trick_files::{begin_files, end_files};
@@ -35,6 +37,7 @@ use trick_outside::{Shelf, Stop};
 use trick_pass::Equipment;
 use trick_phase::Phases;
 use trick_post::Posts;
+use trick_queue::Steps;
 use trick_tic::Workers;
 use trick_turns::Turns;
 
@@ -50,13 +53,18 @@ fn no_wait(alloc: Global, stations: &[Station]) -> Result<Vec<u64>, AllocError>
 }
 
 // What a run of a plan keeps beside its world.
-fn keep<M: Cells>(alloc: Global, plan: &Plan, state: &State<M>) -> Result<Keeping, AllocError>
+fn keep<M: Cells, L: Ledger>(
+    alloc: Global,
+    plan: &Plan,
+    state: &State<M>,
+    steps: Steps<L>,
+) -> Result<Keeping<L>, AllocError>
     requires { state.now.tic ≤ tic_limit + 1 }
     ensures course { IfOk result (λ keeping. IsCourseOf plan.now keeping.equipment.course (seen M.numbers state.now)) }
     ensures bench { IfOk result (λ keeping. IsFor plan.now.program keeping.equipment.bench.parts) }
     ensures waits { IfOk result (λ keeping. keeping.waits.items ≡ no_waits (plan_of plan.now)) }
 {
-    let equipment = Equipment::new(alloc, plan, state)?;
+    let equipment = Equipment::new(alloc, plan, state, steps)?;
     let waits = no_wait(alloc, equipment.course.stations())?;
     Ok(Keeping {
         alloc,
@@ -66,7 +74,11 @@ fn keep<M: Cells>(alloc: Global, plan: &Plan, state: &State<M>) -> Result<Keepin
 }
 
 // Starts again what a state holds of threads beside the tics.
-fn hold<M: Cells, H, P: Posts>(equipment: &Equipment, state: &State<M>, workers: &mut Workers<H, P>)
+fn hold<M: Cells, H, P: Posts, L: Ledger>(
+    equipment: &Equipment<L>,
+    state: &State<M>,
+    workers: &mut Workers<H, P>,
+)
     requires stations { AreStations (plan_of (P.plan workers.old.posts)) equipment.now.course.ends.stations }
     requires valid { IsStateOf (plan_of (P.plan workers.old.posts)) (seen M.numbers state.now) }
     requires memory { IsMemoryOf (P.plan workers.old.posts).program (M.numbers state.now.memory)
@@ -102,7 +114,7 @@ fn close<M: Cells + Drop, F: Shelf>(
     Ok(world)
 }
 
-impl<'a, F: Shelf, H, P, T> Run<'a, F, H, P, T> {
+impl<'a, F: Shelf, H, P, T, L: Ledger> Run<'a, F, H, P, T, L> {
     // Ends a run whose turns came to this. Where its source tells a journal that has another end, the run ends
     // as one that does not fit, and nothing more is written.
     fn end<M: Cells + Drop>(&mut self, plan: &Plan, world: World<M>) -> Result<Ended<M>, Stop>
@@ -129,7 +141,7 @@ impl<'a, F: Shelf, H, P, T> Run<'a, F, H, P, T> {
     }
 }
 
-impl<'a, F: Shelf, H, P: Posts, T> Run<'a, F, H, P, T> {
+impl<'a, F: Shelf, H, P: Posts, T, L: Ledger> Run<'a, F, H, P, T, L> {
     // The whole run from a state: its first files, its turns and its end.
     fn whole<M: Cells + Drop>(
         &mut self,
@@ -167,6 +179,39 @@ impl<'a, F: Shelf, H, P: Posts, T> Run<'a, F, H, P, T> {
     }
 }
 
+// Runs a plan, and counts in a ledger that this opens how often its calendar is read.
+fn run_by<M: Cells + Drop, F: Shelf, H: Phases<M>, P: Posts, T: Turns<M>, L: Ledger>(
+    accepted: &Accepted,
+    start: Start<M>,
+    shelf: &mut F,
+    workers: &mut Workers<H, P>,
+    turns: &mut T,
+    blank: Blank,
+) -> Result<Ended<M>, Stop>
+    requires own { H.is_for workers.old.phases accepted.now.plan }
+    requires posts { P.plan workers.old.posts ≡ accepted.now.plan }
+    requires free { IsFree (plan_of accepted.now.plan) (P.in_flight workers.old.posts) }
+    requires valid { IsStateOf (plan_of accepted.now.plan) (seen M.numbers start.state) }
+    requires memory { IsMemoryOf accepted.now.plan.program (M.numbers start.state.memory)
+        (M.scalars start.state.memory) }
+    requires unknown { T.sessions turns.old ≡ no_sessions }
+    requires paid { T.owes turns.old ≡ false }
+    requires name { blank.name ≡ L.name }
+    requires parts { blank.parts ≡ L.parts }
+    requires one { 0 < L.parts }
+    ensures run { IsRun (hosts F.Shelf T.Turns P.Posts) M.numbers (plan_of accepted.now.plan)
+        (seen M.numbers start.state) (at shelf.old turns.old workers.old.posts)
+        (at shelf.new turns.new workers.new.posts) result }
+{
+    laws::runs_join();
+    let Start { alloc, state } = start;
+    let Ok(mut keeping) = keep(alloc, accepted.plan(), &state, Steps::<L>::new(blank)) else {
+        return Err(Stop::Memory);
+    };
+    let mut run = Run::new(&mut keeping, shelf, workers, turns);
+    run.whole(accepted, state)
+}
+
 /// Runs a plan from a state over a shelf, workers and a source of entries, until the run is over, and says
 /// how it ends. It writes the files of the run: the journal, the logs, the checkpoints that are asked for,
 /// `final.chk` and `faults.txt`; no message is handed to the source before the entries that it answers are
@@ -192,11 +237,5 @@ pub fn run<M: Cells + Drop, F: Shelf, H: Phases<M>, P: Posts, T: Turns<M>>(
         (seen M.numbers start.state) (at shelf.old turns.old workers.old.posts)
         (at shelf.new turns.new workers.new.posts) result }
 {
-    laws::runs_join();
-    let Start { alloc, state } = start;
-    let Ok(mut keeping) = keep(alloc, accepted.plan(), &state) else {
-        return Err(Stop::Memory);
-    };
-    let mut run = Run::new(&mut keeping, shelf, workers, turns);
-    run.whole(accepted, state)
+    run_by::<M, F, H, P, T, Brand>(accepted, start, shelf, workers, turns, Blank::new(1))
 }

@@ -146,14 +146,14 @@ rounds_same p true s = started_same p 0 (threads_beside p) s
 
 -- ---- a run under way
 
-course_goes_on : (plan : PlanValue) (course : Course) (s t : State) → SameCourse s t → IsCourseOf plan course s → IsCourseOf plan course t
+course_goes_on : {L : Type 0} (plan : PlanValue) (course : Course L) (s t : State) → SameCourse s t → IsCourseOf plan course s → IsCourseOf plan course t
 course_goes_on plan course s t same of =
     let at_tic : IsCourseOf plan course (record t { tic = s.tic; events = s.events; groups = s.groups }) =
     record { stirs = of.stirs; jobs = of.jobs; rows = of.rows; ends = of.ends } in
     subst (IsCourseOf plan course) (λ i. record t { tic = sym same.tic i; events = sym same.events i; groups = sym same.groups i }) at_tic
 
 -- a step that changed what is in flight
-beside_goes : {plan : PlanValue} {course : Course} {old : ℕ → Option Started} {s : State} {before : List Scalar}
+beside_goes : {L : Type 0} {plan : PlanValue} {course : Course L} {old : ℕ → Option Started} {s : State} {before : List Scalar}
     (new : ℕ → Option Started) (t : State) (after : List Scalar)
     → IsUnderWay plan course old s before → SameCourse s t → GoesWith plan new t.tic t after → IsUnderWay plan course new t after
 beside_goes {plan = plan} {course = course} {s = s} new t after way same goes = record {
@@ -161,7 +161,7 @@ beside_goes {plan = plan} {course = course} {s = s} new t after way same goes = 
   ready = course_goes_on plan course s t same way.ready;
 }
 
-goes_on : (plan : PlanValue) (course : Course) (in_flight : ℕ → Option Started) (s t : State) (old new : List Scalar)
+goes_on : {L : Type 0} (plan : PlanValue) (course : Course L) (in_flight : ℕ → Option Started) (s t : State) (old new : List Scalar)
     → IsUnderWay plan course in_flight s old → SameRecords s t → IsStateOf (plan_of plan) t → IsMemoryOf plan.program t.memory new
     → IsUnderWay plan course in_flight t new
 goes_on plan course in_flight s t old new way same valid memory = record {
@@ -176,7 +176,7 @@ goes_on plan course in_flight s t old new way same valid memory = record {
 
 -- ---- each part of a turn keeps a run under way
 
-pub class_goes : (plan : PlanValue) (course : Course) (in_flight : ℕ → Option Started) (c : Class) (s t : State) (old new : List Scalar)
+pub class_goes : {L : Type 0} (plan : PlanValue) (course : Course L) (in_flight : ℕ → Option Started) (c : Class) (s t : State) (old new : List Scalar)
     → IsSound (plan_of plan) → t ≡ run_class (plan_of plan) c s → IsMemoryOf plan.program t.memory new
     → IsUnderWay plan course in_flight s old → IsUnderWay plan course in_flight t new
 class_goes plan course in_flight c s t old new sound is memory way =
@@ -184,7 +184,7 @@ class_goes plan course in_flight c s t old new sound is memory way =
     goes_on plan course in_flight s t old new way (subst (SameRecords s) (sym is) (class_same p c s))
     (subst (IsStateOf p) (sym is) (class_right p sound c s way.goes.valid)) memory
 
-pub frozen_goes : (plan : PlanValue) (course : Course) (in_flight : ℕ → Option Started) (asked : Bool) (s t : State) (old new : List Scalar)
+pub frozen_goes : {L : Type 0} (plan : PlanValue) (course : Course L) (in_flight : ℕ → Option Started) (asked : Bool) (s t : State) (old new : List Scalar)
     → IsSound (plan_of plan) → t ≡ frozen (plan_of plan) asked s → IsMemoryOf plan.program t.memory new
     → IsUnderWay plan course in_flight s old → IsUnderWay plan course in_flight t new
 frozen_goes plan course in_flight asked s t old new sound is memory way =
@@ -192,7 +192,7 @@ frozen_goes plan course in_flight asked s t old new sound is memory way =
     goes_on plan course in_flight s t old new way (subst (SameRecords s) (sym is) (frozen_same p asked s))
     (subst (IsStateOf p) (sym is) (frozen_right p sound asked s way.goes.valid)) memory
 
-pub checkpoint_goes : (plan : PlanValue) (course : Course) (in_flight : ℕ → Option Started) (asked : Bool) (s t : State) (old new : List Scalar)
+pub checkpoint_goes : {L : Type 0} (plan : PlanValue) (course : Course L) (in_flight : ℕ → Option Started) (asked : Bool) (s t : State) (old new : List Scalar)
     → IsSound (plan_of plan) → t ≡ checkpoint_jobs (plan_of plan) asked s → IsMemoryOf plan.program t.memory new
     → IsUnderWay plan course in_flight s old → IsUnderWay plan course in_flight t new
 checkpoint_goes plan course in_flight asked s t old new sound is memory way =
@@ -200,7 +200,7 @@ checkpoint_goes plan course in_flight asked s t old new sound is memory way =
     goes_on plan course in_flight s t old new way (subst (SameRecords s) (sym is) (checkpoint_same p asked s))
     (subst (IsStateOf p) (sym is) (checkpoint_right p sound asked s way.goes.valid)) memory
 
-pub counted_goes : (plan : PlanValue) (course : Course) (in_flight : ℕ → Option Started) (s t : State) (old new : List Scalar)
+pub counted_goes : {L : Type 0} (plan : PlanValue) (course : Course L) (in_flight : ℕ → Option Started) (s t : State) (old new : List Scalar)
     → t ≡ counted s → IsMemoryOf plan.program t.memory new → IsUnderWay plan course in_flight s old → IsUnderWay plan course in_flight t new
 counted_goes plan course in_flight s t old new is memory way =
     let p = plan_of plan in
@@ -208,14 +208,14 @@ counted_goes plan course in_flight s t old new is memory way =
     (subst (IsStateOf p) (sym is) (counted_right p s way.goes.valid)) memory
 
 -- The posts are those of the plan.
-pub published_goes : (plan first last : PlanValue) (course : Course) (old new : ℕ → Option Started) (entries : List Entry) (s t : State)
+pub published_goes : {L : Type 0} (plan first last : PlanValue) (course : Course L) (old new : ℕ → Option Started) (entries : List Entry) (s t : State)
     (before after : List Scalar) → first ≡ plan → last ≡ first → t ≡ publish_all (plan_of first) entries s
     → GoesWith last new t.tic t after → IsUnderWay plan course old s before → IsUnderWay plan course new t after
 published_goes plan first last course old new entries s t before after is stays shown goes way =
     beside_goes new t after way (subst (SameCourse s) (sym shown) (published_same (plan_of first) entries s))
     (subst (λ (x : PlanValue). GoesWith x new t.tic t after) (stays ∙ is) goes)
 
-pub rounds_go : (plan first last : PlanValue) (course : Course) (old new : ℕ → Option Started) (ran : Bool) (s t : State)
+pub rounds_go : {L : Type 0} (plan first last : PlanValue) (course : Course L) (old new : ℕ → Option Started) (ran : Bool) (s t : State)
     (before after : List Scalar) → first ≡ plan → last ≡ first → t ≡ rounds (plan_of first) ran s
     → GoesWith last new t.tic t after → IsUnderWay plan course old s before → IsUnderWay plan course new t after
 rounds_go plan first last course old new ran s t before after is stays started goes way =

@@ -32,7 +32,7 @@ abbrev pub unasked : State → Asking
 unasked s = record { state = s; freeze = false; checkpoint = false }
 
 -- A run is under way, with the bench of its plan, and with what is in flight.
-pub record IsEquipped (plan : PlanValue) (equipment : Equipment) (in_flight : ℕ → Option Started) (s : State)
+pub record IsEquipped {L : Type 0} (plan : PlanValue) (equipment : Equipment L) (in_flight : ℕ → Option Started) (s : State)
     (scalars : List Scalar) : Type 0 where
   pub under_way : IsUnderWay plan equipment.course in_flight s scalars
   pub bench : IsFor plan.program equipment.bench.parts

@@ -7,26 +7,33 @@ ghost use Rattle.trick_base.specs.Time.{tic_limit};
 ghost use Rattle.trick_tic.specs.Course.{IsCourseOf};
 
 use std::alloc::{AllocError, Global};
+use std::sync::ledger::Ledger;
 use trick_eval::Bench;
 use trick_lang::Cells;
 use trick_model::{Plan, State};
+use trick_queue::Steps;
 use trick_tic::Course;
 
 /// What a run keeps beside its state: its course, and a bench for the jobs of classes. It is made once.
 #[derive(Drop)]
-pub struct Equipment {
-    pub course: Course,
+pub struct Equipment<L: Ledger> {
+    pub course: Course<L>,
     pub bench: Bench,
 }
 
-impl Equipment {
-    /// That of a run of a plan that goes on from a state.
-    pub fn new<M: Cells>(alloc: Global, plan: &Plan, state: &State<M>) -> Result<Self, AllocError>
+impl<L: Ledger> Equipment<L> {
+    /// That of a run of a plan that goes on from a state. Its tics count on in `steps`.
+    pub fn new<M: Cells>(
+        alloc: Global,
+        plan: &Plan,
+        state: &State<M>,
+        steps: Steps<L>,
+    ) -> Result<Self, AllocError>
         requires { state.now.tic ≤ tic_limit + 1 }
         ensures course { IfOk result (λ equipment. IsCourseOf plan.now equipment.course (seen M.numbers state.now)) }
         ensures bench { IfOk result (λ equipment. IsFor plan.now.program equipment.bench.parts) }
     {
-        let course = Course::new(alloc, plan, state)?;
+        let course = Course::new(alloc, plan, state, steps)?;
         let bench = Bench::new(alloc, &plan.program)?;
         Ok(Equipment { course, bench })
     }

@@ -12,6 +12,7 @@ ghost use Rattle.trick_pass.specs.Pass.{IsEquipped, passed, unasked};
 
 use crate::Equipment;
 use crate::rest::count;
+use std::sync::ledger::Ledger;
 use trick_eval::Bench;
 use trick_lang::{Cells, Class};
 use trick_model::{Accepted, Plan, State, laws};
@@ -35,10 +36,10 @@ fn run_end_of_frame<M: Cells>(plan: &Plan, state: &mut State<M>, bench: &mut Ben
 /// Passes a turn without entries in place, where nothing is due at its tics, the plan has no jobs at the top
 /// of a frame, and no thread works beside the tics; and tells whether it was such a turn. Else it changes
 /// nothing. It costs next to nothing, and takes no memory.
-pub fn pass_idle<M: Cells, P: Posts>(
+pub fn pass_idle<M: Cells, P: Posts, L: Ledger>(
     accepted: &Accepted,
     state: &mut State<M>,
-    equipment: &mut Equipment,
+    equipment: &mut Equipment<L>,
     posts: &P,
 ) -> bool
     requires equipped { IsEquipped accepted.now.plan equipment.old (P.in_flight posts.now) (seen M.numbers state.old)

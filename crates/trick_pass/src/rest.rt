@@ -13,6 +13,7 @@ ghost use Rattle.trick_tic.specs.Steps.{steps_of};
 
 use crate::Equipment;
 use std::alloc::{AllocError, Global};
+use std::sync::ledger::Ledger;
 use trick_beside::{Station, publish_all, start_rounds};
 use trick_files::write_checkpoint;
 use trick_lang::{Cells, Class};
@@ -32,10 +33,10 @@ pub struct Rest<'a, M> {
 
 // A run frame: the publications, the top_of_frame jobs, the tics, the end_of_frame jobs, and Freeze
 // where it was asked for.
-fn run_frame<M: Cells + Drop, F: Shelf, H: Phases<M>, P: Posts>(
+fn run_frame<M: Cells + Drop, F: Shelf, H: Phases<M>, P: Posts, L: Ledger>(
     accepted: &Accepted,
     rest: Rest<'_, M>,
-    equipment: &mut Equipment,
+    equipment: &mut Equipment<L>,
     shelf: &mut F,
     workers: &mut Workers<H, P>,
 ) -> Result<Current<M>, Stop>
@@ -90,10 +91,10 @@ fn run_frame<M: Cells + Drop, F: Shelf, H: Phases<M>, P: Posts>(
 }
 
 // The frame of a turn: a run frame, or in a freeze frame nothing.
-fn framed<M: Cells + Drop, F: Shelf, H: Phases<M>, P: Posts>(
+fn framed<M: Cells + Drop, F: Shelf, H: Phases<M>, P: Posts, L: Ledger>(
     accepted: &Accepted,
     rest: Rest<'_, M>,
-    equipment: &mut Equipment,
+    equipment: &mut Equipment<L>,
     shelf: &mut F,
     workers: &mut Workers<H, P>,
 ) -> Result<Current<M>, Stop>
@@ -157,10 +158,10 @@ pub(crate) fn count<M: Cells>(state: &mut State<M>)
 /// come first, the checkpoint jobs, the rounds that start, its count, and the checkpoint that was asked
 /// for. It stops where the shelf failed, or where there was no memory for what is written or for a record
 /// that was never filled; the state is gone then.
-pub fn pass<M: Cells + Drop, F: Shelf, H: Phases<M>, P: Posts>(
+pub fn pass<M: Cells + Drop, F: Shelf, H: Phases<M>, P: Posts, L: Ledger>(
     accepted: &Accepted,
     rest: Rest<'_, M>,
-    equipment: &mut Equipment,
+    equipment: &mut Equipment<L>,
     shelf: &mut F,
     workers: &mut Workers<H, P>,
 ) -> Result<State<M>, Stop>

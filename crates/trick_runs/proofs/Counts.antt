@@ -3,8 +3,7 @@ use Rattle.std.proofs.Common.{◌≡◌, ◌∙◌, ℕ, zero, suc, ◌+◌, Lis
 use Rattle.std.specs.Prelude.{min, nat_lt, ◌&&◌, ◌==◌}
 use Rattle.trick_lang.specs.declared.class.Class.TheVariants as class
 use Rattle.trick_model.specs.Beside.{each_thread, ends_at, find_thread, has_round, must_finish, publish, publish_round, start_round, take, where_ends}
-use Rattle.trick_model.specs.Events.{Asking, InTic, Moment, act, act_all, do_deed, do_found, event_acts, events_done, fire, fired, fires, reads_done}
-use Rattle.trick_model.specs.Names.{Deed, SetCell, SetJob, Freeze, Stop as StopRun, Checkpoint, SetGroup, SetEvent}
+use Rattle.trick_model.specs.Events.{Asking, InTic, Moment, act_all, do_deed, event_acts, events_done, fire, fired, fires, reads_done}
 use Rattle.trick_model.specs.Plan.{Event, Plan, threads_beside}
 use Rattle.trick_model.specs.Records.{row_kept, rows, writes_row}
 use Rattle.trick_model.specs.Running.{run_class}
@@ -12,7 +11,8 @@ use Rattle.trick_model.specs.State.{State, World, taken_at}
 use Rattle.trick_model.specs.Tic.{Ticked, jobs_done, tic, tic_below_limit, tics}
 use Rattle.trick_model.specs.Time.{last_turn, tics_left}
 use Rattle.trick_model.specs.Turn.{begun, checkpoint_jobs, framed, frozen, heard, publish_all, rounds, runs, turn}
-use Rattle.trick_model.specs.declared.action.Action.{Action}
+use Rattle.trick_model.specs.declared.deed.Deed.{Deed}
+use Rattle.trick_model.specs.declared.deed.Deed.TheVariants.{SetCell, SetJob, Freeze, Stop as StopRun, Checkpoint, SetGroup, SetEvent}
 use Rattle.trick_model.specs.declared.entry.Entry.{Entry}
 use Rattle.trick_model.specs.declared.entry.Entry.TheVariants.{Join, Said, Leave, Publish}
 use Rattle.trick_model.specs.declared.group.Group.{Group}
@@ -91,7 +91,7 @@ published_count p (Said number line ∷ entries) s = published_count p entries s
 published_count p (Leave number cause ∷ entries) s = published_count p entries s
 published_count p (Publish thread ∷ entries) s = published_count p entries (publish_round p thread s) ∙ round_count p thread s
 
--- ---- actions
+-- ---- deeds
 
 deed_count : (moment : Moment) (deed : Deed) (a : Asking) → SameCount a.state (do_deed moment deed a).state
 deed_count moment (SetCell cell number) a = refl
@@ -102,28 +102,24 @@ deed_count moment Checkpoint a = refl
 deed_count moment (SetGroup group on) a = refl
 deed_count moment (SetEvent event on) a = refl
 
-found_count : (moment : Moment) (deed : Option Deed) (a : Asking) → SameCount a.state (do_found moment deed a).state
-found_count moment None a = refl
-found_count moment (Some deed) a = deed_count moment deed a
+acts_count : (tic : ℕ) (deeds : List Deed) (a : Asking) → SameCount a.state (act_all tic deeds a).state
+acts_count tic [] a = refl
+acts_count tic (deed ∷ deeds) a = acts_count tic deeds (do_deed (InTic tic) deed a) ∙ deed_count (InTic tic) deed a
 
-acts_count : (p : Plan) (tic : ℕ) (actions : List Action) (a : Asking) → SameCount a.state (act_all p tic actions a).state
-acts_count p tic [] a = refl
-acts_count p tic (action ∷ actions) a = acts_count p tic actions (act p (InTic tic) action a) ∙ found_count (InTic tic) _ a
+reads_count : (tic : ℕ) (reads : List ReadAt) (a : Asking) → SameCount a.state (reads_done tic reads a).state
+reads_count tic [] a = refl
+reads_count tic (read ∷ reads) a =
+    reads_count tic reads _ ∙ either_asking (read.tic == tic) a.state (act_all tic read.actions a) a (acts_count tic read.actions a) refl
 
-reads_count : (p : Plan) (tic : ℕ) (reads : List ReadAt) (a : Asking) → SameCount a.state (reads_done p tic reads a).state
-reads_count p tic [] a = refl
-reads_count p tic (read ∷ reads) a =
-    reads_count p tic reads _ ∙ either_asking (read.tic == tic) a.state (act_all p tic read.actions a) a (acts_count p tic read.actions a) refl
+event_count : (tic : ℕ) (numbered : List (ℕ × List Deed)) (a : Asking) → SameCount a.state (event_acts tic numbered a).state
+event_count tic [] a = refl
+event_count tic (one ∷ others) a = event_count tic others (act_all tic one.1 a) ∙ acts_count tic one.1 a
 
-event_count : (p : Plan) (tic : ℕ) (numbered : List (ℕ × List Action)) (a : Asking) → SameCount a.state (event_acts p tic numbered a).state
-event_count p tic [] a = refl
-event_count p tic (one ∷ others) a = event_count p tic others (act_all p tic one.1 a) ∙ acts_count p tic one.1 a
-
-events_count : (p : Plan) (tic k : ℕ) (events : List Event) (a : Asking) → SameCount a.state (events_done p tic k events a).state
-events_count p tic k [] a = refl
-events_count p tic k (event ∷ events) a =
-    events_count p tic (suc k) events _
-    ∙ either_asking (fires tic k event a.state) a.state (fired p tic k event a) a (event_count p tic event.actions a) refl
+events_count : (tic k : ℕ) (events : List Event) (a : Asking) → SameCount a.state (events_done tic k events a).state
+events_count tic k [] a = refl
+events_count tic k (event ∷ events) a =
+    events_count tic (suc k) events _
+    ∙ either_asking (fires tic k event a.state) a.state (fired tic k event a) a (event_count tic event.actions a) refl
 
 -- ---- tics
 
@@ -138,7 +134,7 @@ tic_count p a =
     let b = fire p now a in
     let s = jobs_done p now (must_finish p now b.state) in
     rows_count now 0 p.groups s ∙ must_finish_count p now b.state
-    ∙ events_count p now 0 p.events (reads_done p now p.read_ats a) ∙ reads_count p now p.read_ats a
+    ∙ events_count now 0 p.events (reads_done now p.read_ats a) ∙ reads_count now p.read_ats a
 
 tics_count : (p : Plan) (count : ℕ) (a : Asking) → SameCount a.state (tics p count a).asking.state
 tics_count p zero a = refl

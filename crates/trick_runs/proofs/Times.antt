@@ -2,12 +2,13 @@
 use Rattle.std.proofs.Common.{◌≡◌, ◌∙◌, List, [], ◌∷◌, Bool, true, false, Option, Some, None, refl}
 use Rattle.trick_lang.specs.declared.class.Class.TheVariants as class
 use Rattle.trick_model.specs.Events.{Asking, enter_freeze, leave_freeze}
-use Rattle.trick_model.specs.Names.{Deed, SetCell, SetJob, Freeze, Stop as StopRun, Checkpoint, SetGroup, SetEvent}
 use Rattle.trick_model.specs.Plan.{Plan}
 use Rattle.trick_model.specs.Running.{run_class}
 use Rattle.trick_model.specs.Session.{answered}
 use Rattle.trick_model.specs.State.{State}
 use Rattle.trick_model.specs.Turn.{Hearing, do_between, hear, heard, resumed, session_of}
+use Rattle.trick_model.specs.declared.deed.Deed.{Deed}
+use Rattle.trick_model.specs.declared.deed.Deed.TheVariants.{SetCell, SetJob, Freeze, Stop as StopRun, Checkpoint, SetGroup, SetEvent}
 use Rattle.trick_model.specs.declared.entry.Entry.{Entry}
 use Rattle.trick_model.specs.declared.entry.Entry.TheVariants.{Join, Said, Leave, Publish}
 use Rattle.trick_model.specs.declared.mode.Mode.{Mode}

@@ -14,19 +14,21 @@ ghost use Rattle.trick_tic.specs.Due.{AreJobsFor};
 ghost use Rattle.trick_tic.specs.Steps.{steps_of};
 
 use crate::{Course, Current, Workers};
+use std::sync::ledger::Ledger;
 use trick_lang::Cells;
 use trick_model::{Accepted, State, laws};
 use trick_outside::{Shelf, Stop};
 use trick_phase::Phases;
 use trick_post::Posts;
-use trick_queue::Queues;
+use trick_queue::{Queues, Steps};
 
 // Runs the due jobs of a tic.
-fn run_due<M: Cells, H: Phases<M>>(
+fn run_due<M: Cells, H: Phases<M>, L: Ledger>(
     accepted: &Accepted,
     tic: u64,
     state: State<M>,
     queues: &mut Queues,
+    steps: &mut Steps<L>,
     phases: &mut H,
 ) -> State<M>
     requires own { H.is_for phases.old accepted.now.plan }
@@ -38,7 +40,7 @@ fn run_due<M: Cells, H: Phases<M>>(
     ensures jobs { AreJobsFor accepted.now.plan queues.new (tic + 1) }
     ensures own { H.is_for phases.new accepted.now.plan }
 {
-    queues.ask(accepted.plan(), tic);
+    queues.ask_counted(accepted.plan(), tic, steps);
     if queues.due().is_empty() {
         return state;
     }
@@ -58,10 +60,10 @@ fn run_due<M: Cells, H: Phases<M>>(
 /// at it, its due jobs, and its rows, each in one append. It is for a tic below the limit. It costs what is
 /// due at the tic. It stops where the shelf failed, or where there was no memory for a row or for the
 /// record of a thread that takes for the first time; the state is gone then.
-pub fn tic<M: Cells + Drop, F: Shelf, H: Phases<M>, P: Posts>(
+pub fn tic<M: Cells + Drop, F: Shelf, H: Phases<M>, P: Posts, L: Ledger>(
     accepted: &Accepted,
     current: Current<M>,
-    course: &mut Course,
+    course: &mut Course<L>,
     shelf: &mut F,
     workers: &mut Workers<H, P>,
 ) -> Result<Current<M>, Stop>
@@ -97,6 +99,7 @@ pub fn tic<M: Cells + Drop, F: Shelf, H: Phases<M>, P: Posts>(
         tic,
         state,
         &mut course.queues,
+        &mut course.steps,
         &mut workers.phases,
     );
     course.rows.write(accepted.plan(), tic, &mut state, shelf)?;

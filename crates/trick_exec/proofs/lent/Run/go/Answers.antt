@@ -65,14 +65,14 @@ turn-requires-clause-given g c =
     let p = plan_of c.args.accepted.now.plan in
     let under = c.loop-turn.invariant.under in
     let w : World = world_of g.M.Cells.numbers c.loop-turn.world in
-    let own : HasGiven p c.decides-decides.result w c.in-Entries.entries.items (g.T.Turns.sessions c.entries.new.self) = record {
+    let own : HasGiven p c.decides-decides.result w c.in-Entries.entries.items (g.T.Turns.sessions c.ask.new.source) = record {
       known = g.T.Turns.sessions c.loop-turn.self.turns.now;
       are = c.loop-turn.invariant.known;
       may = c.in-Entries.ensures.rules.0;
       after = c.in-Entries.ensures.rules.1;
       silent = λ none. c.in-Entries.ensures.rules.2 (under.going.decided ∙ sym c.decides-decides.ensures ∙ none);
     } in
-    subst (λ (l : List Entry). HasGiven p c.decides-decides.result w l (g.T.Turns.sessions c.entries.new.self)) (sym c.deref-in-Entries.ensures.value) own
+    subst (λ (l : List Entry). HasGiven p c.decides-decides.result w l (g.T.Turns.sessions c.ask.new.source)) (sym c.deref-in-Entries.ensures.value) own
 
 pub loop-turn-preserved : goal.loop-turn-preserved
 loop-turn-preserved g c =
@@ -84,9 +84,9 @@ loop-turn-preserved g c =
     let under = c.loop-turn.invariant.under in
     let w : World = world_of g.M.Cells.numbers c.loop-turn.world in
     let tests = both_false (is_shut w.state.mode) (nat_le w.state.limit w.state.tic) (sym c.is_over.ensures ∙ c.if-is_over.false) in
-    let gave : Gave g.T.Turns w c.deref-in-Entries.result.now c.loop-turn.self.turns.now c.entries.new.self =
+    let gave : Gave g.T.Turns w c.deref-in-Entries.result.now c.loop-turn.self.turns.now c.ask.new.source =
     gave_as (sym c.deref-in-Entries.ensures.value)
-    (gave_list g.T.Turns w c.deref.result.now c.in-Entries.entries c.loop-turn.self.turns.now c.entries.new.self c.deref.ensures.value
+    (gave_list g.T.Turns w c.deref.result.now c.in-Entries.entries c.loop-turn.self.turns.now c.ask.new.source c.deref.ensures.value
     c.in-Entries.ensures.step c.in-Entries.ensures.pays c.in-Entries.ensures.gives c.in-Entries.ensures.rules c.in-Entries.ensures.decides) in
     record {
       under = under_more h laws g.M.Cells.numbers p start c.in_ok-world-in-Entries.world under c.decides-decides.ensures tests.0 tests.1 gave
@@ -106,14 +106,14 @@ turn-requires-in-Nothing-clause-ready g c =
 pub turn-requires-in-Nothing-clause-given : goal.turn-requires-in-Nothing-clause-given
 turn-requires-in-Nothing-clause-given g c =
     let p = plan_of c.args.accepted.now.plan in
-    let own : HasGiven p c.decides-decides.result (world_of g.M.Cells.numbers c.loop-turn.world) [] (g.T.Turns.sessions c.entries.new.self) = record {
+    let own : HasGiven p c.decides-decides.result (world_of g.M.Cells.numbers c.loop-turn.world) [] (g.T.Turns.sessions c.ask.new.source) = record {
       known = g.T.Turns.sessions c.loop-turn.self.turns.now;
       are = c.loop-turn.invariant.known;
       may = refl;
       after = c.in-Nothing.ensures.rules;
       silent = λ none. refl;
     } in
-    subst (λ (v : WorldValue g.row.M.Denot). HasGiven p c.decides-decides.result (world_of g.M.Cells.numbers v) [] (g.T.Turns.sessions c.entries.new.self))
+    subst (λ (v : WorldValue g.row.M.Denot). HasGiven p c.decides-decides.result (world_of g.M.Cells.numbers v) [] (g.T.Turns.sessions c.ask.new.source))
     (sym (c.if-idles.ensures.unchanged refl)) own
 
 pub loop-turn-preserved-in-Nothing : goal.loop-turn-preserved-in-Nothing
@@ -126,8 +126,8 @@ loop-turn-preserved-in-Nothing g c =
     let under = c.loop-turn.invariant.under in
     let w : World = world_of g.M.Cells.numbers c.loop-turn.world in
     let tests = both_false (is_shut w.state.mode) (nat_le w.state.limit w.state.tic) (sym c.is_over.ensures ∙ c.if-is_over.false) in
-    let gave : Gave g.T.Turns w [] c.loop-turn.self.turns.now c.entries.new.self =
-    gave_nothing g.T.Turns w c.deref.result.now c.loop-turn.self.turns.now c.entries.new.self c.deref.ensures.value
+    let gave : Gave g.T.Turns w [] c.loop-turn.self.turns.now c.ask.new.source =
+    gave_nothing g.T.Turns w c.deref.result.now c.loop-turn.self.turns.now c.ask.new.source c.deref.ensures.value
     c.in-Nothing.ensures.step c.in-Nothing.ensures.pays c.in-Nothing.ensures.gives c.in-Nothing.ensures.rules c.in-Nothing.ensures.decides in
     record {
       under = under_more h laws g.M.Cells.numbers p start c.in_ok-world-in-Nothing.world under c.decides-decides.ensures tests.0 tests.1 gave
@@ -151,11 +151,11 @@ loop-turn-preserved-then-idles g c =
     let under = c.loop-turn.invariant.under in
     let w : World = world_of g.M.Cells.numbers c.loop-turn.world in
     let tests = both_false (is_shut w.state.mode) (nat_le w.state.limit w.state.tic) (sym c.is_over.ensures ∙ c.if-is_over.false) in
-    let gave : Gave g.T.Turns w [] c.loop-turn.self.turns.now c.entries.new.self =
-    gave_nothing g.T.Turns w c.deref.result.now c.loop-turn.self.turns.now c.entries.new.self c.deref.ensures.value
+    let gave : Gave g.T.Turns w [] c.loop-turn.self.turns.now c.ask.new.source =
+    gave_nothing g.T.Turns w c.deref.result.now c.loop-turn.self.turns.now c.ask.new.source c.deref.ensures.value
     c.in-Nothing.ensures.step c.in-Nothing.ensures.pays c.in-Nothing.ensures.gives c.in-Nothing.ensures.rules c.in-Nothing.ensures.decides in
     let idle = c.if-idles.ensures in
-    let host : Place g.row.F.Denot g.row.T.Denot g.row.P.Denot = at c.loop-turn.self.shelf.now c.entries.new.self c.loop-turn.self.workers.now.posts in
+    let host : Place g.row.F.Denot g.row.T.Denot g.row.P.Denot = at c.loop-turn.self.shelf.now c.ask.new.source c.loop-turn.self.workers.now.posts in
     record {
       under = under_more h laws g.M.Cells.numbers p start c.idles.new.world under c.decides-decides.ensures tests.0 tests.1 gave
           (idle_turn h g.M.Cells.numbers p c.decides-decides.result c.loop-turn.world c.idles.new.world c.loop-turn.self.waits.now.items host
@@ -164,7 +164,7 @@ loop-turn-preserved-then-idles g c =
       ready = record { own = c.loop-turn.invariant.ready.own; posts = c.loop-turn.invariant.ready.posts; equipped = c.idles.ensures.equipped };
       same = c.loop-turn.invariant.same;
       waits = c.loop-turn.invariant.waits;
-      known = idle_known p (g.T.Turns.sessions c.loop-turn.self.turns.now) (g.T.Turns.sessions c.entries.new.self) c.loop-turn.world.sessions.items
+      known = idle_known p (g.T.Turns.sessions c.loop-turn.self.turns.now) (g.T.Turns.sessions c.ask.new.source) c.loop-turn.world.sessions.items
           c.idles.new.world.sessions.items c.loop-turn.invariant.known c.in-Nothing.ensures.rules (ap (λ v. v.items) c.idles.ensures.sessions);
       still = subst AreStill (sym (ap (λ v. v.items) c.idles.ensures.sessions)) c.loop-turn.invariant.still;
     }
@@ -179,7 +179,7 @@ loop-turn-preserved-in-Gap g c =
     let start : State = seen g.M.Cells.numbers c.args.world.state in
     let w : World = world_of g.M.Cells.numbers c.loop-turn.world in
     let tests = both_false (is_shut w.state.mode) (nat_le w.state.limit w.state.tic) (sym c.is_over.ensures ∙ c.if-is_over.false) in
-    let now = c.entries.new.self in
+    let now = c.ask.new.source in
     let given : Gap (GivesTurn g.T.Turns w.sessions) w.state c.in-Gap.turns c.loop-turn.self.turns.now now =
     gap_as g.T.Turns c.deref.result.now w.sessions w.state c.in-Gap.turns c.loop-turn.self.turns.now now c.deref.ensures.value c.in-Gap.ensures.gap in
     let counted = sym c.later-world.ensures in
@@ -207,9 +207,9 @@ returns-in_err-world-in-Entries-clause-turns g c =
     let under = c.loop-turn.invariant.under in
     let w : World = world_of g.M.Cells.numbers c.loop-turn.world in
     let tests = both_false (is_shut w.state.mode) (nat_le w.state.limit w.state.tic) (sym c.is_over.ensures ∙ c.if-is_over.false) in
-    let gave : Gave g.T.Turns w c.deref-in-Entries.result.now c.loop-turn.self.turns.now c.entries.new.self =
+    let gave : Gave g.T.Turns w c.deref-in-Entries.result.now c.loop-turn.self.turns.now c.ask.new.source =
     gave_as (sym c.deref-in-Entries.ensures.value)
-    (gave_list g.T.Turns w c.deref.result.now c.in-Entries.entries c.loop-turn.self.turns.now c.entries.new.self c.deref.ensures.value
+    (gave_list g.T.Turns w c.deref.result.now c.in-Entries.entries c.loop-turn.self.turns.now c.ask.new.source c.deref.ensures.value
     c.in-Entries.ensures.step c.in-Entries.ensures.pays c.in-Entries.ensures.gives c.in-Entries.ensures.rules c.in-Entries.ensures.decides) in
     let error = err_from_is_err_and c.from_residual.result c.from_residual.ensures.1 in
     let result : Result (EndedValue g.row.M.Denot) Stop = Err error.0 in
@@ -229,8 +229,8 @@ returns-in_err-world-in-Nothing-clause-turns g c =
     let under = c.loop-turn.invariant.under in
     let w : World = world_of g.M.Cells.numbers c.loop-turn.world in
     let tests = both_false (is_shut w.state.mode) (nat_le w.state.limit w.state.tic) (sym c.is_over.ensures ∙ c.if-is_over.false) in
-    let gave : Gave g.T.Turns w [] c.loop-turn.self.turns.now c.entries.new.self =
-    gave_nothing g.T.Turns w c.deref.result.now c.loop-turn.self.turns.now c.entries.new.self c.deref.ensures.value
+    let gave : Gave g.T.Turns w [] c.loop-turn.self.turns.now c.ask.new.source =
+    gave_nothing g.T.Turns w c.deref.result.now c.loop-turn.self.turns.now c.ask.new.source c.deref.ensures.value
     c.in-Nothing.ensures.step c.in-Nothing.ensures.pays c.in-Nothing.ensures.gives c.in-Nothing.ensures.rules c.in-Nothing.ensures.decides in
     let error = err_from_is_err_and c.from_residual-in_err-world-in-Nothing.result c.from_residual-in_err-world-in-Nothing.ensures.1 in
     let result : Result (EndedValue g.row.M.Denot) Stop = Err error.0 in
@@ -251,10 +251,10 @@ returns-in-NoMore-clause-turns g c =
     let w : World = world_of g.M.Cells.numbers c.loop-turn.world in
     let tests = both_false (is_shut w.state.mode) (nat_le w.state.limit w.state.tic) (sym c.is_over.ensures ∙ c.if-is_over.false) in (
       under.lists,
-      over_asked h laws p start c.entries.new.self under.going tests.1 c.in-NoMore.ensures.pays.0 c.in-NoMore.ensures.pays.1
-          (step_as g.T.Turns w c.deref.result.now None c.loop-turn.self.turns.now c.entries.new.self c.deref.ensures.value c.in-NoMore.ensures.step)
-          (λ none. subst (λ (x : Option Told). Gives w.state x next.NoMore (g.T.Turns.journal c.entries.new.self)) none c.in-NoMore.ensures.gives)
-          (λ told is. subst (λ (x : Option Told). Gives w.state x next.NoMore (g.T.Turns.journal c.entries.new.self)) is c.in-NoMore.ensures.gives),
+      over_asked h laws p start c.ask.new.source under.going tests.1 c.in-NoMore.ensures.pays.0 c.in-NoMore.ensures.pays.1
+          (step_as g.T.Turns w c.deref.result.now None c.loop-turn.self.turns.now c.ask.new.source c.deref.ensures.value c.in-NoMore.ensures.step)
+          (λ none. subst (λ (x : Option Told). Gives w.state x next.NoMore (g.T.Turns.journal c.ask.new.source)) none c.in-NoMore.ensures.gives)
+          (λ told is. subst (λ (x : Option Told). Gives w.state x next.NoMore (g.T.Turns.journal c.ask.new.source)) is c.in-NoMore.ensures.gives),
     )
 
 pub returns-in-Length-clause-turns : goal.returns-in-Length-clause-turns
@@ -268,10 +268,10 @@ returns-in-Length-clause-turns g c =
     let w : World = world_of g.M.Cells.numbers c.loop-turn.world in
     let tests = both_false (is_shut w.state.mode) (nat_le w.state.limit w.state.tic) (sym c.is_over.ensures ∙ c.if-is_over.false) in
     let told_of = λ (o : Option Told) (is : g.T.Turns.journal c.loop-turn.self.turns.now ≡ o).
-    subst (λ (x : Option Told). Gives w.state x (next.Length c.in-Length.kept c.in-Length.given) (g.T.Turns.journal c.entries.new.self)) is c.in-Length.ensures.gives in (
+    subst (λ (x : Option Told). Gives w.state x (next.Length c.in-Length.kept c.in-Length.given) (g.T.Turns.journal c.ask.new.source)) is c.in-Length.ensures.gives in (
       under.lists,
       w,
-      ends_short h laws p start c.entries.new.self c.in-Length.kept c.in-Length.given under.going tests.0 tests.1 c.in-Length.ensures.step
+      ends_short h laws p start c.ask.new.source c.in-Length.kept c.in-Length.given under.going tests.0 tests.1 c.in-Length.ensures.step
           (λ none. told_of None none) (λ told is. told_of (Some told) is),
     )
 
@@ -284,7 +284,7 @@ returns-in-OutOfMemory-clause-turns g c =
     let start : State = seen g.M.Cells.numbers c.args.world.state in
     let under = c.loop-turn.invariant.under in
     let result : Result (EndedValue g.row.M.Denot) Stop = Err Memory in
-    (under.lists, stops_between h laws p start result c.entries.new.self under.going c.in-OutOfMemory.ensures.step (λ ok. cc) (λ fault. cc))
+    (under.lists, stops_between h laws p start result c.ask.new.source under.going c.in-OutOfMemory.ensures.step (λ ok. cc) (λ fault. cc))
 
 pub returns-clause-turns : goal.returns-clause-turns
 returns-clause-turns g c =

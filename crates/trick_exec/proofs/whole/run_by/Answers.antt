@@ -2,7 +2,7 @@ use Rattle.std.proofs.Common.{◌≡◌, ◌∙◌, [], Err, ap, subst, sym}
 use Rattle.std.specs.Prelude.{Result}
 use Rattle.trick_beside.specs.Flight.{IsFree}
 use Rattle.trick_eval.specs.Bench.{IsFor}
-use Rattle.trick_exec.proofs.whole.run.Goals as goal
+use Rattle.trick_exec.proofs.whole.run_by.Goals as goal
 use Rattle.trick_exec.specs.Ended.{IsRun}
 use Rattle.trick_exec.specs.Lent.{place}
 use Rattle.trick_exec.specs.declared.ended.Ended.{Ended as EndedValue}
