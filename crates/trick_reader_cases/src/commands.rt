@@ -5,7 +5,7 @@ use crate::line::push_escaped;
 use std::alloc::{AllocError, Global};
 use trick_base::Word;
 use trick_gen::make;
-use trick_words::{Command, read_command};
+use trick_words::{Command, Task, Texts, read_command};
 
 // The words of a text: one blank stands between two words, and two blanks have an empty word between.
 fn words_of(alloc: Global, text: &[u8]) -> Result<Vec<Word>, AllocError> {
@@ -22,57 +22,55 @@ fn push_value(out: &mut String, name: &str, value: &Word) -> Result<(), AllocErr
     push_escaped(out, value.as_slice())
 }
 
-// Adds the name of a checkpoint, where there is one.
-fn push_from(out: &mut String, from: &Option<Word>) -> Result<(), AllocError> {
-    match from {
-        Some(from) => push_value(out, "from", from),
+// The word that names what is done with texts.
+fn name_of(task: &Task) -> &'static str {
+    match task {
+        Task::Serial => "serial",
+        Task::Run { .. } => "run",
+        Task::Replay { .. } => "replay",
+        Task::Check => "check",
+        Task::List => "list",
+    }
+}
+
+// Adds the name of a file, where there is one.
+fn push_if_named(out: &mut String, name: &str, value: Option<&Word>) -> Result<(), AllocError> {
+    match value {
+        Some(value) => push_value(out, name, value),
         None => Ok(()),
     }
 }
 
-// Adds the name of a command and those of its two texts.
-fn push_texts(out: &mut String, name: &str, texts: [&Word; 2]) -> Result<(), AllocError> {
-    out.push_str(name)?;
-    push_value(out, "s_define", texts[0])?;
-    push_value(out, "input", texts[1])
+// Adds the name of the journal of a replay.
+fn push_journal(out: &mut String, task: &Task) -> Result<(), AllocError> {
+    match task {
+        Task::Replay { journal } => push_value(out, "journal", journal),
+        _ => Ok(()),
+    }
+}
+
+// Adds the port of a run, where there is one.
+fn push_port(out: &mut String, task: &Task) -> Result<(), AllocError> {
+    match task {
+        Task::Run { port: Some(port) } => write!(out, " port={port}"),
+        _ => Ok(()),
+    }
+}
+
+// Adds what is done with texts, and the names of their files.
+fn push_texts(out: &mut String, about: &Texts) -> Result<(), AllocError> {
+    out.push_str(name_of(&about.task))?;
+    push_value(out, "s_define", &about.s_define)?;
+    push_value(out, "input", &about.input)?;
+    push_journal(out, &about.task)?;
+    push_if_named(out, "from", about.from.as_ref())?;
+    push_port(out, &about.task)
 }
 
 // Adds a command with its files and numbers.
 fn push_command(out: &mut String, command: &Command) -> Result<(), AllocError> {
     match command {
-        Command::Serial {
-            s_define,
-            input,
-            from,
-        } => {
-            push_texts(out, "serial", [s_define, input])?;
-            push_from(out, from)
-        }
-        Command::Run {
-            s_define,
-            input,
-            from,
-            port,
-        } => {
-            push_texts(out, "run", [s_define, input])?;
-            push_from(out, from)?;
-            match port {
-                Some(port) => write!(out, " port={port}"),
-                None => Ok(()),
-            }
-        }
-        Command::Replay {
-            s_define,
-            input,
-            journal,
-            from,
-        } => {
-            push_texts(out, "replay", [s_define, input])?;
-            push_value(out, "journal", journal)?;
-            push_from(out, from)
-        }
-        Command::Check { s_define, input } => push_texts(out, "check", [s_define, input]),
-        Command::List { s_define, input } => push_texts(out, "list", [s_define, input]),
+        Command::Texts(about) => push_texts(out, about),
         Command::Gen { objects } => write!(out, "gen objects={objects}"),
     }
 }

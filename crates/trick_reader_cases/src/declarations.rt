@@ -4,15 +4,15 @@ use crate::cases::Call;
 use crate::line::push_escaped;
 use crate::settings::program;
 use std::alloc::{AllocError, Global};
-use trick_declare::{Declaration, declare, first_name};
+use trick_declare::{Declaration, SpelledDeclaration, declare, first_name};
 use trick_model::Plan;
 use trick_plan::plan;
 
 // A declaration in a line: its type, its name and the lengths of its array.
-fn shown(alloc: Global, declared: &Declaration) -> Result<String, AllocError> {
-    let mut out = format!(in alloc; "{:?} ", declared.scalar)?;
-    push_escaped(&mut out, declared.name.as_slice())?;
-    for length in declared.lengths.as_slice() {
+fn shown(alloc: Global, declaration: &Declaration) -> Result<String, AllocError> {
+    let mut out = format!(in alloc; "{:?} ", declaration.scalar)?;
+    push_escaped(&mut out, declaration.name.as_slice())?;
+    for length in declaration.lengths.as_slice() {
         write!(out, " [{length}]")?;
     }
     Ok(out)
@@ -20,8 +20,8 @@ fn shown(alloc: Global, declared: &Declaration) -> Result<String, AllocError> {
 
 /// What a text declares, if anything.
 pub(crate) fn declaration_of(alloc: Global, call: &Call<'_>) -> Result<String, AllocError> {
-    match Declaration::read(alloc, call.text())? {
-        Some(declared) => shown(alloc, &declared),
+    match SpelledDeclaration::read(alloc, call.text())? {
+        Some(declared) => shown(alloc, &declared.declaration),
         None => format!(in alloc; "no declaration"),
     }
 }

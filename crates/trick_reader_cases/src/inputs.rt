@@ -4,7 +4,7 @@ use crate::cases::Call;
 use crate::line::push_escaped;
 use std::alloc::{AllocError, Global};
 use trick_check::resolve;
-use trick_input::{Form, read_input};
+use trick_input::{Form, RunForm, read_input};
 use trick_refusal::{check_line, input_line, s_define_line};
 use trick_sdef::read_sdef;
 
@@ -24,8 +24,8 @@ fn push_form(out: &mut String, form: &Form) -> Result<(), AllocError> {
             push_escaped(out, name.as_slice())?;
             write!(out, " = {number}")
         }
-        Form::Stop { time: Ok(tics) } => write!(out, "stop {tics}"),
-        Form::Stop { time: Err(fault) } => write!(out, "stop refused: {fault}"),
+        Form::Run(RunForm::Stop { time: Ok(tics) }) => write!(out, "stop {tics}"),
+        Form::Run(RunForm::Stop { time: Err(fault) }) => write!(out, "stop refused: {fault}"),
         _ => out.push_str("another form"),
     }
 }

@@ -24,27 +24,27 @@ use Rattle.trick_top.specs.Acts.{no_memory, no_memory_to_write, not_written, ran
 use Rattle.trick_top.specs.First.{IsFirst, IsLoadedFrom}
 use Rattle.trick_top.specs.Runs.{IsUnderWay}
 use Rattle.trick_top.specs.Verdict.{Ended as EndedBy, OutOfMemory, TextRefused, Verdict, run_verdict, unloaded_verdict}
-use Rattle.trick_top.specs.declared.words.Task.TheVariants as task
-use Rattle.trick_top.specs.declared.words.Task.{Task}
+use Rattle.trick_top.specs.Aims as aim
+use Rattle.trick_top.specs.Aims.{Aim}
 
 -- it ended without a call of the shelf
-pub acted_quiet : {S : Type 0} {shelf : Ghosts S} (s : S) (plan : Plan) (from journal : Option (List ℕ)) (t : Task) (verdict : Verdict) → shelf.called s [] s
+pub acted_quiet : {S : Type 0} {shelf : Ghosts S} (s : S) (plan : Plan) (from journal : Option (List ℕ)) (t : Aim) (verdict : Verdict) → shelf.called s [] s
     → Acts plan from journal t [] verdict → HasActed shelf s s plan from journal t verdict
 acted_quiet s plan from journal t verdict none is = record { calls = []; went = went_none s none; acts = is }
 
 -- there was no memory before the shelf was called
-pub acted_no_memory : {S : Type 0} {shelf : Ghosts S} (s : S) (plan : Plan) (from journal : Option (List ℕ)) (t : Task) → shelf.called s [] s
+pub acted_no_memory : {S : Type 0} {shelf : Ghosts S} (s : S) (plan : Plan) (from journal : Option (List ℕ)) (t : Aim) → shelf.called s [] s
     → HasActed shelf s s plan from journal t OutOfMemory
 acted_no_memory s plan from journal t none = acted_quiet s plan from journal t OutOfMemory none no_memory
 
 -- the plan that was looked at is this one
 module _ {S : Type 0} {shelf : Ghosts S} (s : S) (plan shown : Plan) (from journal : Option (List ℕ)) (verdict : Verdict) (none : shelf.called s [] s) (same : shown ≡ plan) where
-  pub acted_checked : (t : Task) → t ≡ task.Check → verdict ≡ accepted_verdict shown → HasActed shelf s s plan from journal t verdict
+  pub acted_checked : (t : Aim) → t ≡ aim.Check → verdict ≡ accepted_verdict shown → HasActed shelf s s plan from journal t verdict
   acted_checked t check is =
       let now : verdict ≡ accepted_verdict plan = is ∙ ap accepted_verdict same in
       acted_quiet s plan from journal t verdict none (rw (check, now) checked)
 
-  pub acted_listed : (t : Task) → t ≡ task.List → (verdict ≡ listed_verdict shown) ⊎ (verdict ≡ OutOfMemory) → HasActed shelf s s plan from journal t verdict
+  pub acted_listed : (t : Aim) → t ≡ aim.List → (verdict ≡ listed_verdict shown) ⊎ (verdict ≡ OutOfMemory) → HasActed shelf s s plan from journal t verdict
   acted_listed t list (inl is) =
       let now : verdict ≡ listed_verdict plan = is ∙ ap listed_verdict same in
       acted_quiet s plan from journal t verdict none (rw (list, now) listed)
@@ -59,13 +59,13 @@ module _ {S : Type 0} {shelf : Ghosts S} {old new : S} (plan : Plan) (from : Opt
   stopped_so runs = let stops = runs.runs.stops (λ ok. cc) in record { part = runs.runs.does.part; said = stops.0; stops = stops.1 }
 
   -- no session joins in a run without clients
-  alone : {result : Result Ended Stop} (runs : RunsSerially shelf (plan_of plan) first old new result) → Acts plan from None task.Run (run_steps plan first runs.lists) (ended_verdict plan first runs.lists)
-      → Acts plan from None task.Run (run_steps plan first runs.lists) (EndedBy (ended_by (last_state plan first runs.lists)) 0)
+  alone : {result : Result Ended Stop} (runs : RunsSerially shelf (plan_of plan) first old new result) → Acts plan from None aim.Run (run_steps plan first runs.lists) (ended_verdict plan first runs.lists)
+      → Acts plan from None aim.Run (run_steps plan first runs.lists) (EndedBy (ended_by (last_state plan first runs.lists)) 0)
   alone runs acts =
-      subst (λ n. Acts plan from None task.Run (run_steps plan first runs.lists) (EndedBy (ended_by (last_state plan first runs.lists)) n)) (none_join (plan_of plan) _ runs.lists runs.runs.published) acts
+      subst (λ n. Acts plan from None aim.Run (run_steps plan first runs.lists) (EndedBy (ended_by (last_state plan first runs.lists)) n)) (none_join (plan_of plan) _ runs.lists runs.runs.published) acts
 
   -- a run without clients from this state
-  pub acted_run : (result : Result Ended Stop) → RunsSerially shelf (plan_of plan) first old new result → HasActed shelf old new plan from None task.Run (run_verdict result)
+  pub acted_run : (result : Result Ended Stop) → RunsSerially shelf (plan_of plan) first old new result → HasActed shelf old new plan from None aim.Run (run_verdict result)
   acted_run (Ok ended) runs = record {
     calls = runs.runs.does.calls;
     went = runs.runs.does.went;
@@ -85,14 +85,14 @@ module _ {S : Type 0} {shelf : Ghosts S} {old new : S} (plan : Plan) (from : Opt
 -- a text that is no checkpoint
 module _ {S : Type 0} {shelf : Ghosts S} (s : S) (none : shelf.called s [] s) (plan : Plan) (text : List ℕ) (journal : Option (List ℕ)) where
   refused : (why : LoadFault) → why ≢ load_fault.OutOfMemory → Refuses (checkpoint plan) text why → ((t : State) → IsCheckpointOf plan text t → why ≡ load_fault.OutOfMemory)
-      → HasActed shelf s s plan (Some text) journal task.Run (TextRefused (checkpoint_line why))
+      → HasActed shelf s s plan (Some text) journal aim.Run (TextRefused (checkpoint_line why))
   refused why known refuses same =
-      acted_quiet s plan (Some text) journal task.Run (TextRefused (checkpoint_line why)) none
+      acted_quiet s plan (Some text) journal aim.Run (TextRefused (checkpoint_line why)) none
       (unloaded refl (record { refused = refuses; known = known; none = λ t is. known (same t is) }))
 
   told : (why : LoadFault) → Refuses (checkpoint plan) text why → ((t : State) → IsCheckpointOf plan text t → why ≡ load_fault.OutOfMemory)
-      → HasActed shelf s s plan (Some text) journal task.Run (unloaded_verdict why)
-  told load_fault.OutOfMemory refuses same = acted_quiet s plan (Some text) journal task.Run OutOfMemory none no_memory
+      → HasActed shelf s s plan (Some text) journal aim.Run (unloaded_verdict why)
+  told load_fault.OutOfMemory refuses same = acted_quiet s plan (Some text) journal aim.Run OutOfMemory none no_memory
   told (load_fault.BadLine line) refuses same = refused (load_fault.BadLine line) (λ e. cc) refuses same
   told (load_fault.WrongPlan line) refuses same = refused (load_fault.WrongPlan line) (λ e. cc) refuses same
   told (load_fault.OutOfRange line) refuses same = refused (load_fault.OutOfRange line) (λ e. cc) refuses same
@@ -100,9 +100,9 @@ module _ {S : Type 0} {shelf : Ghosts S} (s : S) (none : shelf.called s [] s) (p
   told (load_fault.Trailing at) refuses same = refused (load_fault.Trailing at) (λ e. cc) refuses same
 
   pub acted_unloaded : (why : LoadFault) (verdict : Verdict) → (verdict ≡ unloaded_verdict why) ⊎ (verdict ≡ OutOfMemory) → Refuses (checkpoint plan) text why
-      → ((t : State) → IsCheckpointOf plan text t → why ≡ load_fault.OutOfMemory) → HasActed shelf s s plan (Some text) journal task.Run verdict
+      → ((t : State) → IsCheckpointOf plan text t → why ≡ load_fault.OutOfMemory) → HasActed shelf s s plan (Some text) journal aim.Run verdict
   acted_unloaded why verdict (inl is) refuses same = rw is (told why refuses same)
-  acted_unloaded why verdict (inr is) refuses same = rw is (acted_quiet s plan (Some text) journal task.Run OutOfMemory none no_memory)
+  acted_unloaded why verdict (inr is) refuses same = rw is (acted_quiet s plan (Some text) journal aim.Run OutOfMemory none no_memory)
 
 -- the state that was loaded is the only one
 pub loaded_from : (plan : Plan) (text : List ℕ) (s : State) → IsCheckpointOf plan text s → ((other : State) → IsCheckpointOf plan text other → s ≡ other) → IsLoadedFrom plan text s

@@ -17,43 +17,39 @@ use Rattle.trick_top.specs.Acts.{Acts, checked, last_state, listed, misfits, no_
 use Rattle.trick_top.specs.First.{IsFirst, IsLoadedFrom}
 use Rattle.trick_top.specs.Found.{names, reads, texts}
 use Rattle.trick_top.specs.Generated.{text_steps, text_writes}
-use Rattle.trick_top.specs.Outcome.{Generates, Goes, GoesOn, Outcome, Performed, acted, gone_on, missing, no_memory_for_texts, no_memory_to_keep, no_memory_to_read}
+use Rattle.trick_top.specs.Outcome.{Generates, Goes, GoesOn, Outcome, Performed, acted, gone_on, missing, no_memory_for_texts, no_memory_to_read}
 use Rattle.trick_top.specs.Outcome.{not_read, not_understood, plan_refused, text_refused, texts_not_written, texts_run, unread}
 use Rattle.trick_top.specs.Runs.{IsFitting, IsJournalFor, IsWholeRun, IsWholeUnder}
 use Rattle.trick_top.specs.Sources.{Sources, generated_sources}
 use Rattle.trick_top.specs.Status.{AreAccepted, AreRefusedTexts, IsFittingIn, IsMisfitIn, for_checkpoint, for_journal, for_text}
 use Rattle.trick_top.specs.Verdict.{Accepted, Ended, Generated as GeneratedBy, JournalLength, Listed, NoFile, OutOfMemory, PlanRefused, Served, ShelfFault, TextRefused}
 use Rattle.trick_top.specs.Verdict.{Usage, Verdict, ended_status, status_of, with_objects}
-use Rattle.trick_top.specs.Words.{AreRefused, Asked, Asks, IsWanted, Nothing, Unknown, Wanted, Words, names_of, request_of}
-use Rattle.trick_top.specs.declared.words.Command.{Command}
-use Rattle.trick_top.specs.declared.words.Request.TheVariants.{Texts}
-use Rattle.trick_top.specs.declared.words.Request.{Request}
-use Rattle.trick_top.specs.declared.words.Task.TheVariants as task
-use Rattle.trick_top.specs.declared.words.Task.{Task}
+use Rattle.trick_top.specs.Words.{AreRefused, Asked, Asks, IsWanted, Nothing, Unknown, Wanted, Words, names_of}
+use Rattle.trick_words.specs.declared.command.Texts.{Texts}
+use Rattle.trick_words.specs.declared.command.Command.TheVariants as commands
+use Rattle.trick_words.specs.declared.command.Command.{Command}
+use Rattle.trick_top.specs.Aims as aim
+use Rattle.trick_top.specs.Aims.{Aim}
 use Rattle.trick_words.specs.Command as lines
-use Rattle.trick_words.specs.declared.command.Command as declared
 
 -- words are one line at most
 abbrev pub AreOneLine : Type 0
-AreOneLine = (words : List (List ℕ)) (first second : declared.Command)
+AreOneLine = (words : List (List ℕ)) (first second : Command)
     → lines.Asks words first → lines.Asks words second → first ≡ second
 
 module _ (once : AreOneLine) (words : Words) where
   -- words that ask for something ask for nothing else
-  pub same_asked : (request other : Request) → Asks words request → Asks words other → request ≡ other
-  same_asked request other asks is =
-      let same : asks.line ≡ is.line = once words.said asks.line is.line asks.asked is.asked in
-      let both : Some request ≡ Some other = sym asks.known ∙ ap (request_of words.has_run) same ∙ is.known in
-      cc
+  pub same_asked : (command other : Command) → Asks words command → Asks words other → command ≡ other
+  same_asked command other asks is = once words.said command other asks.asked is.asked
 
   -- words that ask for something go as this, where there was memory to read them
   pub asked_goes : (wanted : Wanted) (calls : List Call) (verdict : Verdict) → IsWanted words wanted
-      → Outcome wanted calls verdict → (request : Request) → Asks words request
-      → Outcome (Asked request) calls verdict ⊎ (status_of verdict ≡ 6)
-  asked_goes Unknown calls verdict is (none, same) request asks = inr (ap status_of same)
-  asked_goes Nothing calls verdict is outcome request asks = absurd (is request asks)
-  asked_goes (Asked other) calls verdict is outcome request asks =
-      inl (subst (λ r. Outcome (Asked r) calls verdict) (same_asked other request is asks) outcome)
+      → Outcome wanted calls verdict → (command : Command) → Asks words command
+      → Outcome (Asked command) calls verdict ⊎ (status_of verdict ≡ 6)
+  asked_goes Unknown calls verdict is (none, same) command asks = inr (ap status_of same)
+  asked_goes Nothing calls verdict is outcome command asks = absurd (is command asks)
+  asked_goes (Asked other) calls verdict is outcome command asks =
+      inl (subst (λ r. Outcome (Asked r) calls verdict) (same_asked other command is asks) outcome)
 
 -- words that ask for nothing are refused, where there was memory to read them
 pub refused_usage : (words : Words) (wanted : Wanted) (calls : List Call) (verdict : Verdict)
@@ -61,46 +57,44 @@ pub refused_usage : (words : Words) (wanted : Wanted) (calls : List Call) (verdi
     → (status_of verdict ≡ 1) ⊎ (status_of verdict ≡ 6)
 refused_usage words Unknown calls verdict is refused (none, same) = inr (ap status_of same)
 refused_usage words Nothing calls verdict is refused (none, same) = inl (ap status_of same)
-refused_usage words (Asked request) calls verdict is refused outcome = absurd (refused request is)
+refused_usage words (Asked command) calls verdict is refused outcome = absurd (refused command is)
 
-module _ (command : Command) (held now : Files) where
+module _ (about : Texts) (held now : Files) where
   -- a file is missing
-  pub missing_ends : {calls : List Call} {verdict : Verdict} → Goes command calls verdict → (fails calls ≡ true → ⊥) → AllLeave calls held now
-      → Contains (map (get held) (names_of command)) None → (status_of verdict ≡ 9) ⊎ (status_of verdict ≡ 6)
+  pub missing_ends : {calls : List Call} {verdict : Verdict} → Goes about calls verdict → (fails calls ≡ true → ⊥) → AllLeave calls held now
+      → Contains (map (get held) (names_of about)) None → (status_of verdict ≡ 9) ⊎ (status_of verdict ≡ 6)
   missing_ends (unread (missing files name others named)) never left lacks = inl refl
-  missing_ends (unread (not_read files name others named)) never left lacks = absurd (never ((faults (Asked (Texts command)) _ _ (unread (not_read files name others named))).back refl))
+  missing_ends (unread (not_read files name others named)) never left lacks = absurd (never ((faults (Asked (commands.Texts about)) _ _ (unread (not_read files name others named))).back refl))
   missing_ends (unread (no_memory_to_read files name others named)) never left lacks = inr refl
-  missing_ends (unread (no_memory_to_keep files others named)) never left lacks = inr refl
   missing_ends (gone_on files calls named goes) never left lacks =
-      let all : map (get held) (names_of command) ≡ map Some (texts files) = ap (map (get held)) named ∙ (leave_reads files calls held now left).0 in
+      let all : map (get held) (names_of about) ≡ map Some (texts files) = ap (map (get held)) named ∙ (leave_reads files calls held now left).0 in
       absurd (lacks_none (texts files) (subst (λ list. Contains list None) all lacks))
 
   -- all files are there, so it goes on with their texts
-  pub found_goes : {calls : List Call} {verdict : Verdict} (given : List (List ℕ)) → Goes command calls verdict → (fails calls ≡ true → ⊥) → AllLeave calls held now
-      → map (get held) (names_of command) ≡ map Some given → ((late : List Call) × GoesOn command given late verdict × (fails late ≡ true → ⊥)) ⊎ (status_of verdict ≡ 6)
+  pub found_goes : {calls : List Call} {verdict : Verdict} (given : List (List ℕ)) → Goes about calls verdict → (fails calls ≡ true → ⊥) → AllLeave calls held now
+      → map (get held) (names_of about) ≡ map Some given → ((late : List Call) × GoesOn about given late verdict × (fails late ≡ true → ⊥)) ⊎ (status_of verdict ≡ 6)
   found_goes given (unread (missing files name others named)) never left all =
       let none = (leave_reads files _ held now left).1.1.0 in
       let lacks : Contains (map (get held) (names files ++ name ∷ others)) None = in_the_midst (get held) (names files) name others none in
       absurd (lacks_none given (subst (λ list. Contains list None) (ap (map (get held)) (sym named) ∙ all) lacks))
-  found_goes given (unread (not_read files name others named)) never left all = absurd (never ((faults (Asked (Texts command)) _ _ (unread (not_read files name others named))).back refl))
+  found_goes given (unread (not_read files name others named)) never left all = absurd (never ((faults (Asked (commands.Texts about)) _ _ (unread (not_read files name others named))).back refl))
   found_goes given (unread (no_memory_to_read files name others named)) never left all = inr refl
-  found_goes given (unread (no_memory_to_keep files others named)) never left all = inr refl
   found_goes {verdict = verdict} given (gone_on files calls named goes) never left all =
       let same : texts files ≡ given = same_texts (texts files) given (sym (leave_reads files calls held now left).0 ∙ ap (map (get held)) (sym named) ∙ all) in
-      inl (calls, subst (λ texts. GoesOn command texts calls verdict) same goes, λ e. never (fails-late (reads files) calls (reads_quiet files) ∙ e))
+      inl (calls, subst (λ texts. GoesOn about texts calls verdict) same goes, λ e. never (fails-late (reads files) calls (reads_quiet files) ∙ e))
 
 -- what a status says that is that of a run or a look that came to its end
-abbrev pub IsEnd : Task → ℕ → Type 0
-IsEnd t status = (status ≡ 0) ⊎ (((status ≡ 4) × (t ≡ task.Run)) ⊎ (status ≡ 6))
+abbrev pub IsEnd : Aim → ℕ → Type 0
+IsEnd t status = (status ≡ 0) ⊎ (((status ≡ 4) × (t ≡ aim.Run)) ⊎ (status ≡ 6))
 
 -- the tasks that are no run
-pub not_check : task.Check ≡ task.Run → ⊥
+pub not_check : aim.Check ≡ aim.Run → ⊥
 not_check is = cc
 
-pub not_list : task.List ≡ task.Run → ⊥
+pub not_list : aim.List ≡ aim.Run → ⊥
 not_list is = cc
 
-pub ended_is_end : (faults : ℕ) → IsEnd task.Run (ended_status faults)
+pub ended_is_end : (faults : ℕ) → IsEnd aim.Run (ended_status faults)
 ended_is_end zero = inl refl
 ended_is_end (suc faults) = inr (inl (refl, refl))
 
@@ -118,7 +112,7 @@ one_text is also = let same = sym is ∙ also in cc
 
 module _ {plan : Plan} {from journal : Option (List ℕ)} where
   -- the text to go on from is the checkpoint of no state
-  acted_unloaded : {t : Task} {calls : List Call} {verdict : Verdict} → (fails calls ≡ true → ⊥) → t ≡ task.Run → (text : List ℕ) → from ≡ Some text
+  acted_unloaded : {t : Aim} {calls : List Call} {verdict : Verdict} → (fails calls ≡ true → ⊥) → t ≡ aim.Run → (text : List ℕ) → from ≡ Some text
       → ((s : State) → IsCheckpointOf plan text s → ⊥) → Acts plan from journal t calls verdict → (status_of verdict ≡ 2) ⊎ (status_of verdict ≡ 6)
   acted_unloaded never run text is none checked = absurd (not_check run)
   acted_unloaded never run text is none listed = absurd (not_list run)
@@ -131,7 +125,7 @@ module _ {plan : Plan} {from journal : Option (List ℕ)} where
   acted_unloaded never run text is none (no_memory_to_write first lists starts under_way part quiet) = inr refl
 
   -- the text to run under is no journal
-  acted_unread : {t : Task} {calls : List Call} {verdict : Verdict} → (fails calls ≡ true → ⊥) → t ≡ task.Run → (text : List ℕ) → journal ≡ Some text
+  acted_unread : {t : Aim} {calls : List Call} {verdict : Verdict} → (fails calls ≡ true → ⊥) → t ≡ aim.Run → (text : List ℕ) → journal ≡ Some text
       → ((first : State) (told : Journal) → IsFirst plan from first → IsJournalFor plan first text told → ⊥) → Acts plan from journal t calls verdict → (status_of verdict ≡ 2) ⊎ (status_of verdict ≡ 6)
   acted_unread never run text is none checked = absurd (not_check run)
   acted_unread never run text is none listed = absurd (not_list run)
@@ -150,7 +144,7 @@ module _ {plan : Plan} {from journal : Option (List ℕ)} where
   module _ (loaded : (text : List ℕ) → from ≡ Some text → (s : State) × IsCheckpointOf plan text s)
       (read : (first : State) (text : List ℕ) → IsFirst plan from first → journal ≡ Some text → (told : Journal) × IsJournalFor plan first text told) where
     -- what is done with an accepted plan comes to its end, where the journal fits
-    acted_ends : {t : Task} {calls : List Call} {verdict : Verdict} → (fails calls ≡ true → ⊥) → ((first : State) (text : List ℕ) (told : Journal) → IsFirst plan from first → journal ≡ Some text → IsJournalFor plan first text told → IsFitting plan first told)
+    acted_ends : {t : Aim} {calls : List Call} {verdict : Verdict} → (fails calls ≡ true → ⊥) → ((first : State) (text : List ℕ) (told : Journal) → IsFirst plan from first → journal ≡ Some text → IsJournalFor plan first text told → IsFitting plan first told)
         → Acts plan from journal t calls verdict → IsEnd t (status_of verdict)
     acted_ends never fits checked = inl refl
     acted_ends never fits listed = inl refl
@@ -163,7 +157,7 @@ module _ {plan : Plan} {from journal : Option (List ℕ)} where
     acted_ends never fits (no_memory_to_write first lists starts under_way part none) = inr (inr refl)
 
     -- and where it does not fit
-    acted_misfits : {t : Task} {calls : List Call} {verdict : Verdict} → (fails calls ≡ true → ⊥) → t ≡ task.Run → (text : List ℕ) → journal ≡ Some text
+    acted_misfits : {t : Aim} {calls : List Call} {verdict : Verdict} → (fails calls ≡ true → ⊥) → t ≡ aim.Run → (text : List ℕ) → journal ≡ Some text
         → ((first : State) (told : Journal) → IsFirst plan from first → IsJournalFor plan first text told → IsFitting plan first told → ⊥)
         → Acts plan from journal t calls verdict → (status_of verdict ≡ 7) ⊎ (status_of verdict ≡ 6)
     acted_misfits never run text is none checked = absurd (not_check run)
@@ -179,7 +173,7 @@ module _ {plan : Plan} {from journal : Option (List ℕ)} where
     acted_misfits never run text is none (no_memory_to_write first lists starts under_way part quiet) = inr refl
 
 -- what texts say is one thing
-module _ (one : (s_define input : List ℕ) → HaveOneMeaning s_define input) {t : Task} {given : Sources} where
+module _ (one : (s_define input : List ℕ) → HaveOneMeaning s_define input) {t : Aim} {given : Sources} where
   -- the texts have an accepted plan, and their journal fits, so it comes to its end
   pub accepted_ends : {calls : List Call} {verdict : Verdict} → (fails calls ≡ true → ⊥) → AreAccepted given → IsFittingIn given → Performed t given calls verdict → IsEnd t (status_of verdict)
   accepted_ends never good fits (text_refused is) = absurd ((one given.s_define given.input).planned good.plan _ good.ready.planned is)
@@ -190,7 +184,7 @@ module _ (one : (s_define input : List ℕ) → HaveOneMeaning s_define input) {
       (λ first text told starts is for. fits plan first text told ready starts is for) acts
 
   -- their journal does not fit
-  pub misfit_ends : {calls : List Call} {verdict : Verdict} → (fails calls ≡ true → ⊥) → t ≡ task.Run → AreAccepted given → IsMisfitIn given → Performed t given calls verdict → (status_of verdict ≡ 7) ⊎ (status_of verdict ≡ 6)
+  pub misfit_ends : {calls : List Call} {verdict : Verdict} → (fails calls ≡ true → ⊥) → t ≡ aim.Run → AreAccepted given → IsMisfitIn given → Performed t given calls verdict → (status_of verdict ≡ 7) ⊎ (status_of verdict ≡ 6)
   misfit_ends never run good bad (text_refused is) = absurd ((one given.s_define given.input).planned good.plan _ good.ready.planned is)
   misfit_ends never run good bad (plan_refused is) = absurd ((one given.s_define given.input).accepted good.plan _ good.ready is)
   misfit_ends never run good bad not_understood = inr refl
@@ -206,7 +200,7 @@ module _ (one : (s_define input : List ℕ) → HaveOneMeaning s_define input) {
   text_ends line refused (acted {plan = plan} ready acts) = absurd ((one given.s_define given.input).planned plan line ready.planned refused)
 
   -- the text to go on from is no checkpoint
-  unloaded_ends : {calls : List Call} {verdict : Verdict} → (fails calls ≡ true → ⊥) → (plan : Plan) (text : List ℕ) → t ≡ task.Run → IsReady given.s_define given.input plan → given.from ≡ Some text
+  unloaded_ends : {calls : List Call} {verdict : Verdict} → (fails calls ≡ true → ⊥) → (plan : Plan) (text : List ℕ) → t ≡ aim.Run → IsReady given.s_define given.input plan → given.from ≡ Some text
       → ((other : Plan) (s : State) → IsReady given.s_define given.input other → IsCheckpointOf other text s → ⊥) → Performed t given calls verdict → (status_of verdict ≡ 2) ⊎ (status_of verdict ≡ 6)
   unloaded_ends never plan text run ready is none (text_refused refused) = inl refl
   unloaded_ends never plan text run ready is none (plan_refused refused) = absurd ((one given.s_define given.input).accepted plan _ ready refused)
@@ -214,7 +208,7 @@ module _ (one : (s_define input : List ℕ) → HaveOneMeaning s_define input) {
   unloaded_ends never plan text run ready is none (acted {plan = other} now acts) = acted_unloaded never run text is (λ s. none other s now) acts
 
   -- the text to run under is no journal
-  unread_ends : {calls : List Call} {verdict : Verdict} → (fails calls ≡ true → ⊥) → (plan : Plan) (text : List ℕ) → t ≡ task.Run → IsReady given.s_define given.input plan → given.journal ≡ Some text
+  unread_ends : {calls : List Call} {verdict : Verdict} → (fails calls ≡ true → ⊥) → (plan : Plan) (text : List ℕ) → t ≡ aim.Run → IsReady given.s_define given.input plan → given.journal ≡ Some text
       → ((other : Plan) (first : State) (told : Journal) → IsReady given.s_define given.input other → IsFirst other given.from first → IsJournalFor other first text told → ⊥)
       → Performed t given calls verdict → (status_of verdict ≡ 2) ⊎ (status_of verdict ≡ 6)
   unread_ends never plan text run ready is none (text_refused refused) = inl refl
@@ -250,7 +244,7 @@ same_status objects ShelfFault = refl
 same_status objects OutOfMemory = refl
 
 -- What was done with the texts, by the status that it ended with.
-pub record Done (t : Task) (given : Sources) (status : ℕ) : Type 0 where
+pub record Done (t : Aim) (given : Sources) (status : ℕ) : Type 0 where
   pub late : List Call
   pub verdict : Verdict
   pub performed : Performed t given late verdict
@@ -259,7 +253,7 @@ pub record Done (t : Task) (given : Sources) (status : ℕ) : Type 0 where
 
 -- a generated simulation is run, unless there was no memory for its texts
 pub generated_goes : (objects : ℕ) {calls : List Call} {verdict : Verdict} → Generates objects calls verdict → (fails calls ≡ true → ⊥)
-    → Done task.Run (generated_sources objects) (status_of verdict) ⊎ (status_of verdict ≡ 6)
+    → Done aim.Run (generated_sources objects) (status_of verdict) ⊎ (status_of verdict ≡ 6)
 generated_goes objects (texts_not_written part fault) never = absurd (never fault)
 generated_goes objects (no_memory_for_texts part none) never = inr refl
 generated_goes objects (texts_run calls {verdict = verdict} performed) never =

@@ -1,28 +1,24 @@
 -- What words ask for, worked; and wrong bodies that no row holds, whatever their proofs are.
-use Rattle.std.proofs.Common.{◌≡◌, List, ℕ, ◌∷◌, Option, Some, None, true, false, refl}
+use Rattle.std.proofs.Common.{◌≡◌, List, ℕ, ◌∷◌, Option, None, true, false, refl}
 use Rattle.trick_outside.specs.Calls.{Call, Get, Stopped, fails}
 use Rattle.trick_outside.specs.Pieces as pieces
 use Rattle.trick_outside.specs.declared.sink.Sink.{Ghosts}
 use Rattle.trick_outside.specs.declared.stop.Stop.TheVariants.{Shelf}
 use Rattle.trick_top.proofs.OutcomeLemmas.{faults}
 use Rattle.trick_top.proofs.PrintLemmas.{Given}
+use Rattle.trick_top.specs.Aims as aim
 use Rattle.trick_top.specs.Outcome.{Outcome}
 use Rattle.trick_top.specs.Verdict.{OutOfMemory, Verdict}
-use Rattle.trick_top.specs.Words.{Wanted, request_of}
-use Rattle.trick_top.specs.declared.words.Request.TheVariants.{Texts}
-use Rattle.trick_top.specs.declared.words.Task.TheVariants as task
-use Rattle.trick_words.specs.declared.command.Command.TheVariants.{Run}
+use Rattle.trick_top.specs.Words.{Wanted, aim_of_task, has_task, journal_of}
+use Rattle.trick_words.specs.declared.command.Task.TheVariants.{Run}
 
--- `run`, with a port or not, asks for the run of its texts without a journal, from its checkpoint where it names one
-run_asks : (s_define input : List ℕ) (from : Option (List ℕ)) (port : Option ℕ)
-    → request_of true (Run s_define input from port)
-    ≡ Some (Texts (record { task = task.Run; s_define = s_define; input = input; from = from; journal = None }))
-run_asks s_define input from port = refl
+-- `run`, with a port or not, runs its texts without a journal
+run_aims : (port : Option ℕ) → (aim_of_task (Run port) ≡ aim.Run) × (journal_of (Run port) ≡ None)
+run_aims port = (refl, refl)
 
 -- and the call that waits for nobody has no `run`
-run_alone : (s_define input : List ℕ) (from : Option (List ℕ)) (port : Option ℕ)
-    → request_of false (Run s_define input from port) ≡ None
-run_alone s_define input from port = refl
+run_alone : (port : Option ℕ) → has_task false (Run port) ≡ false
+run_alone port = refl
 
 -- a call after one that failed
 no_call_after : (wanted : Wanted) (verdict : Verdict) (name : List ℕ) (call : Call) (calls : List Call)

@@ -1,6 +1,5 @@
 -- Files that are read one after another.
-use Rattle.std.proofs.Common.{◌≡◌, ◌<◌, ◌+◌, ℕ, suc, List, [], ◌∷◌, ◌++◌, Some, None, refl, sym, ◌∙◌, ap, subst, false, inl, inr, map, Contains, arith, length, slice_index_or, take, drop}
-use Rattle.std.proofs.Math.Seq.{split_at, take-suc}
+use Rattle.std.proofs.Common.{◌≡◌, ℕ, List, [], ◌∷◌, ◌++◌, Some, None, refl, sym, ◌∙◌, ap, subst, false, inl, inr, map, Contains, arith}
 use Rattle.std.proofs.lemmas.List.Elements.{Contains-append_cases, Contains-append_right, Contains-push_cases}
 use Rattle.std.proofs.lemmas.List.{map-append}
 use Rattle.std.specs.FinMap.{get}
@@ -66,17 +65,3 @@ same_texts (text ∷ one) (other ∷ two) is =
     let first : text ≡ other = cc in
     let later : map Some one ≡ map Some two = cc in
     ap (λ t. t ∷ one) first ∙ ap (λ t. other ∷ t) (same_texts one two later)
-
-module _ {A : Type 0} (f : A → List ℕ) (all : List A) (at : ℕ) (item : A) (less : at < length all) (is : item ≡ slice_index_or all at item) where
-  -- a list before, at and after a place
-  pub next_name : map f all ≡ map f (take at all) ++ f item ∷ map f (drop (suc at) all)
-  next_name =
-      ap (map f) (split_at all at item less) ∙ map-append f (take at all) (slice_index_or all at item ∷ drop (suc at) all)
-      ∙ ap (λ i. map f (take at all) ++ f i ∷ map f (drop (suc at) all)) (sym is)
-
-  -- one more of them
-  pub more_names : map f (take (at + 1) all) ≡ map f (take at all) ++ f item ∷ []
-  more_names =
-      let next : at + 1 ≡ suc at = omega arith in
-      ap (λ n. map f (take n all)) next ∙ ap (map f) (take-suc all at item less) ∙ map-append f (take at all) (slice_index_or all at item ∷ [])
-      ∙ ap (λ i. map f (take at all) ++ f i ∷ []) (sym is)

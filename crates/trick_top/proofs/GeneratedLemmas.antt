@@ -15,8 +15,8 @@ use Rattle.trick_top.specs.Outcome.{Generates, HasGone, HasPerformed, Performed,
 use Rattle.trick_top.specs.Sources.{generated_sources}
 use Rattle.trick_top.specs.Verdict.{OutOfMemory, ShelfFault, Verdict, with_objects}
 use Rattle.trick_top.specs.Words.{Asked}
-use Rattle.trick_top.specs.declared.words.Request.TheVariants.{Generated}
-use Rattle.trick_top.specs.declared.words.Task.TheVariants.{Run}
+use Rattle.trick_words.specs.declared.command.Command.TheVariants as commands
+use Rattle.trick_top.specs.Aims.{Run}
 
 -- both texts are those of so many objects
 pub of_objects : {S T : Type 0} {shelf : Ghosts S} {old new : S} {result : Result T Stop} (objects : ℕ) (definition input : List ℕ) → Does shelf old new result (steps_of (both_writes definition input))
@@ -27,11 +27,11 @@ of_objects {shelf = shelf} {old = old} {new = new} {result = result} objects def
 
 module _ {S T : Type 0} {shelf : Ghosts S} {old mid : S} (objects : ℕ) {result : Result T Stop} (does : Does shelf old mid result (text_steps objects)) where
   -- a text was not written, since the shelf failed
-  pub gone_unwritten : IsErrOf result Shelf → HasGone shelf old mid (Asked (Generated objects)) ShelfFault
+  pub gone_unwritten : IsErrOf result Shelf → HasGone shelf old mid (Asked (commands.Gen objects)) ShelfFault
   gone_unwritten is = record { calls = does.calls; went = does.went; outcome = texts_not_written does.part (does.failed is) }
 
   -- a text was not made or not written, for want of memory
-  pub gone_short : (why : Stop) → result ≡ Err why → why ≡ Memory → HasGone shelf old mid (Asked (Generated objects)) OutOfMemory
+  pub gone_short : (why : Stop) → result ≡ Err why → why ≡ Memory → HasGone shelf old mid (Asked (commands.Gen objects)) OutOfMemory
   gone_short why is memory = record {
     calls = does.calls;
     went = does.went;
@@ -40,7 +40,7 @@ module _ {S T : Type 0} {shelf : Ghosts S} {old mid : S} (objects : ℕ) {result
 
   -- both texts were written, and then run
   pub gone_run : {new : S} (s_define input : List ℕ) (verdict told : Verdict) → Joins shelf → IsOk result → s_define ≡ definition_text objects → input ≡ input_text
-      → HasPerformed shelf mid new Run (record { s_define = s_define; input = input; from = None; journal = None }) verdict → told ≡ with_objects objects verdict → HasGone shelf old new (Asked (Generated objects)) told
+      → HasPerformed shelf mid new Run (record { s_define = s_define; input = input; from = None; journal = None }) verdict → told ≡ with_objects objects verdict → HasGone shelf old new (Asked (commands.Gen objects)) told
   gone_run {new = new} s_define input verdict told join ok first second on is =
       let performed : Performed Run (generated_sources objects) on.calls verdict =
       subst (λ (i : List ℕ). Performed Run (record { s_define = definition_text objects; input = i; from = None; journal = None }) on.calls verdict) second

@@ -8,15 +8,15 @@ use Rattle.trick_outside.specs.Calls.{Call, EndAtFault, fails, is_fault}
 use Rattle.trick_tic.specs.Steps.{steps_of}
 use Rattle.trick_top.proofs.FoundLemmas.{reads_quiet}
 use Rattle.trick_top.specs.Acts.{Acts, all_writes, checked, listed, misfits, no_journal, no_memory, no_memory_to_write, not_written, ran, run_steps, unloaded}
-use Rattle.trick_top.specs.Found.{Found, reads}
-use Rattle.trick_top.specs.Outcome.{Generates, Outcome, Performed, Unread, acted, gone_on, missing, no_memory_for_texts, no_memory_to_keep, no_memory_to_read, not_read, not_understood, plan_refused, text_refused, texts_not_written, texts_run, unread}
+use Rattle.trick_top.specs.Found.{reads}
+use Rattle.trick_top.specs.Outcome.{Generates, Outcome, Performed, Unread, acted, gone_on, missing, no_memory_for_texts, no_memory_to_read, not_read, not_understood, plan_refused, text_refused, texts_not_written, texts_run, unread}
 use Rattle.trick_top.specs.Generated.{text_steps, text_writes}
 use Rattle.trick_top.specs.Runs.{short_steps, short_writes}
 use Rattle.trick_top.specs.Sources.{Sources}
-use Rattle.trick_top.specs.Verdict.{Accepted, Ended, Generated as GeneratedBy, JournalLength, Listed, NoFile, OutOfMemory, PlanRefused, Served, ShelfFault, TextRefused, Usage, Verdict, with_objects}
+use Rattle.trick_top.specs.Verdict.{Accepted, Ended, Generated, JournalLength, Listed, NoFile, OutOfMemory, PlanRefused, Served, ShelfFault, TextRefused, Usage, Verdict, with_objects}
 use Rattle.trick_top.specs.Words.{Asked, Nothing, Unknown, Wanted}
-use Rattle.trick_top.specs.declared.words.Request.TheVariants.{Generated, Texts}
-use Rattle.trick_top.specs.declared.words.Task.{Task}
+use Rattle.trick_words.specs.declared.command.Command.TheVariants as commands
+use Rattle.trick_top.specs.Aims.{Aim}
 
 -- the verdict is `ShelfFault` exactly where a call failed, and that call was the last
 pub record Faults (calls : List Call) (verdict : Verdict) : Type 0 where
@@ -49,7 +49,7 @@ pub steps_quiet : (writes : List Write) → fails (steps_of writes) ≡ false
 steps_quiet [] = refl
 steps_quiet (write ∷ writes) = steps_quiet writes
 
-acted_faults : {plan : Plan} {from journal : Option (List ℕ)} {t : Task} {calls : List Call} {verdict : Verdict} → Acts plan from journal t calls verdict → Faults calls verdict
+acted_faults : {plan : Plan} {from journal : Option (List ℕ)} {t : Aim} {calls : List Call} {verdict : Verdict} → Acts plan from journal t calls verdict → Faults calls verdict
 acted_faults checked = quiet _ _ refl tt (λ e. cc)
 acted_faults listed = quiet _ _ refl tt (λ e. cc)
 acted_faults no_memory = quiet _ _ refl tt (λ e. cc)
@@ -71,7 +71,7 @@ acted_faults {plan = plan} (not_written first lists starts under_way part fault)
 acted_faults {plan = plan} (no_memory_to_write first lists starts under_way part none) =
     quiet _ _ none (part_ends _ (run_steps plan first lists) part.part (steps_quiet (all_writes plan first lists))) (λ e. cc)
 
-performed_faults : {t : Task} {given : Sources} {calls : List Call} {verdict : Verdict} → Performed t given calls verdict → Faults calls verdict
+performed_faults : {t : Aim} {given : Sources} {calls : List Call} {verdict : Verdict} → Performed t given calls verdict → Faults calls verdict
 performed_faults (text_refused is) = quiet _ _ refl tt (λ e. cc)
 performed_faults (plan_refused is) = quiet _ _ refl tt (λ e. cc)
 performed_faults not_understood = quiet _ _ refl tt (λ e. cc)
@@ -81,11 +81,6 @@ pub unread_faults : {wanted : List (List ℕ)} {calls : List Call} {verdict : Ve
 unread_faults (missing files name others named) = later (reads files) _ _ (reads_quiet files) (one _ _ (λ e. cc) (λ e. cc))
 unread_faults (not_read files name others named) = later (reads files) _ _ (reads_quiet files) (one _ _ (λ e. refl) (λ e. refl))
 unread_faults (no_memory_to_read files name others named) = later (reads files) _ _ (reads_quiet files) (one _ _ (λ e. cc) (λ e. cc))
-unread_faults (no_memory_to_keep files others named) = quiet (reads files) _ (reads_quiet files) (reads_end files) (λ e. cc)
-  where
-    reads_end : (files : List Found) → EndAtFault (reads files)
-    reads_end [] = tt
-    reads_end (file ∷ files) = (λ e. cc, reads_end files)
 
 -- the run of a generated simulation failed where that of its texts did
 same_fault : (objects : ℕ) (verdict : Verdict) → with_objects objects verdict ≡ ShelfFault → verdict ≡ ShelfFault
@@ -96,7 +91,7 @@ same_fault objects (PlanRefused line) is = cc
 same_fault objects (Accepted cells jobs threads) is = cc
 same_fault objects (Listed line) is = cc
 same_fault objects (Ended ended sessions) is = cc
-same_fault objects (GeneratedBy others ended sessions) is = cc
+same_fault objects (Generated others ended sessions) is = cc
 same_fault objects (Served ended sessions door_failed) is = cc
 same_fault objects (JournalLength kept given) is = cc
 same_fault objects ShelfFault is = refl
@@ -118,7 +113,7 @@ pub faults : (wanted : Wanted) (calls : List Call) (verdict : Verdict) → Outco
     → Faults calls verdict
 faults Unknown calls verdict (none, is) = rw (none, is) (quiet [] OutOfMemory refl tt (λ e. cc))
 faults Nothing calls verdict (none, is) = rw (none, is) (quiet [] Usage refl tt (λ e. cc))
-faults (Asked (Texts command)) calls verdict (unread is) = unread_faults is
-faults (Asked (Texts command)) all verdict (gone_on files calls named goes) =
+faults (Asked (commands.Texts about)) calls verdict (unread is) = unread_faults is
+faults (Asked (commands.Texts about)) all verdict (gone_on files calls named goes) =
     later (reads files) _ _ (reads_quiet files) (performed_faults goes.performed)
-faults (Asked (Generated objects)) calls verdict generates = generated_faults objects generates
+faults (Asked (commands.Gen objects)) calls verdict generates = generated_faults objects generates

@@ -27,7 +27,7 @@ use Rattle.trick_top.specs.Acts.{HasActed, misfits, no_journal, no_memory, no_me
 use Rattle.trick_top.specs.First.{IsFirst}
 use Rattle.trick_top.specs.Runs.{IsJournalFor}
 use Rattle.trick_top.specs.Verdict.{OutOfMemory, TextRefused, Verdict, replay_verdict, unread_verdict}
-use Rattle.trick_top.specs.declared.words.Task.TheVariants as task
+use Rattle.trick_top.specs.Aims as aim
 
 -- a run that starts anew starts at turn 0
 pub turn_of_start : (p : PlanSeen) → (start p).turn ≡ 0
@@ -41,7 +41,7 @@ turn_of_start p = go p.frozen
 module _ (plan : Plan) (from : Option (List ℕ)) (first : State) (starts : IsFirst plan from first) (text : List ℕ) where
   -- under the journal of the text
   module _ {S : Type 0} {shelf : Ghosts S} {old new : S} (journal : Journal) (is : IsJournalFor plan first text journal) where
-    pub acted_replay : (result : Result Replayed Stop) → RunsReplay shelf (plan_of plan) first journal old new result → HasActed shelf old new plan from (Some text) task.Run (replay_verdict result)
+    pub acted_replay : (result : Result Replayed Stop) → RunsReplay shelf (plan_of plan) first journal old new result → HasActed shelf old new plan from (Some text) aim.Run (replay_verdict result)
     acted_replay (Ok (replayed.Ended ended joins)) runs = record {
       calls = runs.does.calls;
       went = runs.does.went;
@@ -68,14 +68,14 @@ module _ (plan : Plan) (from : Option (List ℕ)) (first : State) (starts : IsFi
   -- the text is no journal
   module _ {S : Type 0} {shelf : Ghosts S} (s : S) (none : shelf.called s [] s) (apart : RefusedIsNone) where
     refused : (why : JournalFault) → why ≢ fault.OutOfMemory → IsRefused (plan_of plan) first.turn text why
-        → HasActed shelf s s plan from (Some text) task.Run (TextRefused (journal_line why))
+        → HasActed shelf s s plan from (Some text) aim.Run (TextRefused (journal_line why))
     refused why known refuses =
-        acted_quiet s plan from (Some text) task.Run (TextRefused (journal_line why)) none
+        acted_quiet s plan from (Some text) aim.Run (TextRefused (journal_line why)) none
         (no_journal first starts refl
         (record { refused = refuses; known = known; none = λ journal is. apart (plan_of plan) first.turn text why journal refuses known is }))
 
-    told : (why : JournalFault) → IsRefused (plan_of plan) first.turn text why → HasActed shelf s s plan from (Some text) task.Run (unread_verdict why)
-    told fault.OutOfMemory refuses = acted_quiet s plan from (Some text) task.Run OutOfMemory none no_memory
+    told : (why : JournalFault) → IsRefused (plan_of plan) first.turn text why → HasActed shelf s s plan from (Some text) aim.Run (unread_verdict why)
+    told fault.OutOfMemory refuses = acted_quiet s plan from (Some text) aim.Run OutOfMemory none no_memory
     told (fault.BadLine line) refuses = refused (fault.BadLine line) (λ e. cc) refuses
     told (fault.NotRising line) refuses = refused (fault.NotRising line) (λ e. cc) refuses
     told (fault.NotJoined line) refuses = refused (fault.NotJoined line) (λ e. cc) refuses
@@ -83,6 +83,6 @@ module _ (plan : Plan) (from : Option (List ℕ)) (first : State) (starts : IsFi
     told (fault.NoEnd line) refuses = refused (fault.NoEnd line) (λ e. cc) refuses
 
     pub acted_unread : (why : JournalFault) (verdict : Verdict) → (verdict ≡ unread_verdict why) ⊎ (verdict ≡ OutOfMemory) → IsRefused (plan_of plan) first.turn text why
-        → HasActed shelf s s plan from (Some text) task.Run verdict
+        → HasActed shelf s s plan from (Some text) aim.Run verdict
     acted_unread why verdict (inl is) refuses = rw is (told why refuses)
-    acted_unread why verdict (inr is) refuses = rw is (acted_quiet s plan from (Some text) task.Run OutOfMemory none no_memory)
+    acted_unread why verdict (inr is) refuses = rw is (acted_quiet s plan from (Some text) aim.Run OutOfMemory none no_memory)

@@ -1,5 +1,5 @@
 -- What stands of the writes, whatever the status is.
-use Rattle.std.proofs.Common.{◌≡◌, ℕ, List, [], ◌∷◌, ◌++◌, Some, refl, sym, ◌∙◌, ap, subst, append-nil, map}
+use Rattle.std.proofs.Common.{◌≡◌, ℕ, List, [], ◌∷◌, ◌++◌, Some, refl, sym, ◌∙◌, ap, subst, map}
 use Rattle.std.specs.FinMap.{get}
 use Rattle.trick_base.proofs.WriteLemmas.{all_written-append, front_of_all, front_of_late}
 use Rattle.trick_base.specs.Files.{Files, Write, all_written}
@@ -23,23 +23,22 @@ use Rattle.trick_top.specs.Acts.{Acts, StopsWith, all_writes, checked, listed, m
 use Rattle.trick_top.specs.First.{IsFirst}
 use Rattle.trick_top.specs.Found.{reads}
 use Rattle.trick_top.specs.Generated.{text_steps, text_writes}
-use Rattle.trick_top.specs.Outcome.{Generates, Outcome, Performed, Unread, acted, gone_on, missing, no_memory_for_texts, no_memory_to_keep, no_memory_to_read, not_read, not_understood, plan_refused, text_refused, texts_not_written, texts_run, unread}
+use Rattle.trick_top.specs.Outcome.{Generates, Outcome, Performed, Unread, acted, gone_on, missing, no_memory_for_texts, no_memory_to_read, not_read, not_understood, plan_refused, text_refused, texts_not_written, texts_run, unread}
 use Rattle.trick_top.specs.Runs.{IsUnderWay, short_writes}
 use Rattle.trick_top.specs.Sources.{Sources, texts_of}
 use Rattle.trick_top.specs.Status.{AskForFiles, Finds, Gives, HoldsSame, HoldsTexts, MayWrite, Reads, Says, Stands, a_front, earlier_writes, files_held, nothing, of_misfit, of_texts, of_whole, texts_generated}
 use Rattle.trick_top.specs.Verdict.{NoFile, PlanRefused, TextRefused, Usage, Verdict}
-use Rattle.trick_top.specs.Words.{Asked, Asks, IsWanted, Nothing, Unknown, Wanted, Words, names_of, task_of}
-use Rattle.trick_top.specs.declared.words.Request.TheVariants.{Generated, Texts}
-use Rattle.trick_top.specs.declared.words.Request.{Request}
-use Rattle.trick_top.specs.declared.words.Task.TheVariants.{Run}
-use Rattle.trick_top.specs.declared.words.Task.{Task}
+use Rattle.trick_top.specs.Words.{Asked, Asks, IsWanted, Nothing, Unknown, Wanted, Words, names_of, aim_of}
+use Rattle.trick_words.specs.declared.command.Command.TheVariants as commands
+use Rattle.trick_words.specs.declared.command.Command.{Command}
+use Rattle.trick_top.specs.Aims.{Run}
+use Rattle.trick_top.specs.Aims.{Aim}
 
 -- a file that was not read leaves all as it was
 pub unread_same : {wanted : List (List ℕ)} {calls : List Call} {verdict : Verdict} (held now : Files) → Unread wanted calls verdict → AllLeave calls held now → now ≡ held
 unread_same held now (missing files name others named) left = let after = (leave_reads files _ held now left).1 in after.2 ∙ after.1.1
 unread_same held now (not_read files name others named) left = let after = (leave_reads files _ held now left).1 in after.2 ∙ after.1
 unread_same held now (no_memory_to_read files name others named) left = let after = (leave_reads files _ held now left).1 in after.2 ∙ after.1
-unread_same held now (no_memory_to_keep files others named) left = (leave_reads files [] held now (subst (λ c. AllLeave c held now) (sym (append-nil (reads files))) left)).1
 
 module _ {S : Type 0} (shelf : Ghosts S) (old new : S) (words : Words) where
   -- such writes make what is held of what was held
@@ -52,7 +51,7 @@ module _ {S : Type 0} (shelf : Ghosts S) (old new : S) (words : Words) where
   none_written held now same = record { writes = []; may = nothing; is = same }
 
   -- a part of the texts of a generated simulation
-  texts_part : (objects : ℕ) (held now : Files) (part : List Call) → Asks words (Generated objects) → IsPartOf part (text_steps objects) → AllLeave part held now → HasWritten held now
+  texts_part : (objects : ℕ) (held now : Files) (part : List Call) → Asks words (commands.Gen objects) → IsPartOf part (text_steps objects) → AllLeave part held now → HasWritten held now
   texts_part objects held now part asks is left =
       let writes = text_writes objects in
       let front = front_of part (text_steps objects) held now (steps.all_done writes) is left in
@@ -63,47 +62,47 @@ module _ {S : Type 0} (shelf : Ghosts S) (old new : S) (words : Words) where
       }
 
   -- a front of what is written before the two texts are there
-  early_written : (request : Request) {given : Sources} (held now : Files) (writes : List Write) → Gives shelf old words request given
-      → IsFrontOf writes (earlier_writes request) → now ≡ all_written writes held → HasWritten held now
-  early_written (Texts command) held now [] gives front is = none_written held now is
-  early_written (Texts command) held now (write ∷ writes) gives front is = absurd front
-  early_written (Generated objects) held now writes (texts_generated asks) front is = record { writes = writes; may = of_texts asks front; is = is }
+  early_written : (command : Command) {given : Sources} (held now : Files) (writes : List Write) → Gives shelf old words command given
+      → IsFrontOf writes (earlier_writes command) → now ≡ all_written writes held → HasWritten held now
+  early_written (commands.Texts about) held now [] gives front is = none_written held now is
+  early_written (commands.Texts about) held now (write ∷ writes) gives front is = absurd front
+  early_written (commands.Gen objects) held now writes (texts_generated asks) front is = record { writes = writes; may = of_texts asks front; is = is }
 
   -- after the two texts are there
-  module _ (request : Request) {given : Sources} (gives : Gives shelf old words request given) (held now : Files) where
+  module _ (command : Command) {given : Sources} (gives : Gives shelf old words command given) (held now : Files) where
     -- what was held when the run began
     abbrev begun : Files
-    begun = all_written (earlier_writes request) held
+    begun = all_written (earlier_writes command) held
 
     -- no call, or none that wrote
     texts_written : now ≡ begun → HasWritten held now
-    texts_written is = early_written request held now (earlier_writes request) gives (front_of_all (earlier_writes request)) is
+    texts_written is = early_written command held now (earlier_writes command) gives (front_of_all (earlier_writes command)) is
 
     -- all of these writes
-    whole_written : (writes : List Write) → MayWrite shelf old words held (earlier_writes request ++ writes) → AllLeave (steps_of writes) begun now → HasWritten held now
+    whole_written : (writes : List Write) → MayWrite shelf old words held (earlier_writes command ++ writes) → AllLeave (steps_of writes) begun now → HasWritten held now
     whole_written writes may left = record {
-      writes = earlier_writes request ++ writes;
+      writes = earlier_writes command ++ writes;
       may = may;
-      is = written_by writes begun now left ∙ sym (all_written-append (earlier_writes request) writes held);
+      is = written_by writes begun now left ∙ sym (all_written-append (earlier_writes command) writes held);
     }
 
     -- a part of a run
-    part_written : {plan : Plan} (first : State) (lists : List (List Entry)) (part : List Call) → task_of request ≡ Run → IsReady given.s_define given.input plan → IsFirst plan given.from first
+    part_written : {plan : Plan} (first : State) (lists : List (List Entry)) (part : List Call) → aim_of command ≡ Run → IsReady given.s_define given.input plan → IsFirst plan given.from first
         → IsUnderWay plan given.journal first lists → StopsWith plan first lists part → AllLeave part begun now → HasWritten held now
     part_written {plan = plan} first lists part is_run ready starts under_way is left =
         let writes = all_writes plan first lists in
         let front = front_of part (run_steps plan first lists) begun now (steps.all_done writes) is.part left in
         let of_run : IsFrontOf front.writes writes = subst (λ (w : List Write). IsFrontOf front.writes w) (steps.writes_of-steps_of writes) front.front in
-        let all : now ≡ all_written (earlier_writes request ++ front.writes) held = front.is ∙ sym (all_written-append (earlier_writes request) front.writes held) in
+        let all : now ≡ all_written (earlier_writes command ++ front.writes) held = front.is ∙ sym (all_written-append (earlier_writes command) front.writes held) in
         record {
-          writes = earlier_writes request ++ front.writes;
-          may = a_front first lists is.said gives is_run ready starts under_way (front_of_late (earlier_writes request) front.writes writes of_run)
+          writes = earlier_writes command ++ front.writes;
+          may = a_front first lists is.said gives is_run ready starts under_way (front_of_late (earlier_writes command) front.writes writes of_run)
               (subst (λ (files : Files). Left (plan_of plan) first lists is.said begun files) all
               (left_so plan given.journal first lists part under_way is begun now left));
           is = all;
         }
 
-    acted_written : {t : Task} {plan : Plan} {calls : List Call} {verdict : Verdict} → task_of request ≡ t → Acts plan given.from given.journal t calls verdict → IsReady given.s_define given.input plan → AllLeave calls begun now → HasWritten held now
+    acted_written : {t : Aim} {plan : Plan} {calls : List Call} {verdict : Verdict} → aim_of command ≡ t → Acts plan given.from given.journal t calls verdict → IsReady given.s_define given.input plan → AllLeave calls begun now → HasWritten held now
     acted_written is checked ready left = texts_written left
     acted_written is listed ready left = texts_written left
     acted_written is no_memory ready left = texts_written left
@@ -114,18 +113,18 @@ module _ {S : Type 0} (shelf : Ghosts S) (old new : S) (words : Words) where
     acted_written is (not_written first lists starts under_way part failed) ready left = part_written first lists _ is ready starts under_way part left
     acted_written is (no_memory_to_write first lists starts under_way part none) ready left = part_written first lists _ is ready starts under_way part left
 
-    performed_written : {t : Task} {calls : List Call} {verdict : Verdict} → task_of request ≡ t → Performed t given calls verdict → AllLeave calls begun now → HasWritten held now
+    performed_written : {t : Aim} {calls : List Call} {verdict : Verdict} → aim_of command ≡ t → Performed t given calls verdict → AllLeave calls begun now → HasWritten held now
     performed_written is (text_refused refused) left = texts_written left
     performed_written is (plan_refused refused) left = texts_written left
     performed_written is not_understood left = texts_written left
     performed_written is (acted ready acts) left = acted_written is acts ready left
 
   -- a generated simulation
-  generated_written : (objects : ℕ) {calls : List Call} {verdict : Verdict} (held now : Files) → Generates objects calls verdict → Asks words (Generated objects) → AllLeave calls held now → HasWritten held now
+  generated_written : (objects : ℕ) {calls : List Call} {verdict : Verdict} (held now : Files) → Generates objects calls verdict → Asks words (commands.Gen objects) → AllLeave calls held now → HasWritten held now
   generated_written objects held now (texts_not_written part failed) asks left = texts_part objects held now _ asks part left
   generated_written objects held now (no_memory_for_texts part none) asks left = texts_part objects held now _ asks part left
   generated_written objects held now (texts_run calls performed) asks left =
-      performed_written (Generated objects) (texts_generated asks) held now refl performed (leave_steps (text_writes objects) calls held now left)
+      performed_written (commands.Gen objects) (texts_generated asks) held now refl performed (leave_steps (text_writes objects) calls held now left)
 
   pub stands : (verdict : Verdict) (wanted : Wanted) {calls : List Call} → Outcome wanted calls verdict
       → IsWanted words wanted → Went shelf old new calls → Stands shelf old new words
@@ -135,17 +134,17 @@ module _ {S : Type 0} (shelf : Ghosts S) (old new : S) (words : Words) where
   stands verdict Nothing (none, is) wanted went files told =
       let left = went.went.left files told in
       ([], nothing, left.1 ∙ ap Some (subst (λ c. AllLeave c files left.0) none left.2))
-  stands verdict (Asked (Texts command)) (unread is) wanted went files told =
+  stands verdict (Asked (commands.Texts about)) (unread is) wanted went files told =
       let left = went.went.left files told in
       ([], nothing, left.1 ∙ ap Some (unread_same files left.0 is left.2))
-  stands verdict (Asked (Texts command)) (gone_on found calls named goes) wanted went files told =
+  stands verdict (Asked (commands.Texts about)) (gone_on found calls named goes) wanted went files told =
       let left = went.went.left files told in
       let after = leave_reads found calls files left.0 left.2 in
-      let held : map (get files) (names_of command) ≡ map Some (texts_of goes.given) = ap (map (get files)) named ∙ after.0 ∙ ap (map Some) goes.are in
-      let finds : Finds shelf old words command (map Some (texts_of goes.given)) = record { asks = wanted; files = files; told = told; held = held } in
-      let done = performed_written (Texts command) (files_held goes.named finds) files left.0 refl goes.performed after.1 in
+      let held : map (get files) (names_of about) ≡ map Some (texts_of goes.given) = ap (map (get files)) named ∙ after.0 ∙ ap (map Some) goes.are in
+      let finds : Finds shelf old words about (map Some (texts_of goes.given)) = record { asks = wanted; files = files; told = told; held = held } in
+      let done = performed_written (commands.Texts about) (files_held goes.named finds) files left.0 refl goes.performed after.1 in
       (done.writes, done.may, left.1 ∙ ap Some done.is)
-  stands verdict (Asked (Generated objects)) generates wanted went files told =
+  stands verdict (Asked (commands.Gen objects)) generates wanted went files told =
       let left = went.went.left files told in
       let done = generated_written objects files left.0 generates wanted left.2 in
       (done.writes, done.may, left.1 ∙ ap Some done.is)
@@ -161,31 +160,31 @@ module _ {S : Type 0} (shelf : Ghosts S) (old new : S) (words : Words) where
       left.1 ∙ ap Some (after.2 ∙ after.1.1)
 
   -- after the texts were there nothing was called
-  reads_same : (request : Request) (given : Sources) → Reads shelf old new words request given [] → (files : Files) → shelf.holds old ≡ Some files
-      → shelf.holds new ≡ Some (all_written (earlier_writes request) files)
-  reads_same request given reads files told =
+  reads_same : (command : Command) (given : Sources) → Reads shelf old new words command given [] → (files : Files) → shelf.holds old ≡ Some files
+      → shelf.holds new ≡ Some (all_written (earlier_writes command) files)
+  reads_same command given reads files told =
       let left = reads.went.went.left files told in
-      left.1 ∙ ap Some (leave_earlier request [] files left.0 reads.come left.2)
+      left.1 ∙ ap Some (leave_earlier command [] files left.0 reads.come left.2)
 
   -- the texts were those of two files
-  files_same : (request : Request) (given : Sources) → AskForFiles words → Reads shelf old new words request given [] → HoldsSame (shelf.holds old) (shelf.holds new)
-  files_same (Texts command) given never reads = reads_same (Texts command) given reads
-  files_same (Generated objects) given never reads = absurd (never objects reads.asks)
+  files_same : (command : Command) (given : Sources) → AskForFiles words → Reads shelf old new words command given [] → HoldsSame (shelf.holds old) (shelf.holds new)
+  files_same (commands.Texts about) given never reads = reads_same (commands.Texts about) given reads
+  files_same (commands.Gen objects) given never reads = absurd (never objects reads.asks)
 
   -- the texts were those of a generated simulation
-  made_texts : (objects : ℕ) (request : Request) (given : Sources) → request ≡ Generated objects → Reads shelf old new words request given [] → HoldsTexts objects (shelf.holds old) (shelf.holds new)
-  made_texts objects request given is reads files told =
-      reads_same request given reads files told ∙ ap (λ (r : Request). Some (all_written (earlier_writes r) files)) is
+  made_texts : (objects : ℕ) (command : Command) (given : Sources) → command ≡ commands.Gen objects → Reads shelf old new words command given [] → HoldsTexts objects (shelf.holds old) (shelf.holds new)
+  made_texts objects command given is reads files told =
+      reads_same command given reads files told ∙ ap (λ (r : Command). Some (all_written (earlier_writes r) files)) is
 
   pub text_same : (line : List ℕ) → AskForFiles words → Says shelf old new words (TextRefused line) → HoldsSame (shelf.holds old) (shelf.holds new)
-  text_same line never says = files_same says.request says.given never says.reads
+  text_same line never says = files_same says.command says.given never says.reads
 
   pub plan_same : (line : List ℕ) → AskForFiles words → Says shelf old new words (PlanRefused line) → HoldsSame (shelf.holds old) (shelf.holds new)
-  plan_same line never says = files_same says.request says.given never says.reads
+  plan_same line never says = files_same says.command says.given never says.reads
 
-  module _ (objects : ℕ) (alone : (request : Request) → Asks words request → request ≡ Generated objects) (line : List ℕ) where
+  module _ (objects : ℕ) (alone : (command : Command) → Asks words command → command ≡ commands.Gen objects) (line : List ℕ) where
     pub text_made : Says shelf old new words (TextRefused line) → HoldsTexts objects (shelf.holds old) (shelf.holds new)
-    text_made says = made_texts objects says.request says.given (alone says.request says.reads.asks) says.reads
+    text_made says = made_texts objects says.command says.given (alone says.command says.reads.asks) says.reads
 
     pub plan_made : Says shelf old new words (PlanRefused line) → HoldsTexts objects (shelf.holds old) (shelf.holds new)
-    plan_made says = made_texts objects says.request says.given (alone says.request says.reads.asks) says.reads
+    plan_made says = made_texts objects says.command says.given (alone says.command says.reads.asks) says.reads

@@ -1,76 +1,65 @@
 -- What a row of the table of statuses says where the call has the command `run`.
-use Rattle.std.proofs.Common.{◌≡◌, ℕ, List, None, Some, inl, inr, refl, true, false, ap}
-use Rattle.std.specs.Prelude.{◌⊎◌, option_map}
+use Rattle.std.proofs.Common.{◌≡◌, ℕ, List, Option, inl, inr, refl, true, false}
+use Rattle.std.specs.Prelude.{◌⊎◌}
 use Rattle.trick_outside.specs.declared.shelf.Shelf as shelf
 use Rattle.trick_outside.specs.declared.sink.Sink as sink
 use Rattle.trick_top.specs.Answered.{HasAnswered}
 use Rattle.trick_top.specs.Outcome.{HasGone}
 use Rattle.trick_top.specs.Printed.{Prints}
 use Rattle.trick_top.specs.Verdict.{OutOfMemory, Verdict}
-use Rattle.trick_top.specs.Words.{Asked, Asks, AsksNoRun, AsksToRun, IsWanted, Nothing, Unknown, Wanted, Words, request_of}
-use Rattle.trick_top.specs.Words.{run_of, with_run, without_run}
-use Rattle.trick_top.specs.declared.words.Command.{Command}
-use Rattle.trick_top.specs.declared.words.Request.TheVariants.{Texts}
-use Rattle.trick_top.specs.declared.words.Request.{Request}
-use Rattle.trick_words.specs.declared.command.Command as declared
-use Rattle.trick_words.specs.declared.command.Command.TheVariants as said
+use Rattle.trick_top.specs.Words.{Asked, Asks, AsksNoRun, AsksToRun, IsWanted, Nothing, Unknown, Wanted, Words}
+use Rattle.trick_top.specs.Words.{has_command, has_task, with_run, without_run}
+use Rattle.trick_words.specs.declared.command.Command.TheVariants as commands
+use Rattle.trick_words.specs.declared.command.Command.{Command}
+use Rattle.trick_words.specs.declared.command.Task.TheVariants as task
+use Rattle.trick_words.specs.declared.command.Task.{Task}
+use Rattle.trick_words.specs.declared.command.Texts.{Texts}
 
--- a line that asks to run something asks for it where there is such a command
-pub known_run : (line : declared.Command) (command : Command) → run_of line ≡ Some command
-    → request_of true line ≡ Some (Texts command)
-known_run (said.Serial s_define input from) command is = let none : None ≡ Some command = is in cc
-known_run (said.Run s_define input from port) command is = ap (option_map Texts) is
-known_run (said.Replay s_define input journal from) command is = let none : None ≡ Some command = is in cc
-known_run (said.Check s_define input) command is = let none : None ≡ Some command = is in cc
-known_run (said.List s_define input) command is = let none : None ≡ Some command = is in cc
-known_run (said.Gen objects) command is = let none : None ≡ Some command = is in cc
+-- a call with `run` has each task
+each_task : (t : Task) → has_task true t ≡ true
+each_task task.Serial = refl
+each_task (task.Run port) = refl
+each_task (task.Replay journal) = refl
+each_task task.Check = refl
+each_task task.List = refl
 
--- what a line asks for without that command it asks for with it
-known_still : (line : declared.Command) (request : Request) → request_of false line ≡ Some request
-    → request_of true line ≡ Some request
-known_still (said.Serial s_define input from) request is = is
-known_still (said.Run s_define input from port) request is = let none : None ≡ Some request = is in cc
-known_still (said.Replay s_define input journal from) request is = is
-known_still (said.Check s_define input) request is = is
-known_still (said.List s_define input) request is = is
-known_still (said.Gen objects) request is = is
+-- and each command
+pub each_command : (command : Command) → has_command true command ≡ true
+each_command (commands.Texts about) = each_task about.task
+each_command (commands.Gen objects) = refl
 
--- what a line asks for is a run by threads, or asked for without that command too
-run_or_not : (line : declared.Command) (request : Request) → request_of true line ≡ Some request
-    → ((command : Command) × (run_of line ≡ Some command)) ⊎ (request_of false line ≡ Some request)
-run_or_not (said.Serial s_define input from) request is = inr is
-run_or_not (said.Run s_define input from port) request is = inl (_, refl)
-run_or_not (said.Replay s_define input journal from) request is = inr is
-run_or_not (said.Check s_define input) request is = inr is
-run_or_not (said.List s_define input) request is = inr is
-run_or_not (said.Gen objects) request is = inr is
+-- a task is a run by threads, or one that each call has
+run_or_known : (t : Task) → ((port : Option ℕ) × (t ≡ task.Run port)) ⊎ (has_task false t ≡ true)
+run_or_known task.Serial = inr refl
+run_or_known (task.Run port) = inl (port, refl)
+run_or_known (task.Replay journal) = inr refl
+run_or_known task.Check = inr refl
+run_or_known task.List = inr refl
 
--- words that ask to run nothing by threads, and for nothing without that command, ask for nothing
-neither : (words : List (List ℕ)) (request : Request) → AsksNoRun words
-    → ((other : Request) → Asks (without_run words) other → ⊥) → (asks : Asks (with_run words) request)
-    → ((command : Command) × (run_of asks.line ≡ Some command)) ⊎ (request_of false asks.line ≡ Some request) → ⊥
-neither words request never refused asks (inl (command, is)) =
-    never command (record { line = asks.line; asked = asks.asked; is_run = is })
-neither words request never refused asks (inr known) =
-    refused request (record { line = asks.line; asked = asks.asked; known = known })
+-- words that ask to run nothing by threads ask for what each call has
+known_still : (words : List (List ℕ)) (command : Command) → AsksNoRun words → Asks (with_run words) command
+    → Asks (without_run words) command
+known_still words (commands.Texts about) never asks = elim (run_or_known about.task) [
+  | inl (port, is) ↦ absurd (never about (record { asked = asks.asked; port = port; is_run = is }))
+  | inr known ↦ record { asked = asks.asked; known = known }
+]
+known_still words (commands.Gen objects) never asks = record { asked = asks.asked; known = refl }
 
 -- what words ask for that ask to run nothing by threads
 wanted_still : (words : List (List ℕ)) → AsksNoRun words → (wanted : Wanted) → IsWanted (without_run words) wanted
     → IsWanted (with_run words) wanted
 wanted_still words never Unknown is = tt
-wanted_still words never Nothing refused =
-    λ request asks. neither words request never refused asks (run_or_not asks.line request asks.known)
-wanted_still words never (Asked request) asks =
-    record { line = asks.line; asked = asks.asked; known = known_still asks.line request asks.known }
+wanted_still words never Nothing refused = λ command asks. refused command (known_still words command never asks)
+wanted_still words never (Asked command) asks = record { asked = asks.asked; known = each_command command }
 
 module _ {S O : Type 0} {shelf : shelf.Ghosts S} {sink : sink.Ghosts O} {old new : S} {before now : O} where
   -- what was run by threads is what the words ask for
-  pub ran : (words : List (List ℕ)) (command : Command) (verdict : Verdict) (status : ℕ) → AsksToRun words command
-      → HasGone shelf old new (Asked (Texts command)) verdict → Prints sink before now verdict status
+  pub ran : (words : List (List ℕ)) (about : Texts) (verdict : Verdict) (status : ℕ) → AsksToRun words about
+      → HasGone shelf old new (Asked (commands.Texts about)) verdict → Prints sink before now verdict status
       → HasAnswered shelf sink old new before now (with_run words) status
-  ran words command verdict status asks gone prints = record {
-    wanted = Asked (Texts command);
-    asked = record { line = asks.line; asked = asks.asked; known = known_run asks.line command asks.is_run };
+  ran words about verdict status asks gone prints = record {
+    wanted = Asked (commands.Texts about);
+    asked = record { asked = asks.asked; known = each_command (commands.Texts about) };
     verdict = verdict;
     gone = gone;
     prints = prints;

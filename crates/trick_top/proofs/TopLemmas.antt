@@ -26,12 +26,12 @@ use Rattle.trick_top.specs.Sources.{AreNamed, Sources, texts_of}
 use Rattle.trick_top.specs.Status.{AreAccepted, AreRefusedTexts, EndsWith, Finds, Gives, HoldsSame, HoldsTexts, IsDone, IsFittingIn, IsMisfitIn, IsRefusal, Misfits, MissesFile, RefusesPlan}
 use Rattle.trick_top.specs.Status.{RefusesText, RunsToEnd, Says, Stands, TellsEnd, TookLine, accepted, end_verdict, files_held, listed, ran, texts_generated}
 use Rattle.trick_top.specs.Verdict.{Accepted, Ended, Generated, JournalLength, Listed, NoFile, OutOfMemory, PlanRefused, Served, ShelfFault, TextRefused, Usage, Verdict, ended_status, line_of, status_of}
-use Rattle.trick_top.specs.Words.{AreRefused, Asked, Asks, Words, task_of}
-use Rattle.trick_top.specs.declared.words.Command.{Command}
-use Rattle.trick_top.specs.declared.words.Request.TheVariants.{Generated as Generating, Texts}
-use Rattle.trick_top.specs.declared.words.Request.{Request}
-use Rattle.trick_top.specs.declared.words.Task.TheVariants as task
-use Rattle.trick_top.specs.declared.words.Task.{Task}
+use Rattle.trick_top.specs.Words.{AreRefused, Asked, Asks, Words, aim_of, aim_of_task}
+use Rattle.trick_words.specs.declared.command.Texts.{Texts}
+use Rattle.trick_words.specs.declared.command.Command.TheVariants as commands
+use Rattle.trick_words.specs.declared.command.Command.{Command}
+use Rattle.trick_top.specs.Aims as aim
+use Rattle.trick_top.specs.Aims.{Aim}
 
 -- which verdict a status is of
 is_usage : (verdict : Verdict) → status_of verdict ≡ 1 → verdict ≡ Usage
@@ -136,8 +136,8 @@ same_options (Some x) b (Some y) d kind is =
     (ap Some first, same_option b d rest)
 
 -- texts that a command names are those of one list
-pub same_sources : (command : Command) (one other : Sources) → AreNamed command one → AreNamed command other → texts_of one ≡ texts_of other → one ≡ other
-same_sources command one other named also is =
+pub same_sources : (about : Texts) (one other : Sources) → AreNamed about one → AreNamed about other → texts_of one ≡ texts_of other → one ≡ other
+same_sources about one other named also is =
     let first : one.s_define ≡ other.s_define = cc in
     let second : one.input ≡ other.input = cc in
     let others : option_to_list one.from ++ option_to_list one.journal ≡ option_to_list other.from ++ option_to_list other.journal = cc in
@@ -148,9 +148,9 @@ same_sources command one other named also is =
     ∙ ap (λ j. record { s_define = other.s_define; input = other.input; from = other.from; journal = j }) both.1
 
 -- what a command does with texts
-performed_of : (command : Command) (given : Sources) {calls : List Call} {verdict : Verdict} → AreNamed command given → GoesOn command (texts_of given) calls verdict → Performed command.task given calls verdict
-performed_of command given {calls = calls} {verdict = verdict} named goes =
-    subst (λ g. Performed command.task g calls verdict) (sym (same_sources command given goes.given named goes.named goes.are)) goes.performed
+performed_of : (about : Texts) (given : Sources) {calls : List Call} {verdict : Verdict} → AreNamed about given → GoesOn about (texts_of given) calls verdict → Performed (aim_of_task about.task) given calls verdict
+performed_of about given {calls = calls} {verdict = verdict} named goes =
+    subst (λ g. Performed (aim_of_task about.task) g calls verdict) (sym (same_sources about given goes.given named goes.named goes.are)) goes.performed
 
 -- the faults that a verdict tells
 abbrev faults_of : Verdict → ℕ
@@ -170,16 +170,16 @@ faults_of OutOfMemory = 0
 -- what a verdict tells of the faults of a run
 abbrev Tells : {S : Type 0} (shelf : Ghosts S) (old new : S) (words : Words) → Verdict → (ℕ → Type 0) → Type 0
 Tells shelf old new words verdict Count =
-    (request : Request) × (plan : Plan) × (first : State) × (lists : List (List Entry)) × RunsToEnd shelf old new words request plan first lists × Count ((last_state plan first lists).faults).count × (verdict ≡ end_verdict request plan first lists)
+    (command : Command) × (plan : Plan) × (first : State) × (lists : List (List Entry)) × RunsToEnd shelf old new words command plan first lists × Count ((last_state plan first lists).faults).count × (verdict ≡ end_verdict command plan first lists)
 
 -- the faults that are told are those of the last state
-end_faults : (request : Request) (plan : Plan) (first : State) (lists : List (List Entry)) → faults_of (end_verdict request plan first lists) ≡ ((last_state plan first lists).faults).count
-end_faults (Texts command) plan first lists = refl
-end_faults (Generating objects) plan first lists = refl
+end_faults : (command : Command) (plan : Plan) (first : State) (lists : List (List Entry)) → faults_of (end_verdict command plan first lists) ≡ ((last_state plan first lists).faults).count
+end_faults (commands.Texts about) plan first lists = refl
+end_faults (commands.Gen objects) plan first lists = refl
 
 tells : {S : Type 0} {shelf : Ghosts S} {old new : S} {words : Words} (verdict : Verdict) (Count : ℕ → Type 0) → TellsEnd shelf old new words verdict → Count (faults_of verdict) → Tells shelf old new words verdict Count
-tells verdict Count (request, plan, first, lists, runs, is) holds =
-    (request, plan, first, lists, runs, subst Count (ap faults_of is ∙ end_faults request plan first lists) holds, is)
+tells verdict Count (command, plan, first, lists, runs, is) holds =
+    (command, plan, first, lists, runs, subst Count (ap faults_of is ∙ end_faults command plan first lists) holds, is)
 
 no_faults : (count : ℕ) → ended_status count ≡ 0 → count ≡ 0
 no_faults zero e = refl
@@ -191,8 +191,8 @@ some_faults (suc count) e = λ none. omega (arith, none)
 
 -- a verdict of status 0 says that it is done
 ran_done : {S : Type 0} {shelf : Ghosts S} {old new : S} {words : Words} (verdict : Verdict) → Tells shelf old new words verdict (λ count. count ≡ 0) → IsDone shelf old new words verdict
-ran_done {shelf = shelf} {old = old} {new = new} {words = words} verdict (request, plan, first, lists, runs, none, is) =
-    subst (IsDone shelf old new words) (sym is) (ran request plan first lists runs none)
+ran_done {shelf = shelf} {old = old} {new = new} {words = words} verdict (command, plan, first, lists, runs, none, is) =
+    subst (IsDone shelf old new words) (sym is) (ran command plan first lists runs none)
 
 done_says : {S : Type 0} {shelf : Ghosts S} {old new : S} {words : Words} (verdict : Verdict) → status_of verdict ≡ 0 → Says shelf old new words verdict → IsDone shelf old new words verdict
 done_says Usage e says = absurd (omega (arith, e))
@@ -225,7 +225,7 @@ faults_say ShelfFault e says = absurd (omega (arith, e))
 faults_say OutOfMemory e says = absurd (omega (arith, e))
 
 -- it came to its end, unless there was no memory to tell it
-ends : {O : Type 0} {sink : sink.Ghosts O} {before now : O} {verdict : Verdict} {status : ℕ} {t : Task} → Given sink before now verdict status → IsEnd t (status_of verdict)
+ends : {O : Type 0} {sink : sink.Ghosts O} {before now : O} {verdict : Verdict} {status : ℕ} {t : Aim} → Given sink before now verdict status → IsEnd t (status_of verdict)
     → (status ≡ 8 → ⊥) → IsEnd t status
 ends {t = t} so is never = elim so.result [
   | inl both ↦ subst (IsEnd t) (sym both.0) is
@@ -284,8 +284,8 @@ module _ {S O : Type 0} {shelf : Ghosts S} {sink : sink.Ghosts O} {old new : S} 
       let both = told 0 is (λ e. omega (arith, e)) (λ e. omega (arith, e)) in
       (verdict, done_says verdict both.0 says, both.1)
 
-  pub ended_with_faults : status ≡ 4 → (request : Request) × (plan : Plan) × (first : State) × (lists : List (List Entry)) × RunsToEnd shelf old new words request plan first lists
-      × (((last_state plan first lists).faults).count ≢ 0) × Took (end_verdict request plan first lists)
+  pub ended_with_faults : status ≡ 4 → (command : Command) × (plan : Plan) × (first : State) × (lists : List (List Entry)) × RunsToEnd shelf old new words command plan first lists
+      × (((last_state plan first lists).faults).count ≢ 0) × Took (end_verdict command plan first lists)
   ended_with_faults is =
       let both = told 4 is (λ e. omega (arith, e)) (λ e. omega (arith, e)) in
       let tells = faults_say verdict both.0 says in
@@ -328,13 +328,13 @@ module _ {S O : Type 0} {shelf : Ghosts S} {sink : sink.Ghosts O} {old new : S} 
   refused_same (inr (inl is, never)) = let refused = text_refused is in stands_row.text_same shelf old new words refused.0 never refused.1
   refused_same (inr (inr is, never)) = let refused = plan_refused is in stands_row.plan_same shelf old new words refused.0 never refused.1
 
-  pub refused_generated : (objects : ℕ) → Asks words (Generating objects) → (status ≡ 2) ⊎ (status ≡ 3) → HoldsTexts objects (shelf.holds old) (shelf.holds new)
+  pub refused_generated : (objects : ℕ) → Asks words (commands.Gen objects) → (status ≡ 2) ⊎ (status ≡ 3) → HoldsTexts objects (shelf.holds old) (shelf.holds new)
   refused_generated objects asks (inl is) =
       let refused = text_refused is in
-      stands_row.text_made shelf old new words objects (λ request also. same_asked once words request (Generating objects) also asks) refused.0 refused.1
+      stands_row.text_made shelf old new words objects (λ command also. same_asked once words command (commands.Gen objects) also asks) refused.0 refused.1
   refused_generated objects asks (inr is) =
       let refused = plan_refused is in
-      stands_row.plan_made shelf old new words objects (λ request also. same_asked once words request (Generating objects) also asks) refused.0 refused.1
+      stands_row.plan_made shelf old new words objects (λ command also. same_asked once words command (commands.Gen objects) also asks) refused.0 refused.1
 
   pub stopped : Stands shelf old new words
   stopped = stands_row.stands shelf old new words verdict row.wanted row.gone.outcome row.asked row.gone.went
@@ -347,72 +347,72 @@ module _ {S O : Type 0} {shelf : Ghosts S} {sink : sink.Ghosts O} {old new : S} 
   quiet never e = never (row.gone.went.went.cause.failed e)
 
   -- the row of a request
-  goes : (request : Request) → Asks words request → Outcome (Asked request) row.gone.calls verdict ⊎ (status_of verdict ≡ 6)
-  goes request asks = asked_goes once words row.wanted _ _ row.asked row.gone.outcome request asks
+  goes : (command : Command) → Asks words command → Outcome (Asked command) row.gone.calls verdict ⊎ (status_of verdict ≡ 6)
+  goes command asks = asked_goes once words row.wanted _ _ row.asked row.gone.outcome command asks
 
-  pub no_file_all : (command : Command) (given : List (Option (List ℕ))) → Finds shelf old words command given → Contains given None → (Rose (shelf.failures old) (shelf.failures new) → ⊥) → EndsWith status 9
-  no_file_all command held finds lacks never =
+  pub no_file_all : (about : Texts) (given : List (Option (List ℕ))) → Finds shelf old words about given → Contains given None → (Rose (shelf.failures old) (shelf.failures new) → ⊥) → EndsWith status 9
+  no_file_all about held finds lacks never =
       let left = row.gone.went.went.left finds.files finds.told in
       let none = subst (λ list. Contains list None) (sym finds.held) lacks in
       ends_with so 9
-      (elim (goes (Texts command) finds.asks) [
-        | inl on ↦ missing_ends command finds.files left.0 on (quiet never) left.2 none
+      (elim (goes (commands.Texts about) finds.asks) [
+        | inl on ↦ missing_ends about finds.files left.0 on (quiet never) left.2 none
         | inr short ↦ inr short
       ])
 
   -- all files are there, so it goes on with their texts
-  all_found : (command : Command) (given : Sources) → AreNamed command given → Finds shelf old words command (map Some (texts_of given)) → (Rose (shelf.failures old) (shelf.failures new) → ⊥)
-      → Done command.task given (status_of verdict) ⊎ (status_of verdict ≡ 6)
-  all_found command given named finds never =
+  all_found : (about : Texts) (given : Sources) → AreNamed about given → Finds shelf old words about (map Some (texts_of given)) → (Rose (shelf.failures old) (shelf.failures new) → ⊥)
+      → Done (aim_of_task about.task) given (status_of verdict) ⊎ (status_of verdict ≡ 6)
+  all_found about given named finds never =
       let left = row.gone.went.went.left finds.files finds.told in
-      elim (goes (Texts command) finds.asks) [
+      elim (goes (commands.Texts about) finds.asks) [
         | inl goes ↦
             elim
-            (found_goes command finds.files left.0 (texts_of given) goes (quiet never) left.2 finds.held) [
-              | inl on ↦ inl (record { late = on.0; verdict = verdict; performed = performed_of command given named on.1; quiet = on.2; is = refl })
+            (found_goes about finds.files left.0 (texts_of given) goes (quiet never) left.2 finds.held) [
+              | inl on ↦ inl (record { late = on.0; verdict = verdict; performed = performed_of about given named on.1; quiet = on.2; is = refl })
               | inr none ↦ inr none
             ]
         | inr short ↦ inr short
       ]
 
   -- it goes on with the texts that the words lead to
-  texts_go : (request : Request) (given : Sources) → Gives shelf old words request given → (Rose (shelf.failures old) (shelf.failures new) → ⊥)
-      → Done (task_of request) given (status_of verdict) ⊎ (status_of verdict ≡ 6)
-  texts_go (Texts command) given (files_held named finds) never = all_found command given named finds never
-  texts_go (Generating objects) given (texts_generated asks) never = elim (goes (Generating objects) asks) [
+  texts_go : (command : Command) (given : Sources) → Gives shelf old words command given → (Rose (shelf.failures old) (shelf.failures new) → ⊥)
+      → Done (aim_of command) given (status_of verdict) ⊎ (status_of verdict ≡ 6)
+  texts_go (commands.Texts about) given (files_held named finds) never = all_found about given named finds never
+  texts_go (commands.Gen objects) given (texts_generated asks) never = elim (goes (commands.Gen objects) asks) [
     | inl on ↦ generated_goes objects on (quiet never)
     | inr short ↦ inr short
   ]
 
   -- the status that is due of what was done with the texts
-  due_of : {t : Task} {given : Sources} (due : ℕ) → ((late : List Call) (end : Verdict) → Performed t given late end → (fails late ≡ true → ⊥) → (status_of end ≡ due) ⊎ (status_of end ≡ 6))
+  due_of : {t : Aim} {given : Sources} (due : ℕ) → ((late : List Call) (end : Verdict) → Performed t given late end → (fails late ≡ true → ⊥) → (status_of end ≡ due) ⊎ (status_of end ≡ 6))
       → Done t given (status_of verdict) ⊎ (status_of verdict ≡ 6) → EndsWith status due
   due_of due says_due (inl on) =
       ends_with so due
       (elim (says_due on.late on.verdict on.performed on.quiet) [ inl is ↦ inl (sym on.is ∙ is) | inr short ↦ inr (sym on.is ∙ short) ])
   due_of due says_due (inr short) = ends_with so due (inr short)
 
-  pub text_refused_all : (request : Request) (given : Sources) → Gives shelf old words request given → AreRefusedTexts (task_of request) given
+  pub text_refused_all : (command : Command) (given : Sources) → Gives shelf old words command given → AreRefusedTexts (aim_of command) given
       → (Rose (shelf.failures old) (shelf.failures new) → ⊥) → EndsWith status 2
-  text_refused_all request given gives refused never =
-      due_of 2 (λ late end performed never. refused_ends one never refused performed) (texts_go request given gives never)
+  text_refused_all command given gives refused never =
+      due_of 2 (λ late end performed never. refused_ends one never refused performed) (texts_go command given gives never)
 
-  pub plan_refused_all : (request : Request) (given : Sources) (line : List ℕ) → Gives shelf old words request given → IsPlanRefused given.s_define given.input line
+  pub plan_refused_all : (command : Command) (given : Sources) (line : List ℕ) → Gives shelf old words command given → IsPlanRefused given.s_define given.input line
       → (Rose (shelf.failures old) (shelf.failures new) → ⊥) → EndsWith status 3
-  plan_refused_all request given line gives refused never =
-      due_of 3 (λ late end performed never. bad_plan_ends one line refused performed) (texts_go request given gives never)
+  plan_refused_all command given line gives refused never =
+      due_of 3 (λ late end performed never. bad_plan_ends one line refused performed) (texts_go command given gives never)
 
-  pub journal_length_all : (request : Request) (given : Sources) → Gives shelf old words request given → task_of request ≡ task.Run → AreAccepted given → IsMisfitIn given
+  pub journal_length_all : (command : Command) (given : Sources) → Gives shelf old words command given → aim_of command ≡ aim.Run → AreAccepted given → IsMisfitIn given
       → (Rose (shelf.failures old) (shelf.failures new) → ⊥) → EndsWith status 7
-  journal_length_all request given gives run good bad never =
-      due_of 7 (λ late end performed never. misfit_ends one never run good bad performed) (texts_go request given gives never)
+  journal_length_all command given gives run good bad never =
+      due_of 7 (λ late end performed never. misfit_ends one never run good bad performed) (texts_go command given gives never)
 
-  pub complete : (request : Request) (given : Sources) → Gives shelf old words request given → AreAccepted given → IsFittingIn given
-      → (Rose (shelf.failures old) (shelf.failures new) → ⊥) → (Rose (sink.failures before) (sink.failures now) → ⊥) → IsEnd (task_of request) status
-  complete request given gives good fits never sink_never =
+  pub complete : (command : Command) (given : Sources) → Gives shelf old words command given → AreAccepted given → IsFittingIn given
+      → (Rose (shelf.failures old) (shelf.failures new) → ⊥) → (Rose (sink.failures before) (sink.failures now) → ⊥) → IsEnd (aim_of command) status
+  complete command given gives good fits never sink_never =
       ends so
-      (elim (texts_go request given gives never) [
-        | inl on ↦ subst (IsEnd (task_of request)) on.is (accepted_ends one on.quiet good fits on.performed)
+      (elim (texts_go command given gives never) [
+        | inl on ↦ subst (IsEnd (aim_of command)) on.is (accepted_ends one on.quiet good fits on.performed)
         | inr short ↦ inr (inr short)
       ])
       (λ is. sink_never (sink_fault is))

@@ -25,8 +25,8 @@ use Rattle.trick_top.specs.First.{IsFirst, IsUnloaded}
 use Rattle.trick_top.specs.Runs.{IsMisfit, IsUnderWay, IsUnread, IsWholeRun, given_turn, short_steps}
 use Rattle.trick_top.specs.Verdict.{Verdict, Accepted, Ended, JournalLength, Listed, OutOfMemory, ShelfFault}
 use Rattle.trick_top.specs.Verdict.{TextRefused}
-use Rattle.trick_top.specs.declared.words.Task.TheVariants as task
-use Rattle.trick_top.specs.declared.words.Task.{Task}
+use Rattle.trick_top.specs.Aims as aim
+use Rattle.trick_top.specs.Aims.{Aim}
 
 -- What `check` says. The threads are thread 0 and each child thread with a job: an accepted plan has
 -- no others.
@@ -66,36 +66,36 @@ pub record StopsWith (plan : Plan) (first : State) (lists : List (List Entry)) (
 
 -- How a command goes with an accepted plan, with the text of a checkpoint and with that of a journal, where there
 -- are such texts: its calls of the shelf, and the verdict. The checkpoint decides before the journal.
-pub data Acts (plan : Plan) (from journal : Option (List ℕ)) : Task → List Call → Verdict → Type 0 where
-  checked : Acts plan from journal task.Check [] (accepted_verdict plan)
-  listed : Acts plan from journal task.List [] (listed_verdict plan)
+pub data Acts (plan : Plan) (from journal : Option (List ℕ)) : Aim → List Call → Verdict → Type 0 where
+  checked : Acts plan from journal aim.Check [] (accepted_verdict plan)
+  listed : Acts plan from journal aim.List [] (listed_verdict plan)
   -- want of memory before the shelf is called
-  no_memory : {t : Task} → Acts plan from journal t [] OutOfMemory
+  no_memory : {t : Aim} → Acts plan from journal t [] OutOfMemory
   -- the text is no checkpoint
   unloaded : {text : List ℕ} {why : LoadFault} → from ≡ Some text → IsUnloaded plan text why
-      → Acts plan from journal task.Run [] (TextRefused (checkpoint_line why))
+      → Acts plan from journal aim.Run [] (TextRefused (checkpoint_line why))
   -- the text is no journal
   no_journal : (first : State) {text : List ℕ} {why : JournalFault} → IsFirst plan from first → journal ≡ Some text
-      → IsUnread plan first text why → Acts plan from journal task.Run [] (TextRefused (journal_line why))
+      → IsUnread plan first text why → Acts plan from journal aim.Run [] (TextRefused (journal_line why))
   ran : (first : State) (lists : List (List Entry)) → IsFirst plan from first → IsWholeRun plan journal first lists
-      → Acts plan from journal task.Run (run_steps plan first lists) (ended_verdict plan first lists)
+      → Acts plan from journal aim.Run (run_steps plan first lists) (ended_verdict plan first lists)
   -- the journal does not fit
   misfits : (first : State) (told : Journal) {text : List ℕ} → IsFirst plan from first → journal ≡ Some text
       → IsMisfit plan text first told
-      → Acts plan from journal task.Run (short_steps plan first told) (length_verdict plan first told)
+      → Acts plan from journal aim.Run (short_steps plan first told) (length_verdict plan first told)
   -- the last call failed
   not_written : (first : State) (lists : List (List Entry)) {part : List Call} → IsFirst plan from first
       → IsUnderWay plan journal first lists → StopsWith plan first lists part → fails part ≡ true
-      → Acts plan from journal task.Run part ShelfFault
+      → Acts plan from journal aim.Run part ShelfFault
   -- no call failed
   no_memory_to_write : (first : State) (lists : List (List Entry)) {part : List Call} → IsFirst plan from first
       → IsUnderWay plan journal first lists → StopsWith plan first lists part → fails part ≡ false
-      → Acts plan from journal task.Run part OutOfMemory
+      → Acts plan from journal aim.Run part OutOfMemory
 
 -- How a command went with an accepted plan on a shelf, from old to new, with the texts of a checkpoint and of a
 -- journal, where there are such texts.
 pub record HasActed {S : Type 0} (shelf : Ghosts S) (old new : S) (plan : Plan) (from journal : Option (List ℕ))
-    (t : Task) (verdict : Verdict) : Type 0 where
+    (t : Aim) (verdict : Verdict) : Type 0 where
   pub calls : List Call
   pub went : Went shelf old new calls
   pub acts : Acts plan from journal t calls verdict

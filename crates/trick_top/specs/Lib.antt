@@ -1,5 +1,7 @@
 -- How a command ends: statuses and printed lines.
 pub mod Verdict
+-- What is done with a simulation whose plan is accepted.
+pub mod Aims
 -- Which words ask for which command.
 pub mod Words
 -- The two texts of a generated simulation, as files.

@@ -12,15 +12,15 @@ use Rattle.trick_top.specs.Found.{Found, names, reads, texts}
 use Rattle.trick_top.specs.Generated.{text_steps}
 use Rattle.trick_top.specs.Sources.{AreNamed, Sources, generated_sources, texts_of}
 use Rattle.trick_top.specs.Verdict.{Verdict, Usage, NoFile, TextRefused, PlanRefused, ShelfFault, OutOfMemory, with_objects}
-use Rattle.trick_top.specs.Words.{Wanted, Asked, Nothing, Unknown, names_of}
-use Rattle.trick_top.specs.declared.words.Command.{Command}
-use Rattle.trick_top.specs.declared.words.Request.TheVariants as request
-use Rattle.trick_top.specs.declared.words.Task.TheVariants as task
-use Rattle.trick_top.specs.declared.words.Task.{Task}
+use Rattle.trick_top.specs.Words.{Wanted, Asked, Nothing, Unknown, aim_of_task, names_of}
+use Rattle.trick_words.specs.declared.command.Texts.{Texts}
+use Rattle.trick_words.specs.declared.command.Command.TheVariants as commands
+use Rattle.trick_top.specs.Aims as aim
+use Rattle.trick_top.specs.Aims.{Aim}
 
 -- How the texts of a simulation go: they decide first, by the lines that refuse them, and then what is done
 -- with the plan that they have.
-pub data Performed (t : Task) (given : Sources) : List Call → Verdict → Type 0 where
+pub data Performed (t : Aim) (given : Sources) : List Call → Verdict → Type 0 where
   text_refused : {line : List ℕ} → IsTextRefused given.s_define given.input line
       → Performed t given [] (TextRefused line)
   plan_refused : {line : List ℕ} → IsPlanRefused given.s_define given.input line
@@ -31,11 +31,11 @@ pub data Performed (t : Task) (given : Sources) : List Call → Verdict → Type
       → Acts plan given.from given.journal t calls verdict → Performed t given calls verdict
 
 -- How a command goes once its files are found, by their texts.
-pub record GoesOn (command : Command) (texts : List (List ℕ)) (calls : List Call) (verdict : Verdict) : Type 0 where
+pub record GoesOn (about : Texts) (texts : List (List ℕ)) (calls : List Call) (verdict : Verdict) : Type 0 where
   pub given : Sources
-  pub named : AreNamed command given
+  pub named : AreNamed about given
   pub are : texts ≡ texts_of given
-  pub performed : Performed command.task given calls verdict
+  pub performed : Performed (aim_of_task about.task) given calls verdict
 
 -- How the files of these names are read, one after another, where it ends with a verdict.
 pub data Unread (wanted : List (List ℕ)) : List Call → Verdict → Type 0 where
@@ -46,16 +46,13 @@ pub data Unread (wanted : List (List ℕ)) : List Call → Verdict → Type 0 wh
   no_memory_to_read : (files : List Found) (name : List ℕ) (others : List (List ℕ))
       → wanted ≡ names files ++ name ∷ others
       → Unread wanted (reads files ++ Stopped (Get name) Memory ∷ []) OutOfMemory
-  -- no room for the text of the file that was found last
-  no_memory_to_keep : (files : List Found) (others : List (List ℕ)) → wanted ≡ names files ++ others
-      → Unread wanted (reads files) OutOfMemory
 
 -- How a command goes: its files decide first, and then their texts.
-pub data Goes (command : Command) : List Call → Verdict → Type 0 where
-  unread : {calls : List Call} {verdict : Verdict} → Unread (names_of command) calls verdict
-      → Goes command calls verdict
-  gone_on : (files : List Found) (calls : List Call) {verdict : Verdict} → names_of command ≡ names files
-      → GoesOn command (texts files) calls verdict → Goes command (reads files ++ calls) verdict
+pub data Goes (about : Texts) : List Call → Verdict → Type 0 where
+  unread : {calls : List Call} {verdict : Verdict} → Unread (names_of about) calls verdict
+      → Goes about calls verdict
+  gone_on : (files : List Found) (calls : List Call) {verdict : Verdict} → names_of about ≡ names files
+      → GoesOn about (texts files) calls verdict → Goes about (reads files ++ calls) verdict
 
 -- How a generated simulation goes: its two texts are written, and then run as `serial` runs texts.
 pub data Generates (objects : ℕ) : List Call → Verdict → Type 0 where
@@ -66,15 +63,15 @@ pub data Generates (objects : ℕ) : List Call → Verdict → Type 0 where
   no_memory_for_texts : {part : List Call} → IsPartOf part (text_steps objects) → fails part ≡ false
       → Generates objects part OutOfMemory
   texts_run : (calls : List Call) {verdict : Verdict}
-      → Performed task.Run (generated_sources objects) calls verdict
+      → Performed aim.Run (generated_sources objects) calls verdict
       → Generates objects (text_steps objects ++ calls) (with_objects objects verdict)
 
 -- How it goes, by what is known of the words.
 abbrev pub Outcome : Wanted → List Call → Verdict → Type 0
 Outcome Unknown calls verdict = (calls ≡ []) × (verdict ≡ OutOfMemory)
 Outcome Nothing calls verdict = (calls ≡ []) × (verdict ≡ Usage)
-Outcome (Asked (request.Texts command)) calls verdict = Goes command calls verdict
-Outcome (Asked (request.Generated objects)) calls verdict = Generates objects calls verdict
+Outcome (Asked (commands.Texts about)) calls verdict = Goes about calls verdict
+Outcome (Asked (commands.Gen objects)) calls verdict = Generates objects calls verdict
 
 -- How it went on a shelf, from old to new.
 pub record HasGone {S : Type 0} (shelf : Ghosts S) (old new : S) (wanted : Wanted)
@@ -84,18 +81,11 @@ pub record HasGone {S : Type 0} (shelf : Ghosts S) (old new : S) (wanted : Wante
   pub outcome : Outcome wanted calls verdict
 
 -- How a command went with the texts of a simulation on a shelf, from old to new.
-pub record HasPerformed {S : Type 0} (shelf : Ghosts S) (old new : S) (t : Task) (given : Sources)
+pub record HasPerformed {S : Type 0} (shelf : Ghosts S) (old new : S) (t : Aim) (given : Sources)
     (verdict : Verdict) : Type 0 where
   pub calls : List Call
   pub went : Went shelf old new calls
   pub performed : Performed t given calls verdict
-
--- How a command went on, once its files were found.
-pub record HasGoneOn {S : Type 0} (shelf : Ghosts S) (old new : S) (command : Command) (given : List (List ℕ))
-    (verdict : Verdict) : Type 0 where
-  pub calls : List Call
-  pub went : Went shelf old new calls
-  pub goes : GoesOn command given calls verdict
 
 -- From old to new files of these names were read and found, with these texts.
 pub record HasFound {S : Type 0} (shelf : Ghosts S) (old new : S) (wanted given : List (List ℕ)) : Type 0 where

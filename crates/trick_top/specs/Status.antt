@@ -30,14 +30,14 @@ use Rattle.trick_top.specs.Generated.{text_steps, text_writes}
 use Rattle.trick_top.specs.Runs.{IsFitting, IsJournalFor, IsMisfit, IsUnderWay, IsUnread, IsWholeRun, short_steps}
 use Rattle.trick_top.specs.Runs.{short_writes}
 use Rattle.trick_top.specs.Sources.{AreNamed, Sources, generated_sources, texts_of}
-use Rattle.trick_top.specs.Verdict.{Verdict, Accepted, Ended, Generated as GeneratedBy, JournalLength, Listed, NoFile}
+use Rattle.trick_top.specs.Verdict.{Verdict, Accepted, Ended, Generated, JournalLength, Listed, NoFile}
 use Rattle.trick_top.specs.Verdict.{OutOfMemory, PlanRefused, Served, ShelfFault, TextRefused, Usage, with_objects}
-use Rattle.trick_top.specs.Words.{AreRefused, Asks, Words, names_of, task_of}
-use Rattle.trick_top.specs.declared.words.Command.{Command}
-use Rattle.trick_top.specs.declared.words.Request.TheVariants.{Generated, Texts}
-use Rattle.trick_top.specs.declared.words.Request.{Request}
-use Rattle.trick_top.specs.declared.words.Task.TheVariants as task
-use Rattle.trick_top.specs.declared.words.Task.{Task}
+use Rattle.trick_top.specs.Words.{AreRefused, Asks, Words, aim_of, aim_of_task, names_of}
+use Rattle.trick_words.specs.declared.command.Texts.{Texts}
+use Rattle.trick_words.specs.declared.command.Command.TheVariants as commands
+use Rattle.trick_words.specs.declared.command.Command.{Command}
+use Rattle.trick_top.specs.Aims as aim
+use Rattle.trick_top.specs.Aims.{Aim}
 
 -- The status is the one that is due, or there was no memory, or the sink failed.
 abbrev pub EndsWith : ℕ → ℕ → Type 0
@@ -45,7 +45,7 @@ EndsWith status due = (status ≡ due) ⊎ ((status ≡ 6) ⊎ (status ≡ 8))
 
 -- The words ask for no generated simulation.
 abbrev pub AskForFiles : Words → Type 0
-AskForFiles words = (objects : ℕ) → Asks words (Generated objects) → ⊥
+AskForFiles words = (objects : ℕ) → Asks words (commands.Gen objects) → ⊥
 
 -- The words, a missing file, a refused text and a refused plan refuse what is asked for before anything
 -- is written. A generated simulation has written its texts before they could be refused.
@@ -69,95 +69,95 @@ HoldsTexts objects old new = (files : Files) → old ≡ Some files → new ≡ 
 -- ones before it were found. No other call was made.
 pub record MissesFile {S : Type 0} (shelf : Ghosts S) (old new : S) (words : Words)
     (missing : List ℕ) : Type 0 where
-  pub command : Command
-  pub asks : Asks words (Texts command)
+  pub about : Texts
+  pub asks : Asks words (commands.Texts about)
   pub files : List Found
   pub others : List (List ℕ)
-  pub named : names_of command ≡ names files ++ missing ∷ others
+  pub named : names_of about ≡ names files ++ missing ∷ others
   pub went : Went shelf old new (reads files ++ Read missing None ∷ [])
 
 -- How the texts come that a request is about, by these calls: the files that the words name were found, or the
 -- texts of a generated simulation were written.
-pub data Come : Request → Sources → List Call → Type 0 where
-  files_found : {command : Command} {given : Sources} (files : List Found) → names_of command ≡ names files
-      → AreNamed command given → texts files ≡ texts_of given → Come (Texts command) given (reads files)
-  texts_made : {objects : ℕ} → Come (Generated objects) (generated_sources objects) (text_steps objects)
+pub data Come : Command → Sources → List Call → Type 0 where
+  files_found : {about : Texts} {given : Sources} (files : List Found) → names_of about ≡ names files
+      → AreNamed about given → texts files ≡ texts_of given → Come (commands.Texts about) given (reads files)
+  texts_made : {objects : ℕ} → Come (commands.Gen objects) (generated_sources objects) (text_steps objects)
 
 -- What was written before the texts were there.
-abbrev pub earlier_writes : Request → List Write
-earlier_writes (Texts command) = []
-earlier_writes (Generated objects) = text_writes objects
+abbrev pub earlier_writes : Command → List Write
+earlier_writes (commands.Texts about) = []
+earlier_writes (commands.Gen objects) = text_writes objects
 
 -- The words ask for this; its texts came, which are these; and then these calls were made, and no others.
-pub record Reads {S : Type 0} (shelf : Ghosts S) (old new : S) (words : Words) (request : Request)
+pub record Reads {S : Type 0} (shelf : Ghosts S) (old new : S) (words : Words) (command : Command)
     (given : Sources) (calls : List Call) : Type 0 where
-  pub asks : Asks words request
+  pub asks : Asks words command
   pub earlier : List Call
-  pub come : Come request given earlier
+  pub come : Come command given earlier
   pub went : Went shelf old new (earlier ++ calls)
 
 -- A text is refused with this line: one of the two of a simulation; or, where these have an accepted plan, that
 -- of the checkpoint from which it is to be run; or, where the run has its first state, that of the journal.
-pub data HasRefusal (t : Task) (given : Sources) : List ℕ → Type 0 where
+pub data HasRefusal (t : Aim) (given : Sources) : List ℕ → Type 0 where
   of_text : {line : List ℕ} → IsTextRefused given.s_define given.input line → HasRefusal t given line
-  of_checkpoint : {plan : Plan} {text : List ℕ} {why : LoadFault} → t ≡ task.Run
+  of_checkpoint : {plan : Plan} {text : List ℕ} {why : LoadFault} → t ≡ aim.Run
       → IsReady given.s_define given.input plan → given.from ≡ Some text → IsUnloaded plan text why
       → HasRefusal t given (checkpoint_line why)
-  of_journal : {plan : Plan} {first : State} {text : List ℕ} {why : JournalFault} → t ≡ task.Run
+  of_journal : {plan : Plan} {first : State} {text : List ℕ} {why : JournalFault} → t ≡ aim.Run
       → IsReady given.s_define given.input plan → IsFirst plan given.from first → given.journal ≡ Some text
       → IsUnread plan first text why → HasRefusal t given (journal_line why)
 
 -- Status 2: a text is refused with this line. After the texts were there no call was made.
 pub record RefusesText {S : Type 0} (shelf : Ghosts S) (old new : S) (words : Words)
     (line : List ℕ) : Type 0 where
-  pub request : Request
+  pub command : Command
   pub given : Sources
-  pub reads : Reads shelf old new words request given []
-  pub refuses : HasRefusal (task_of request) given line
+  pub reads : Reads shelf old new words command given []
+  pub refuses : HasRefusal (aim_of command) given line
 
 -- Status 3: the plan is refused with this line. After the texts were there no call was made.
 pub record RefusesPlan {S : Type 0} (shelf : Ghosts S) (old new : S) (words : Words)
     (line : List ℕ) : Type 0 where
-  pub request : Request
+  pub command : Command
   pub given : Sources
-  pub reads : Reads shelf old new words request given []
+  pub reads : Reads shelf old new words command given []
   pub refuses : IsPlanRefused given.s_define given.input line
 
 -- Status 0 of `check` and `list`: the texts are ready by this plan. After the two files were read no
 -- call was made.
-pub record Looks {S : Type 0} (shelf : Ghosts S) (old new : S) (words : Words) (t : Task)
+pub record Looks {S : Type 0} (shelf : Ghosts S) (old new : S) (words : Words) (t : Aim)
     (plan : Plan) : Type 0 where
-  pub command : Command
-  pub is_look : command.task ≡ t
+  pub about : Texts
+  pub is_look : aim_of_task about.task ≡ t
   pub given : Sources
-  pub reads : Reads shelf old new words (Texts command) given []
+  pub reads : Reads shelf old new words (commands.Texts about) given []
   pub ready : IsReady given.s_define given.input plan
 
 -- Status 0 or 4 of `serial`, `replay` and `gen`: the run of the plan of the texts, without clients or under the
 -- journal, which fits, from the plan's start or from the state of the checkpoint, is done, and had these turns.
 -- Each file is the one that the run gives, every other file as it was when the run began: as before, but that `gen`
 -- has written its texts.
-pub record RunsToEnd {S : Type 0} (shelf : Ghosts S) (old new : S) (words : Words) (request : Request)
+pub record RunsToEnd {S : Type 0} (shelf : Ghosts S) (old new : S) (words : Words) (command : Command)
     (plan : Plan) (first : State) (lists : List (List Entry)) : Type 0 where
-  pub is_run : task_of request ≡ task.Run
+  pub is_run : aim_of command ≡ aim.Run
   pub given : Sources
-  pub reads : Reads shelf old new words request given (run_steps plan first lists)
+  pub reads : Reads shelf old new words command given (run_steps plan first lists)
   pub ready : IsReady given.s_define given.input plan
   pub starts : IsFirst plan given.from first
   pub whole : IsWholeRun plan given.journal first lists
   pub files : (before : Files) → shelf.holds old ≡ Some before
       → (now : Files) × (shelf.holds new ≡ Some now)
       × ((name : List ℕ) → get now name
-      ≡ file name (plan_of plan) first lists (get (all_written (earlier_writes request) before) name))
+      ≡ file name (plan_of plan) first lists (get (all_written (earlier_writes command) before) name))
 
 -- Status 7: the texts have an accepted plan, and the journal does not fit. Its turns were done up to the one at
 -- which its run is over, or up to its end. Each file is what was written by then, every other file as before.
 pub record Misfits {S : Type 0} (shelf : Ghosts S) (old new : S) (words : Words) (plan : Plan)
     (first : State) (journal : Journal) : Type 0 where
-  pub command : Command
-  pub is_run : command.task ≡ task.Run
+  pub about : Texts
+  pub is_run : aim_of_task about.task ≡ aim.Run
   pub given : Sources
-  pub reads : Reads shelf old new words (Texts command) given (short_steps plan first journal)
+  pub reads : Reads shelf old new words (commands.Texts about) given (short_steps plan first journal)
   pub ready : IsReady given.s_define given.input plan
   pub starts : IsFirst plan given.from first
   pub text : List ℕ
@@ -169,16 +169,16 @@ pub record Misfits {S : Type 0} (shelf : Ghosts S) (old new : S) (words : Words)
 
 -- What is said where a run came to its end, by its turns: what holds of its last state, and how many sessions
 -- joined in its journal.
-abbrev pub end_verdict : Request → Plan → State → List (List Entry) → Verdict
-end_verdict (Texts command) plan first lists = ended_verdict plan first lists
-end_verdict (Generated objects) plan first lists = with_objects objects (ended_verdict plan first lists)
+abbrev pub end_verdict : Command → Plan → State → List (List Entry) → Verdict
+end_verdict (commands.Texts about) plan first lists = ended_verdict plan first lists
+end_verdict (commands.Gen objects) plan first lists = with_objects objects (ended_verdict plan first lists)
 
 -- A verdict tells the end of a run that is done.
 abbrev pub TellsEnd : {S : Type 0} (shelf : Ghosts S) (old new : S) (words : Words) → Verdict → Type 0
 TellsEnd shelf old new words verdict =
-    (request : Request) × (plan : Plan) × (first : State) × (lists : List (List Entry))
-    × RunsToEnd shelf old new words request plan first lists
-    × (verdict ≡ end_verdict request plan first lists)
+    (command : Command) × (plan : Plan) × (first : State) × (lists : List (List Entry))
+    × RunsToEnd shelf old new words command plan first lists
+    × (verdict ≡ end_verdict command plan first lists)
 
 -- What a verdict says of the words and of the shelf. No run with clients is told so.
 abbrev pub Says : {S : Type 0} (shelf : Ghosts S) (old new : S) (words : Words) → Verdict → Type 0
@@ -187,12 +187,12 @@ Says shelf old new words (NoFile name) = MissesFile shelf old new words name
 Says shelf old new words (TextRefused line) = RefusesText shelf old new words line
 Says shelf old new words (PlanRefused line) = RefusesPlan shelf old new words line
 Says shelf old new words (Accepted cells jobs threads) =
-    (plan : Plan) × Looks shelf old new words task.Check plan × (Accepted cells jobs threads ≡ accepted_verdict plan)
+    (plan : Plan) × Looks shelf old new words aim.Check plan × (Accepted cells jobs threads ≡ accepted_verdict plan)
 Says shelf old new words (Listed line) =
-    (plan : Plan) × Looks shelf old new words task.List plan × (Listed line ≡ listed_verdict plan)
+    (plan : Plan) × Looks shelf old new words aim.List plan × (Listed line ≡ listed_verdict plan)
 Says shelf old new words (Ended ended sessions) = TellsEnd shelf old new words (Ended ended sessions)
-Says shelf old new words (GeneratedBy objects ended sessions) =
-    TellsEnd shelf old new words (GeneratedBy objects ended sessions)
+Says shelf old new words (Generated objects ended sessions) =
+    TellsEnd shelf old new words (Generated objects ended sessions)
 Says shelf old new words (Served ended sessions door_failed) = ⊥
 Says shelf old new words (JournalLength kept given) =
     (plan : Plan) × (first : State) × (journal : Journal) × Misfits shelf old new words plan first journal
@@ -203,39 +203,39 @@ Says shelf old new words OutOfMemory = Unit {0}
 -- Status 0: the plan is accepted, the cells are listed, or the run came to its end without faults. The
 -- last argument is the verdict whose line is printed.
 pub data IsDone {S : Type 0} (shelf : Ghosts S) (old new : S) (words : Words) : Verdict → Type 0 where
-  accepted : (plan : Plan) → Looks shelf old new words task.Check plan
+  accepted : (plan : Plan) → Looks shelf old new words aim.Check plan
       → IsDone shelf old new words (accepted_verdict plan)
-  listed : (plan : Plan) → Looks shelf old new words task.List plan
+  listed : (plan : Plan) → Looks shelf old new words aim.List plan
       → IsDone shelf old new words (listed_verdict plan)
-  ran : (request : Request) (plan : Plan) (first : State) (lists : List (List Entry))
-      → RunsToEnd shelf old new words request plan first lists → ((last_state plan first lists).faults).count ≡ 0
-      → IsDone shelf old new words (end_verdict request plan first lists)
+  ran : (command : Command) (plan : Plan) (first : State) (lists : List (List Entry))
+      → RunsToEnd shelf old new words command plan first lists → ((last_state plan first lists).faults).count ≡ 0
+      → IsDone shelf old new words (end_verdict command plan first lists)
 
 -- What the shelf holds, where it tells, under the names that the words name.
-pub record Finds {S : Type 0} (shelf : Ghosts S) (old : S) (words : Words) (command : Command)
+pub record Finds {S : Type 0} (shelf : Ghosts S) (old : S) (words : Words) (about : Texts)
     (given : List (Option (List ℕ))) : Type 0 where
-  pub asks : Asks words (Texts command)
+  pub asks : Asks words (commands.Texts about)
   pub files : Files
   pub told : shelf.holds old ≡ Some files
-  pub held : map (get files) (names_of command) ≡ given
+  pub held : map (get files) (names_of about) ≡ given
 
 -- The words ask for this with these texts: the shelf holds all files that they name, where it tells what it
 -- holds, or the texts are those of a generated simulation.
-pub data Gives {S : Type 0} (shelf : Ghosts S) (old : S) (words : Words) : Request → Sources → Type 0 where
-  files_held : {command : Command} {given : Sources} → AreNamed command given
-      → Finds shelf old words command (map Some (texts_of given)) → Gives shelf old words (Texts command) given
-  texts_generated : {objects : ℕ} → Asks words (Generated objects)
-      → Gives shelf old words (Generated objects) (generated_sources objects)
+pub data Gives {S : Type 0} (shelf : Ghosts S) (old : S) (words : Words) : Command → Sources → Type 0 where
+  files_held : {about : Texts} {given : Sources} → AreNamed about given
+      → Finds shelf old words about (map Some (texts_of given)) → Gives shelf old words (commands.Texts about) given
+  texts_generated : {objects : ℕ} → Asks words (commands.Gen objects)
+      → Gives shelf old words (commands.Gen objects) (generated_sources objects)
 
 -- A text is refused: one of the two of a simulation; or these have an accepted plan, and the text from which it is
 -- to be run is the checkpoint of no state of it, or the one under which it is to be run is no journal of it.
-pub data AreRefusedTexts (t : Task) (given : Sources) : Type 0 where
+pub data AreRefusedTexts (t : Aim) (given : Sources) : Type 0 where
   for_text : (line : List ℕ) → IsTextRefused given.s_define given.input line → AreRefusedTexts t given
-  for_checkpoint : (plan : Plan) (text : List ℕ) → t ≡ task.Run → IsReady given.s_define given.input plan
+  for_checkpoint : (plan : Plan) (text : List ℕ) → t ≡ aim.Run → IsReady given.s_define given.input plan
       → given.from ≡ Some text
       → ((other : Plan) (s : State) → IsReady given.s_define given.input other → IsCheckpointOf other text s → ⊥)
       → AreRefusedTexts t given
-  for_journal : (plan : Plan) (text : List ℕ) → t ≡ task.Run → IsReady given.s_define given.input plan
+  for_journal : (plan : Plan) (text : List ℕ) → t ≡ aim.Run → IsReady given.s_define given.input plan
       → given.journal ≡ Some text
       → ((other : Plan) (first : State) (journal : Journal) → IsReady given.s_define given.input other
       → IsFirst other given.from first → IsJournalFor other first text journal → ⊥)
@@ -275,23 +275,23 @@ pub record IsMisfitIn (given : Sources) : Type 0 where
 -- of the run is as it was when the run began, or a prefix of its file in the run under these lines.
 pub data MayWrite {S : Type 0} (shelf : Ghosts S) (old : S) (words : Words) (files : Files) : List Write → Type 0 where
   nothing : MayWrite shelf old words files []
-  of_texts : {objects : ℕ} {writes : List Write} → Asks words (Generated objects)
+  of_texts : {objects : ℕ} {writes : List Write} → Asks words (commands.Gen objects)
       → IsFrontOf writes (text_writes objects) → MayWrite shelf old words files writes
-  a_front : {request : Request} {given : Sources} {plan : Plan} (first : State) (lists : List (List Entry))
-      (said : List Message) {writes : List Write} → Gives shelf old words request given → task_of request ≡ task.Run
+  a_front : {command : Command} {given : Sources} {plan : Plan} (first : State) (lists : List (List Entry))
+      (said : List Message) {writes : List Write} → Gives shelf old words command given → aim_of command ≡ aim.Run
       → IsReady given.s_define given.input plan → IsFirst plan given.from first
       → IsUnderWay plan given.journal first lists
-      → IsFrontOf writes (earlier_writes request ++ all_writes plan first lists)
-      → Left (plan_of plan) first lists said (all_written (earlier_writes request) files) (all_written writes files)
+      → IsFrontOf writes (earlier_writes command ++ all_writes plan first lists)
+      → Left (plan_of plan) first lists said (all_written (earlier_writes command) files) (all_written writes files)
       → MayWrite shelf old words files writes
-  of_whole : {request : Request} {given : Sources} {plan : Plan} (first : State) (lists : List (List Entry))
-      → Gives shelf old words request given → task_of request ≡ task.Run → IsReady given.s_define given.input plan
+  of_whole : {command : Command} {given : Sources} {plan : Plan} (first : State) (lists : List (List Entry))
+      → Gives shelf old words command given → aim_of command ≡ aim.Run → IsReady given.s_define given.input plan
       → IsFirst plan given.from first → IsWholeRun plan given.journal first lists
-      → MayWrite shelf old words files (earlier_writes request ++ all_writes plan first lists)
-  of_misfit : {request : Request} {given : Sources} {plan : Plan} {first : State} {text : List ℕ} {journal : Journal}
-      → Gives shelf old words request given → task_of request ≡ task.Run → IsReady given.s_define given.input plan
+      → MayWrite shelf old words files (earlier_writes command ++ all_writes plan first lists)
+  of_misfit : {command : Command} {given : Sources} {plan : Plan} {first : State} {text : List ℕ} {journal : Journal}
+      → Gives shelf old words command given → aim_of command ≡ aim.Run → IsReady given.s_define given.input plan
       → IsFirst plan given.from first → given.journal ≡ Some text → IsMisfit plan text first journal
-      → MayWrite shelf old words files (earlier_writes request ++ short_writes plan first journal)
+      → MayWrite shelf old words files (earlier_writes command ++ short_writes plan first journal)
 
 -- Whatever the status is: what the shelf holds is what was held, and what such writes make of it.
 abbrev pub Stands : {S : Type 0} (shelf : Ghosts S) (old new : S) (words : Words) → Type 0

@@ -1,4 +1,4 @@
-ghost use Rattle.std.specs.Prelude.{◌≡◌, ◌≢◌, ◌⊎◌, ℕ, List, [], None, Contains, length};
+ghost use Rattle.std.specs.Prelude.{◌≡◌, ◌≢◌, ◌⊎◌, ℕ, List, [], None, Contains};
 ghost use Rattle.trick_model.specs.State.{State};
 ghost use Rattle.trick_model.specs.declared.entry.Entry.{Entry};
 ghost use Rattle.trick_model.specs.declared.journal.Journal.{Journal};
@@ -7,64 +7,64 @@ ghost use Rattle.trick_outside.specs.Causes.{Rose};
 ghost use Rattle.trick_outside.specs.Does.{Went};
 ghost use Rattle.trick_ready.specs.Texts.{IsPlanRefused};
 ghost use Rattle.trick_top.specs.Acts.{last_state, length_verdict};
+ghost use Rattle.trick_top.specs.Aims as aims;
 ghost use Rattle.trick_top.specs.Answered.{HasAnswered};
 ghost use Rattle.trick_top.specs.Called.{HasCalled};
-ghost use Rattle.trick_top.specs.Outcome.{HasGone, HasGoneOn};
+ghost use Rattle.trick_top.specs.Outcome.{HasGone, HasPerformed};
 ghost use Rattle.trick_top.specs.Printed.{Prints};
-ghost use Rattle.trick_top.specs.Sources.{Sources};
+ghost use Rattle.trick_top.specs.Sources.{Sources, contents_of};
 ghost use Rattle.trick_top.specs.Status.{AreAccepted, AreRefusedTexts, EndsWith, Finds, Gives, HoldsSame, HoldsTexts};
 ghost use Rattle.trick_top.specs.Status.{IsDone, IsFittingIn, IsMisfitIn, IsRefusal, Misfits, MissesFile};
 ghost use Rattle.trick_top.specs.Status.{RefusesPlan, RefusesText, RunsToEnd, Stands, TookLine, end_verdict};
 ghost use Rattle.trick_top.specs.Verdict.{NoFile, OutOfMemory, Usage, line_of, verdict_of};
 ghost use Rattle.trick_top.specs.Verdict.{Verdict as VerdictOf};
-ghost use Rattle.trick_top.specs.Words.{AreRefused, Asked, Asks, names_of, task_of, without_run};
-ghost use Rattle.trick_top.specs.declared.words.Command.{Command as CommandOf};
-ghost use Rattle.trick_top.specs.declared.words.Request.TheVariants as requests;
-ghost use Rattle.trick_top.specs.declared.words.Request.{Request as RequestOf};
-ghost use Rattle.trick_top.specs.declared.words.Task.TheVariants as tasks;
+ghost use Rattle.trick_top.specs.Words.{AreRefused, Asked, Asks, aim_of, aim_of_task, without_run};
+ghost use Rattle.trick_words.specs.declared.command.Command.TheVariants as commands;
+ghost use Rattle.trick_words.specs.declared.command.Command.{Command as CommandOf};
+ghost use Rattle.trick_words.specs.declared.command.Texts.{Texts as TextsOf};
 
 use crate::files::read_named;
 use crate::generated::run_generated;
-use crate::sources::as_sources;
+use crate::sources::{Contents, as_sources};
 use crate::texts::perform_on;
 use crate::verdict::Verdict;
-use crate::words::{Command, Request, read_words};
+use crate::words::read_words;
 use std::alloc::Global;
-use trick_base::{Items, Word};
+use trick_base::Word;
 use trick_outside::{Printed, Shelf, Sink, put};
 use trick_ready::laws::texts_have_one_meaning;
-use trick_words::laws;
+use trick_words::{Command, Texts, laws};
 
-/// What a command does once its files are found, by their texts.
+/// What a command does with the texts of its files.
 fn go_on<F: Shelf>(
     alloc: Global,
-    command: &Command,
-    texts: &[Items<u8>],
+    about: &Texts,
+    contents: Contents,
     shelf: &mut F,
 ) -> Verdict<'static>
-    requires { length texts.now ≡ length (names_of command.now) }
-    ensures { HasGoneOn F.Shelf shelf.old shelf.new command.now texts.now (verdict_of result) }
+    ensures { HasPerformed F.Shelf shelf.old shelf.new (aim_of_task about.now.task) (contents_of contents)
+        (verdict_of result) }
 {
-    perform_on(alloc, command.task, as_sources(command, texts), shelf)
+    perform_on(alloc, &about.task, as_sources(&contents), shelf)
 }
 
-/// What a command does; its verdict is not printed yet.
-fn perform<'a, F: Shelf>(alloc: Global, command: &'a Command, shelf: &mut F) -> Verdict<'a>
-    ensures { HasGone F.Shelf shelf.old shelf.new (Asked (requests.Texts command.now)) (verdict_of result) }
+/// What a command does with its files; its verdict is not printed yet.
+fn perform<'a, F: Shelf>(alloc: Global, about: &'a Texts, shelf: &mut F) -> Verdict<'a>
+    ensures { HasGone F.Shelf shelf.old shelf.new (Asked (commands.Texts about.now)) (verdict_of result) }
 {
-    match read_named(alloc, command, shelf) {
-        Ok(texts) => go_on(alloc, command, &texts, shelf),
+    match read_named(alloc, about, shelf) {
+        Ok(contents) => go_on(alloc, about, contents, shelf),
         Err(verdict) => verdict,
     }
 }
 
 /// Does what is asked for; the verdict is not printed yet.
-fn fulfil<'a, F: Shelf>(alloc: Global, request: &'a Request, shelf: &mut F) -> Verdict<'a>
-    ensures { HasGone F.Shelf shelf.old shelf.new (Asked request.now) (verdict_of result) }
+fn fulfil<'a, F: Shelf>(alloc: Global, command: &'a Command, shelf: &mut F) -> Verdict<'a>
+    ensures { HasGone F.Shelf shelf.old shelf.new (Asked command.now) (verdict_of result) }
 {
-    match request {
-        Request::Texts(command) => perform(alloc, command, shelf),
-        Request::Generated { objects } => run_generated(alloc, *objects, shelf),
+    match command {
+        Command::Texts(about) => perform(alloc, about, shelf),
+        Command::Gen { objects } => run_generated(alloc, *objects, shelf),
     }
 }
 
@@ -106,8 +106,8 @@ fn answer<F: Shelf, O: Sink>(alloc: Global, words: &[Word], shelf: &mut F, out: 
     ensures { HasAnswered F.Shelf O.Sink shelf.old shelf.new out.old out.new (without_run words.now) result }
 {
     match read_words(alloc, words) {
-        Ok(Some(request)) => {
-            let verdict = fulfil(alloc, &request, shelf);
+        Ok(Some(command)) => {
+            let verdict = fulfil(alloc, &command, shelf);
             print(alloc, &verdict, out)
         }
         Ok(None) => print(alloc, &Verdict::Usage, out),
@@ -147,7 +147,7 @@ pub fn tricks_alone<F: Shelf, O: Sink>(
     ensures plan_refused { result ≡ 3 → (line : List ℕ)
         × RefusesPlan F.Shelf shelf.old shelf.new (without_run words.now) line
         × TookLine (O.holds out.old) (O.holds out.new) line }
-    ensures faults { result ≡ 4 → (asked : RequestOf) × (plan : Plan) × (first : State) × (lists : List (List Entry))
+    ensures faults { result ≡ 4 → (asked : CommandOf) × (plan : Plan) × (first : State) × (lists : List (List Entry))
         × RunsToEnd F.Shelf shelf.old shelf.new (without_run words.now) asked plan first lists
         × (((last_state plan first lists).faults).count ≢ 0)
         × TookLine (O.holds out.old) (O.holds out.new) (line_of (end_verdict asked plan first lists)) }
@@ -160,7 +160,7 @@ pub fn tricks_alone<F: Shelf, O: Sink>(
         × TookLine (O.holds out.old) (O.holds out.new) (line_of (NoFile name)) }
     ensures refused_same { IsRefusal (without_run words.now) result
         → HoldsSame (F.holds shelf.old) (F.holds shelf.new) }
-    ensures refused_generated { (objects : ℕ) → Asks (without_run words.now) (requests.Generated objects)
+    ensures refused_generated { (objects : ℕ) → Asks (without_run words.now) (commands.Gen objects)
         → (result ≡ 2) ⊎ (result ≡ 3) → HoldsTexts objects (F.holds shelf.old) (F.holds shelf.new) }
 
     // Whatever the status is, and so at 5, 6 and 8 too: what stands of the writes.
@@ -168,25 +168,25 @@ pub fn tricks_alone<F: Shelf, O: Sink>(
 
     // When each comes. Want of memory is free, and a failed sink decides over all else.
     ensures usage_all { AreRefused (without_run words.now) → EndsWith result 1 }
-    ensures no_file_all { (command : CommandOf) (given : _)
-        → Finds F.Shelf shelf.old (without_run words.now) command given
+    ensures no_file_all { (about : TextsOf) (given : _)
+        → Finds F.Shelf shelf.old (without_run words.now) about given
         → Contains given None → ¬ Rose (F.failures shelf.old) (F.failures shelf.new) → EndsWith result 9 }
-    ensures text_refused_all { (asked : RequestOf) (given : Sources)
+    ensures text_refused_all { (asked : CommandOf) (given : Sources)
         → Gives F.Shelf shelf.old (without_run words.now) asked given
-        → AreRefusedTexts (task_of asked) given
+        → AreRefusedTexts (aim_of asked) given
         → ¬ Rose (F.failures shelf.old) (F.failures shelf.new) → EndsWith result 2 }
-    ensures plan_refused_all { (asked : RequestOf) (given : Sources) (line : List ℕ)
+    ensures plan_refused_all { (asked : CommandOf) (given : Sources) (line : List ℕ)
         → Gives F.Shelf shelf.old (without_run words.now) asked given → IsPlanRefused given.s_define given.input line
         → ¬ Rose (F.failures shelf.old) (F.failures shelf.new) → EndsWith result 3 }
-    ensures journal_length_all { (asked : RequestOf) (given : Sources)
+    ensures journal_length_all { (asked : CommandOf) (given : Sources)
         → Gives F.Shelf shelf.old (without_run words.now) asked given
-        → task_of asked ≡ tasks.Run → AreAccepted given → IsMisfitIn given
+        → aim_of asked ≡ aims.Run → AreAccepted given → IsMisfitIn given
         → ¬ Rose (F.failures shelf.old) (F.failures shelf.new) → EndsWith result 7 }
-    ensures complete { (asked : RequestOf) (given : Sources)
+    ensures complete { (asked : CommandOf) (given : Sources)
         → Gives F.Shelf shelf.old (without_run words.now) asked given
         → AreAccepted given → IsFittingIn given
         → ¬ Rose (F.failures shelf.old) (F.failures shelf.new) → ¬ Rose (O.failures out.old) (O.failures out.new)
-        → (result ≡ 0) ⊎ (((result ≡ 4) × (task_of asked ≡ tasks.Run)) ⊎ (result ≡ 6)) }
+        → (result ≡ 0) ⊎ (((result ≡ 4) × (aim_of asked ≡ aims.Run)) ⊎ (result ≡ 6)) }
 {
     laws::one_command();
     texts_have_one_meaning();

@@ -1,61 +1,86 @@
-ghost use Rattle.std.specs.Prelude.{IfErr, IfOk, map};
-ghost use Rattle.trick_top.specs.Outcome.{HasFound, HasNotFound};
-ghost use Rattle.trick_top.specs.Verdict.{verdict_of};
-ghost use Rattle.trick_top.specs.Words.{names_of};
+//! The files that a command names.
 
+ghost use Rattle.std.specs.Prelude.{◌≡◌, ◌∷◌, [], IfErr, IfOk, is_some, option_map, option_to_list};
+ghost use Rattle.trick_top.specs.Outcome.{HasFound, HasNotFound};
+ghost use Rattle.trick_top.specs.Sources.{AreNamed, contents_of, texts_of};
+ghost use Rattle.trick_top.specs.Verdict.{verdict_of};
+ghost use Rattle.trick_top.specs.Words.{journal_of as journal_of_task, names_of};
+
+use crate::sources::Contents;
 use crate::verdict::Verdict;
-use crate::words::Command;
 use std::alloc::Global;
 use trick_base::{Items, Word};
 use trick_outside::{Got, Shelf, get};
+use trick_words::{Task, Texts};
 
-/// The texts of the files that a command names, in this order: the S_define, the input, the checkpoint and
-/// the journal, the last two where they are named.
-pub fn read_named<'a, F: Shelf>(
-    alloc: Global,
-    command: &'a Command,
-    shelf: &mut F,
-) -> Result<Vec<Items<u8>>, Verdict<'a>>
-    ensures found { IfOk result (λ texts.
-        HasFound F.Shelf shelf.old shelf.new (names_of command.now) texts.items) }
-    ensures not_found { IfErr result (λ verdict.
-        HasNotFound F.Shelf shelf.old shelf.new (names_of command.now) (verdict_of verdict)) }
+/// The name of the journal under which a simulation is run, where there is one.
+fn journal_of(task: &Task) -> Option<&Word>
+    ensures { option_map (λ name. name.now) result ≡ journal_of_task task.now }
 {
-    let (s_define, input) = (&command.s_define, &command.input);
-    match (&command.from, &command.journal) {
-        (None, None) => read_files(alloc, &[s_define, input], shelf),
-        (Some(from), None) => read_files(alloc, &[s_define, input, from], shelf),
-        (None, Some(journal)) => read_files(alloc, &[s_define, input, journal], shelf),
-        (Some(from), Some(journal)) => {
-            read_files(alloc, &[s_define, input, from, journal], shelf)
-        }
+    match task {
+        Task::Replay { journal } => Some(journal),
+        Task::Serial | Task::Run { .. } | Task::Check | Task::List => None,
     }
 }
 
-/// The texts of these files, read one after another. The first that is missing, or of which the
-/// shelf or memory failed, ends it with its verdict.
-fn read_files<'a, F: Shelf>(
+/// The texts of the files that a command names. They are read in this order: the S_define, the input, the checkpoint
+/// and the journal, the last two where they are named. The first that is missing, or of which the shelf or memory
+/// failed, ends it with its verdict.
+pub fn read_named<'a, F: Shelf>(
     alloc: Global,
-    names: &[&'a Word],
+    about: &'a Texts,
     shelf: &mut F,
-) -> Result<Vec<Items<u8>>, Verdict<'a>>
-    ensures found { IfOk result
-        (λ texts. HasFound F.Shelf shelf.old shelf.new (map (λ name. name.now) names.now) texts.items) }
+) -> Result<Contents, Verdict<'a>>
+    ensures found { IfOk result (λ contents.
+        HasFound F.Shelf shelf.old shelf.new (names_of about.now) (texts_of (contents_of contents))) }
+    ensures named { IfOk result (λ contents. AreNamed about.now (contents_of contents)) }
     ensures not_found { IfErr result (λ verdict.
-        HasNotFound F.Shelf shelf.old shelf.new (map (λ name. name.now) names.now) (verdict_of verdict)) }
+        HasNotFound F.Shelf shelf.old shelf.new (names_of about.now) (verdict_of verdict)) }
 {
-    let mut texts = Vec::new(alloc);
-    for name in names {
-        match get(shelf, alloc, name) {
-            Got::Found(text) => {
-                if texts.push(Items::from_vec(text)).is_err() {
-                    return Err(Verdict::OutOfMemory);
-                }
-            }
-            Got::Missing => return Err(Verdict::NoFile(name)),
-            Got::Failed => return Err(Verdict::ShelfFault),
-            Got::OutOfMemory => return Err(Verdict::OutOfMemory),
-        }
+    let s_define = read_file(alloc, &about.s_define, shelf)?;
+    let input = read_file(alloc, &about.input, shelf)?;
+    let from = read_if_named(alloc, about.from.as_ref(), shelf)?;
+    let journal = read_if_named(alloc, journal_of(&about.task), shelf)?;
+    Ok(Contents {
+        s_define,
+        input,
+        from,
+        journal,
+    })
+}
+
+/// The text of a file, where it is named.
+fn read_if_named<'a, F: Shelf>(
+    alloc: Global,
+    name: Option<&'a Word>,
+    shelf: &mut F,
+) -> Result<Option<Items<u8>>, Verdict<'a>>
+    ensures found { IfOk result (λ text. HasFound F.Shelf shelf.old shelf.new
+        (option_to_list (option_map (λ name. name.now) name.entry)) (option_to_list text)) }
+    ensures named { IfOk result (λ text. is_some text ≡ is_some (option_map (λ name. name.now) name.entry)) }
+    ensures not_found { IfErr result (λ verdict. HasNotFound F.Shelf shelf.old shelf.new
+        (option_to_list (option_map (λ name. name.now) name.entry)) (verdict_of verdict)) }
+{
+    match name {
+        Some(name) => Ok(Some(read_file(alloc, name, shelf)?)),
+        None => Ok(None),
     }
-    Ok(texts)
+}
+
+/// The text of a file.
+fn read_file<'a, F: Shelf>(
+    alloc: Global,
+    name: &'a Word,
+    shelf: &mut F,
+) -> Result<Items<u8>, Verdict<'a>>
+    ensures found { IfOk result (λ text. HasFound F.Shelf shelf.old shelf.new (name.now ∷ []) (text ∷ [])) }
+    ensures not_found { IfErr result (λ verdict.
+        HasNotFound F.Shelf shelf.old shelf.new (name.now ∷ []) (verdict_of verdict)) }
+{
+    match get(shelf, alloc, name) {
+        Got::Found(text) => Ok(Items::from_vec(text)),
+        Got::Missing => Err(Verdict::NoFile(name)),
+        Got::Failed => Err(Verdict::ShelfFault),
+        Got::OutOfMemory => Err(Verdict::OutOfMemory),
+    }
 }

@@ -9,16 +9,16 @@ ghost use Rattle.trick_top.specs.Generated.{both_writes, text_steps};
 ghost use Rattle.trick_top.specs.Outcome.{HasGone};
 ghost use Rattle.trick_top.specs.Verdict.{verdict_of, with_objects as with_objects_of};
 ghost use Rattle.trick_top.specs.Words.{Asked};
-ghost use Rattle.trick_top.specs.declared.words.Request.TheVariants as request;
+ghost use Rattle.trick_words.specs.declared.command.Command.TheVariants as commands;
 
 use crate::sources::Sources;
 use crate::texts::perform_on;
 use crate::verdict::Verdict;
-use crate::words::Task;
 use std::alloc::Global;
 use trick_base::Word;
 use trick_gen::{Generated, make};
 use trick_outside::{Shelf, Stop, write_file};
+use trick_words::Task;
 
 /// The name of the S_define.
 const DEFINITION_NAME: &[u8] = b"gen.S_define";
@@ -83,7 +83,7 @@ pub(crate) fn run_generated<F: Shelf>(
     objects: u32,
     shelf: &mut F,
 ) -> Verdict<'static>
-    ensures { HasGone F.Shelf shelf.old shelf.new (Asked (request.Generated objects)) (verdict_of result) }
+    ensures { HasGone F.Shelf shelf.old shelf.new (Asked (commands.Gen objects)) (verdict_of result) }
 {
     match write_texts(alloc, objects, shelf) {
         Ok(texts) => {
@@ -93,7 +93,7 @@ pub(crate) fn run_generated<F: Shelf>(
                 from: None,
                 journal: None,
             };
-            let verdict = perform_on(alloc, Task::Run, given, shelf);
+            let verdict = perform_on(alloc, &Task::Serial, given, shelf);
             with_objects(objects, verdict)
         }
         Err(Stop::Shelf) => Verdict::ShelfFault,

@@ -3,20 +3,21 @@
 ghost use Rattle.std.specs.Arc.{arc_value};
 ghost use Rattle.std.specs.Prelude.{◌≡◌, ◌⊎◌};
 ghost use Rattle.trick_top.specs.Acts.{HasActed, accepted_verdict, listed_verdict};
+ghost use Rattle.trick_top.specs.Aims as aim;
 ghost use Rattle.trick_top.specs.Sources.{sources_of};
 ghost use Rattle.trick_top.specs.Verdict.{OutOfMemory, verdict_of};
-ghost use Rattle.trick_top.specs.declared.words.Task.TheVariants as tasks;
+ghost use Rattle.trick_top.specs.Words.{aim_of_task};
 
 use crate::replays::replay;
 use crate::runs::run;
 use crate::sources::Sources;
 use crate::verdict::Verdict;
-use crate::words::Task;
 use std::alloc::Global;
 use std::sync::Arc;
 use trick_memory::listing;
 use trick_model::{Accepted, Plan};
 use trick_outside::Shelf;
+use trick_words::Task;
 
 /// What `check` says of an accepted plan.
 fn accepted(plan: &Plan) -> Verdict<'static>
@@ -50,7 +51,7 @@ fn run_given<F: Shelf>(
     shelf: &mut F,
 ) -> Verdict<'static>
     ensures { HasActed F.Shelf shelf.old shelf.new (arc_value accepted.now).plan (sources_of given.entry).from
-        (sources_of given.entry).journal tasks.Run (verdict_of result) }
+        (sources_of given.entry).journal aim.Run (verdict_of result) }
 {
     match given.journal {
         None => run(alloc, accepted, given.from, shelf),
@@ -66,7 +67,7 @@ fn run_shared<F: Shelf>(
     shelf: &mut F,
 ) -> Verdict<'static>
     ensures { HasActed F.Shelf shelf.old shelf.new accepted.plan (sources_of given.entry).from
-        (sources_of given.entry).journal tasks.Run (verdict_of result) }
+        (sources_of given.entry).journal aim.Run (verdict_of result) }
 {
     match Arc::new(alloc, accepted) {
         Ok(accepted) => run_given(alloc, &accepted, given, shelf),
@@ -80,14 +81,16 @@ pub(crate) fn act<F: Shelf>(
     alloc: Global,
     accepted_plan: Accepted,
     given: Sources,
-    task: Task,
+    task: &Task,
     shelf: &mut F,
 ) -> Verdict<'static>
     ensures { HasActed F.Shelf shelf.old shelf.new accepted_plan.plan (sources_of given.entry).from
-        (sources_of given.entry).journal task (verdict_of result) }
+        (sources_of given.entry).journal (aim_of_task task.now) (verdict_of result) }
 {
     match task {
-        Task::Run => run_shared(alloc, accepted_plan, given, shelf),
+        Task::Serial | Task::Run { .. } | Task::Replay { .. } => {
+            run_shared(alloc, accepted_plan, given, shelf)
+        }
         Task::Check => accepted(accepted_plan.plan()),
         Task::List => listed(alloc, accepted_plan.plan()),
     }

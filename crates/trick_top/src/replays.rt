@@ -3,8 +3,8 @@
 ghost use Rattle.std.specs.Arc.{arc_value};
 ghost use Rattle.std.specs.Prelude.{◌≡◌, ◌⊎◌, Some, None, option_map};
 ghost use Rattle.trick_top.specs.Acts.{HasActed};
+ghost use Rattle.trick_top.specs.Aims as aim;
 ghost use Rattle.trick_top.specs.Verdict.{OutOfMemory, replay_verdict, unread_verdict, verdict_of};
-ghost use Rattle.trick_top.specs.declared.words.Task.TheVariants as task;
 
 use crate::runs::unloaded;
 use crate::verdict::Verdict;
@@ -56,7 +56,7 @@ fn replay_from_start<F: Shelf>(
     journal: &[u8],
     shelf: &mut F,
 ) -> Verdict<'static>
-    ensures { HasActed F.Shelf shelf.old shelf.new (arc_value accepted.now).plan None (Some journal.now) task.Run
+    ensures { HasActed F.Shelf shelf.old shelf.new (arc_value accepted.now).plan None (Some journal.now) aim.Run
         (verdict_of result) }
 {
     laws::refused_texts_are_no_journals();
@@ -75,7 +75,7 @@ fn replay_from_checkpoint<F: Shelf>(
     shelf: &mut F,
 ) -> Verdict<'static>
     ensures { HasActed F.Shelf shelf.old shelf.new (arc_value accepted.now).plan (Some from.now) (Some journal.now)
-        task.Run (verdict_of result) }
+        aim.Run (verdict_of result) }
 {
     laws::refused_texts_are_no_journals();
     let state = match resume(alloc, accepted.plan(), from) {
@@ -97,7 +97,7 @@ pub(crate) fn replay<F: Shelf>(
     shelf: &mut F,
 ) -> Verdict<'static>
     ensures { HasActed F.Shelf shelf.old shelf.new (arc_value accepted.now).plan
-        (option_map (λ text. text.now) from.entry) (Some journal.now) task.Run (verdict_of result) }
+        (option_map (λ text. text.now) from.entry) (Some journal.now) aim.Run (verdict_of result) }
 {
     match from {
         None => replay_from_start(alloc, accepted, journal, shelf),

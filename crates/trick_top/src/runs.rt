@@ -3,8 +3,8 @@
 ghost use Rattle.std.specs.Arc.{arc_value};
 ghost use Rattle.std.specs.Prelude.{◌≡◌, ◌⊎◌, Some, None, option_map};
 ghost use Rattle.trick_top.specs.Acts.{HasActed};
+ghost use Rattle.trick_top.specs.Aims as aim;
 ghost use Rattle.trick_top.specs.Verdict.{OutOfMemory, run_verdict, unloaded_verdict, verdict_of};
-ghost use Rattle.trick_top.specs.declared.words.Task.TheVariants as task;
 
 use crate::verdict::Verdict;
 use std::alloc::Global;
@@ -46,7 +46,7 @@ fn run_new<F: Shelf>(
     accepted: &Arc<Accepted, Global>,
     shelf: &mut F,
 ) -> Verdict<'static>
-    ensures { HasActed F.Shelf shelf.old shelf.new (arc_value accepted.now).plan None None task.Run
+    ensures { HasActed F.Shelf shelf.old shelf.new (arc_value accepted.now).plan None None aim.Run
         (verdict_of result) }
 {
     ended(serial(alloc, accepted, shelf))
@@ -59,7 +59,7 @@ fn run_from<F: Shelf>(
     text: &[u8],
     shelf: &mut F,
 ) -> Verdict<'static>
-    ensures { HasActed F.Shelf shelf.old shelf.new (arc_value accepted.now).plan (Some text.now) None task.Run
+    ensures { HasActed F.Shelf shelf.old shelf.new (arc_value accepted.now).plan (Some text.now) None aim.Run
         (verdict_of result) }
 {
     match resume(alloc, accepted.plan(), text) {
@@ -76,7 +76,7 @@ pub(crate) fn run<F: Shelf>(
     shelf: &mut F,
 ) -> Verdict<'static>
     ensures { HasActed F.Shelf shelf.old shelf.new (arc_value accepted.now).plan
-        (option_map (λ text. text.now) from.entry) None task.Run (verdict_of result) }
+        (option_map (λ text. text.now) from.entry) None aim.Run (verdict_of result) }
 {
     match from {
         None => run_new(alloc, accepted, shelf),

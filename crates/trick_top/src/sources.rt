@@ -1,14 +1,21 @@
 //! The texts with which something is done.
 
-ghost use Rattle.std.specs.Prelude.{◌≡◌, length};
-ghost use Rattle.trick_top.specs.Sources.{AreNamed, sources_of, texts_of};
-ghost use Rattle.trick_top.specs.Words.{names_of};
+ghost use Rattle.std.specs.Prelude.{◌≡◌, option_map};
+ghost use Rattle.trick_top.specs.Sources.{contents_of, sources_of};
 
-use crate::words::Command;
 use trick_base::Items;
 
-/// The two texts of a simulation, that of the checkpoint from which a run goes on, and that of the journal
-/// under which it runs, each of these two where there is one.
+/// The texts of the files that a command names: of the two of a simulation, of the checkpoint from which a run goes on,
+/// and of the journal under which it runs, each of these two where it is named.
+#[derive(Debug, Drop)]
+pub struct Contents {
+    pub s_define: Items<u8>,
+    pub input: Items<u8>,
+    pub from: Option<Items<u8>>,
+    pub journal: Option<Items<u8>>,
+}
+
+/// The same texts, which are lent.
 #[derive(Clone, Copy)]
 pub struct Sources<'a> {
     pub s_define: &'a [u8],
@@ -17,32 +24,24 @@ pub struct Sources<'a> {
     pub journal: Option<&'a [u8]>,
 }
 
-/// The texts of the files that a command names, in the order in which they are read.
-pub fn as_sources<'a>(command: &Command, texts: &'a [Items<u8>]) -> Sources<'a>
-    requires { length texts.now ≡ length (names_of command.now) }
-    ensures are { texts.now ≡ texts_of (sources_of result) }
-    ensures named { AreNamed command.now (sources_of result) }
+/// A text that is lent, where there is one.
+fn lent(text: &Option<Items<u8>>) -> Option<&[u8]>
+    ensures { option_map (λ text. text.now) result ≡ text.now }
 {
-    let two = Sources {
-        s_define: texts[0].as_slice(),
-        input: texts[1].as_slice(),
-        from: None,
-        journal: None,
-    };
-    match (&command.from, &command.journal) {
-        (None, None) => two,
-        (Some(_), None) => Sources {
-            from: Some(texts[2].as_slice()),
-            ..two
-        },
-        (None, Some(_)) => Sources {
-            journal: Some(texts[2].as_slice()),
-            ..two
-        },
-        (Some(_), Some(_)) => Sources {
-            from: Some(texts[2].as_slice()),
-            journal: Some(texts[3].as_slice()),
-            ..two
-        },
+    match text {
+        Some(text) => Some(text.as_slice()),
+        None => None,
+    }
+}
+
+/// The texts of the files that a command names.
+pub fn as_sources(contents: &Contents) -> Sources<'_>
+    ensures { sources_of result ≡ contents_of contents.now }
+{
+    Sources {
+        s_define: contents.s_define.as_slice(),
+        input: contents.input.as_slice(),
+        from: lent(&contents.from),
+        journal: lent(&contents.journal),
     }
 }

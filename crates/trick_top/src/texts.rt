@@ -4,14 +4,15 @@ ghost use Rattle.std.specs.Prelude.{◌≡◌};
 ghost use Rattle.trick_top.specs.Outcome.{HasPerformed};
 ghost use Rattle.trick_top.specs.Sources.{sources_of};
 ghost use Rattle.trick_top.specs.Verdict.{unready_verdict, verdict_of};
+ghost use Rattle.trick_top.specs.Words.{aim_of_task};
 
 use crate::plans::act;
 use crate::sources::Sources;
 use crate::verdict::Verdict;
-use crate::words::Task;
 use std::alloc::Global;
 use trick_outside::Shelf;
 use trick_ready::{Unready, ready};
+use trick_words::Task;
 
 /// The verdict on two texts that have no plan to go on with.
 pub fn refused(unready: Unready) -> Verdict<'static>
@@ -27,11 +28,12 @@ pub fn refused(unready: Unready) -> Verdict<'static>
 /// What a command does with the texts of a simulation.
 pub(crate) fn perform_on<F: Shelf>(
     alloc: Global,
-    task: Task,
+    task: &Task,
     given: Sources,
     shelf: &mut F,
 ) -> Verdict<'static>
-    ensures { HasPerformed F.Shelf shelf.old shelf.new task (sources_of given.entry) (verdict_of result) }
+    ensures { HasPerformed F.Shelf shelf.old shelf.new (aim_of_task task.now) (sources_of given.entry)
+        (verdict_of result) }
 {
     match ready(alloc, given.s_define, given.input) {
         Ok(accepted) => act(alloc, accepted, given, task, shelf),

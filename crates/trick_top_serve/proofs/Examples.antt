@@ -1,23 +1,23 @@
 -- Ports, lines and counts, worked.
-use Rattle.std.proofs.Common.{◌≡◌, ℕ, List, Bool, true, false, None, Option, Some, Err, refl}
+use Rattle.std.proofs.Common.{◌≡◌, ℕ, Bool, true, false, None, Some, Err, refl}
 use Rattle.std.specs.Prelude.{◌-◌, ◌^◌, ◌++◌, codes, pos}
 use Rattle.trick_outside.specs.declared.stop.Stop.TheVariants as stop
 use Rattle.trick_serial.specs.declared.ended.Ended.{Ended}
 use Rattle.trick_top.specs.Verdict.{OutOfMemory, Served, ShelfFault, ended_facts, line_of, status_of}
-use Rattle.trick_top_serve.specs.Ports.{port_of}
+use Rattle.trick_top_serve.specs.Ports.{port_of_task}
 use Rattle.trick_top_serve.specs.Rows.{has_risen, served_verdict}
-use Rattle.trick_words.specs.declared.command.Command.TheVariants.{Run, Serial}
+use Rattle.trick_words.specs.declared.command.Task.TheVariants.{Run, Serial}
 
 -- ---- ports
 
-a_port : (s_define input : List ℕ) (from : Option (List ℕ)) → port_of (Run s_define input from (Some 7000)) ≡ Some 7000
-a_port s_define input from = refl
+a_port : port_of_task (Run (Some 7000)) ≡ Some 7000
+a_port = refl
 
-no_port : (s_define input : List ℕ) (from : Option (List ℕ)) → port_of (Run s_define input from None) ≡ None
-no_port s_define input from = refl
+no_port : port_of_task (Run None) ≡ None
+no_port = refl
 
-no_run : (s_define input : List ℕ) (from : Option (List ℕ)) → port_of (Serial s_define input from) ≡ None
-no_run s_define input from = refl
+no_run : port_of_task Serial ≡ None
+no_run = refl
 
 -- ---- what is said of a run
 

@@ -6,16 +6,16 @@ use Rattle.trick_top_serve.specs.Ports.{AsksForNoPort, AsksForPort, port_of}
 use Rattle.trick_words.specs.Command.{AreRefused, Asks}
 use Rattle.trick_words.specs.declared.command.Command.{Command}
 
--- a line that was read names a port, or none
-pub says_port : AreOneLine → (words : List (List ℕ)) (line : Command) → Asks words line → (port : Option ℕ) → port ≡ port_of line
+-- a command that was read names a port, or none
+pub says_port : AreOneLine → (words : List (List ℕ)) (command : Command) → Asks words command → (port : Option ℕ) → port ≡ port_of command
     → MatchOption port (AsksForNoPort words) (AsksForPort words)
-says_port once words line asked None is =
+says_port once words command asked None is =
     λ port asks.
-    (let same : asks.line ≡ line = once words asks.line line asks.asked asked in
+    (let same : asks.command ≡ command = once words asks.command command asks.asked asked in
     let none : None ≡ Some port = is ∙ ap port_of (sym same) ∙ asks.known in
     cc)
-says_port once words line asked (Some port) is = record { line = line; asked = asked; known = sym is }
+says_port once words command asked (Some port) is = record { command = command; asked = asked; known = sym is }
 
 -- words that are no line name none
 pub no_port : (words : List (List ℕ)) → AreRefused words → AsksForNoPort words
-no_port words refused = λ port asks. refused asks.line asks.asked
+no_port words refused = λ port asks. refused asks.command asks.asked

@@ -23,7 +23,7 @@ use Rattle.trick_serve_run.specs.Serving.{Moment, Outside, moment}
 use Rattle.trick_top.proofs.CompleteLemmas.{AreOneLine, IsEnd, ended_is_end, not_run, same_asked}
 use Rattle.trick_top.proofs.FoundLemmas.{lacks_none, leave_reads, reads_quiet, same_texts}
 use Rattle.trick_top.proofs.PrintLemmas.{Given, decided, given as shown, not_ended}
-use Rattle.trick_top.proofs.TellsLemmas.{known_run}
+use Rattle.trick_top.proofs.TellsLemmas.{each_command}
 use Rattle.trick_top.proofs.TopLemmas.{same_sources}
 use Rattle.trick_top.proofs.WordLemmas.{run_alone, run_task}
 use Rattle.trick_top.specs.Called.{HasCalled}
@@ -31,12 +31,12 @@ use Rattle.trick_top.specs.Found.{reads, texts}
 use Rattle.trick_top.specs.Sources.{AreNamed, Sources, texts_of}
 use Rattle.trick_top.specs.Status.{AreRefusedTexts, EndsWith, Finds, Gives, IsMisfitIn, files_held, for_checkpoint, for_journal, for_text, texts_generated}
 use Rattle.trick_top.specs.Verdict.{ShelfFault, status_of}
-use Rattle.trick_top.specs.Words.{AreRefused, Asks, names_of, task_of, with_run}
-use Rattle.trick_top.specs.declared.words.Command.{Command}
-use Rattle.trick_top.specs.declared.words.Request.TheVariants.{Generated, Texts}
-use Rattle.trick_top.specs.declared.words.Request.{Request}
-use Rattle.trick_top.specs.declared.words.Task.TheVariants as task
-use Rattle.trick_top.specs.declared.words.Task.{Task}
+use Rattle.trick_top.specs.Words.{AreRefused, Asks, aim_of, aim_of_task, names_of, with_run}
+use Rattle.trick_words.specs.declared.command.Texts.{Texts}
+use Rattle.trick_words.specs.declared.command.Command.TheVariants as commands
+use Rattle.trick_words.specs.declared.command.Command.{Command}
+use Rattle.trick_top.specs.Aims as aim
+use Rattle.trick_top.specs.Aims.{Aim}
 use Rattle.trick_top_serve.proofs.RowLemmas.{Ran}
 use Rattle.trick_top_serve.specs.Rows.{has_risen, served_verdict}
 
@@ -100,11 +100,10 @@ module _ {F D I O S K : Type 0} {o : Outside F D I O S} {failures : D → ℕ} {
   abbrev door_failed : Bool
   door_failed = has_risen (failures old.door) (failures new.door)
 
-  asks : Asks (with_run words) (Texts ran.begins.command)
+  asks : Asks (with_run words) (commands.Texts ran.begins.about)
   asks = record {
-    line = ran.begins.asks.line;
     asked = ran.begins.asks.asked;
-    known = known_run ran.begins.asks.line ran.begins.command ran.begins.asks.is_run;
+    known = each_command (commands.Texts ran.begins.about);
   }
 
   -- the status of what is printed
@@ -160,72 +159,72 @@ module _ {F D I O S K : Type 0} {o : Outside F D I O S} {failures : D → ℕ} {
   -- ---- when each status comes
 
   pub usage_all : AreRefused (with_run words) → EndsWith status 1
-  usage_all refused = absurd (refused (Texts ran.begins.command) asks)
+  usage_all refused = absurd (refused (commands.Texts ran.begins.about) asks)
 
   -- the words ask for this command alone
-  same_request : (request : Request) → Asks (with_run words) request → request ≡ Texts ran.begins.command
-  same_request request also = same_asked once (with_run words) request (Texts ran.begins.command) also asks
+  same_request : (command : Command) → Asks (with_run words) command → command ≡ commands.Texts ran.begins.about
+  same_request command also = same_asked once (with_run words) command (commands.Texts ran.begins.about) also asks
 
-  one_command : (command : Command) → Asks (with_run words) (Texts command) → command ≡ ran.begins.command
-  one_command command also = let same = same_request (Texts command) also in cc
+  one_command : (about : Texts) → Asks (with_run words) (commands.Texts about) → about ≡ ran.begins.about
+  one_command about also = let same = same_request (commands.Texts about) also in cc
 
   -- its files were held, with these texts
-  were_held : (files : Files) → o.shelf.holds old.shelf ≡ Some files → map (get files) (names_of ran.begins.command) ≡ map Some (texts ran.begins.found.files)
+  were_held : (files : Files) → o.shelf.holds old.shelf ≡ Some files → map (get files) (names_of ran.begins.about) ≡ map Some (texts ran.begins.found.files)
   were_held files told =
       let left = ran.begins.found.went.went.left files told in
       let calls = reads ran.begins.found.files in
       let all : AllLeave (calls ++ []) files left.0 = subst (λ (c : List Call). AllLeave c files left.0) (sym (append-nil calls)) left.2 in
       ap (map (get files)) ran.begins.found.named ∙ (leave_reads ran.begins.found.files [] files left.0 all).0
 
-  pub no_file_all : (command : Command) (given : List (Option (List ℕ))) → Finds o.shelf old.shelf (with_run words) command given → Contains given None → EndsWith status 9
-  no_file_all command given finds lacks =
-      let same = one_command command finds.asks in
-      let held = sym finds.held ∙ ap (λ (c : Command). map (get finds.files) (names_of c)) same ∙ were_held finds.files finds.told in
+  pub no_file_all : (about : Texts) (given : List (Option (List ℕ))) → Finds o.shelf old.shelf (with_run words) about given → Contains given None → EndsWith status 9
+  no_file_all about given finds lacks =
+      let same = one_command about finds.asks in
+      let held = sym finds.held ∙ ap (λ (c : Texts). map (get finds.files) (names_of c)) same ∙ were_held finds.files finds.told in
       absurd (lacks_none (texts ran.begins.found.files) (subst (λ (list : List (Option (List ℕ))). Contains list None) held lacks))
 
   -- texts that the words lead to are those that it has
-  one_source : (request : Request) (given : Sources) → Gives o.shelf old.shelf (with_run words) request given → (request ≡ Texts ran.begins.command) × (given ≡ ran.begins.given)
-  one_source (Texts command) given (files_held named finds) =
-      let same = one_command command finds.asks in
-      let held : map Some (texts_of given) ≡ map Some (texts ran.begins.found.files) = sym finds.held ∙ ap (λ (c : Command). map (get finds.files) (names_of c)) same ∙ were_held finds.files finds.told in
+  one_source : (command : Command) (given : Sources) → Gives o.shelf old.shelf (with_run words) command given → (command ≡ commands.Texts ran.begins.about) × (given ≡ ran.begins.given)
+  one_source (commands.Texts about) given (files_held named finds) =
+      let same = one_command about finds.asks in
+      let held : map Some (texts_of given) ≡ map Some (texts ran.begins.found.files) = sym finds.held ∙ ap (λ (c : Texts). map (get finds.files) (names_of c)) same ∙ were_held finds.files finds.told in
       let are : texts_of given ≡ texts_of ran.begins.given = same_texts (texts_of given) (texts ran.begins.found.files) held ∙ sym ran.begins.found.is in
-      (ap Texts same, same_sources ran.begins.command given ran.begins.given (subst (λ (c : Command). AreNamed c given) same named) ran.begins.named are)
-  one_source (Generated objects) given (texts_generated also) = absurd (let same = same_request (Generated objects) also in cc)
+      (ap commands.Texts same, same_sources ran.begins.about given ran.begins.given (subst (λ (c : Texts). AreNamed c given) same named) ran.begins.named are)
+  one_source (commands.Gen objects) given (texts_generated also) = absurd (let same = same_request (commands.Gen objects) also in cc)
 
   -- they have no journal
   no_journal : (text : List ℕ) → ran.begins.given.journal ≡ Some text → ⊥
   no_journal text is =
-      let none : is_some ran.begins.given.journal ≡ false = ran.begins.named.journal ∙ ap is_some (run_alone words ran.begins.command ran.begins.asks) in
+      let none : is_some ran.begins.given.journal ≡ false = ran.begins.named.journal ∙ ap is_some (run_alone words ran.begins.about ran.begins.asks) in
       let some : is_some ran.begins.given.journal ≡ true = ap is_some is in
       cc (sym none ∙ some)
 
   -- and are not refused
-  not_refused : AreRefusedTexts task.Run ran.begins.given → ⊥
+  not_refused : AreRefusedTexts aim.Run ran.begins.given → ⊥
   not_refused (for_text line refused) = (one ran.begins.given.s_define ran.begins.given.input).planned ran.plan line ran.begins.ready.planned refused
   not_refused (for_checkpoint plan text run ready is none) = not_run ran.plan ran.begins.given.from ran.first text is (λ s. none ran.plan s ran.begins.ready) ran.begins.starts
   not_refused (for_journal plan text run ready is none) = no_journal text is
 
-  task_is : ran.begins.command.task ≡ task.Run
-  task_is = run_task words ran.begins.command ran.begins.asks
+  task_is : aim_of_task ran.begins.about.task ≡ aim.Run
+  task_is = run_task words ran.begins.about ran.begins.asks
 
-  pub text_refused_all : (request : Request) (given : Sources) → Gives o.shelf old.shelf (with_run words) request given → AreRefusedTexts (task_of request) given → EndsWith status 2
-  text_refused_all request given gives refused =
-      let same = one_source request given gives in
-      let t : task_of request ≡ task.Run = ap task_of same.0 ∙ task_is in
-      absurd (not_refused (subst (λ (g : Sources). AreRefusedTexts task.Run g) same.1 (subst (λ (k : Task). AreRefusedTexts k given) t refused)))
+  pub text_refused_all : (command : Command) (given : Sources) → Gives o.shelf old.shelf (with_run words) command given → AreRefusedTexts (aim_of command) given → EndsWith status 2
+  text_refused_all command given gives refused =
+      let same = one_source command given gives in
+      let t : aim_of command ≡ aim.Run = ap aim_of same.0 ∙ task_is in
+      absurd (not_refused (subst (λ (g : Sources). AreRefusedTexts aim.Run g) same.1 (subst (λ (k : Aim). AreRefusedTexts k given) t refused)))
 
-  pub plan_refused_all : (request : Request) (given : Sources) (line : List ℕ) → Gives o.shelf old.shelf (with_run words) request given → IsPlanRefused given.s_define given.input line → EndsWith status 3
-  plan_refused_all request given line gives refused =
-      let same = one_source request given gives in
+  pub plan_refused_all : (command : Command) (given : Sources) (line : List ℕ) → Gives o.shelf old.shelf (with_run words) command given → IsPlanRefused given.s_define given.input line → EndsWith status 3
+  plan_refused_all command given line gives refused =
+      let same = one_source command given gives in
       absurd ((one ran.begins.given.s_define ran.begins.given.input).accepted ran.plan line ran.begins.ready (subst (λ (g : Sources). IsPlanRefused g.s_define g.input line) same.1 refused))
 
-  pub journal_length_all : (request : Request) (given : Sources) → Gives o.shelf old.shelf (with_run words) request given → IsMisfitIn given → EndsWith status 7
-  journal_length_all request given gives bad =
-      let same = one_source request given gives in
+  pub journal_length_all : (command : Command) (given : Sources) → Gives o.shelf old.shelf (with_run words) command given → IsMisfitIn given → EndsWith status 7
+  journal_length_all command given gives bad =
+      let same = one_source command given gives in
       absurd (no_journal bad.text (sym (ap (λ (g : Sources). g.journal) same.1) ∙ bad.replays))
 
   -- the run came to its end, unless there was no memory
-  ended_so : (ended : Result Ended Stop) → ended ≡ ran.served.ended → (ended ≡ Err stop.Shelf → ⊥) → IsEnd task.Run (status_of (served_verdict ended ran.served.sessions false))
+  ended_so : (ended : Result Ended Stop) → ended ≡ ran.served.ended → (ended ≡ Err stop.Shelf → ⊥) → IsEnd aim.Run (status_of (served_verdict ended ran.served.sessions false))
   ended_so (Ok ended) is quiet = ended_is_end ended.faults
   ended_so (Err stop.Shelf) is quiet = absurd (quiet refl)
   ended_so (Err stop.Memory) is quiet = inr (inr refl)
@@ -235,17 +234,17 @@ module _ {F D I O S K : Type 0} {o : Outside F D I O S} {failures : D → ℕ} {
   same_status (Err stop.Shelf) sessions one other = refl
   same_status (Err stop.Memory) sessions one other = refl
 
-  pub complete : (request : Request) (given : Sources) → Gives o.shelf old.shelf (with_run words) request given → (Rose (o.shelf.failures old.shelf) (o.shelf.failures new.shelf) → ⊥)
-      → (Rose (sink.failures before) (sink.failures now) → ⊥) → IsEnd (task_of request) status
-  complete request given gives quiet whole =
-      let same = one_source request given gives in
-      let t : task_of request ≡ task.Run = ap task_of same.0 ∙ task_is in
-      let end : IsEnd task.Run (status_of ran.verdict) =
-      subst (IsEnd task.Run) (same_status ran.served.ended ran.served.sessions false door_failed ∙ sym (ap status_of ran.served.told))
+  pub complete : (command : Command) (given : Sources) → Gives o.shelf old.shelf (with_run words) command given → (Rose (o.shelf.failures old.shelf) (o.shelf.failures new.shelf) → ⊥)
+      → (Rose (sink.failures before) (sink.failures now) → ⊥) → IsEnd (aim_of command) status
+  complete command given gives quiet whole =
+      let same = one_source command given gives in
+      let t : aim_of command ≡ aim.Run = ap aim_of same.0 ∙ task_is in
+      let end : IsEnd aim.Run (status_of ran.verdict) =
+      subst (IsEnd aim.Run) (same_status ran.served.ended ran.served.sessions false door_failed ∙ sym (ap status_of ran.served.told))
       (ended_so ran.served.ended refl (λ is. quiet (rose is))) in
-      subst (λ (k : Task). IsEnd k status) (sym t)
+      subst (λ (k : Aim). IsEnd k status) (sym t)
       (elim so.result [
-        | inl both ↦ subst (IsEnd task.Run) (sym both.0) end
+        | inl both ↦ subst (IsEnd aim.Run) (sym both.0) end
         | inr (inl short) ↦ inr (inr short)
         | inr (inr failed) ↦ absurd (whole (sink_fault failed))
       ])

@@ -18,17 +18,17 @@ use Rattle.trick_top.proofs.WordLemmas.{run_task}
 use Rattle.trick_top.specs.Acts as acts
 use Rattle.trick_top.specs.Answered.{HasAnswered}
 use Rattle.trick_top.specs.Found.{reads}
-use Rattle.trick_top.specs.Outcome.{HasFound, HasGone, HasGoneOn, Performed, Unread, acted, missing, no_memory_to_keep, no_memory_to_read, not_read, not_understood}
+use Rattle.trick_top.specs.Outcome.{HasFound, HasGone, HasPerformed, Performed, Unread, acted, missing, no_memory_to_read, not_read, not_understood}
 use Rattle.trick_top.specs.Outcome as outcome
 use Rattle.trick_top.specs.Printed.{Prints}
 use Rattle.trick_top.specs.Sources.{AreNamed, Sources, texts_of}
 use Rattle.trick_top.specs.Status.{HoldsSame}
 use Rattle.trick_top.specs.Verdict.{OutOfMemory, TextRefused, Verdict, status_of}
-use Rattle.trick_top.specs.Words.{Asked, AsksToRun, Unknown, names_of, with_run}
-use Rattle.trick_top.specs.declared.words.Command.{Command}
-use Rattle.trick_top.specs.declared.words.Request.TheVariants.{Texts}
-use Rattle.trick_top.specs.declared.words.Task.TheVariants.{Run}
-use Rattle.trick_top.specs.declared.words.Task.{Task}
+use Rattle.trick_top.specs.Words.{Asked, AsksToRun, Unknown, aim_of_task, names_of, with_run}
+use Rattle.trick_words.specs.declared.command.Texts.{Texts}
+use Rattle.trick_words.specs.declared.command.Command.TheVariants as commands
+use Rattle.trick_top.specs.Aims.{Run}
+use Rattle.trick_top.specs.Aims.{Aim}
 use Rattle.trick_top_serve.specs.Answers.{AnswersRun}
 use Rattle.trick_top_serve.specs.Headline.{Begins}
 use Rattle.trick_top_serve.specs.Rows.{DoesNotBegin, IsServedSo, ServesWords, asked, begun, found, no_memory, no_memory_to_serve}
@@ -37,12 +37,12 @@ use Rattle.trick_top_serve.specs.Rows.{not_begun, plan_refused, text_refused, un
 -- ---- texts whose run does not begin
 
 -- they decide as texts of a run do
-performs : (t : Task) (given : Sources) {verdict : Verdict} → t ≡ Run → DoesNotBegin given verdict → Performed t given [] verdict
+performs : (t : Aim) (given : Sources) {verdict : Verdict} → t ≡ Run → DoesNotBegin given verdict → Performed t given [] verdict
 performs t given is (text_refused refused) = outcome.text_refused refused
 performs t given is (plan_refused refused) = outcome.plan_refused refused
 performs t given is (unloaded {plan = plan} {why = why} ready from none) =
     acted ready
-    (subst (λ (k : Task). acts.Acts plan given.from given.journal k [] (TextRefused (checkpoint_line why))) (sym is) (acts.unloaded from none))
+    (subst (λ (k : Aim). acts.Acts plan given.from given.journal k [] (TextRefused (checkpoint_line why))) (sym is) (acts.unloaded from none))
 performs t given is no_memory = not_understood
 
 -- the status of a verdict is none of a run that came to its end
@@ -63,7 +63,6 @@ unread_no_end : {wanted : List (List ℕ)} {calls : List Call} {verdict : Verdic
 unread_no_end (missing files name others named) = no_end 9 (λ e. omega (arith, e)) (λ e. omega (arith, e))
 unread_no_end (not_read files name others named) = no_end 5 (λ e. omega (arith, e)) (λ e. omega (arith, e))
 unread_no_end (no_memory_to_read files name others named) = no_end 6 (λ e. omega (arith, e)) (λ e. omega (arith, e))
-unread_no_end (no_memory_to_keep files others named) = no_end 6 (λ e. omega (arith, e)) (λ e. omega (arith, e))
 
 -- ---- the two kinds of rows
 
@@ -114,19 +113,16 @@ module _ {F D I O S K : Type 0} (o : Outside F D I O S) (failures : D → ℕ) (
           spawner = ap (λ (m : Moment F D S). m.spawner) same;
         }
 
-    found_early : (command : Command) {given : Sources} {mid : F} {verdict : Verdict} → AsksToRun words command
-        → HasFound o.shelf old.shelf mid (names_of command) (texts_of given) → AreNamed command given → DoesNotBegin given verdict
+    found_early : (about : Texts) {given : Sources} {mid : F} {verdict : Verdict} → AsksToRun words about
+        → HasFound o.shelf old.shelf mid (names_of about) (texts_of given) → AreNamed about given → DoesNotBegin given verdict
         → new ≡ moment mid old.door old.spawner → Prints sink before now verdict status → Early
-    found_early command {given = given} {mid = mid} {verdict = verdict} asks was named why same prints =
+    found_early about {given = given} {mid = mid} {verdict = verdict} asks was named why same prints =
         let shelf : new.shelf ≡ mid = ap (λ (m : Moment F D S). m.shelf) same in
-        let on : HasGoneOn o.shelf mid mid command (texts_of given) verdict = record {
-          calls = [];
-          went = went_none mid (none mid);
-          goes = record { given = given; named = named; are = refl; performed = performs command.task given (run_task words command asks) why };
-        } in
-        let gone : HasGone o.shelf old.shelf mid (Asked (Texts command)) verdict = gone_further command (texts_of given) verdict join refl refl was on in
+        let on : HasPerformed o.shelf mid mid (aim_of_task about.task) given verdict =
+        record { calls = []; went = went_none mid (none mid); performed = performs (aim_of_task about.task) given (run_task words about asks) why } in
+        let gone : HasGone o.shelf old.shelf mid (Asked (commands.Texts about)) verdict = gone_further about given given verdict join named was refl on in
         record {
-          answered = ran words command verdict status asks (subst (λ (s : F). HasGone o.shelf old.shelf s (Asked (Texts command)) verdict) (sym shelf) gone) prints;
+          answered = ran words about verdict status asks (subst (λ (s : F). HasGone o.shelf old.shelf s (Asked (commands.Texts about)) verdict) (sym shelf) gone) prints;
           no_end = printed_no_end prints (not_begun_no_end given why);
           holds = λ files told. ap o.shelf.holds shelf ∙ found_same {shelf = o.shelf} was files told;
           door = ap (λ (m : Moment F D S). m.door) same;
@@ -138,21 +134,21 @@ module _ {F D I O S K : Type 0} (o : Outside F D I O S) (failures : D → ℕ) (
       where
         by : {verdict : Verdict} → ServesWords o failures words old new verdict → Prints sink before now verdict status → Early ⊎ Ran
         by (no_memory_to_serve same) prints = inl (no_memory_early same prints)
-        by {verdict = verdict} (asked {command = command} asks (unread was door spawner)) prints =
+        by {verdict = verdict} (asked {about = about} asks (unread was door spawner)) prints =
             inl (record {
-              answered = ran words command verdict status asks (gone_unread command verdict refl was) prints;
+              answered = ran words about verdict status asks (gone_unread about verdict refl was) prints;
               no_end = printed_no_end prints (unread_no_end was.unread);
               holds = λ files told. (let left = was.went.went.left files told in left.1 ∙ ap Some (unread_same files left.0 was.unread left.2));
               door = door;
               spawner = spawner;
             })
-        by (asked {command = command} asks (found was named (not_begun why same))) prints = inl (found_early command asks was named why same prints)
-        by {verdict = verdict} (asked {command = command} asks (found {given = given} {mid = mid} was named (begun {plan = plan} {first = first} ready starts so))) prints =
+        by (asked {about = about} asks (found was named (not_begun why same))) prints = inl (found_early about asks was named why same prints)
+        by {verdict = verdict} (asked {about = about} asks (found {given = given} {mid = mid} was named (begun {plan = plan} {first = first} ready starts so))) prints =
             inr (record {
               plan = plan;
               first = first;
               mid = mid;
-              begins = record { command = command; asks = asks; given = given; named = named; found = was; ready = ready; starts = starts };
+              begins = record { about = about; asks = asks; given = given; named = named; found = was; ready = ready; starts = starts };
               verdict = verdict;
               served = so;
               prints = prints;

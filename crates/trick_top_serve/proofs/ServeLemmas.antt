@@ -18,7 +18,7 @@ use Rattle.trick_top.specs.Outcome.{HasFound, HasNotFound}
 use Rattle.trick_top.specs.Sources.{AreNamed, Sources, texts_of}
 use Rattle.trick_top.specs.Verdict.{OutOfMemory, TextRefused, Verdict, unloaded_verdict, unready_verdict}
 use Rattle.trick_top.specs.Words.{names_of}
-use Rattle.trick_top.specs.declared.words.Command.{Command}
+use Rattle.trick_words.specs.declared.command.Texts.{Texts}
 use Rattle.trick_top_serve.specs.Firsts.{HasNoFirst}
 use Rattle.trick_top_serve.specs.Rows.{DoesNotBegin, ServesCommand, ServesTexts, found, no_memory, not_begun, plan_refused, text_refused, unloaded, unread}
 
@@ -66,14 +66,17 @@ module _ {F D I O S : Type 0} {o : Outside F D I O S} {failures : D → ℕ} whe
       (not_begun why (ap (λ (d : D). moment shelf d then) same ∙ ap (λ (s : S). moment shelf door s) also))
 
   -- a file was not read
-  pub not_read : (command : Command) (old new : F) (door after : D) (spawner then : S) (verdict told : Verdict) → after ≡ door → then ≡ spawner → told ≡ verdict
-      → HasNotFound o.shelf old new (names_of command) verdict → ServesCommand o failures command (moment old door spawner) (moment new after then) told
-  not_read command old new door after spawner then verdict told same also is was =
-      subst (λ (v : Verdict). ServesCommand o failures command (moment old door spawner) (moment new after then) v) (sym is) (unread was same also)
+  pub not_read : (about : Texts) (old new : F) (door after : D) (spawner then : S) (verdict told : Verdict) → after ≡ door → then ≡ spawner → told ≡ verdict
+      → HasNotFound o.shelf old new (names_of about) verdict → ServesCommand o failures about (moment old door spawner) (moment new after then) told
+  not_read about old new door after spawner then verdict told same also is was =
+      subst (λ (v : Verdict). ServesCommand o failures about (moment old door spawner) (moment new after then) v) (sym is) (unread was same also)
+
+  -- the texts that are lent are those that were read
+  pub served_same : (given lent : Sources) (old new : Moment F D S) (verdict : Verdict) → lent ≡ given → ServesTexts o failures lent old new verdict → ServesTexts o failures given old new verdict
+  served_same given lent old new verdict same goes = subst (λ (g : Sources). ServesTexts o failures g old new verdict) same goes
 
   -- all files were found, and their texts went so
-  pub went_on : (command : Command) (old mid : F) (door : D) (spawner : S) (texts shown : List (List ℕ)) (given : Sources) (new : Moment F D S) (verdict : Verdict)
-      → HasFound o.shelf old mid (names_of command) texts → shown ≡ texts → shown ≡ texts_of given → AreNamed command given
-      → ServesTexts o failures given (moment mid door spawner) new verdict → ServesCommand o failures command (moment old door spawner) new verdict
-  went_on command old mid door spawner texts shown given new verdict was held are named goes =
-      found (subst (HasFound o.shelf old mid (names_of command)) (sym held ∙ are) was) named goes
+  pub went_on : (about : Texts) (old mid : F) (door : D) (spawner : S) (given : Sources) (new : Moment F D S) (verdict : Verdict)
+      → HasFound o.shelf old mid (names_of about) (texts_of given) → AreNamed about given
+      → ServesTexts o failures given (moment mid door spawner) new verdict → ServesCommand o failures about (moment old door spawner) new verdict
+  went_on about old mid door spawner given new verdict was named goes = found was named goes

@@ -23,11 +23,11 @@ use Rattle.trick_top.specs.Printed.{Prints}
 use Rattle.trick_top.specs.Sources.{Sources}
 use Rattle.trick_top.specs.Status.{AreAccepted, AreRefusedTexts, EndsWith, Finds, Gives, HoldsSame, HoldsTexts, IsFittingIn, IsMisfitIn, IsRefusal, Misfits, MissesFile, RefusesPlan, RefusesText, TookLine}
 use Rattle.trick_top.specs.Verdict.{NoFile, OutOfMemory, PlanRefused, TextRefused, Usage, Verdict, line_of}
-use Rattle.trick_top.specs.Words.{AreRefused, Asks, AsksNoRun, AsksToRun, Unknown, task_of, with_run, without_run}
-use Rattle.trick_top.specs.declared.words.Command.{Command}
-use Rattle.trick_top.specs.declared.words.Request.TheVariants.{Generated}
-use Rattle.trick_top.specs.declared.words.Request.{Request}
-use Rattle.trick_top.specs.declared.words.Task.TheVariants as task
+use Rattle.trick_top.specs.Words.{AreRefused, Asks, AsksNoRun, AsksToRun, Unknown, aim_of, with_run, without_run}
+use Rattle.trick_words.specs.declared.command.Texts.{Texts}
+use Rattle.trick_words.specs.declared.command.Command.TheVariants as commands
+use Rattle.trick_words.specs.declared.command.Command.{Command}
+use Rattle.trick_top.specs.Aims as aim
 use Rattle.trick_top_serve.proofs.RanLemmas as ran
 use Rattle.trick_top_serve.proofs.RowLemmas.{Early, Ran, row_cases}
 use Rattle.trick_top_serve.specs.Answers.{Answers, AnswersRun, alone, by_row}
@@ -73,11 +73,11 @@ module _ {F D I O S K : Type 0} {o : Outside F D I O S} {failures : D → ℕ} {
 
   -- ---- words that ask to run something
 
-  pub row_of_run : (command : Command) → AsksToRun words command → AnswersRun o failures sink words old new before now status
-  row_of_run command asks = by answers
+  pub row_of_run : (about : Texts) → AsksToRun words about → AnswersRun o failures sink words old new before now status
+  row_of_run about asks = by answers
     where
       by : Answers o failures sink words old new before now status → AnswersRun o failures sink words old new before now status
-      by (alone never row door spawner) = absurd (never command asks)
+      by (alone never row door spawner) = absurd (never about asks)
       by (by_row row) = row
 
   -- ---- all words
@@ -152,7 +152,7 @@ module _ {F D I O S K : Type 0} {o : Outside F D I O S} {failures : D → ℕ} {
       no_refusal began (inr (inl is, never)) = no_two began is
       no_refusal began (inr (inr is, never)) = no_three began is
 
-  pub refused_generated : (objects : ℕ) → Asks (with_run words) (Generated objects) → (status ≡ 2) ⊎ (status ≡ 3) → HoldsTexts objects (o.shelf.holds old.shelf) (o.shelf.holds new.shelf)
+  pub refused_generated : (objects : ℕ) → Asks (with_run words) (commands.Gen objects) → (status ≡ 2) ⊎ (status ≡ 3) → HoldsTexts objects (o.shelf.holds old.shelf) (o.shelf.holds new.shelf)
   refused_generated objects asks refusal = elim cases [ inl row ↦ top.refused_generated once one row objects asks refusal | inr began ↦ absurd (no_refusal began refusal) ]
     where
       no_refusal : Ran o failures sink words old new before now status → (status ≡ 2) ⊎ (status ≡ 3) → ⊥
@@ -162,37 +162,37 @@ module _ {F D I O S K : Type 0} {o : Outside F D I O S} {failures : D → ℕ} {
   pub usage_all : AreRefused (with_run words) → EndsWith status 1
   usage_all refused = elim cases [ inl row ↦ top.usage_all once one row refused | inr began ↦ ran.usage_all once one join began refused ]
 
-  pub no_file_all : (command : Command) (given : List (Option (List ℕ))) → Finds o.shelf old.shelf (with_run words) command given → Contains given None
+  pub no_file_all : (about : Texts) (given : List (Option (List ℕ))) → Finds o.shelf old.shelf (with_run words) about given → Contains given None
       → (Rose (o.shelf.failures old.shelf) (o.shelf.failures new.shelf) → ⊥) → EndsWith status 9
-  no_file_all command given finds lacks quiet = elim cases [
-    | inl row ↦ top.no_file_all once one row command given finds lacks quiet
-    | inr began ↦ ran.no_file_all once one join began command given finds lacks
+  no_file_all about given finds lacks quiet = elim cases [
+    | inl row ↦ top.no_file_all once one row about given finds lacks quiet
+    | inr began ↦ ran.no_file_all once one join began about given finds lacks
   ]
 
-  pub text_refused_all : (request : Request) (given : Sources) → Gives o.shelf old.shelf (with_run words) request given → AreRefusedTexts (task_of request) given
+  pub text_refused_all : (command : Command) (given : Sources) → Gives o.shelf old.shelf (with_run words) command given → AreRefusedTexts (aim_of command) given
       → (Rose (o.shelf.failures old.shelf) (o.shelf.failures new.shelf) → ⊥) → EndsWith status 2
-  text_refused_all request given gives refused quiet = elim cases [
-    | inl row ↦ top.text_refused_all once one row request given gives refused quiet
-    | inr began ↦ ran.text_refused_all once one join began request given gives refused
+  text_refused_all command given gives refused quiet = elim cases [
+    | inl row ↦ top.text_refused_all once one row command given gives refused quiet
+    | inr began ↦ ran.text_refused_all once one join began command given gives refused
   ]
 
-  pub plan_refused_all : (request : Request) (given : Sources) (line : List ℕ) → Gives o.shelf old.shelf (with_run words) request given → IsPlanRefused given.s_define given.input line
+  pub plan_refused_all : (command : Command) (given : Sources) (line : List ℕ) → Gives o.shelf old.shelf (with_run words) command given → IsPlanRefused given.s_define given.input line
       → (Rose (o.shelf.failures old.shelf) (o.shelf.failures new.shelf) → ⊥) → EndsWith status 3
-  plan_refused_all request given line gives refused quiet = elim cases [
-    | inl row ↦ top.plan_refused_all once one row request given line gives refused quiet
-    | inr began ↦ ran.plan_refused_all once one join began request given line gives refused
+  plan_refused_all command given line gives refused quiet = elim cases [
+    | inl row ↦ top.plan_refused_all once one row command given line gives refused quiet
+    | inr began ↦ ran.plan_refused_all once one join began command given line gives refused
   ]
 
-  pub journal_length_all : (request : Request) (given : Sources) → Gives o.shelf old.shelf (with_run words) request given → task_of request ≡ task.Run → AreAccepted given → IsMisfitIn given
+  pub journal_length_all : (command : Command) (given : Sources) → Gives o.shelf old.shelf (with_run words) command given → aim_of command ≡ aim.Run → AreAccepted given → IsMisfitIn given
       → (Rose (o.shelf.failures old.shelf) (o.shelf.failures new.shelf) → ⊥) → EndsWith status 7
-  journal_length_all request given gives run good bad quiet = elim cases [
-    | inl row ↦ top.journal_length_all once one row request given gives run good bad quiet
-    | inr began ↦ ran.journal_length_all once one join began request given gives bad
+  journal_length_all command given gives run good bad quiet = elim cases [
+    | inl row ↦ top.journal_length_all once one row command given gives run good bad quiet
+    | inr began ↦ ran.journal_length_all once one join began command given gives bad
   ]
 
-  pub complete : (request : Request) (given : Sources) → Gives o.shelf old.shelf (with_run words) request given → AreAccepted given → IsFittingIn given
-      → (Rose (o.shelf.failures old.shelf) (o.shelf.failures new.shelf) → ⊥) → (Rose (sink.failures before) (sink.failures now) → ⊥) → IsEnd (task_of request) status
-  complete request given gives good fits quiet whole = elim cases [
-    | inl row ↦ top.complete once one row request given gives good fits quiet whole
-    | inr began ↦ ran.complete once one join began request given gives quiet whole
+  pub complete : (command : Command) (given : Sources) → Gives o.shelf old.shelf (with_run words) command given → AreAccepted given → IsFittingIn given
+      → (Rose (o.shelf.failures old.shelf) (o.shelf.failures new.shelf) → ⊥) → (Rose (sink.failures before) (sink.failures now) → ⊥) → IsEnd (aim_of command) status
+  complete command given gives good fits quiet whole = elim cases [
+    | inl row ↦ top.complete once one row command given gives good fits quiet whole
+    | inr began ↦ ran.complete once one join began command given gives quiet whole
   ]

@@ -19,7 +19,7 @@ use Rattle.trick_top.specs.Sources.{AreNamed, Sources, texts_of}
 use Rattle.trick_top.specs.Status.{TookLine}
 use Rattle.trick_top.specs.Verdict.{Served, ended_status, line_of}
 use Rattle.trick_top.specs.Words.{AsksToRun, names_of}
-use Rattle.trick_top.specs.declared.words.Command.{Command}
+use Rattle.trick_words.specs.declared.command.Texts.{Texts}
 use Rattle.trick_top_serve.specs.Rows.{has_risen}
 use Rattle.trick_turns.specs.Joins.{joins_of}
 
@@ -27,11 +27,11 @@ use Rattle.trick_turns.specs.Joins.{joins_of}
 -- from which it is run. The shelf was `mid` then.
 pub record Begins {F D I O S : Type 0} (o : Outside F D I O S) (words : List (List ℕ)) (plan : Plan) (first : State)
     (old mid : F) : Type 0 where
-  pub command : Command
-  pub asks : AsksToRun words command
+  pub about : Texts
+  pub asks : AsksToRun words about
   pub given : Sources
-  pub named : AreNamed command given
-  pub found : HasFound o.shelf old mid (names_of command) (texts_of given)
+  pub named : AreNamed about given
+  pub found : HasFound o.shelf old mid (names_of about) (texts_of given)
   pub ready : IsReady given.s_define given.input plan
   pub starts : IsFirst plan given.from first
 

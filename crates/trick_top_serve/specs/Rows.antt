@@ -17,7 +17,7 @@ use Rattle.trick_top.specs.Outcome.{HasFound, HasNotFound}
 use Rattle.trick_top.specs.Sources.{AreNamed, Sources, texts_of}
 use Rattle.trick_top.specs.Verdict.{OutOfMemory, PlanRefused, Served, ShelfFault, TextRefused, Verdict}
 use Rattle.trick_top.specs.Words.{AsksToRun, names_of}
-use Rattle.trick_top.specs.declared.words.Command.{Command}
+use Rattle.trick_words.specs.declared.command.Texts.{Texts}
 
 -- ---- what is said of a run
 
@@ -61,16 +61,16 @@ module _ {F D I O S : Type 0} (o : Outside F D I O S) (failures : D → ℕ) whe
         → IsFirst plan given.from first → IsServedSo plan first old new verdict → ServesTexts given old new verdict
 
   -- How a command goes: its files decide first, and then their texts.
-  pub data ServesCommand (command : Command) (old new : Moment F D S) : Verdict → Type 0 where
-    unread : {verdict : Verdict} → HasNotFound o.shelf old.shelf new.shelf (names_of command) verdict
-        → new.door ≡ old.door → new.spawner ≡ old.spawner → ServesCommand command old new verdict
+  pub data ServesCommand (about : Texts) (old new : Moment F D S) : Verdict → Type 0 where
+    unread : {verdict : Verdict} → HasNotFound o.shelf old.shelf new.shelf (names_of about) verdict
+        → new.door ≡ old.door → new.spawner ≡ old.spawner → ServesCommand about old new verdict
     found : {given : Sources} {mid : F} {verdict : Verdict}
-        → HasFound o.shelf old.shelf mid (names_of command) (texts_of given) → AreNamed command given
-        → ServesTexts given (moment mid old.door old.spawner) new verdict → ServesCommand command old new verdict
+        → HasFound o.shelf old.shelf mid (names_of about) (texts_of given) → AreNamed about given
+        → ServesTexts given (moment mid old.door old.spawner) new verdict → ServesCommand about old new verdict
 
   -- How words go that ask to run something.
   pub data ServesWords (words : List (List ℕ)) (old new : Moment F D S) : Verdict → Type 0 where
     -- there was no memory to read them, or for what threads share
     no_memory_to_serve : new ≡ old → ServesWords words old new OutOfMemory
-    asked : {command : Command} {verdict : Verdict} → AsksToRun words command → ServesCommand command old new verdict
+    asked : {about : Texts} {verdict : Verdict} → AsksToRun words about → ServesCommand about old new verdict
         → ServesWords words old new verdict

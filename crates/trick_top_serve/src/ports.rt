@@ -2,19 +2,29 @@
 
 ghost use Rattle.std.specs.Prelude.{◌≡◌, IfOk, MatchOption};
 ghost use Rattle.trick_top_serve.specs.Ports.{AsksForNoPort, AsksForPort};
-ghost use Rattle.trick_top_serve.specs.Ports.{port_of as port_of_line};
+ghost use Rattle.trick_top_serve.specs.Ports.{port_of as port_of_command, port_of_task as port_of_this};
 
 use std::alloc::{AllocError, Global};
 use trick_base::Word;
-use trick_words::{Command, laws, read_command};
+use trick_words::{Command, Task, laws, read_command};
 
-/// The port that a line of words names.
-fn port_of(line: Command) -> Option<u16>
-    ensures { result ≡ port_of_line line }
+/// The port of a task.
+fn port_of_task(task: &Task) -> Option<u16>
+    ensures { result ≡ port_of_this task.now }
 {
-    match line {
-        Command::Run { port, .. } => port,
-        _other => None,
+    match task {
+        Task::Run { port } => *port,
+        Task::Serial | Task::Replay { .. } | Task::Check | Task::List => None,
+    }
+}
+
+/// The port that a command names.
+fn port_of(command: &Command) -> Option<u16>
+    ensures { result ≡ port_of_command command.now }
+{
+    match command {
+        Command::Texts(about) => port_of_task(&about.task),
+        Command::Gen { .. } => None,
     }
 }
 
@@ -25,7 +35,7 @@ pub fn port_wanted(alloc: Global, words: &[Word]) -> Result<Option<u16>, AllocEr
 {
     laws::one_command();
     match read_command(alloc, words)? {
-        Some(line) => Ok(port_of(line)),
+        Some(command) => Ok(port_of(&command)),
         None => Ok(None),
     }
 }

@@ -5,7 +5,7 @@ ghost use Rattle.std.specs.Prelude.{◌≡◌};
 ghost use Rattle.trick_ready.specs.Texts.{IsReady};
 ghost use Rattle.trick_serve_door.specs.Taking.{hosts};
 ghost use Rattle.trick_serve_run.specs.Serving.{moment, outside};
-ghost use Rattle.trick_top.specs.Sources.{sources_of};
+ghost use Rattle.trick_top.specs.Sources.{contents_of, sources_of};
 ghost use Rattle.trick_top.specs.Verdict.{verdict_of};
 ghost use Rattle.trick_top_serve.specs.Rows.{ServesCommand, ServesTexts};
 
@@ -17,7 +17,8 @@ use trick_model::Accepted;
 use trick_outside::{Door, Gate, Shelf, Spawner};
 use trick_ready::ready;
 use trick_serve_run::Serving;
-use trick_top::{Command, Sources, Verdict, as_sources, read_named, refused};
+use trick_top::{Contents, Sources, Verdict, as_sources, read_named, refused};
+use trick_words::Texts;
 
 /// A run that does not begin, by this verdict: its door and its spawner are handed back.
 fn not_begun<D, S, G, R>(verdict: Verdict<'_>, serving: Serving<D, S, G, R>) -> Answer<'_, D, S>
@@ -112,10 +113,31 @@ where
     }
 }
 
+/// Serves the run of the simulation of the texts that were read.
+fn serve_contents<F: Shelf, D, S, G, R>(
+    alloc: Global,
+    contents: Contents,
+    serving: Serving<D, S, G, R>,
+    shelf: &mut F,
+) -> Answer<'static, D, S>
+where
+    D: Door + Send + Drop + 'static,
+    D::In: Send + Drop + 'static,
+    D::Out: Send + Drop + 'static,
+    S: Spawner + Send + Drop + 'static,
+    G: Gate + Send + Sync + Drop + 'static,
+    R: Threads + Wait + Copy + Send + Drop + 'static,
+    ensures { ServesTexts (outside F.Shelf (hosts D.visited D.In.LinkIn D.Out.LinkOut S.failures D.has_client))
+        D.failures (contents_of contents) (moment shelf.old serving.door serving.spawner)
+        (moment shelf.new result.door result.spawner) (verdict_of result.verdict) }
+{
+    serve_texts(alloc, as_sources(&contents), serving, shelf)
+}
+
 /// Serves the run that a command names; its verdict is not printed yet.
 pub(crate) fn serve_command<'a, F: Shelf, D, S, G, R>(
     alloc: Global,
-    command: &'a Command,
+    about: &'a Texts,
     serving: Serving<D, S, G, R>,
     shelf: &mut F,
 ) -> Answer<'a, D, S>
@@ -127,11 +149,11 @@ where
     G: Gate + Send + Sync + Drop + 'static,
     R: Threads + Wait + Copy + Send + Drop + 'static,
     ensures { ServesCommand (outside F.Shelf (hosts D.visited D.In.LinkIn D.Out.LinkOut S.failures D.has_client))
-        D.failures command.now (moment shelf.old serving.door serving.spawner) (moment shelf.new result.door result.spawner)
+        D.failures about.now (moment shelf.old serving.door serving.spawner) (moment shelf.new result.door result.spawner)
         (verdict_of result.verdict) }
 {
-    match read_named(alloc, command, shelf) {
-        Ok(texts) => serve_texts(alloc, as_sources(command, &texts), serving, shelf),
+    match read_named(alloc, about, shelf) {
+        Ok(contents) => serve_contents(alloc, contents, serving, shelf),
         Err(verdict) => not_begun(verdict, serving),
     }
 }

@@ -11,6 +11,7 @@ ghost use Rattle.trick_ready.specs.Texts.{IsPlanRefused};
 ghost use Rattle.trick_serve_door.specs.Taking.{hosts};
 ghost use Rattle.trick_serve_run.specs.Serving.{moment, outside};
 ghost use Rattle.trick_top.specs.Acts.{last_state, length_verdict};
+ghost use Rattle.trick_top.specs.Aims as aims;
 ghost use Rattle.trick_top.specs.Answered.{HasAnswered};
 ghost use Rattle.trick_top.specs.Called.{HasCalled};
 ghost use Rattle.trick_top.specs.Sources.{Sources};
@@ -19,14 +20,13 @@ ghost use Rattle.trick_top.specs.Status.{IsDone, IsFittingIn, IsMisfitIn, IsRefu
 ghost use Rattle.trick_top.specs.Status.{RefusesPlan, RefusesText, RunsToEnd, Stands, TookLine, end_verdict};
 ghost use Rattle.trick_top.specs.Verdict.{NoFile, Usage, line_of};
 ghost use Rattle.trick_top.specs.Verdict.{Verdict as VerdictOf};
-ghost use Rattle.trick_top.specs.Words.{AreRefused, Asks, AsksNoRun, AsksToRun, task_of, with_run, without_run};
-ghost use Rattle.trick_top.specs.declared.words.Command.{Command as CommandOf};
-ghost use Rattle.trick_top.specs.declared.words.Request.TheVariants as requests;
-ghost use Rattle.trick_top.specs.declared.words.Request.{Request as RequestOf};
-ghost use Rattle.trick_top.specs.declared.words.Task.TheVariants as tasks;
+ghost use Rattle.trick_top.specs.Words.{AreRefused, Asks, AsksNoRun, AsksToRun, aim_of, with_run, without_run};
 ghost use Rattle.trick_top_serve.specs.Answers.{Answers, AnswersRun};
 ghost use Rattle.trick_top_serve.specs.Headline.{KeepsHeadline};
 ghost use Rattle.trick_top_serve.specs.Stands.{StandsServed};
+ghost use Rattle.trick_words.specs.declared.command.Command.TheVariants as commands;
+ghost use Rattle.trick_words.specs.declared.command.Command.{Command as CommandOf};
+ghost use Rattle.trick_words.specs.declared.command.Texts.{Texts as TextsOf};
 
 use crate::texts::serve_command;
 use std::alloc::Global;
@@ -39,8 +39,8 @@ use trick_headline::laws::{
 use trick_outside::{Door, Gate, Shelf, Sink, Spawner};
 use trick_ready::laws::texts_have_one_meaning;
 use trick_serve_run::Serving;
-use trick_top::{Command, print, print_out_of_memory, read_run, tricks_alone};
-use trick_words::laws;
+use trick_top::{print, print_out_of_memory, read_run, tricks_alone};
+use trick_words::{Texts, laws};
 
 /// How the program ends: its status, and the door and the spawner that it was handed.
 #[derive(Debug, Drop)]
@@ -53,7 +53,7 @@ pub struct Finished<D, S> {
 /// Serves the run that a command asks for, and prints its verdict's line.
 fn run<F: Shelf, O: Sink, D, S, G, R>(
     alloc: Global,
-    command: &Command,
+    about: &Texts,
     serving: Serving<D, S, G, R>,
     shelf: &mut F,
     out: &mut O,
@@ -65,12 +65,12 @@ where
     S: Spawner + Send + Drop + 'static,
     G: Gate + Send + Sync + Drop + 'static,
     R: Threads + Wait + Copy + Send + Drop + 'static,
-    ensures { (words : List (List ℕ)) → AsksToRun words command.now
+    ensures { (words : List (List ℕ)) → AsksToRun words about.now
         → AnswersRun (outside F.Shelf (hosts D.visited D.In.LinkIn D.Out.LinkOut S.failures D.has_client)) D.failures
         O.Sink words (moment shelf.old serving.door serving.spawner) (moment shelf.new result.door result.spawner) out.old
         out.new result.status }
 {
-    let answer = serve_command(alloc, command, serving, shelf);
+    let answer = serve_command(alloc, about, serving, shelf);
     Finished {
         status: print(alloc, &answer.verdict, out),
         door: answer.door,
@@ -98,7 +98,7 @@ where
         out.new result.status }
 {
     match read_run(alloc, words) {
-        Ok(Some(command)) => run(alloc, &command, serving, shelf, out),
+        Ok(Some(about)) => run(alloc, &about, serving, shelf, out),
         Ok(None) => Finished {
             status: tricks_alone(alloc, words, shelf, out),
             door: serving.door,
@@ -198,7 +198,7 @@ where
     ensures spawner { AsksNoRun words.now → result.spawner ≡ spawner }
 
     // Words that ask to run something have a row of `run`.
-    ensures row { (command : CommandOf) → AsksToRun words.now command
+    ensures row { (about : TextsOf) → AsksToRun words.now about
         → AnswersRun (outside F.Shelf (hosts D.visited D.In.LinkIn D.Out.LinkOut S.failures D.has_client)) D.failures
         O.Sink words.now (moment shelf.old door spawner) (moment shelf.new result.door result.spawner) out.old out.new
         result.status }
@@ -206,13 +206,13 @@ where
 
     // The headline: where a run came to its end, what it wrote is the one-thread run of the journal that it wrote, and
     // each client was sent a first part of its session text.
-    ensures headline { (command : CommandOf) → AsksToRun words.now command → (result.status ≡ 0) ⊎ (result.status ≡ 4)
+    ensures headline { (about : TextsOf) → AsksToRun words.now about → (result.status ≡ 0) ⊎ (result.status ≡ 4)
         → KeepsHeadline (outside F.Shelf (hosts D.visited D.In.LinkIn D.Out.LinkOut S.failures D.has_client)) D.failures
         O.Sink words.now (moment shelf.old door spawner) (moment shelf.new result.door result.spawner) out.old out.new
         result.status }
 
     // Whatever the status is, and so at 5, 6 and 8 too: what stands of a run, and of the writes of other commands.
-    ensures stopped { (command : CommandOf) → AsksToRun words.now command
+    ensures stopped { (about : TextsOf) → AsksToRun words.now about
         → StandsServed (outside F.Shelf (hosts D.visited D.In.LinkIn D.Out.LinkOut S.failures D.has_client)) words.now
         (moment shelf.old door spawner) (moment shelf.new result.door result.spawner) }
     ensures stopped_alone { AsksNoRun words.now → Stands F.Shelf shelf.old shelf.new (without_run words.now) }
@@ -221,7 +221,7 @@ where
     ensures done { AsksNoRun words.now → result.status ≡ 0 → (verdict : VerdictOf)
         × IsDone F.Shelf shelf.old shelf.new (without_run words.now) verdict
         × TookLine (O.holds out.old) (O.holds out.new) (line_of verdict) }
-    ensures faults { AsksNoRun words.now → result.status ≡ 4 → (asked : RequestOf) × (plan : Plan) × (first : State)
+    ensures faults { AsksNoRun words.now → result.status ≡ 4 → (asked : CommandOf) × (plan : Plan) × (first : State)
         × (lists : List (List Entry))
         × RunsToEnd F.Shelf shelf.old shelf.new (without_run words.now) asked plan first lists
         × (((last_state plan first lists).faults).count ≢ 0)
@@ -244,30 +244,30 @@ where
         × TookLine (O.holds out.old) (O.holds out.new) (line_of (NoFile name)) }
     ensures refused_same { IsRefusal (with_run words.now) result.status
         → HoldsSame (F.holds shelf.old) (F.holds shelf.new) }
-    ensures refused_generated { (objects : ℕ) → Asks (with_run words.now) (requests.Generated objects)
+    ensures refused_generated { (objects : ℕ) → Asks (with_run words.now) (commands.Gen objects)
         → (result.status ≡ 2) ⊎ (result.status ≡ 3) → HoldsTexts objects (F.holds shelf.old) (F.holds shelf.new) }
 
     // When each comes. Want of memory is free, and a failed sink decides over all else.
     ensures usage_all { AreRefused (with_run words.now) → EndsWith result.status 1 }
-    ensures no_file_all { (command : CommandOf) (given : _)
-        → Finds F.Shelf shelf.old (with_run words.now) command given
+    ensures no_file_all { (about : TextsOf) (given : _)
+        → Finds F.Shelf shelf.old (with_run words.now) about given
         → Contains given None → ¬ Rose (F.failures shelf.old) (F.failures shelf.new) → EndsWith result.status 9 }
-    ensures text_refused_all { (asked : RequestOf) (given : Sources)
+    ensures text_refused_all { (asked : CommandOf) (given : Sources)
         → Gives F.Shelf shelf.old (with_run words.now) asked given
-        → AreRefusedTexts (task_of asked) given
+        → AreRefusedTexts (aim_of asked) given
         → ¬ Rose (F.failures shelf.old) (F.failures shelf.new) → EndsWith result.status 2 }
-    ensures plan_refused_all { (asked : RequestOf) (given : Sources) (line : List ℕ)
+    ensures plan_refused_all { (asked : CommandOf) (given : Sources) (line : List ℕ)
         → Gives F.Shelf shelf.old (with_run words.now) asked given → IsPlanRefused given.s_define given.input line
         → ¬ Rose (F.failures shelf.old) (F.failures shelf.new) → EndsWith result.status 3 }
-    ensures journal_length_all { (asked : RequestOf) (given : Sources)
+    ensures journal_length_all { (asked : CommandOf) (given : Sources)
         → Gives F.Shelf shelf.old (with_run words.now) asked given
-        → task_of asked ≡ tasks.Run → AreAccepted given → IsMisfitIn given
+        → aim_of asked ≡ aims.Run → AreAccepted given → IsMisfitIn given
         → ¬ Rose (F.failures shelf.old) (F.failures shelf.new) → EndsWith result.status 7 }
-    ensures complete { (asked : RequestOf) (given : Sources)
+    ensures complete { (asked : CommandOf) (given : Sources)
         → Gives F.Shelf shelf.old (with_run words.now) asked given
         → AreAccepted given → IsFittingIn given
         → ¬ Rose (F.failures shelf.old) (F.failures shelf.new) → ¬ Rose (O.failures out.old) (O.failures out.new)
-        → (result.status ≡ 0) ⊎ (((result.status ≡ 4) × (task_of asked ≡ tasks.Run)) ⊎ (result.status ≡ 6)) }
+        → (result.status ≡ 0) ⊎ (((result.status ≡ 4) × (aim_of asked ≡ aims.Run)) ⊎ (result.status ≡ 6)) }
 {
     laws::one_command();
     texts_have_one_meaning();

@@ -8,7 +8,6 @@ use Rattle.std.proofs.lemmas.Str.{IsUtf8-past_char, chars-encodes, encode_ascii}
 use Rattle.std.proofs.lemmas.Bool.Decides.{Decides-eqb}
 use Rattle.clap.specs.Lexer.{long_of, name_and_value, short_of}
 use Rattle.clap.specs.Walk.{Held, Names, Rule, Text, arg_by_long, arg_by_short, subcommand_met}
-use Rattle.clap.specs.Kinds.{or_else}
 use Rattle.clap.specs.declared.error.kind.ErrorKind.TheVariants as error
 use Rattle.clap.specs.Faults.{bundle_fault, flag_word_fault, flags_fault, turn_fault, word_fault}
 use Rattle.clap.specs.Simple.{Shape}

@@ -2,12 +2,14 @@
 use Rattle.std.proofs.Common.{◌≡◌, ◌∙◌, ap, sym, refl, ℕ, List, Option, Some, None, option_map}
 use Rattle.std.specs.Str.Parse.{digits_value}
 use Rattle.trick_words.specs.CommandLine.{Text}
-use Rattle.trick_words.specs.Command.{Asks, Holds, IsCount, IsPort, kind_of}
+use Rattle.trick_words.specs.Command.{Asks, HasRest, HasTexts, Holds, IsCount, IsPort, kind_of, kind_of_task}
 use Rattle.trick_words.specs.Reads.{Values, values_in}
 use Rattle.trick_words.specs.declared.Kind.{Kind}
 use Rattle.trick_words.specs.declared.Kind.TheVariants as kind
 use Rattle.trick_words.specs.declared.command.Command.{Command}
 use Rattle.trick_words.specs.declared.command.Command.TheVariants as command
+use Rattle.trick_words.specs.declared.command.Task.{Task}
+use Rattle.trick_words.specs.declared.command.Task.TheVariants as task
 use Rattle.trick_words.proofs.Unique.{one_line}
 
 abbrev if_both : Option Text → Option Text → (Text → Text → Command) → Option Command
@@ -15,16 +17,19 @@ if_both None second make = None
 if_both (Some s_define) None make = None
 if_both (Some s_define) (Some input) make = Some (make s_define input)
 
+abbrev made_with : Values → Option Text → Task → Option Command
+made_with v from t = if_both v.s_define v.input (λ s i. command.Texts (record { task = t; s_define = s; input = i; from = from }))
+
 abbrev made : Kind → Values → Option Command
-made kind.Serial v = if_both v.s_define v.input (λ s i. command.Serial s i v.from)
-made kind.Run v = if_both v.s_define v.input (λ s i. command.Run s i v.from (option_map (digits_value 10) v.port))
+made kind.Serial v = made_with v v.from task.Serial
+made kind.Run v = made_with v v.from (task.Run (option_map (digits_value 10) v.port))
 made kind.Replay v = if_journal v.journal
   where
     if_journal : Option Text → Option Command
     if_journal None = None
-    if_journal (Some journal) = if_both v.s_define v.input (λ s i. command.Replay s i journal v.from)
-made kind.Check v = if_both v.s_define v.input command.Check
-made kind.List v = if_both v.s_define v.input command.List
+    if_journal (Some journal) = made_with v v.from (task.Replay journal)
+made kind.Check v = made_with v None task.Check
+made kind.List v = made_with v None task.List
 made kind.Gen v = option_map (λ digits. command.Gen (digits_value 10 digits)) v.count
 
 port_is : (given : Option Text) (port : Option ℕ) → IsPort given port → option_map (digits_value 10) given ≡ port
@@ -36,12 +41,16 @@ count_is : (given : Option Text) (count : ℕ) → IsCount given count
 count_is None count never = absurd never
 count_is (Some digits) count told = ap (λ (n : ℕ). Some (command.Gen n)) (sym told.value)
 
+texts_made : (v : Values) (s i : Text) (f : Option Text) (t : Task) → HasTexts v s i → HasRest v f t
+    → made (kind_of_task t) v ≡ Some (command.Texts (record { task = t; s_define = s; input = i; from = f }))
+texts_made v s i f task.Serial texts from = rw (texts.0, texts.1, from) refl
+texts_made v s i f (task.Run p) texts (from, port) = rw (texts.0, texts.1, from, port_is v.port p port) refl
+texts_made v s i f (task.Replay j) texts (from, journal) = rw (texts.0, texts.1, journal, from) refl
+texts_made v s i f task.Check texts none = rw (texts.0, texts.1, none) refl
+texts_made v s i f task.List texts none = rw (texts.0, texts.1, none) refl
+
 is_made : (v : Values) (asked : Command) → Holds v asked → made (kind_of asked) v ≡ Some asked
-is_made v (command.Serial s i f) (texts, from) = rw (texts.0, texts.1, from) refl
-is_made v (command.Run s i f p) (texts, from, port) = rw (texts.0, texts.1, from, port_is v.port p port) refl
-is_made v (command.Replay s i j f) (texts, journal, from) = rw (texts.0, texts.1, journal, from) refl
-is_made v (command.Check s i) texts = rw (texts.0, texts.1) refl
-is_made v (command.List s i) texts = rw (texts.0, texts.1) refl
+is_made v (command.Texts about) (texts, rest) = texts_made v about.s_define about.input about.from about.task texts rest
 is_made v (command.Gen n) count = count_is v.count n count
 
 pub one_command : (words : List Text) (first second : Command) → Asks words first → Asks words second → first ≡ second

@@ -10,6 +10,8 @@ use Rattle.trick_words.specs.declared.Kind.{Kind}
 use Rattle.trick_words.specs.declared.Kind.TheVariants as kind
 use Rattle.trick_words.specs.declared.command.Command.{Command}
 use Rattle.trick_words.specs.declared.command.Command.TheVariants as command
+use Rattle.trick_words.specs.declared.command.Task.{Task}
+use Rattle.trick_words.specs.declared.command.Task.TheVariants as task
 
 -- from one to this many decimal digits, with a value from 1 to this one
 pub record IsNumber (longest most : ℕ) (digits : Text) (number : ℕ) : Type 0 where
@@ -30,28 +32,36 @@ abbrev pub IsCount : Option Text → ℕ → Type 0
 IsCount None count = ⊥
 IsCount (Some digits) count = IsNumber 3 100 digits count
 
+-- the word that names what is done with texts
+abbrev pub kind_of_task : Task → Kind
+kind_of_task task.Serial = kind.Serial
+kind_of_task (task.Run port) = kind.Run
+kind_of_task (task.Replay journal) = kind.Replay
+kind_of_task task.Check = kind.Check
+kind_of_task task.List = kind.List
+
 -- the word that names a command
 abbrev pub kind_of : Command → Kind
-kind_of (command.Serial s_define input from) = kind.Serial
-kind_of (command.Run s_define input from port) = kind.Run
-kind_of (command.Replay s_define input journal from) = kind.Replay
-kind_of (command.Check s_define input) = kind.Check
-kind_of (command.List s_define input) = kind.List
+kind_of (command.Texts texts) = kind_of_task texts.task
 kind_of (command.Gen objects) = kind.Gen
 
 -- the two texts of a simulation are given
 abbrev pub HasTexts : Values → Text → Text → Type 0
 HasTexts values s_define input = (values.s_define ≡ Some s_define) × (values.input ≡ Some input)
 
+-- The values beside those of the two texts: that of the checkpoint, and what the task holds. What looks at a simulation
+-- has no checkpoint.
+abbrev pub HasRest : Values → Option Text → Task → Type 0
+HasRest values from task.Serial = values.from ≡ from
+HasRest values from (task.Run port) = (values.from ≡ from) × IsPort values.port port
+HasRest values from (task.Replay journal) = (values.from ≡ from) × (values.journal ≡ Some journal)
+HasRest values from task.Check = from ≡ None
+HasRest values from task.List = from ≡ None
+
 -- the values are those that the command holds
 abbrev pub Holds : Values → Command → Type 0
-Holds values (command.Serial s_define input from) = HasTexts values s_define input × (values.from ≡ from)
-Holds values (command.Run s_define input from port) =
-    HasTexts values s_define input × (values.from ≡ from) × IsPort values.port port
-Holds values (command.Replay s_define input journal from) =
-    HasTexts values s_define input × (values.journal ≡ Some journal) × (values.from ≡ from)
-Holds values (command.Check s_define input) = HasTexts values s_define input
-Holds values (command.List s_define input) = HasTexts values s_define input
+Holds values (command.Texts texts) =
+    HasTexts values texts.s_define texts.input × HasRest values texts.from texts.task
 Holds values (command.Gen objects) = IsCount values.count objects
 
 -- the words are text, and ask for this command

@@ -1,12 +1,13 @@
 -- Which words are a line of a command, and what it gives.
-use Rattle.std.specs.Prelude.{◌≡◌, ◌∷◌, List, Option, codes, option_map}
+use Rattle.std.specs.Prelude.{◌≡◌, ◌∷◌, List, Option, Some, codes, option_map}
 use Rattle.std.specs.Borrow.{Bor}
 use Rattle.clap.specs.Matches.{first_value, found_of}
+use Rattle.clap.specs.Simple.{subcommand_rows_of}
+use Rattle.clap.specs.Walk.{Row, first_of}
 use Rattle.clap.specs.declared.parser.matches.ArgMatches.{ArgMatches}
 use Rattle.trick_words.specs.Commands.{name_of, options_of, places_of}
 use Rattle.trick_words.specs.CommandLine.{Given, IsLine, Text, value_of}
 use Rattle.trick_words.specs.declared.Kind.{Kind}
-use Rattle.trick_words.specs.declared.command_line.CommandLine.{CommandLine}
 
 -- the words are a line of this command, and give these values
 abbrev pub IsCommand : List Text → Kind → Given → Type 0
@@ -37,26 +38,40 @@ values_in given = record {
 abbrev pub text_of : Option (Bor Text) → Option Text
 text_of value = option_map (λ text. text.now) value
 
--- the values that a line holds
-abbrev pub values_of : CommandLine → Values
-values_of line = record {
-  s_define = text_of line.s_define;
-  input = text_of line.input;
-  journal = text_of line.journal;
-  from = text_of line.from;
-  port = text_of line.port;
-  count = text_of line.count;
+-- the values that matches hold
+abbrev pub values_of : ArgMatches → Values
+values_of matches = record {
+  s_define = first_value (found_of matches) (codes "S_DEFINE");
+  input = first_value (found_of matches) (codes "INPUT");
+  journal = first_value (found_of matches) (codes "JOURNAL");
+  from = first_value (found_of matches) (codes "from");
+  port = first_value (found_of matches) (codes "port");
+  count = first_value (found_of matches) (codes "N");
 }
 
--- what the matches hold under this name
-abbrev pub IsHeld : Option (Bor Text) → ArgMatches → Text → Type 0
-IsHeld value matches name = text_of value ≡ first_value (found_of matches) name
+-- the values that stand in rows
+abbrev pub values_by : List Row → Values
+values_by rows = record {
+  s_define = first_of (codes "S_DEFINE") rows;
+  input = first_of (codes "INPUT") rows;
+  journal = first_of (codes "JOURNAL") rows;
+  from = first_of (codes "from") rows;
+  port = first_of (codes "port") rows;
+  count = first_of (codes "N") rows;
+}
 
--- the words are a line of this command with these values
-pub record Reads (words : List Text) (line : CommandLine) : Type 0 where
+-- the matches hold these values below the name of this command
+pub record IsRead (matches : ArgMatches) (kind : Kind) (values : Values) : Type 0 where
+  pub rows : List Row
+  pub below : subcommand_rows_of matches ≡ Some (name_of kind, rows)
+  pub are : values_by rows ≡ values
+
+-- the words are a line, and the matches hold its values below the name of its command
+pub record Reads (words : List Text) (matches : ArgMatches) : Type 0 where
+  pub kind : Kind
   pub given : Given
-  pub command : IsCommand words line.kind given
-  pub values : values_of line ≡ values_in given
+  pub command : IsCommand words kind given
+  pub is : IsRead matches kind (values_in given)
 
 -- the words are no line of any command
 abbrev pub IsUsage : List Text → Type 0

@@ -5,7 +5,7 @@ ghost use Rattle.std.specs.List.{All, list_all};
 ghost use Rattle.std.specs.Str.{IsUtf8};
 ghost use Rattle.trick_words.specs.Commands.{name_of};
 ghost use Rattle.trick_words.specs.Plain.{is_plain as is_plain_word};
-ghost use Rattle.trick_words.specs.Reads.{IsHeld, IsUsage, Reads};
+ghost use Rattle.trick_words.specs.Reads.{IsUsage, Reads};
 
 use crate::Kind;
 use crate::commands::all;
@@ -13,23 +13,11 @@ use clap::ArgMatches;
 use clap::error::ErrorKind;
 use std::alloc::{AllocError, Global};
 
-/// A line: its command, and the values of its places and options.
-#[derive(Debug, Drop)]
-pub(crate) struct CommandLine<'a> {
-    pub(crate) kind: Kind,
-    pub(crate) s_define: Option<&'a str>,
-    pub(crate) input: Option<&'a str>,
-    pub(crate) journal: Option<&'a str>,
-    pub(crate) from: Option<&'a str>,
-    pub(crate) port: Option<&'a str>,
-    pub(crate) count: Option<&'a str>,
-}
-
-/// Reads the words: a line, or `None` where they are none.
+/// What `clap` found in these words, or `None` where they are no line of a command.
 pub(crate) fn read<'a>(
     alloc: Global,
     words: &'a [&'a str],
-) -> Result<Option<CommandLine<'a>>, AllocError>
+) -> Result<Option<ArgMatches<'a>>, AllocError>
     requires texts { All IsUtf8 (map (λ w. w.now) words.now) }
     ensures { IfOk result (λ read. MatchOption read
         (IsUsage (map (λ w. w.now) words.entry.now))
@@ -39,12 +27,7 @@ pub(crate) fn read<'a>(
         return Ok(None);
     }
     match all(alloc)?.try_get_matches_from(words) {
-        Ok(matches) => {
-            let name = matches.subcommand_name().unwrap();
-            let kind = kind_of(name).unwrap();
-            let inner = matches.subcommand_matches(name).unwrap();
-            Ok(Some(line_of(kind, inner)))
-        }
+        Ok(matches) => Ok(Some(matches)),
         Err(error) => {
             if error.kind() == ErrorKind::OutOfMemory {
                 Err(AllocError)
@@ -55,28 +38,8 @@ pub(crate) fn read<'a>(
     }
 }
 
-// What the matches of a command hold.
-fn line_of<'a>(kind: Kind, inner: &ArgMatches<'a>) -> CommandLine<'a>
-    ensures kind { result.kind ≡ kind }
-    ensures s_define { IsHeld result.s_define inner.now (codes "S_DEFINE") }
-    ensures input { IsHeld result.input inner.now (codes "INPUT") }
-    ensures journal { IsHeld result.journal inner.now (codes "JOURNAL") }
-    ensures from { IsHeld result.from inner.now (codes "from") }
-    ensures port { IsHeld result.port inner.now (codes "port") }
-    ensures count { IsHeld result.count inner.now (codes "N") }
-{
-    CommandLine {
-        kind,
-        s_define: inner.get_str("S_DEFINE"),
-        input: inner.get_str("INPUT"),
-        journal: inner.get_str("JOURNAL"),
-        from: inner.get_str("from"),
-        port: inner.get_str("port"),
-        count: inner.get_str("N"),
-    }
-}
-
-fn kind_of(word: &str) -> Option<Kind>
+// The command of this name.
+pub(crate) fn kind_of(word: &str) -> Option<Kind>
     ensures { MatchOption result ((kind : Kind) → word.now ≢ name_of kind) (λ kind. word.now ≡ name_of kind) }
 {
     match word {

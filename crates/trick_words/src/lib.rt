@@ -8,7 +8,7 @@ mod commands;
 pub mod laws;
 mod number;
 
-pub use command::{Command, read_command};
+pub use command::{Command, Task, Texts, read_command};
 
 /// The six commands by name.
 #[derive(Debug, Clone, Copy, PartialEq, Eq, Drop)]

@@ -1,11 +1,12 @@
 use Rattle.trick_top.proofs.GoneLemmas.{performed_acted, performed_unready}
 use Rattle.trick_top.proofs.texts.perform_on.Goals as goal
 use Rattle.trick_top.specs.Sources.{sources_of}
+use Rattle.trick_top.specs.Words.{aim_of_task}
 
 pub returns-in-Ok : goal.returns-in-Ok
-returns-in-Ok g c = performed_acted c.args.task (sources_of c.args.given) _ c.in-Ok.ensures.ready c.act.ensures
+returns-in-Ok g c = performed_acted (aim_of_task c.args.task.now) (sources_of c.args.given) _ c.in-Ok.ensures.ready c.act.ensures
 
 pub returns-in-Err : goal.returns-in-Err
 returns-in-Err g c =
-    performed_unready c.args.shelf.now c.args.task (sources_of c.args.given) _ c.in-Err.unready (g.met.F.Shelf.called_none c.args.shelf.now)
+    performed_unready c.args.shelf.now (aim_of_task c.args.task.now) (sources_of c.args.given) _ c.in-Err.unready (g.met.F.Shelf.called_none c.args.shelf.now)
     c.refused.ensures c.in-Err.ensures.refused

@@ -1,13 +1,13 @@
-use Rattle.trick_top.proofs.WordLemmas.{says_line, says_none}
+use Rattle.trick_top.proofs.WordLemmas.{says_none, says_words}
 use Rattle.trick_top.proofs.words.read_words.Goals as goal
 use Rattle.trick_words.specs.Command.{AreRefused, Asks}
 
 pub returns-in-Some : goal.returns-in-Some
 returns-in-Some c =
-    let asked : Asks c.args.words.now c.in-Some.line = rw c.in-Some.is at c.in_ok-line.ensures in
-    says_line c.one_command.ensures _ c.in-Some.line asked _ c.request_of.ensures
+    let asked : Asks c.args.words.now c.in-Some.command = rw c.in-Some.is at c.in_ok-command.ensures in
+    says_words c.one_command.ensures _ c.in-Some.command asked c.alone.result c.alone.ensures
 
 pub returns-in-None : goal.returns-in-None
 returns-in-None c =
-    let refused : AreRefused c.args.words.now = rw c.in-None.is at c.in_ok-line.ensures in
+    let refused : AreRefused c.args.words.now = rw c.in-None.is at c.in_ok-command.ensures in
     says_none _ refused

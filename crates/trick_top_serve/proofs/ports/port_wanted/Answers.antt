@@ -4,10 +4,10 @@ use Rattle.trick_words.specs.Command.{AreRefused, Asks}
 
 pub returns-in-Some : goal.returns-in-Some
 returns-in-Some c =
-    let asked : Asks c.args.words.now c.in-Some.line = rw c.in-Some.is at c.in_ok-line.ensures in
-    says_port c.one_command.ensures _ c.in-Some.line asked _ c.port_of.ensures
+    let asked : Asks c.args.words.now c.in-Some.command = rw c.in-Some.is at c.in_ok-command.ensures in
+    says_port c.one_command.ensures _ c.in-Some.command asked _ c.port_of.ensures
 
 pub returns-in-None : goal.returns-in-None
 returns-in-None c =
-    let refused : AreRefused c.args.words.now = rw c.in-None.is at c.in_ok-line.ensures in
+    let refused : AreRefused c.args.words.now = rw c.in-None.is at c.in_ok-command.ensures in
     no_port _ refused
