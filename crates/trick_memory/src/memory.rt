@@ -71,7 +71,8 @@ impl Memory {
     }
 
     /// The cell of a full name, byte for byte, in a plan of whose cells this is the memory. With any
-    /// other plan too the cell that is found has that name. Takes no memory.
+    /// other plan too the cell that is found has that name. Takes no memory. Cases alone call it, as a
+    /// yardstick: a client's name is looked for in the plan.
     pub fn find(&self, plan: &Plan, name: &[u8]) -> Option<Cell>
         ensures cell { self.now.names ≡ cell_names plan.now.program.cells
             → result ≡ cell_of name.now (cell_names plan.now.program.cells) }

@@ -9,7 +9,8 @@ use trick_job::{Setting, run_jobs};
 use trick_lang::{Cells, JobId};
 use trick_model::{Accepted, Faults, Flags};
 
-/// The jobs of a tic on the caller's thread, one after another on one bench.
+/// The jobs of a tic on the caller's thread, one after another on one bench. This is the plain form of
+/// [`Phases`](crate::Phases), a yardstick that cases call and no run.
 #[derive(Drop)]
 pub struct OnePhase {
     bench: Bench,

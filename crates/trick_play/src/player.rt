@@ -93,7 +93,7 @@ fn go<M: Cells>(
 
 /// Plays a list of steps on the due jobs of a tic: a take fills a bench with what its job reads and
 /// evaluates it, and a commit stores what it does. It costs the jobs times the jobs for the board, and
-/// the steps.
+/// the steps. This is a yardstick for schedules, which cases call and no run.
 pub fn play<M: Cells + Drop>(
     alloc: Global,
     accepted: &Accepted,
