@@ -2,3 +2,6 @@ pub mod Capped
 pub mod FileLemmas
 pub mod ContentLemmas
 pub mod WriteLemmas
+pub mod Truths
+pub mod Numbers
+pub mod ListLemmas

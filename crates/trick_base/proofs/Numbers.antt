@@ -1,0 +1,22 @@
+-- Tests whether numbers are one, and what lies below a number.
+use Rattle.std.proofs.Common.{◌≡◌, ◌==◌, ℕ, suc, ◌<◌, ◌≤◌, true, false, refl, arith}
+use Rattle.std.proofs.lemmas.Bool.{eq-eqb}
+use Rattle.std.proofs.lemmas.Bool.Decides.{nat_tests}
+
+pub equal_to_itself : (n : ℕ) → (n == n) ≡ true
+equal_to_itself n = eq-eqb n n refl
+
+pub other_than_greater : (a b : ℕ) → a < b → (a == b) ≡ false
+other_than_greater a b h = grind (arith, nat_tests)
+
+pub other_than_less : (a b : ℕ) → b < a → (a == b) ≡ false
+other_than_less a b h = grind (arith, nat_tests)
+
+pub zero_at_most : (n : ℕ) → 0 ≤ n
+zero_at_most n = omega arith
+
+pub none_below_zero : (n : ℕ) → n < 0 → ⊥
+none_below_zero n h = omega (arith, h)
+
+pub less_before : (a b : ℕ) → suc a < suc b → a < b
+less_before a b h = omega (arith, h)
