@@ -4,6 +4,7 @@ use Rattle.std.proofs.lemmas.Bool.{eq-eqb, eqb-true}
 use Rattle.std.proofs.lemmas.List.{length-map, get_or-set_other, get_or-set_same}
 use Rattle.std.specs.List.{slice_index_or}
 use Rattle.std.specs.Prelude.{IsSome, slice_set}
+use Rattle.trick_base.proofs.Numbers.{zero_at_most}
 use Rattle.trick_beside.proofs.Threads.{AreFound, apart, beside_found, cycle_here, found_at}
 use Rattle.trick_beside.proofs.Times.{end_here, next_end}
 use Rattle.trick_beside.specs.Flight.{GoesWith, HoldNothing, IsInFlight, IsOver, end_of, flight, frame_to, thread_in, work_at}
@@ -100,9 +101,6 @@ later_flight thread tic taken some empty = by taken.held refl
         (later_work thread.process thread.cycle tic some (goes e (ends_at tic thread) refl))
     by false e = refl
 
-at_least : (n : ℕ) → 0 ≤ n
-at_least n = omega arith
-
 -- Where the threads whose cycle ends at a tic hold nothing, in flight is the same before the next one.
 pub next_flight : (p : Plan) → ((place : ℕ) → place < length (threads_beside p) → IsCycle (thread_in p place).cycle)
     → (in_flight : ℕ → Option Started) (tic : ℕ) (s : State)
@@ -110,7 +108,7 @@ pub next_flight : (p : Plan) → ((place : ℕ) → place < length (threads_besi
 next_flight p cycles in_flight tic s empty all place there =
     all place there
     ∙ later_flight (thread_in p place) tic (taken_at s place) (cycles place there).some
-    (λ ends. empty place (at_least place) there ends)
+    (λ ends. empty place (zero_at_most place) there ends)
 
 -- ---- what a thread may start
 

@@ -1,5 +1,6 @@
 -- The publications of all rounds in flight, one thread after another.
 use Rattle.std.proofs.Common.{◌≡◌, ◌∙◌, ℕ, ◌+◌, ◌<◌, Bool, true, false, List, [], ◌∷◌, ◌++◌, Option, Some, None, ap, append-nil, append_assoc, drop, length, refl, sym}
+use Rattle.std.proofs.lemmas.Bool.{and_from, and_left}
 use Rattle.std.proofs.lemmas.List.{drop_more}
 use Rattle.std.specs.Prelude.{◌&&◌}
 use Rattle.trick_beside.proofs.Threads.{AreFound, found_at}
@@ -29,14 +30,6 @@ unfolding entry_where
 is_one true number e = refl
 is_one false number e = cc e
 
-lacks : (a b : Bool) → a ≡ false → (a && b) ≡ false
-lacks true b e = cc e
-lacks false b e = refl
-
-has : (a b : Bool) → a ≡ true → b ≡ true → (a && b) ≡ true
-has true b e f = f
-has false b e f = cc e
-
 not_both : (a b : Bool) → a ≡ true → b ≡ false → (a && b) ≡ false
 not_both true b e f = f
 not_both false b e f = cc e
@@ -47,7 +40,7 @@ pub other_kind : (s : State) (place : ℕ) (thread : Thread) (entries : List Ent
 unfolding entry_where
 other_kind s place thread entries goes =
     sym (append-nil entries)
-    ∙ ap (λ (es : List Entry). entries ++ es) (is_none (has_round s place thread) thread.number (lacks (is_async thread.process) (taken_at s place).held goes))
+    ∙ ap (λ (es : List Entry). entries ++ es) (is_none (has_round s place thread) thread.number (and_left (is_async thread.process) (taken_at s place).held goes))
 
 -- it has no round in flight
 pub no_round : (s : State) (place : ℕ) (thread : Thread) (entries : List Entry) → is_async thread.process ≡ true → (taken_at s place).held ≡ false
@@ -63,7 +56,7 @@ pub one_round : (s : State) (place : ℕ) (thread : Thread) (entries : List Entr
 unfolding entry_where
 one_round s place thread entries goes held =
     ap (λ (es : List Entry). entries ++ es)
-    (is_one (has_round s place thread) thread.number (has (is_async thread.process) (taken_at s place).held goes held))
+    (is_one (has_round s place thread) thread.number (and_from (is_async thread.process) (taken_at s place).held goes held))
 
 -- ---- threads one after another
 

@@ -1,5 +1,6 @@
 -- Rounds that are published and that start.
 use Rattle.std.proofs.Common.{◌≡◌, ◌∙◌, ℕ, suc, ◌+◌, ◌<◌, ◌==◌, Bool, true, false, not, cond, ◌&&◌, List, [], ◌∷◌, Option, Some, None, ap, arith, drop, length, refl, sym, nat_lt}
+use Rattle.std.proofs.lemmas.Bool.{and_left, not-true}
 use Rattle.std.proofs.lemmas.List.{drop_more}
 use Rattle.std.proofs.lemmas.List.Sums.{prefix_len_passes}
 use Rattle.std.specs.List.{position, position_or_len, slice_index_or}
@@ -54,10 +55,6 @@ has : (a b : Bool) → a ≡ true → (a && b) ≡ b
 has true b e = refl
 has false b e = cc e
 
-lacks : (a b : Bool) → a ≡ false → (a && b) ≡ false
-lacks true b e = cc e
-lacks false b e = refl
-
 round_found : (p : Plan) (number place : ℕ) (thread : Thread) (s : State) → find_thread number (threads_beside p) ≡ Some (place, thread)
     → in_round p place thread s ≡ publish_round p number s
 unfolding by_found in_round
@@ -67,7 +64,7 @@ pub round_other : (p : Plan) (number place : ℕ) (thread : Thread) (s : State) 
     → is_async thread.process ≡ false → s ≡ publish_round p number s
 unfolding in_round
 round_other p number place thread s found goes =
-    second_of (has_round s place thread) (publish p place thread s.tic s) s (lacks (is_async thread.process) (taken_at s place).held goes)
+    second_of (has_round s place thread) (publish p place thread s.tic s) s (and_left (is_async thread.process) (taken_at s place).held goes)
     ∙ round_found p number place thread s found
 
 pub round_is : (p : Plan) (number place : ℕ) (thread : Thread) (s : State) → find_thread number (threads_beside p) ≡ Some (place, thread)
@@ -116,10 +113,6 @@ start_takes p place thread s next e none is =
 
 -- ---- where no thread has the number
 
-not_true : (b : Bool) → not b ≡ true → b ≡ false
-not_true true e = cc e
-not_true false e = refl
-
 later : (b : Bool) (x : Option (ℕ × Thread)) (y : ℕ × Thread) → b ≡ false → x ≡ None
     → (let f : Option (ℕ × Thread) = elim b [ true ↦ Some y | false ↦ one_later x ] in f ≡ None)
 later true x y e none = cc e
@@ -143,7 +136,7 @@ pub place_none : (p : Plan) (stations : List Station) (number : ℕ) → AreStat
     → position (λ (station : Station). station.thread.number == number) stations ≡ None → find_thread number (threads_beside p) ≡ None
 place_none p stations number are none =
     ap (find_thread number) (sym are.threads)
-    ∙ none_of number stations (λ k d less. not_true ((slice_index_or stations k d).thread.number == number)
+    ∙ none_of number stations (λ k d less. not-true ((slice_index_or stations k d).thread.number == number)
     (prefix_len_passes (λ (s : Station). not (s.thread.number == number)) stations k d (past k less)))
   where
     n : ℕ

@@ -1,6 +1,6 @@
 -- Stations at their places, and what their threads are given.
 use Rattle.std.proofs.Common.{◌%◌, ◌≡◌, ◌≢◌, ◌∙◌, ℕ, ◌+◌, ◌<◌, ◌≤◌, ◌==◌, ℤ, Bool, true, false, not, cond, List, [], ◌∷◌, ◌++◌, Option, Some, None, ap, arith, length, refl, subst, sym, nat_lt}
-use Rattle.std.proofs.lemmas.Bool.{eqb-true}
+use Rattle.std.proofs.lemmas.Bool.{eqb-true, not-false}
 use Rattle.std.proofs.Common.{take as take_first}
 use Rattle.std.proofs.lemmas.List.{get_or-map, get_or-set_same, get_or_default, length-map, take_more}
 use Rattle.std.proofs.lemmas.List.Sums.{prefix_len_stops}
@@ -158,14 +158,6 @@ is_of number station = station.thread.number == number
 count_of : ℕ → List Station → ℕ
 count_of number stations = position_or_len (λ (station : Station). station.thread.number == number) stations
 
-not_false : (b : Bool) → not b ≡ false → b ≡ true
-not_false true e = refl
-not_false false e = cc e
-
-not_true : (b : Bool) → not b ≡ true → b ≡ false
-not_true true e = cc e
-not_true false e = refl
-
 -- the place that was found is one of the number
 pub place_found : (p : Plan) (stations : List Station) (number place : ℕ) (d : Station) → AreFound (threads_beside p) → AreStations p stations
     → position (λ (station : Station). station.thread.number == number) stations ≡ Some place
@@ -186,7 +178,7 @@ place_found p stations number place d found are is = by (nat_lt n (length statio
         let own : (slice_index_or stations place d).thread.number ≡ number =
         ap (λ (k : ℕ). (slice_index_or stations k d).thread.number) (sym same)
         ∙ eqb-true (slice_index_or stations n d).thread.number number
-        (not_false ((slice_index_or stations n d).thread.number == number) (prefix_len_stops (λ (s : Station). not (s.thread.number == number)) stations d within)) in
+        (not-false ((slice_index_or stations n d).thread.number == number) (prefix_len_stops (λ (s : Station). not (s.thread.number == number)) stations d within)) in
         let thread : slice_index_or (threads_beside p) place no_thread ≡ (slice_index_or stations place d).thread =
         ap (λ (ts : List Thread). slice_index_or ts place no_thread) (sym are.threads)
         ∙ get_or-map (λ (s : Station). s.thread) stations place d no_thread there in (

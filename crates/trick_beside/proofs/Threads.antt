@@ -1,10 +1,11 @@
 -- The threads beside the tics have numbers of their own.
 use Rattle.std.proofs.Common.{◌≡◌, ◌∙◌, ℕ, zero, suc, ◌<◌, ◌==◌, ◌&&◌, Bool, true, false, IsTrue, List, [], ◌∷◌, All, Option, Some, None, ap, arith, length, refl, sym, nat_lt}
 use Rattle.std.specs.List.{AllPairs, slice_index_or}
-use Rattle.std.proofs.lemmas.Bool.{eq-eqb, eqb-true}
+use Rattle.std.proofs.lemmas.Bool.{eq-eqb}
 use Rattle.std.proofs.lemmas.Bool.Decides.{nat_tests}
 use Rattle.std.proofs.lemmas.List.Elements.{All-filter, filter_passes}
 use Rattle.std.proofs.lemmas.List.Kept.{AllPairs-cons, AllPairs-filter}
+use Rattle.trick_base.proofs.Numbers.{other_than_greater}
 use Rattle.trick_model.specs.Beside.{find_thread, one_later}
 use Rattle.trick_model.specs.Plan.{is_beside, threads_beside}
 use Rattle.trick_model.specs.PlanOf.{plan_of}
@@ -57,13 +58,6 @@ pass : (b : Bool) (x y : Option (ℕ × Thread)) → b ≡ false → y ≡ elim 
 pass true x y e = cc e
 pass false x y e = refl
 
-not_same : (a b : ℕ) → a < b → (a == b) ≡ false
-not_same a b less = by (a == b) refl
-  where
-    by : (t : Bool) → (a == b) ≡ t → (a == b) ≡ false
-    by true e = let same : a ≡ b = eqb-true a b e in absurd (omega (arith, same, less))
-    by false e = e
-
 found : (threads : List Thread) → AllPairs IsBelow threads → AreFound threads
 unfolding AreFound IsBelow
 found [] up place d there = absurd (omega (arith, there))
@@ -73,7 +67,7 @@ found (one ∷ threads) up (suc place) d there =
     let thread = slice_index_or threads place d in
     let behind : place < length threads = omega (arith, there) in
     let less : one.number < thread.number = up 0 (suc place) d (omega arith) there in
-    sym (pass (one.number == thread.number) (Some (0, one)) (one_later (find_thread thread.number threads)) (not_same one.number thread.number less))
+    sym (pass (one.number == thread.number) (Some (0, one)) (one_later (find_thread thread.number threads)) (other_than_greater one.number thread.number less))
     ∙ ap one_later (found threads (λ i j e before within. up (suc i) (suc j) e (omega (arith, before)) (omega (arith, within))) place d behind)
 
 pub beside_found : (plan : PlanValue) → AreFound (threads_beside (plan_of plan))

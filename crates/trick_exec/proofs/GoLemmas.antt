@@ -2,7 +2,7 @@
 use Rattle.std.proofs.Common.{◌≡◌, ◌∙◌, ℕ, ℤ, ◌<◌, List, [], ◌∷◌, ◌++◌, Bool, true, false, Err, None, Ok, Some, Vec, Global, ap, arith, inl, inr, length, refl, subst, sym}
 use Rattle.std.proofs.lemmas.Bool.Decides.{nat_tests}
 use Rattle.std.proofs.lemmas.List.Elements.{All-nil}
-use Rattle.std.specs.Prelude.{◌⊎◌, ◌||◌, Option, Result, nat_le}
+use Rattle.std.specs.Prelude.{◌⊎◌, Option, Result, nat_le}
 use Rattle.trick_exec.specs.CameTo.{CameTo}
 use Rattle.trick_exec.specs.Known.{AreKnown}
 use Rattle.trick_exec.specs.Worlds.{world_of}
@@ -155,8 +155,3 @@ none_known p ss known none is =
     subst (λ (l : List Session). AreKnown p known l) (sym none)
     (subst (λ (s : Sessions). AreKnown p s []) (sym is)
     (record { live = refl; rising = refl; below = tt; right = All-nil (IsSession (length p.names)); awake = All-nil (λ (s : Session). s.leaving ≡ false) }))
-
--- neither over nor shut
-pub both_false : (a b : Bool) → (a || b) ≡ false → (a ≡ false) × (b ≡ false)
-both_false true b e = cc e
-both_false false b e = (refl, e)

@@ -1,8 +1,11 @@
 -- Numbers that rise.
-use Rattle.std.proofs.Common.{◌≡◌, ◌∙◌, ℕ, ◌<◌, List, [], ◌∷◌, ◌++◌, Bool, true, false, not, ◌&&◌, nat_lt, ap, arith, refl}
+use Rattle.std.proofs.Common.{◌≡◌, ◌∙◌, ℕ, ◌<◌, List, [], ◌∷◌, ◌++◌, Bool, true, false, not, nat_lt, ap, arith, refl}
+use Rattle.std.proofs.Math.Bool.{or-true}
+use Rattle.std.proofs.lemmas.Bool.{and_from}
 use Rattle.std.proofs.lemmas.Bool.Decides.{nat_tests}
 use Rattle.std.specs.List.{list_any}
 use Rattle.std.specs.Prelude.{◌==◌, ◌||◌, cond, filter}
+use Rattle.trick_base.proofs.Numbers.{equal_to_itself}
 use Rattle.trick_exec.specs.Known.{Below}
 use Rattle.trick_hear.proofs.PlaceLemmas.{rises_head, rises_tail}
 use Rattle.trick_model.specs.Valid.{rises}
@@ -20,16 +23,12 @@ pub rises_above : (n : ℕ) (ns : List ℕ) → rises (n ∷ ns) ≡ true → Ab
 rises_above n [] r = tt
 rises_above n (m ∷ ms) r = (rises_head n m ms r, above_weaker n m ms (rises_head n m ms r) (rises_above m ms (rises_tail n (m ∷ ms) r)))
 
-both : (a b : Bool) → a ≡ true → b ≡ true → (a && b) ≡ true
-both true b one two = two
-both false b one two = cc one
-
 less : (n m : ℕ) → n < m → nat_lt n m ≡ true
 less n m l = grind (arith, nat_tests)
 
 pub rises_cons : (n : ℕ) (ns : List ℕ) → Above n ns → rises ns ≡ true → rises (n ∷ ns) ≡ true
 rises_cons n [] above r = refl
-rises_cons n (m ∷ ms) above r = both (nat_lt n m) (rises (m ∷ ms)) (less n m above.0) r
+rises_cons n (m ∷ ms) above r = and_from (nat_lt n m) (rises (m ∷ ms)) (less n m above.0) r
 
 above_push : (n k : ℕ) (ns : List ℕ) → n < k → Above n ns → Above n (ns ++ k ∷ [])
 above_push n k [] l above = (l, tt)
@@ -54,10 +53,6 @@ filter_above n (m ∷ ms) above =
     ap (λ (b : Bool). cond (not b) (m ∷ filter (λ other. not (other == n)) ms) (filter (λ other. not (other == n)) ms)) (same_not n m above.0)
     ∙ ap (λ (l : List ℕ). m ∷ l) (filter_above n ms above.1)
 
-or_true : (a : Bool) → (a || true) ≡ true
-or_true true = refl
-or_true false = refl
-
 or_some : (a b c : Bool) → (a || b) ≡ true → (b ≡ true → c ≡ true) → (a || c) ≡ true
 or_some true b c e more = refl
 or_some false b c e more = more e
@@ -67,11 +62,8 @@ pub any_more : (f : ℕ → Bool) (ns ms : List ℕ) → list_any f ns ≡ true 
 any_more f [] ms e = cc e
 any_more f (n ∷ ns) ms e = or_some (f n) (list_any f ns) (list_any f (ns ++ ms)) e (any_more f ns ms)
 
-self : (n : ℕ) → (n == n) ≡ true
-self n = grind (arith, nat_tests)
-
 pub any_first : (n : ℕ) (ns : List ℕ) → list_any (λ m. m == n) (n ∷ ns) ≡ true
-any_first n ns = ap (λ (b : Bool). b || list_any (λ m. m == n) ns) (self n)
+any_first n ns = ap (λ (b : Bool). b || list_any (λ m. m == n) ns) (equal_to_itself n)
 
 pub any_later : (f : ℕ → Bool) (n : ℕ) (ns : List ℕ) → list_any f ns ≡ true → list_any f (n ∷ ns) ≡ true
-any_later f n ns e = ap (λ (b : Bool). f n || b) e ∙ or_true (f n)
+any_later f n ns e = ap (λ (b : Bool). f n || b) e ∙ or-true (f n)

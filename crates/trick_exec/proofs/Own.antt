@@ -1,6 +1,7 @@
 -- A run without entries, whose posts are always ready, publishes every round in flight at each run frame.
 use Rattle.std.proofs.Common.{◌≡◌, ◌∙◌, List, [], ◌∷◌, ◌++◌, Bool, true, false, not, ◌&&◌, Option, Some, None, ap, append-nil, append_assoc, arith, length, length-append, refl, subst, sym}
 use Rattle.std.proofs.Math.Seq.{get_or-append_seam}
+use Rattle.std.proofs.lemmas.Bool.{or_from}
 use Rattle.std.specs.List.{list_any, slice_index_or}
 use Rattle.std.specs.Prelude.{◌||◌, ◌<◌, ℕ, filter, nat_le}
 use Rattle.trick_beside.proofs.Threads.{AreFound, found_at}
@@ -31,10 +32,6 @@ no_lines (Said session line ∷ entries) e = cc e
 no_lines (Leave session cause ∷ entries) e = cc e
 no_lines (Publish thread ∷ entries) e = no_lines entries e
 
-neither : (a b : Bool) → a ≡ false → b ≡ false → (a || b) ≡ false
-neither true b e f = cc e
-neither false b e f = f
-
 first_of : (a b : Bool) → (a || b) ≡ false → a ≡ false
 first_of true b e = cc e
 first_of false b e = refl
@@ -48,7 +45,7 @@ pub given_silent : (p : Plan) (w : World) (lists : List (List Entry)) (last : Li
     → has_session_entry lists ≡ false
 given_silent p w [] last so = refl
 given_silent p w (entries ∷ lists) last so =
-    neither (list_any is_of_session entries) (has_session_entry lists) (no_lines entries so.0)
+    or_from (list_any is_of_session entries) (has_session_entry lists) (no_lines entries so.0)
     (given_silent p (turn p w entries).world lists last so.1)
 
 -- all entries are publications then

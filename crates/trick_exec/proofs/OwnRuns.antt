@@ -1,5 +1,6 @@
 -- What a run did whose source gave nothing and whose posts were always ready.
 use Rattle.std.proofs.Common.{◌≡◌, ◌∙◌, List, [], ◌∷◌, ◌++◌, Bool, Ok, Err, false, ap, append_assoc, inl, refl, subst, sym}
+use Rattle.std.proofs.lemmas.Bool.{false_from_ne_true}
 use Rattle.std.specs.Prelude.{ℕ, ℤ, IsTrue, Result}
 use Rattle.trick_exec.specs.Ended.{IsRun}
 use Rattle.trick_exec.specs.declared.ended.Ended.TheVariants as ended
@@ -16,7 +17,7 @@ use Rattle.trick_model.specs.Turn.{begun, heard, turn}
 use Rattle.trick_model.specs.declared.entry.Entry.{Entry}
 use Rattle.trick_model.specs.declared.plan.Plan.{Plan as PlanValue}
 use Rattle.trick_model.specs.declared.session.Session.{Session}
-use Rattle.trick_outside.proofs.CallLemmas.{not_both, part_of_early, part_of_late, true_or_false}
+use Rattle.trick_outside.proofs.CallLemmas.{not_both, part_of_early, part_of_late}
 use Rattle.trick_outside.proofs.DoesLemmas.{does_ok, not_ok}
 use Rattle.trick_outside.specs.Calls.{Call}
 use Rattle.trick_outside.specs.Does.{IsPartOf}
@@ -180,7 +181,7 @@ alone_run {D = D} h numbers join plan s old new (Err e) alone (lists, stopped) =
     let p = plan_of plan in
     let result : Result (EndedValue D) Stop = Err e in
     let none = silent h p s old new (alone_at h old new alone) lists stopped.last stopped.sent stopped.step in
-    let paid : stopped.owed ≡ false = true_or_false stopped.owed (λ owed. let held = stopped.owes owed in not_both (h.turns.owes held.0) (alone.paid held.0) held.2) in
+    let paid : stopped.owed ≡ false = false_from_ne_true stopped.owed (λ owed. let held = stopped.owes owed in not_both (h.turns.owes held.0) (alone.paid held.0) held.2) in
     let goes : IsTrue (goes_on p (opened s) lists) =
     sym (ap (λ (b : Bool). goes_owing b p (opened s) lists) paid ∙ goes_paid p (opened s) lists) ∙ stopped.goes in
     let so = alone_of h.posts p (beside_found plan) s alone.ready (h.turns.decided old.turns) old.posts new.posts lists stopped.does.calls stopped.sent join

@@ -1,15 +1,16 @@
 -- The sessions of a world stay those that its source knows, as a turn's entries are heard.
 use Rattle.std.proofs.Common.{◌≡◌, ◌∙◌, ℕ, ◌<◌, List, [], ◌∷◌, ◌++◌, length, Bool, true, false, not, nat_lt, Option, Some, None, ap, append_assoc, append-nil, arith, refl, subst, sym}
+use Rattle.std.proofs.lemmas.Bool.{ltb-true}
 use Rattle.std.proofs.lemmas.Bool.Decides.{nat_tests}
 use Rattle.std.proofs.lemmas.List.Elements.{All-append, All-cons, All-head, All-nil, All-tail}
 use Rattle.std.specs.List.{list_any}
 use Rattle.std.specs.Prelude.{◌==◌, ◌||◌, All, IsTrue, cond, filter, map}
+use Rattle.trick_base.proofs.Truths.{first_holds, second_holds}
 use Rattle.trick_exec.proofs.Numbers.{Above, any_first, any_later, any_more, below_push, filter_above, rises_above, rises_cons, rises_push}
 use Rattle.trick_exec.specs.Known.{AreKnown, Below}
 use Rattle.trick_hear.proofs.Kept.{answered_number, changed_numbers, session_number}
 use Rattle.trick_hear.proofs.PlaceLemmas.{rises_tail}
 use Rattle.trick_hear.specs.Sessions.{joining, numbers_of}
-use Rattle.trick_model.proofs.Runs.{and_left, and_right}
 use Rattle.trick_model.specs.Events.{names_of}
 use Rattle.trick_model.specs.Journal.{is_entry}
 use Rattle.trick_model.specs.Names.{deed_of}
@@ -159,9 +160,6 @@ staying-push (t ∷ ss) s stays =
     by true = refl
     by false = refl
 
-is_less : (n m : ℕ) → nat_lt n m ≡ true → n < m
-is_less n m e = grind (arith, nat_tests)
-
 -- sessions with the same numbers
 along_same : (known : Sessions) (ss ts : List Session) (live : List ℕ) → numbers_of ts ≡ numbers_of ss → staying_numbers ts ≡ live → AreAlong known ss
     → AreAlong (record known { live = live }) ts
@@ -175,7 +173,7 @@ along_same known ss ts live same stay along = record {
 along_more : (p : Plan) (entry : Entry) (known : Sessions) (h : Hearing) → may_come entry known ≡ true → AreAlong known h.sessions
     → AreAlong (after_entry entry known) (hear p entry h).sessions
 along_more p (Join number) known h may along =
-    let more : known.highest < number = is_less known.highest number may in record {
+    let more : known.highest < number = ltb-true known.highest number may in record {
       reached = numbers-append h.sessions (joined number ∷ []) ∙ ap (λ (ns : List ℕ). ns ++ number ∷ []) along.reached;
       live = staying-push h.sessions (joined number) refl ∙ ap (λ (ns : List ℕ). ns ++ number ∷ []) along.live;
       rising = ap rises (numbers-append h.sessions (joined number ∷ [])) ∙ rises_push known.highest number (numbers_of h.sessions) along.rising along.below more;
@@ -199,30 +197,30 @@ along_more p (Publish thread) known h may along = along
 pub along_all : (p : Plan) (entries : List Entry) (known : Sessions) (h : Hearing) → may_all_come entries known ≡ true → AreAlong known h.sessions
     → AreAlong (after_entries entries known) (heard p entries h).sessions
 along_all p [] known h may along = along
-along_all p (entry ∷ []) known h may along = along_more p entry known h (and_right (is_entry entry) (may_come entry known) may) along
+along_all p (entry ∷ []) known h may along = along_more p entry known h (second_holds (is_entry entry) (may_come entry known) may) along
 along_all p (entry ∷ other ∷ entries) known h may along =
-    let rest = and_right (is_entry entry) _ may in
+    let rest = second_holds (is_entry entry) _ may in
     along_all p (other ∷ entries) (after_entry entry known) (hear p entry h)
-    (and_right _ (may_all_come (other ∷ entries) (after_entry entry known)) (and_right (may_come entry known) _ rest))
-    (along_more p entry known h (and_left (may_come entry known) _ rest) along)
+    (second_holds _ (may_all_come (other ∷ entries) (after_entry entry known)) (second_holds (may_come entry known) _ rest))
+    (along_more p entry known h (first_holds (may_come entry known) _ rest) along)
 
 -- ---- before the entries are heard
 
 pub all_entries : (entries : List Entry) (known : Sessions) → may_all_come entries known ≡ true → All (λ (entry : Entry). IsTrue (is_entry entry)) entries
 all_entries [] known may = All-nil (λ (entry : Entry). IsTrue (is_entry entry))
 all_entries (entry ∷ []) known may =
-    All-cons (λ (entry : Entry). IsTrue (is_entry entry)) entry [] (and_left (is_entry entry) (may_come entry known) may) (All-nil (λ (entry : Entry). IsTrue (is_entry entry)))
+    All-cons (λ (entry : Entry). IsTrue (is_entry entry)) entry [] (first_holds (is_entry entry) (may_come entry known) may) (All-nil (λ (entry : Entry). IsTrue (is_entry entry)))
 all_entries (entry ∷ other ∷ entries) known may =
-    let rest = and_right (is_entry entry) _ may in
-    All-cons (λ (entry : Entry). IsTrue (is_entry entry)) entry (other ∷ entries) (and_left (is_entry entry) _ may)
+    let rest = second_holds (is_entry entry) _ may in
+    All-cons (λ (entry : Entry). IsTrue (is_entry entry)) entry (other ∷ entries) (first_holds (is_entry entry) _ may)
     (all_entries (other ∷ entries) (after_entry entry known)
-    (and_right _ (may_all_come (other ∷ entries) (after_entry entry known)) (and_right (may_come entry known) _ rest)))
+    (second_holds _ (may_all_come (other ∷ entries) (after_entry entry known)) (second_holds (may_come entry known) _ rest)))
 
 -- the joins of a list rise after the sessions that are there
 one_entry : (entry : Entry) (known : Sessions) (ns : List ℕ) → may_come entry known ≡ true → rises ns ≡ true → Below known.highest ns
     → (rises (ns ++ joining (entry ∷ [])) ≡ true) × Below (after_entry entry known).highest (ns ++ joining (entry ∷ []))
 one_entry (Join number) known ns may r below =
-    let more : known.highest < number = is_less known.highest number may in
+    let more : known.highest < number = ltb-true known.highest number may in
     (rises_push known.highest number ns r below more, below_push known.highest number ns below more)
 one_entry (Said number line) known ns may r below = (ap rises (append-nil ns) ∙ r, subst (Below known.highest) (sym (append-nil ns)) below)
 one_entry (Leave number cause) known ns may r below = (ap rises (append-nil ns) ∙ r, subst (Below known.highest) (sym (append-nil ns)) below)
@@ -237,14 +235,14 @@ joining_cons (Publish thread) entries = refl
 pub joins_rise : (entries : List Entry) (known : Sessions) (ns : List ℕ) → may_all_come entries known ≡ true → rises ns ≡ true → Below known.highest ns
     → rises (ns ++ joining entries) ≡ true
 joins_rise [] known ns may r below = ap rises (append-nil ns) ∙ r
-joins_rise (entry ∷ []) known ns may r below = (one_entry entry known ns (and_right (is_entry entry) (may_come entry known) may) r below).0
+joins_rise (entry ∷ []) known ns may r below = (one_entry entry known ns (second_holds (is_entry entry) (may_come entry known) may) r below).0
 joins_rise (entry ∷ other ∷ entries) known ns may r below =
-    let rest = and_right (is_entry entry) _ may in
-    let one = one_entry entry known ns (and_left (may_come entry known) _ rest) r below in
+    let rest = second_holds (is_entry entry) _ may in
+    let one = one_entry entry known ns (first_holds (may_come entry known) _ rest) r below in
     ap (λ (ms : List ℕ). rises (ns ++ ms)) (joining_cons entry (other ∷ entries))
     ∙ ap rises (sym (append_assoc ns (joining (entry ∷ [])) (joining (other ∷ entries))))
     ∙ joins_rise (other ∷ entries) (after_entry entry known) (ns ++ joining (entry ∷ []))
-    (and_right _ (may_all_come (other ∷ entries) (after_entry entry known)) (and_right (may_come entry known) _ rest)) one.0 one.1
+    (second_holds _ (may_all_come (other ∷ entries) (after_entry entry known)) (second_holds (may_come entry known) _ rest)) one.0 one.1
 
 -- ---- who is reached
 
@@ -298,16 +296,16 @@ pub replies_reach : (p : Plan) (entries : List Entry) (known : Sessions) (h : He
 replies_reach p [] known h may along = All-nil (λ (message : Message). IsTrue (is_among message.0 known.reached))
 replies_reach p (entry ∷ []) known h may along =
     All-append (λ (message : Message). IsTrue (is_among message.0 (after_entry entry known).reached)) (reply p entry h) []
-    (reply_reaches p entry known h (after_entry entry known).reached (and_right (is_entry entry) (may_come entry known) may) along (grows entry known))
+    (reply_reaches p entry known h (after_entry entry known).reached (second_holds (is_entry entry) (may_come entry known) may) along (grows entry known))
     (All-nil (λ (message : Message). IsTrue (is_among message.0 (after_entry entry known).reached)))
 replies_reach p (entry ∷ other ∷ entries) known h may along =
-    let rest = and_right (is_entry entry) _ may in
-    let come = and_left (may_come entry known) _ rest in
+    let rest = second_holds (is_entry entry) _ may in
+    let come = first_holds (may_come entry known) _ rest in
     let after = after_entries (other ∷ entries) (after_entry entry known) in
     All-append (λ (message : Message). IsTrue (is_among message.0 after.reached)) (reply p entry h) (replies p (other ∷ entries) (hear p entry h))
     (reply_reaches p entry known h after.reached come along (λ n e. grows_all (other ∷ entries) (after_entry entry known) n (grows entry known n e)))
     (replies_reach p (other ∷ entries) (after_entry entry known) (hear p entry h)
-    (and_right _ (may_all_come (other ∷ entries) (after_entry entry known)) (and_right (may_come entry known) _ rest)) (along_more p entry known h come along))
+    (second_holds _ (may_all_come (other ∷ entries) (after_entry entry known)) (second_holds (may_come entry known) _ rest)) (along_more p entry known h come along))
 
 -- the samples go to sessions that are there
 pub samples_reach : (from : ℕ) (s : State) (ss : List Session) (reached : List ℕ) → ((n : ℕ) → list_any (λ m. m == n) (numbers_of ss) ≡ true → is_among n reached ≡ true)

@@ -1,9 +1,9 @@
 -- A run to which no client came.
 use Rattle.std.proofs.Common.{◌≡◌, ◌∙◌, ℕ, List, [], ◌∷◌, ◌++◌, Bool, true, false, eqb, not, ◌&&◌, ap, length, map, refl, subst, sym}
-use Rattle.std.proofs.lemmas.Bool.{and_parts}
+use Rattle.std.proofs.lemmas.Bool.{and_parts, or_parts}
 use Rattle.std.proofs.lemmas.List.Folds.{list_any-append}
 use Rattle.std.specs.List.{filter, list_any}
-use Rattle.std.specs.Prelude.{◌||◌, None, Option, Some}
+use Rattle.std.specs.Prelude.{None, Option, Some}
 use Rattle.trick_headline.proofs.Entries.{joins_join, joins_lines}
 use Rattle.trick_headline.specs.Alone.{RunsOfNobodyAreAlone}
 use Rattle.trick_journal_written.proofs.Coming.{comes}
@@ -72,10 +72,6 @@ quiet_lists (entries ∷ lists) s empty rules joins =
 -- Of these threads none is asynchronous.
 abbrev NoneOf : List Thread → Type 0
 NoneOf threads = list_any (λ (thread : Thread). is_async thread.process) threads ≡ false
-
-or_parts : (a b : Bool) → (a || b) ≡ false → (a ≡ false) × (b ≡ false)
-or_parts true b is = cc is
-or_parts false b is = (refl, is)
 
 none_before : (threads : List Thread) (thread : Thread) → NoneOf (threads ++ thread ∷ []) → NoneOf threads × (is_async thread.process ≡ false)
 none_before threads thread is =

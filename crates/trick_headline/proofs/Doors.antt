@@ -1,6 +1,7 @@
 -- What a door was asked, and what it gave.
 use Rattle.std.proofs.Common.{◌≡◌, ◌∙◌, inl, inr, ℕ, zero, suc, List, [], ◌∷◌, ◌++◌, Some, None, ap, append-nil, length, refl, subst, sym}
 use Rattle.std.proofs.lemmas.List.Elements.{All-cons, All-head, All-nil, All-tail}
+use Rattle.std.proofs.lemmas.Option.{same_Some}
 use Rattle.std.specs.List.{slice_get}
 use Rattle.std.specs.Prelude.{All}
 use Rattle.trick_headline.specs.Clients.{EndsOver, IsAsk}
@@ -8,9 +9,6 @@ use Rattle.trick_outside.specs.Visits.{Back, Ended as HasEnded, Failed, Gave, No
 use Rattle.trick_serve_clients.specs.Tended.{IsLastAnswer}
 use Rattle.trick_serve_door.specs.Told.{IsOpen, links_of}
 use Rattle.trick_serve_door.specs.declared.arrival.Arrival.{Arrival}
-
-pub some_same : {X : Type 0} (one other : X) → Some one ≡ Some other → one ≡ other
-some_same one other is = cc
 
 pub none_some : {X : Type 0} (one : X) → None ≡ Some one → ⊥
 none_some one is = cc
@@ -77,5 +75,5 @@ module _ {I O : Type 0} where
       → slice_get (links_of arrivals) k ≡ Some (arrival.input.value, arrival.output.value)
   links_get [] k arrival is = absurd (none_some arrival is)
   links_get (first ∷ arrivals) zero arrival is =
-      ap (λ (a : Arrival I O). Some (a.input.value, a.output.value)) (some_same first arrival is)
+      ap (λ (a : Arrival I O). Some (a.input.value, a.output.value)) (same_Some first arrival is)
   links_get (first ∷ arrivals) (suc k) arrival is = links_get arrivals k arrival is

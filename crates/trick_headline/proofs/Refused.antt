@@ -1,8 +1,9 @@
 -- Clients to which a thread was refused, by their seats and by their arrivals.
 use Rattle.std.proofs.Common.{◌≡◌, ◌∙◌, ℕ, suc, ◌+◌, ◌<◌, ◌≤◌, Bool, true, false, cond, List, [], ◌∷◌, Some, ap, arith, length, subst, sym}
 use Rattle.std.proofs.lemmas.List.Sums.{sum_by-cons}
+use Rattle.std.proofs.lemmas.Option.{same_Some}
 use Rattle.std.specs.List.{slice_get}
-use Rattle.trick_headline.proofs.Doors.{none_some, some_same}
+use Rattle.trick_headline.proofs.Doors.{none_some}
 use Rattle.trick_outside.specs.Causes.{RoseBy}
 use Rattle.trick_serve.specs.Clients.{client_queues}
 use Rattle.trick_serve.specs.Sides.{Queues, queues_of, side}
@@ -24,8 +25,8 @@ one_more false few many less = omega (arith, less)
 seat_refused : {I O : Type 0} (seat : Seat) (seats : List Seat) (arrival : Arrival I O) (arrivals : List (Arrival I O)) → IsSeatOf (seat ∷ seats) (arrival ∷ arrivals) 0
     → seat.refused ≡ arrival.refused
 seat_refused {I} {O} seat seats arrival arrivals of =
-    ap (λ (q : Queues). q.refused) (some_same (queues_of seat) (client_queues of.arrival) of.queues)
-    ∙ ap (λ (a : Arrival I O). a.refused) (sym (some_same arrival of.arrival of.comes))
+    ap (λ (q : Queues). q.refused) (same_Some (queues_of seat) (client_queues of.arrival) of.queues)
+    ∙ ap (λ (a : Arrival I O). a.refused) (sym (same_Some arrival of.arrival of.comes))
 
 -- where the seats are of the first clients, no more of them are refused than of all clients
 pub refused_fewer : {I O : Type 0} (seats : List Seat) (arrivals : List (Arrival I O)) → ((k : ℕ) → k < length seats → IsSeatOf seats arrivals k)

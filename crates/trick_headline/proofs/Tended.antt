@@ -2,9 +2,9 @@
 use Rattle.std.proofs.Common.{◌≡◌, ◌∙◌, ⊎_elim, ℕ, ◌+◌, ◌<◌, ◌≤◌, List, [], ◌++◌, Some, ap, arith, length, refl, subst, sym}
 use Rattle.std.proofs.lemmas.Bool.{cases_lt}
 use Rattle.std.proofs.lemmas.List.Elements.{All-append, All-weaker}
-use Rattle.std.proofs.lemmas.Option.{slice_get_within}
+use Rattle.std.proofs.lemmas.Option.{same_Some, slice_get_within}
 use Rattle.std.specs.List.{slice_get}
-use Rattle.trick_headline.proofs.Doors.{all_given, last_asks, links_count, links_get, open_ask, some_same}
+use Rattle.trick_headline.proofs.Doors.{all_given, last_asks, links_count, links_get, open_ask}
 use Rattle.trick_headline.proofs.Sent.{sent_more}
 use Rattle.trick_headline.specs.Clients.{IsAsk, IsSentOf, Visits, WereSent, tale_between}
 use Rattle.trick_model.specs.Files.{messages_to}
@@ -59,8 +59,8 @@ module _ {D I O S : Type 0} (h : Hosts D I O S) (door : D) (spawner : S) (v : Vi
   same_tale k links back s client is =
       let there : Some (client.arrival.input.value, client.arrival.output.value) ≡ Some links =
       sym (links_get tended.arrivals k client.arrival client.comes) ∙ ap (λ (l : List (I × O)). slice_get l k) (sym gave) ∙ is.given in
-      ap (λ (l : I × O). tale_between h.input h.output l client.ended) (some_same _ _ there)
-      ∙ ap (λ (e : Ended I O). tale_between h.input h.output links e) (some_same _ _ (sym client.goes ∙ is.goes))
+      ap (λ (l : I × O). tale_between h.input h.output l client.ended) (same_Some _ _ there)
+      ∙ ap (λ (e : Ended I O). tale_between h.input h.output links e) (same_Some _ _ (sym client.goes ∙ is.goes))
 
   -- what is said of the end of the client of a seat
   pub seat_says : (k : ℕ) (seat : IsTendedSeat h.input h.output tended.arrivals tended.sessions k (side v.seats k))

@@ -1,5 +1,6 @@
 -- Where the session of a number stands.
 use Rattle.std.proofs.Common.{◌≡◌, ℕ, zero, suc, ◌<◌, ◌≤◌, ◌&&◌, List, [], ◌∷◌, ◌++◌, length, get_or, set, nat_lt, Bool, true, false, Some, None, Less, Equal, Greater, ap, arith, refl, sym}
+use Rattle.std.proofs.lemmas.Bool.{and_parts, eq-eqb, ltb-true}
 use Rattle.std.proofs.lemmas.Bool.Decides.{nat_tests}
 use Rattle.std.proofs.lemmas.Cmp.{ranked}
 use Rattle.std.specs.List.Sorted.{IsNonDecreasingBy, IsPartitionPoint}
@@ -14,22 +15,15 @@ use Rattle.trick_model.specs.declared.session.Session.{Session}
 
 -- ---- numbers that rise
 
-both : (a b : Bool) → (a && b) ≡ true → (a ≡ true) × (b ≡ true)
-both true b h = (refl, h)
-both false b h = cc h
-
-less : (n m : ℕ) → nat_lt n m ≡ true → n < m
-less n m e = grind (arith, nat_tests)
-
 pub rises_tail : (n : ℕ) (ns : List ℕ) → rises (n ∷ ns) ≡ true → rises ns ≡ true
 rises_tail n [] r = refl
-rises_tail n (m ∷ ns) r = (both (nat_lt n m) (rises (m ∷ ns)) r).1
+rises_tail n (m ∷ ns) r = (and_parts (nat_lt n m) (rises (m ∷ ns)) r).1
 
 pub rises_head : (n m : ℕ) (ns : List ℕ) → rises (n ∷ m ∷ ns) ≡ true → n < m
-rises_head n m ns r = less n m (both (nat_lt n m) (rises (m ∷ ns)) r).0
+rises_head n m ns r = ltb-true n m (and_parts (nat_lt n m) (rises (m ∷ ns)) r).0
 
 joined_both : (a b c d : Bool) → (a ≡ true → c ≡ true) → (b ≡ true → d ≡ true) → (a && b) ≡ true → (c && d) ≡ true
-joined_both a b c d one two h = let parts = both a b h in and_true c d (one parts.0) (two parts.1)
+joined_both a b c d one two h = let parts = and_parts a b h in and_true c d (one parts.0) (two parts.1)
   where
     and_true : (c d : Bool) → c ≡ true → d ≡ true → (c && d) ≡ true
     and_true true d e f = f
@@ -58,9 +52,6 @@ strict (s ∷ ss) r (suc i) (suc j) d below there = strict ss (rises_tail s.numb
 
 -- ---- a session that is there, and one that is not
 
-is_it : (a b : ℕ) → a ≡ b → (a == b) ≡ true
-is_it a b e = grind (arith, nat_tests)
-
 is_not : (a b : ℕ) → (a ≡ b → ⊥) → (a == b) ≡ false
 is_not a b e = grind (arith, nat_tests)
 
@@ -74,14 +65,14 @@ later number s ss k none j e below = none (suc j) e (omega (arith, below))
 of_at : (number : ℕ) (ss : List Session) (k : ℕ) (d : Session) → k < length ss → (get_or ss k d).number ≡ number → NoneBefore number ss k
     → session_of number ss ≡ get_or ss k d
 of_at number [] k d there is none = absurd (omega (arith, there))
-of_at number (s ∷ ss) zero d there is none = rw (is_it s.number number is, session_of) refl
+of_at number (s ∷ ss) zero d there is none = rw (eq-eqb s.number number is, session_of) refl
 of_at number (s ∷ ss) (suc k) d there is none =
     rw (is_not s.number number (none 0 s (omega arith)), session_of) (of_at number ss k d (omega (arith, there)) is (later number s ss k none))
 
 set_at : (number : ℕ) (change : Session → Session) (ss : List Session) (k : ℕ) (d : Session) → k < length ss → (get_or ss k d).number ≡ number → NoneBefore number ss k
     → changed change number ss ≡ set ss k (change (get_or ss k d))
 set_at number change [] k d there is none = absurd (omega (arith, there))
-set_at number change (s ∷ ss) zero d there is none = rw (is_it s.number number is, changed) refl
+set_at number change (s ∷ ss) zero d there is none = rw (eq-eqb s.number number is, changed) refl
 set_at number change (s ∷ ss) (suc k) d there is none =
     rw (is_not s.number number (none 0 s (omega arith)), changed) (ap (λ (l : List Session). s ∷ l) (set_at number change ss k d (omega (arith, there)) is (later number s ss k none)))
 

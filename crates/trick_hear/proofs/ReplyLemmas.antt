@@ -1,5 +1,5 @@
 -- Entries, and the replies to them, one after another.
-use Rattle.std.proofs.Common.{◌≡◌, ◌∙◌, ℕ, suc, ◌+◌, ◌<◌, List, [], ◌∷◌, ◌++◌, length, get_or, drop, add-one, ap, append_assoc, drop-cons, sym}
+use Rattle.std.proofs.Common.{◌≡◌, ◌∙◌, ℕ, ◌+◌, List, [], ◌∷◌, ◌++◌, ap, append_assoc, sym}
 use Rattle.std.specs.Prelude.{map}
 use Rattle.trick_model.specs.Events.{Asking}
 use Rattle.trick_model.specs.Plan.{Plan}
@@ -10,10 +10,6 @@ use Rattle.trick_model.specs.declared.entry.Entry.{Entry}
 use Rattle.trick_model.specs.declared.session.Session.{Session}
 use Rattle.trick_session.specs.Answers.{answer_in, messages}
 use Rattle.trick_session.specs.declared.reply.Reply.{Reply}
-
--- the first of those that are left, and the others
-pub next_left : {X : Type 0} (xs : List X) (i : ℕ) (x : X) → i < length xs → x ≡ get_or xs i x → drop i xs ≡ x ∷ drop (i + 1) xs
-next_left xs i x there is = rw (add-one, drop-cons xs i x) (ap (λ y. y ∷ drop (suc i) xs) (sym is))
 
 module _ (p : Plan) (entry : Entry) (left rest : List Entry) (old now : Hearing)
     (left_is : left ≡ entry ∷ rest) (now_is : now ≡ hear p entry old) where

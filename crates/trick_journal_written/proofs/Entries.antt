@@ -1,6 +1,6 @@
 -- Entries of turns are the entries of a journal.
 use Rattle.std.proofs.Common.{◌≡◌, ◌∙◌, ℕ, zero, suc, ◌+◌, ◌<◌, ◌≤◌, ◌==◌, List, [], ◌∷◌, ◌++◌, Bool, true, false, not, ◌&&◌, ap, append_assoc, arith, length, refl, sym, nat_lt}
-use Rattle.std.proofs.lemmas.Bool.{and_from, and_parts}
+use Rattle.std.proofs.lemmas.Bool.{and_from, and_parts, le-leb, lt-ltb}
 use Rattle.std.proofs.lemmas.Bool.Decides.{nat_tests}
 use Rattle.std.specs.Prelude.{◌||◌, filter, nat_le}
 use Rattle.trick_journal_written.proofs.Coming.{KeepRules, comes}
@@ -26,12 +26,6 @@ since_at low turn [] rest less all = all
 since_at low turn (entry ∷ entries) rest less all =
     and_from (nat_le low turn) (all_since low (noted_at turn entries ++ rest)) less (since_at low turn entries rest less all)
 
-not_above : (a b : ℕ) → a ≤ b → nat_le a b ≡ true
-not_above a b less = grind (arith, nat_tests, less)
-
-is_below : (a b : ℕ) → a < b → nat_lt a b ≡ true
-is_below a b less = grind (arith, nat_tests, less)
-
 one_higher : (a b : ℕ) → a ≤ b → a ≤ b + 1
 one_higher a b less = omega (arith, less)
 
@@ -44,7 +38,7 @@ this_turn turn count end most = omega (arith, most)
 pub all_of_turns : (low turn : ℕ) (lists : List (List Entry)) → low ≤ turn → all_since low (noted_from turn lists) ≡ true
 all_of_turns low turn [] less = refl
 all_of_turns low turn (entries ∷ lists) less =
-    since_at low turn entries (noted_from (turn + 1) lists) (not_above low turn less)
+    since_at low turn entries (noted_from (turn + 1) lists) (le-leb low turn less)
     (all_of_turns low (turn + 1) lists (one_higher low turn less))
 
 -- what is after a turn is of the next one at least
@@ -79,7 +73,7 @@ pub ranged : (turn : ℕ) (lists : List (List Entry)) (s : Sessions) → turn + 
 ranged turn [] s most keep = refl
 ranged turn (entries ∷ lists) s most keep =
     ranged_at turn entries (noted_from (turn + 1) lists) (in_next s)
-    (not_above turn last_turn (low turn (length lists) last_turn most)) keep.0
+    (le-leb turn last_turn (low turn (length lists) last_turn most)) keep.0
     (ranged (turn + 1) lists (after_entries entries (in_next s)) (next_turn turn (length lists) last_turn most) keep.1)
   where
     low : (turn count end : ℕ) → turn + suc count ≤ end → turn ≤ end
@@ -97,8 +91,8 @@ pub within : (from turn end : ℕ) (lists : List (List Entry)) → from ≤ turn
     → are_within from end (noted_from turn lists) ≡ true
 within from turn end [] low most = refl
 within from turn end (entries ∷ lists) low most =
-    within_at from end turn entries (noted_from (turn + 1) lists) (not_above from turn low)
-    (is_below turn end (this_turn turn (length lists) end most))
+    within_at from end turn entries (noted_from (turn + 1) lists) (le-leb from turn low)
+    (lt-ltb turn end (this_turn turn (length lists) end most))
     (within from (turn + 1) end lists (one_higher from turn low) (next_turn turn (length lists) end most))
 
 -- ---- order
@@ -108,7 +102,7 @@ abbrev steps_up : Noted → Noted → Bool
 steps_up e f = nat_lt e.0 f.0 || ((e.0 == f.0) && may_follow e.1 f.1)
 
 up_later : (e f : Noted) → e.0 < f.0 → steps_up e f ≡ true
-up_later e f less = ap (λ (b : Bool). b || ((e.0 == f.0) && may_follow e.1 f.1)) (is_below e.0 f.0 less)
+up_later e f less = ap (λ (b : Bool). b || ((e.0 == f.0) && may_follow e.1 f.1)) (lt-ltb e.0 f.0 less)
 
 up_within : (turn : ℕ) (entry next : Entry) → may_follow entry next ≡ true → steps_up (turn, entry) (turn, next) ≡ true
 up_within turn entry next follows =

@@ -2,7 +2,7 @@
 use Rattle.std.proofs.Common.{◌≡◌, ◌∙◌, ◌≢◌, ℕ, ◌<◌, ◌≤◌, ◌==◌, List, [], ◌∷◌, ◌++◌, Bool, true, false, ◌&&◌, ap, arith, refl, sym, nat_lt, Option, Some, None}
 use Rattle.std.proofs.Math.Bool.{Bool-set}
 use Rattle.std.proofs.Math.Logic.{∥∥₁_elim}
-use Rattle.std.proofs.lemmas.Bool.{and_from, and_parts}
+use Rattle.std.proofs.lemmas.Bool.{and_from, and_parts, ltb-true}
 use Rattle.std.proofs.lemmas.Bool.Decides.{nat_tests}
 use Rattle.std.proofs.lemmas.List.Elements.{All-head, All-tail}
 use Rattle.std.specs.Prelude.{All, IsTrue, cond, filter, nat_le}
@@ -21,9 +21,6 @@ abbrev pub stand_between : ℕ → List Thread → ℕ → Bool
 stand_between low [] high = nat_le low high
 stand_between low (thread ∷ threads) high = nat_lt low thread.number && stand_between thread.number threads high
 
-less_of : (a b : ℕ) → nat_lt a b ≡ true → a < b
-less_of a b e = grind (arith, nat_tests, e)
-
 -- ---- a thread more
 
 -- What is known of threads but the last one, which has this number.
@@ -37,7 +34,7 @@ pub all_but_last : (low : ℕ) (threads : List Thread) (thread : Thread) (high :
     → AllButLast low threads thread.number high
 all_but_last low [] thread high all =
     let parts = and_parts (nat_lt low thread.number) (nat_le thread.number high) all in
-    record { mid = low; before = itself low; less = less_of low thread.number parts.0; most = most_of thread.number high parts.1 }
+    record { mid = low; before = itself low; less = ltb-true low thread.number parts.0; most = most_of thread.number high parts.1 }
   where
     itself : (n : ℕ) → nat_le n n ≡ true
     itself n = grind (arith, nat_tests)

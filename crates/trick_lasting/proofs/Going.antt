@@ -1,8 +1,10 @@
 -- A run under a journal, turn after turn.
 use Rattle.std.proofs.Common.{◌≡◌, ℕ, zero, suc, ◌+◌, ◌-◌, ◌<◌, ◌≤◌, List, [], ◌∷◌, Bool, true, false, not, ◌&&◌, ◌∙◌, ap, arith, cond, length, nat_lt, refl, sym}
+use Rattle.std.proofs.lemmas.Bool.{and_from, not_from_false}
 use Rattle.std.proofs.lemmas.Bool.Decides.{nat_tests}
 use Rattle.std.specs.List.{list_any}
 use Rattle.std.specs.Prelude.{◌||◌, IsTrue, nat_le}
+use Rattle.trick_base.proofs.Numbers.{zero_at_most}
 use Rattle.trick_base.specs.Time.{tic_limit}
 use Rattle.trick_lasting.proofs.Rising.{turn_rises, turn_stays}
 use Rattle.trick_lasting.specs.Lasting.{EveryJournalLasts, LastingFits, StatesHaveOwnJournals}
@@ -89,13 +91,10 @@ record GoesToEnd (p : Plan) (w : World) (lists : List (List Entry)) (end : World
   over : IsTrue (is_over (after_turns p w lists).state [])
   comes : end ≡ after_turns p w lists
 
-both_true : (a b : Bool) → a ≡ true → b ≡ true → (a && b) ≡ true
-both_true a b e f = ap (λ (c : Bool). c && b) e ∙ f
-
 one_more : (p : Plan) (w end : World) (entries : List Entry) (lists : List (List Entry)) → IsTrue (not (is_over w.state (entries ∷ lists)))
     → GoesToEnd p (turn p w entries).world lists end → GoesToEnd p w (entries ∷ lists) end
 one_more p w end entries lists goes later = record {
-  goes = both_true (not (is_over w.state (entries ∷ lists))) (goes_on p (turn p w entries).world lists) goes later.goes;
+  goes = and_from (not (is_over w.state (entries ∷ lists))) (goes_on p (turn p w entries).world lists) goes later.goes;
   over = later.over;
   comes = later.comes;
 }
@@ -177,14 +176,8 @@ record RunsFrom (p : Plan) (w : World) (left : List (List Entry)) (count : ℕ) 
   lasts : Lasts p w left lists end
   most : length lists ≤ count
 
-zero_most : (count : ℕ) → 0 ≤ count
-zero_most count = omega arith
-
-goes_by : (b : Bool) → b ≡ false → not b ≡ true
-goes_by b e = ap not e
-
 over_now : (p : Plan) (w : World) (left : List (List Entry)) (count : ℕ) → IsTrue (is_over w.state left) → RunsFrom p w left count
-over_now p w left count is = record { lists = []; end = w; lasts = over is; most = zero_most count }
+over_now p w left count is = record { lists = []; end = w; lasts = over is; most = zero_at_most count }
 
 module _ (p : Plan) (timed : IsTimed p) where
   valid_next : (w : World) (entries : List Entry) → IsStateOf p w.state → IsStateOf p (turn p w entries).world.state
@@ -195,7 +188,7 @@ module _ (p : Plan) (timed : IsTimed p) where
     where
       by : (b : Bool) → is_over w.state [] ≡ b → RunsFrom p w [] zero
       by true e = over_now p w [] zero e
-      by false e = absurd (no_turn p w good all (goes_by (is_over w.state []) e))
+      by false e = absurd (no_turn p w good all (not_from_false (is_over w.state []) e))
   run_after (suc count) w good all =
       by (is_over w.state []) refl
       (λ less. run_after count (turn p w []).world (valid_next w [] good) (fewer_left w.state.tic (turn p w []).world.state.tic count less all))
@@ -204,7 +197,7 @@ module _ (p : Plan) (timed : IsTimed p) where
           → RunsFrom p w [] (suc count)
       by true e rest = over_now p w [] (suc count) e
       by false e rest =
-          let goes = goes_by (is_over w.state []) e in
+          let goes = not_from_false (is_over w.state []) e in
           let later = rest (rises p w [] timed refl goes) in
           record {
             lists = [] ∷ later.lists;
@@ -234,7 +227,7 @@ module _ (p : Plan) (timed : IsTimed p) where
       by false e later = record {
         lists = entries ∷ later.lists;
         end = later.end;
-        lasts = on (goes_by (is_over w.state (entries ∷ left)) e) later.lasts;
+        lasts = on (not_from_false (is_over w.state (entries ∷ left)) e) later.lasts;
         most = one_list (length later.lists) (length left) (tic_limit + 1) later.most;
       }
 
@@ -279,7 +272,7 @@ alone_over p w count is = record {
   lists = [];
   whole = record { goes = refl; over = is; comes = refl };
   published = tt;
-  most = zero_most count;
+  most = zero_at_most count;
 }
 
 module _ (p : Plan) (timed : IsTimed p) where
@@ -288,7 +281,7 @@ module _ (p : Plan) (timed : IsTimed p) where
     where
       by : (b : Bool) → is_over w.state [] ≡ b → RunsAlone p w zero
       by true e = alone_over p w zero e
-      by false e = absurd (no_turn p w good all (goes_by (is_over w.state []) e))
+      by false e = absurd (no_turn p w good all (not_from_false (is_over w.state []) e))
   runs_alone (suc count) w good all =
       by (is_over w.state []) refl
       (λ less.
@@ -301,7 +294,7 @@ module _ (p : Plan) (timed : IsTimed p) where
       by true e rest = alone_over p w (suc count) e
       by false e rest =
           let entries = serial_entries p w.state in
-          let goes = goes_by (is_over w.state []) e in
+          let goes = not_from_false (is_over w.state []) e in
           let frozen = not_frozen (is_shut w.state.mode) (nat_le w.state.limit w.state.tic) (is_frozen w.state.mode) goes in
           let later = rest (rises p w entries timed (serial_quiet p w.state) goes) in
           record {

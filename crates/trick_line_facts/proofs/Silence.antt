@@ -1,5 +1,6 @@
 -- Which sessions are sent nothing.
 use Rattle.std.proofs.Common.{◌≡◌, ◌∙◌, ℕ, ◌==◌, ◌&&◌, List, [], ◌∷◌, ◌++◌, Bool, true, false, not, ap, append_assoc, refl, subst, sym}
+use Rattle.std.proofs.Math.Bool.{or-true}
 use Rattle.std.proofs.lemmas.Bool.{and_from, and_parts, eqb-true, or_parts}
 use Rattle.std.proofs.lemmas.List.Elements.{All-head, All-tail}
 use Rattle.std.specs.Prelude.{◌||◌, All, cond, map}
@@ -366,10 +367,6 @@ leaving p s early entries number cause rise only =
 
 -- ---- a leave after other entries
 
-or_true : (b : Bool) → (b || true) ≡ true
-or_true true = refl
-or_true false = refl
-
 -- where only one session has the number, it is leaving after its leave
 marked_goes : (number : ℕ) (sessions : List Session) → rises (numbers_of sessions) ≡ true
     → all_pass goes number (changed (λ (s : Session). let t : Session = record s { leaving = true } in t) number sessions) ≡ true
@@ -385,7 +382,7 @@ marked_goes number (session ∷ sessions) rise =
         ] in all_pass goes number now ≡ true)
     by true same rest =
         let marked : Session = record session { leaving = true } in
-        and_from (passes goes number marked) (all_pass goes number sessions) (or_true (not (session.number == number)))
+        and_from (passes goes number marked) (all_pass goes number sessions) (or-true (not (session.number == number)))
         (absent_pass goes number sessions (not_again session.number number (numbers_of sessions) same rise))
     by false other rest =
         and_from (passes goes number session)

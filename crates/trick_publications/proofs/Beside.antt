@@ -1,7 +1,7 @@
 -- Must-finish work on both sides, and what asynchronous threads do on one.
 use Rattle.std.proofs.Common.{◌≡◌, ◌∙◌, ℕ, ◌+◌, ◌%◌, ◌==◌, ℤ, List, [], ◌∷◌, Bool, true, false, Option, Some, None, ap, arith, refl, subst, sym}
 use Rattle.std.specs.Prelude.{slice_set}
-use Rattle.trick_lang.proofs.Tests.{both_left}
+use Rattle.trick_base.proofs.Truths.{first_holds}
 use Rattle.trick_model.proofs.Turns.{FoundAt, IsAt, all_at, find_at}
 use Rattle.trick_model.specs.Access.{may_write, scope}
 use Rattle.trick_model.specs.Beside.{ends_at, find_thread, flag_in, has_round, held_work, must_finish, publish, publish_round, published, spread, start_round, take, taken_from, where_ends, work, zeros}
@@ -183,7 +183,7 @@ round_quiet p steady (Some found) s at =
     let same : 0 + found.0 ≡ found.0 = omega arith in
     one_of p (has_round s found.0 found.1) s (publish p found.0 found.1 s.tic s)
     (λ there. publish_quiet p steady found.0 found.1 s.tic s (subst (λ (n : ℕ). IsAt p n found.1) same at)
-    (both_left (is_async found.1.process) (taken_at s found.0).held there))
+    (first_holds (is_async found.1.process) (taken_at s found.0).held there))
 
 -- Publications of rounds change nothing outside the reach.
 pub publications_quiet : (p : Plan) → IsSteady p → (entries : List Entry) (s : State) → AreAlike p s (publish_all p entries s)

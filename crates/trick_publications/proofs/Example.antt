@@ -1,10 +1,11 @@
 -- Two journals of one plan that differ in publications alone.
 use Rattle.std.proofs.Common.{◌≡◌, ℕ, zero, suc, ◌<◌, ◌||◌, ◌&&◌, nat_le, refl, arith, IsTrue}
 use Rattle.std.proofs.lemmas.Bool.Decides.{nat_tests}
+use Rattle.std.proofs.lemmas.List.Elements.{All-nil}
 use Rattle.std.specs.Fmt.{digits}
 use Rattle.std.specs.Int.{int_wrap}
 use Rattle.std.specs.Prelude.{All, ℤ, pos, ◌+ℤ◌, true, false, List, [], ◌∷◌, codes, Option, Some, None, Result, Ok}
-use Rattle.trick_lang.proofs.Tests.{both_left, both_right}
+use Rattle.trick_base.proofs.Truths.{first_holds, second_holds}
 use Rattle.trick_lang.specs.declared.class.Class.TheVariants.{Scheduled}
 use Rattle.trick_lang.specs.declared.fault.Stop.{Stop}
 use Rattle.trick_lang.specs.declared.job.Job.{Job}
@@ -129,9 +130,6 @@ n_is_not_reached h = not_first 0 h refl
 
 -- ---- the plan is accepted
 
-none_of : {A : Type 0} (P : A → Type 0) → All P []
-none_of P k d there = absurd (omega (arith, there))
-
 one_of : {A : Type 0} (P : A → Type 0) (x : A) → P x → All P (x ∷ [])
 one_of P x first zero d there = first
 one_of P x first (suc k) d there = absurd (omega (arith, there))
@@ -156,7 +154,7 @@ apart (suc (suc c)) one other = grind (arith, nat_tests, other)
 once : (one other : Thread) → ((c : ℕ) → IsTrue (may_write_on copying one c) → IsTrue (may_write_on copying other c) → ⊥)
     → (c : ℕ) → IsWrittenOnce copying one other c
 once one other none c differ beside both =
-    none c (both_left (may_write_on copying one c) (may_write_on copying other c) both) (both_right (may_write_on copying one c) (may_write_on copying other c) both)
+    none c (first_holds (may_write_on copying one c) (may_write_on copying other c) both) (second_holds (may_write_on copying one c) (may_write_on copying other c) both)
 
 fine : (a b : ℕ) → a < 3 → b < 3 → IsFine copying a b
 fine zero zero there also may tic shared = absurd (may.on_two_threads refl)
@@ -174,13 +172,13 @@ pub is_accepted : IsAccepted copying
 is_accepted = record {
   named = two_of (IsNamedRight copying) main round (λ named. cc named) (λ named. (λ e. absurd (omega (arith, e)), refl));
   on_main = λ k there other. absurd (other (scheduled_all k there));
-  forward = none_of (IsForward copying);
+  forward = All-nil (IsForward copying);
   written_once = two_of (λ one. All (λ other. (c : ℕ) → IsWrittenOnce copying one other c) copying.threads) main round
       (two_of (λ other. (c : ℕ) → IsWrittenOnce copying main other c) main round (λ c differ. absurd (differ refl)) (once main round apart))
       (two_of (λ other. (c : ℕ) → IsWrittenOnce copying round other c) main round (once round main (λ c one other. apart c other one))
       (λ c differ. absurd (differ refl)));
   recordable = one_of (λ (group : Group). All (IsRecordable copying) group.cells) recorded (one_of (IsRecordable copying) (record { 0 = 0 }) n_is_not_reached);
-  decidable = none_of (IsDecidable copying);
+  decidable = All-nil (IsDecidable copying);
   no_race = fine;
 }
 

@@ -1,9 +1,10 @@
 -- What each member of a list keeps: lists of jobs, and the thread of a place.
-use Rattle.std.proofs.Common.{◌≡◌, ◌∙◌, ◌⊎◌, inl, inr, ℕ, zero, suc, ◌+◌, ◌<◌, ◌==◌, nat_lt, List, [], ◌∷◌, ◌++◌, length, Bool, true, false, cond, arith, refl, ap, subst}
-use Rattle.std.proofs.lemmas.Bool.Decides.{nat_tests}
+use Rattle.std.proofs.Common.{◌≡◌, ◌∙◌, ◌⊎◌, inl, inr, ℕ, zero, suc, ◌+◌, ◌<◌, nat_lt, List, [], ◌∷◌, ◌++◌, length, Bool, true, false, cond, arith, refl, ap, subst}
+use Rattle.std.proofs.lemmas.Bool.{ltb-true}
 use Rattle.std.specs.List.{slice_index_or}
 use Rattle.std.specs.Prelude.{All, filter, flat_map}
-use Rattle.trick_lang.proofs.Tests.{both_left, both_right}
+use Rattle.trick_base.proofs.Numbers.{equal_to_itself, other_than_greater}
+use Rattle.trick_base.proofs.Truths.{first_holds, second_holds}
 use Rattle.trick_lang.specs.declared.job.Job.{Job}
 use Rattle.trick_model.specs.Order.{in_key_order, precedes, put_in}
 use Rattle.trick_model.specs.Plan.{job_numbers, numbers_from, process_in}
@@ -79,37 +80,28 @@ among_filter : (test : Thread → Bool) (t : Thread) (xs : List Thread) → Amon
 among_filter test t [] h = h
 among_filter test t (x ∷ xs) h = among_chosen (test x) t x xs (filter test xs) (among_filter test t xs) h
 
-less_of : (m n : ℕ) → nat_lt m n ≡ true → m < n
-less_of m n h = grind (arith, nat_tests, h)
-
 -- where numbers rise, each later one is above the first
 above : (n : ℕ) (t : Thread) (xs : List Thread) → rises (n ∷ thread_numbers xs) ≡ true → Among t xs → n < t.number
 above n t [] h among = absurd among
 above n t (x ∷ xs) h (inl e) =
-    subst (λ (s : Thread). n < s.number) e (less_of n x.number (both_left (nat_lt n x.number) (rises (thread_numbers (x ∷ xs))) h))
+    subst (λ (s : Thread). n < s.number) e (ltb-true n x.number (first_holds (nat_lt n x.number) (rises (thread_numbers (x ∷ xs))) h))
 above n t (x ∷ xs) h (inr later) =
-    let first = less_of n x.number (both_left (nat_lt n x.number) (rises (thread_numbers (x ∷ xs))) h) in
-    let rest = above x.number t xs (both_right (nat_lt n x.number) (rises (thread_numbers (x ∷ xs))) h) later in
+    let first = ltb-true n x.number (first_holds (nat_lt n x.number) (rises (thread_numbers (x ∷ xs))) h) in
+    let rest = above x.number t xs (second_holds (nat_lt n x.number) (rises (thread_numbers (x ∷ xs))) h) later in
     omega (arith, first, rest)
 
 rises_on : (n : ℕ) (xs : List Thread) → rises (n ∷ thread_numbers xs) ≡ true → rises (thread_numbers xs) ≡ true
 rises_on n [] h = refl
-rises_on n (x ∷ xs) h = both_right (nat_lt n x.number) (rises (thread_numbers (x ∷ xs))) h
-
-same_test : (n : ℕ) → (n == n) ≡ true
-same_test n = grind (arith, nat_tests)
-
-other_test : (m n : ℕ) → m < n → (m == n) ≡ false
-other_test m n less = grind (arith, nat_tests, less)
+rises_on n (x ∷ xs) h = second_holds (nat_lt n x.number) (rises (thread_numbers (x ∷ xs))) h
 
 -- the process type of a number is that of its thread
 process_of : (t : Thread) (xs : List Thread) → rises (thread_numbers xs) ≡ true → Among t xs → process_in xs t.number ≡ t.process
 process_of t [] h among = absurd among
 process_of t (x ∷ xs) h (inl e) =
     subst (λ (s : Thread). process_in (x ∷ xs) s.number ≡ s.process) e
-    (ap (λ (b : Bool). elim b [ true ↦ x.process | false ↦ process_in xs x.number ]) (same_test x.number))
+    (ap (λ (b : Bool). elim b [ true ↦ x.process | false ↦ process_in xs x.number ]) (equal_to_itself x.number))
 process_of t (x ∷ xs) h (inr later) =
-    ap (λ (b : Bool). elim b [ true ↦ x.process | false ↦ process_in xs t.number ]) (other_test x.number t.number (above x.number t xs h later))
+    ap (λ (b : Bool). elim b [ true ↦ x.process | false ↦ process_in xs t.number ]) (other_than_greater x.number t.number (above x.number t xs h later))
     ∙ process_of t xs (rises_on x.number xs h) later
 
 pub process_at : (test : Thread → Bool) (xs : List Thread) (place : ℕ) (t : Thread) → rises (thread_numbers xs) ≡ true

@@ -3,8 +3,8 @@ use Rattle.std.proofs.Common.{◌≡◌, ◌∙◌, ℕ, suc, List, [], ◌∷�
 use Rattle.std.specs.List.{list_any, slice_index_or}
 use Rattle.std.specs.Prelude.{IsTrue, Option}
 use Rattle.trick_base.proofs.ContentLemmas.{content-append}
+use Rattle.trick_base.proofs.Truths.{first_holds, second_holds}
 use Rattle.trick_base.specs.Content.{content}
-use Rattle.trick_lang.proofs.Tests.{both_left, both_right}
 use Rattle.trick_lang.specs.declared.class.Class.TheVariants as class
 use Rattle.trick_model.specs.Files.{end_writes, file, start_writes, turn_writes, turns_writes}
 use Rattle.trick_model.specs.Journal.{is_of_session}
@@ -96,15 +96,15 @@ as_many : (p : Plan) → IsSteady p → (w u : World) (one other : List (List En
 as_many p steady w u [] [] differ h goes over also done = refl
 as_many p steady w u [] (others ∷ other) differ h goes over also done =
     absurd (not_both (is_over u.state (others ∷ other)) (sym (over_same p w.state u.state [] (others ∷ other) h.state differ) ∙ over)
-    (both_left (not (is_over u.state (others ∷ other))) (goes_on p (turn p u others).world other) also))
+    (first_holds (not (is_over u.state (others ∷ other))) (goes_on p (turn p u others).world other) also))
 as_many p steady w u (entries ∷ one) [] differ h goes over also done =
     absurd (not_both (is_over w.state (entries ∷ one)) (over_same p w.state u.state (entries ∷ one) [] h.state differ ∙ done)
-    (both_left (not (is_over w.state (entries ∷ one))) (goes_on p (turn p w entries).world one) goes))
+    (first_holds (not (is_over w.state (entries ∷ one))) (goes_on p (turn p w entries).world one) goes))
 as_many p steady w u (entries ∷ one) (others ∷ other) differ h goes over also done =
     let first = turn_alike p steady w u entries others (differ 0) h in
     ap suc (as_many p steady (turn p w entries).world (turn p u others).world one other (λ k. differ (suc k)) first.world
-    (both_right (not (is_over w.state (entries ∷ one))) (goes_on p (turn p w entries).world one) goes) over
-    (both_right (not (is_over u.state (others ∷ other))) (goes_on p (turn p u others).world other) also) done)
+    (second_holds (not (is_over w.state (entries ∷ one))) (goes_on p (turn p w entries).world one) goes) over
+    (second_holds (not (is_over u.state (others ∷ other))) (goes_on p (turn p u others).world other) also) done)
 
 -- ---- the ends
 

@@ -1,10 +1,11 @@
 -- What an accepted plan gives: effects and conditions that depend on what is read alone, and what is not reached.
 use Rattle.std.proofs.Common.{◌≡◌, ℕ, ◌+◌, ◌-◌, ◌<◌, ℤ, pos, List, [], ◌∷◌, ◌++◌, length, map, Bool, true, false, not, ◌&&◌, nat_le, nat_lt, IsTrue, Option, Some, None, Ok, ap, arith, refl}
 use Rattle.std.proofs.Math.Logic.{∥∥₁_elim}
-use Rattle.std.proofs.lemmas.Bool.Decides.{nat_tests}
+use Rattle.std.proofs.lemmas.Bool.{false≢true, ltb-true}
 use Rattle.std.specs.List.{slice_index_or}
 use Rattle.std.specs.Prelude.{All}
-use Rattle.trick_lang.proofs.Tests.{and_then-same, both_left, both_right, if-same, in_first, in_left, in_right}
+use Rattle.trick_base.proofs.Truths.{first_holds, no_two_absurdities, second_holds}
+use Rattle.trick_lang.proofs.Tests.{and_then-same, if-same, in_first, in_left, in_right}
 use Rattle.trick_lang.specs.Access.{choice_reads, is_in, link_reads, term_reads}
 use Rattle.trick_lang.specs.Laws.{AgreeOn, SameEffect, WritesOnly}
 use Rattle.trick_lang.specs.Numbers.{is_true, joined}
@@ -61,22 +62,16 @@ alike_right xs ys f g h c k = h c (in_right xs ys c k)
 abbrev seeing : (ℕ → ℤ) → Sight
 seeing f = record { base = 0; cell = f; local = λ slot. pos 0 }
 
-below : (offset span : ℕ) → nat_lt offset span ≡ true → offset < span
-below offset span h = grind (arith, nat_tests, h)
-
-not_false : false ≡ true → ⊥
-not_false h = cc h
-
 module _ (cells : ℕ) (f g : ℕ → ℤ) where
   plain_same : (own : Bool) (first span offset : ℕ) (literals : ℕ) (steps : Steps)
       → IsTrue (not own && (has_no_step steps && (nat_lt offset span && nat_le (first + span) cells)))
       → Alike (term_reads (Cell (spot own first span offset literals steps)) 0) f g
       → value (Cell (spot own first span offset literals steps)) (seeing f) ≡ value (Cell (spot own first span offset literals steps)) (seeing g)
-  plain_same true first span offset literals steps plain h = absurd (not_false plain)
+  plain_same true first span offset literals steps plain h = absurd (false≢true plain)
   plain_same false first span offset literals NoStep plain h =
-      let small : offset < span = below offset span (both_left (nat_lt offset span) (nat_le (first + span) cells) plain) in
+      let small : offset < span = ltb-true offset span (first_holds (nat_lt offset span) (nat_le (first + span) cells) plain) in
       ap Ok (h (0 + first + offset) (in_first (0 + first) (0 + first + (span - 1)) [] (0 + first + offset) (omega arith) (omega (arith, small))))
-  plain_same false first span offset literals (Step len stride e rest) plain h = absurd (not_false plain)
+  plain_same false first span offset literals (Step len stride e rest) plain h = absurd (false≢true plain)
 
   mutual
     value_same : (e : Term) → IsTrue (is_condition cells e) → Alike (term_reads e 0) f g → value e (seeing f) ≡ value e (seeing g)
@@ -85,27 +80,27 @@ module _ (cells : ℕ) (f g : ℕ → ℤ) where
     value_same (Cell (spot own first span offset literals steps)) fit h = plain_same own first span offset literals steps fit h
     value_same (Prefixed o e) fit h = and_then-same _ _ _ _ (value_same e fit h) (λ x is. refl)
     value_same (Chain e links) fit h =
-        and_then-same _ _ _ _ (value_same e (both_left _ _ fit) (alike_left (term_reads e 0) _ f g h))
-        (λ x is. linked_same links x (both_right (is_condition cells e) _ fit) (alike_right (term_reads e 0) _ f g h))
+        and_then-same _ _ _ _ (value_same e (first_holds _ _ fit) (alike_left (term_reads e 0) _ f g h))
+        (λ x is. linked_same links x (second_holds (is_condition cells e) _ fit) (alike_right (term_reads e 0) _ f g h))
     value_same (Choose choices) fit h = chosen_same choices fit h
 
     linked_same : (links : Links) (x : ℤ) → IsTrue (are_conditions cells links) → Alike (link_reads links 0) f g
         → linked links x (seeing f) ≡ linked links x (seeing g)
     linked_same NoLink x fit h = refl
     linked_same (Link o e rest) x fit h =
-        let others = both_right (is_safe o) _ fit in
-        and_then-same _ _ _ _ (ap (joined o x) (value_same e (both_left _ _ others) (alike_left (term_reads e 0) _ f g h)))
-        (λ y is. linked_same rest y (both_right (is_condition cells e) _ others) (alike_right (term_reads e 0) _ f g h))
+        let others = second_holds (is_safe o) _ fit in
+        and_then-same _ _ _ _ (ap (joined o x) (value_same e (first_holds _ _ others) (alike_left (term_reads e 0) _ f g h)))
+        (λ y is. linked_same rest y (second_holds (is_condition cells e) _ others) (alike_right (term_reads e 0) _ f g h))
 
     chosen_same : (choices : Choices) → IsTrue (are_all_conditions cells choices) → Alike (choice_reads choices 0) f g
         → chosen choices (seeing f) ≡ chosen choices (seeing g)
     chosen_same (Last e) fit h = value_same e fit h
     chosen_same (Choice test e rest) fit h =
-        let others = both_right (is_condition cells test) _ fit in
+        let others = second_holds (is_condition cells test) _ fit in
         let later = alike_right (term_reads test 0) _ f g h in
-        and_then-same _ _ _ _ (value_same test (both_left _ _ fit) (alike_left (term_reads test 0) _ f g h))
-        (λ x is. if-same (is_true x) _ _ _ _ (value_same e (both_left _ _ others) (alike_left (term_reads e 0) _ f g later))
-        (chosen_same rest (both_right (is_condition cells e) _ others) (alike_right (term_reads e 0) _ f g later)))
+        and_then-same _ _ _ _ (value_same test (first_holds _ _ fit) (alike_left (term_reads test 0) _ f g h))
+        (λ x is. if-same (is_true x) _ _ _ _ (value_same e (first_holds _ _ others) (alike_left (term_reads e 0) _ f g later))
+        (chosen_same rest (second_holds (is_condition cells e) _ others) (alike_right (term_reads e 0) _ f g later)))
 
 condition_same : (p : Plan) (cells : ℕ) (condition : Option Expr) → IsTrue (is_condition_of cells condition)
     → ((cell : ℕ) → IsTrue (is_in (condition_reads condition) cell) → IsReached p cell → ⊥)
@@ -127,9 +122,6 @@ all_decided p cells (event ∷ events) plain apart =
 
 -- ---- an accepted plan
 
-no_two : (x y : ⊥) → x ≡ y
-no_two x y = absurd x
-
 every_step : {A : Type 0} (P Q : A → Type 0) → ((x : A) → P x → Q x) → (xs : List A) → Every P xs → Every Q xs
 every_step P Q step [] h = tt
 every_step P Q step (x ∷ xs) h = (step x h.0, every_step P Q step xs h.1)
@@ -145,9 +137,9 @@ steady same only plan accepted =
       recorded = every_step (λ (group : Group). All (λ (cell : CellValue). IsReached p cell.0 → ⊥) group.cells) (IsClean p)
           (λ group all. every_of_all (λ (cell : CellValue). IsReached p cell.0 → ⊥) group.cells all) p.groups
           (every_of_all (λ (group : Group). All (λ (cell : CellValue). IsReached p cell.0 → ⊥) group.cells) p.groups
-          (λ k d there j e less reached. ∥∥₁_elim accepted no_two (λ (a : IsAccepted p). a.recordable k d there j e less reached)));
+          (λ k d there j e less reached. ∥∥₁_elim accepted no_two_absurdities (λ (a : IsAccepted p). a.recordable k d there j e less reached)));
       decided = all_decided p (length plan.program.cells) plan.events
           (every_of_all (λ (event : EventValue). IsTrue (is_condition_of (length plan.program.cells) event.condition)) plan.events plan.conditions_right)
           (every_of_all (IsApart p) (map event_of plan.events)
-          (λ k d there cell reads reached. ∥∥₁_elim accepted no_two (λ (a : IsAccepted p). a.decidable k d there cell reads reached)));
+          (λ k d there cell reads reached. ∥∥₁_elim accepted no_two_absurdities (λ (a : IsAccepted p). a.decidable k d there cell reads reached)));
     }

@@ -1,11 +1,12 @@
 -- What a run writes first and last.
-use Rattle.std.proofs.Common.{◌≡◌, ◌∙◌, ℕ, zero, suc, ◌<◌, arith, drop, length, List, [], ◌∷◌, ◌++◌, Bool, true, false, not, ◌&&◌, cond, Some, unwrap_or, ap, refl, sym}
+use Rattle.std.proofs.Common.{◌≡◌, ◌∙◌, ℕ, zero, suc, drop, length, List, [], ◌∷◌, ◌++◌, Bool, true, false, not, ◌&&◌, cond, Some, unwrap_or, ap, refl, sym}
 use Rattle.std.proofs.lemmas.List.{append_cancel_right}
 use Rattle.std.proofs.lemmas.Slice.Eq.{bytes_eq-Decides}
 use Rattle.std.specs.List.{list_any}
 use Rattle.std.specs.Prelude.{◌||◌, All, IsTrue, Option, codes, flat_map}
 use Rattle.std.specs.Str.{bytes_eq}
 use Rattle.trick_base.proofs.FileLemmas.{name_itself, names_differ}
+use Rattle.trick_base.proofs.Numbers.{less_before, none_below_zero}
 use Rattle.trick_base.specs.Content.{content, same_name}
 use Rattle.trick_base.specs.Files.{Write}
 use Rattle.trick_model.specs.Files.{end_writes, journal_name, start_writes}
@@ -71,12 +72,6 @@ others_leave p group (other ∷ groups) before none =
     (other_file (same_name (log_name group) (log_name other)) (header p other) before (logs_differ group other facts.0))
     ∙ others_leave p group groups before facts.1
 
-nowhere : (k : ℕ) → k < 0 → ⊥
-nowhere k less = omega (arith, less)
-
-one_less : (k n : ℕ) → suc k < suc n → k < n
-one_less k n less = omega (arith, less)
-
 -- each log begins with its header
 abbrev pub IsBegun : Plan → List Write → Group → Type 0
 IsBegun p writes group = (before : Option (List ℕ)) → content (log_name group) writes before ≡ Some (header p group)
@@ -85,7 +80,7 @@ all_later : (P Q : Group → Type 0) → ((group : Group) → P group → Q grou
 all_later P Q step groups all k d less = step _ (all k d less)
 
 logs_begin : (p : Plan) (groups : List Group) → all_differ (group_names groups) ≡ true → All (IsBegun p (log_writes p groups)) groups
-logs_begin p [] apart k d less before = absurd (nowhere k less)
+logs_begin p [] apart k d less before = absurd (none_below_zero k less)
 logs_begin p (group ∷ groups) apart zero d less before =
     let facts = both_true (not (list_any (bytes_eq group.name) (group_names groups))) (all_differ (group_names groups)) apart in
     ap (content (log_name group) (log_writes p groups))
@@ -93,7 +88,7 @@ logs_begin p (group ∷ groups) apart zero d less before =
     ∙ others_leave p group groups (Some (header p group)) facts.0
 logs_begin p (group ∷ groups) apart (suc k) d less before =
     let facts = both_true (not (list_any (bytes_eq group.name) (group_names groups))) (all_differ (group_names groups)) apart in
-    logs_begin p groups facts.1 k d (one_less k (length groups) less) _
+    logs_begin p groups facts.1 k d (less_before k (length groups) less) _
 
 pub starts_logs : (p : Plan) (turn : ℕ) → IsTrue (all_differ (group_names p.groups)) → All (IsBegun p (start_writes p turn)) p.groups
 starts_logs p turn apart =

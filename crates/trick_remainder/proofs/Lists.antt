@@ -1,7 +1,7 @@
 -- The lists of a journal, cut in two at a turn.
 use Rattle.std.proofs.Common.{◌≡◌, ◌∙◌, ℕ, zero, suc, ◌+◌, ◌-◌, ◌<◌, ◌≤◌, List, [], ◌∷◌, ◌++◌, Bool, true, false, not, ap, arith, refl, sym}
 use Rattle.std.specs.Prelude.{◌&&◌, ◌||◌, nat_le, IsTrue}
-use Rattle.trick_model.proofs.Runs.{and_left}
+use Rattle.trick_base.proofs.Truths.{first_holds}
 use Rattle.trick_model.specs.Journal.{Noted, entries_at, lists_from, live_before, with_joins}
 use Rattle.trick_model.specs.Plan.{Plan}
 use Rattle.trick_model.specs.Run.{goes_on, has_session_entry, is_over, is_shut}
@@ -72,7 +72,7 @@ joins_come p w live [] goes = none (is_frozen w.state.mode && true) []
     none false lists = refl
 joins_come p w live (entries ∷ lists) goes =
     not_over (is_shut w.state.mode) (nat_le w.state.limit w.state.tic) (is_frozen w.state.mode && not (has_session_entry (entries ∷ lists)))
-    (and_left (not (is_over w.state (entries ∷ lists))) _ goes)
+    (first_holds (not (is_over w.state (entries ∷ lists))) _ goes)
   where
     not_over : (a b c : Bool) → not (a || (b || c)) ≡ true
         → (elim c [ true ↦ entries ∷ lists | false ↦ with_joins live (entries ∷ lists) ]) ≡ with_joins live (entries ∷ lists)

@@ -3,6 +3,7 @@ use Rattle.std.proofs.Common.{◌≡◌, ◌∙◌, ℕ, zero, suc, ◌+◌, ◌
 use Rattle.std.proofs.lemmas.List.{length-map}
 use Rattle.std.specs.List.{enumerate_from, slice_index_or, zip}
 use Rattle.std.specs.Prelude.{All, IsTrue, codes, map}
+use Rattle.trick_base.proofs.Numbers.{zero_at_most}
 use Rattle.trick_load.proofs.Reading.{firsts_of, seconds_of}
 use Rattle.trick_load.specs.CheckpointLines.{cells_of, checkpoint, flag_line, flags_of, group_of, groups_of, head_lines, held_behind, held_of, job_flags_of, last_line, last_of, memory_of, mode_at, mode_line, mode_place, record_name, record_of, records_of, scope_cells, taken_by, taken_parts, thread_jobs}
 use Rattle.trick_load.specs.Faults.{fault_line, faults_lines, faults_of, job_text, job_texts, kind_place, kind_word_at, most_faults, no_fault}
@@ -42,9 +43,6 @@ use Rattle.trick_resume.proofs.Holding.{each_holds, numbered_holds, range_kept}
 use Rattle.trick_resume.proofs.Items.{numbered_at, numbered_many}
 use Rattle.trick_resume.specs.States.{HasNumbers, StatesHaveCheckpoints}
 
-least : (n : ℕ) → 0 ≤ n
-least n = omega arith
-
 -- ---- words and flags
 
 itself : (n : ℕ) → n ≤ n
@@ -55,8 +53,8 @@ number_holds name low most n one other = ((tt, (one, other)), refl)
 
 flag_holds : (name : List ℕ) (on : Bool) → Holds (flag_line name) on
 unfolding flag_line
-flag_holds name true = (number_holds name 0 1 1 (least 1) (itself 1), refl)
-flag_holds name false = (number_holds name 0 1 0 (least 0) (least 1), refl)
+flag_holds name true = (number_holds name 0 1 1 (zero_at_most 1) (itself 1), refl)
+flag_holds name false = (number_holds name 0 1 0 (zero_at_most 0) (zero_at_most 1), refl)
 
 mode_holds : (m : Mode) → Holds mode_line m
 unfolding mode_line
@@ -223,7 +221,7 @@ fault_holds : (plan : Plan) (k : ℕ) (fault : JobFault) → IsFault (plan_of pl
 unfolding fault_line
 fault_holds plan k fault right short =
     let inside : (fault.job).0 < length (job_texts plan) = subst (λ (n : ℕ). (fault.job).0 < n) (sym (length-map plan.program.jobs _)) right.job in
-    ((tt, (((least fault.tic, right.tic), ((inside, refl), ((kind_holds fault.kind), (least fault.line, short)))), refl)), refl)
+    ((tt, (((zero_at_most fault.tic, right.tic), ((inside, refl), ((kind_holds fault.kind), (zero_at_most fault.line, short)))), refl)), refl)
 
 few : (count first : ℕ) → first ≡ min count kept → first ≡ 0 → count ≡ 0
 few count first e none = omega (arith, e, none)
@@ -244,7 +242,7 @@ most_holds : (plan : Plan) (faults : FaultList) (jobs : List Job) → plan.progr
     → faults.count ≤ most_faults (job_texts plan)
 most_holds plan faults [] none right many most =
     subst (λ (n : ℕ). n ≤ most_faults (job_texts plan)) (sym (few faults.count (length faults.first) many (none_first plan faults.first none right)))
-    (least (most_faults (job_texts plan)))
+    (zero_at_most (most_faults (job_texts plan)))
 most_holds plan faults (job ∷ jobs) some right many most =
     subst (λ (js : List Job). faults.count ≤ most_faults (map (λ (j : Job). job_text (job_name plan.program.objects plan.program.methods j) j.instance) js)) (sym some) most
 
@@ -256,7 +254,7 @@ faults_hold : (plan : Plan) (faults : FaultList) → All (IsFault (plan_of plan)
 unfolding faults_lines faults_of
 faults_hold plan faults right many most short = (
   (
-    number_holds (codes "faults") 0 (most_faults (job_texts plan)) faults.count (least faults.count) (most_holds plan faults plan.program.jobs refl right many most),
+    number_holds (codes "faults") 0 (most_faults (job_texts plan)) faults.count (zero_at_most faults.count) (most_holds plan faults plan.program.jobs refl right many most),
     numbered_holds no_fault (fault_line (job_texts plan)) 0 (min faults.count kept) faults.first no_fault_at many
         (λ k j less.
         let inside : k < length faults.first = subst (λ (n : ℕ). k < n) (sym many) less in
@@ -286,11 +284,11 @@ states_have_checkpoints plan s right numbers =
       (
         number_holds (codes "checkpoint") 1 1 1 (itself 1) (itself 1),
         (
-          number_holds (codes "turn") 0 last_turn s.turn (least s.turn) right.turn,
+          number_holds (codes "turn") 0 last_turn s.turn (zero_at_most s.turn) right.turn,
           (
-            number_holds (codes "tic") 0 (tic_limit + 1) s.tic (least s.tic) right.tic,
+            number_holds (codes "tic") 0 (tic_limit + 1) s.tic (zero_at_most s.tic) right.tic,
             (
-              number_holds (codes "limit") 0 (tic_limit + 1) s.limit (least s.limit) right.limit,
+              number_holds (codes "limit") 0 (tic_limit + 1) s.limit (zero_at_most s.limit) right.limit,
               mode_holds s.mode,
             ),
           ),

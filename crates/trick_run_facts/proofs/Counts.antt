@@ -2,7 +2,7 @@
 use Rattle.std.proofs.Common.{◌≡◌, ◌∙◌, ℕ, suc, ◌+◌, ◌<◌, List, [], ◌∷◌, ◌++◌, Bool, true, false, not, ◌&&◌, ◌==◌, Option, Some, None, ap, append-nil, append_assoc, arith, cond, length, length-append, refl, subst, sym}
 use Rattle.std.proofs.Math.Seq.{get_or-append_seam}
 use Rattle.std.proofs.lemmas.Bool.Decides.{nat_tests}
-use Rattle.std.proofs.lemmas.Bool.{eq-eqb}
+use Rattle.std.proofs.lemmas.Bool.{and_left, eq-eqb, or_from, or_right}
 use Rattle.std.proofs.lemmas.List.Folds.{list_any-append}
 use Rattle.std.specs.List.{slice_index_or}
 use Rattle.std.specs.Prelude.{◌||◌}
@@ -66,16 +66,12 @@ last : (number : ℕ) (before : List Thread) (thread : Thread) → NotAmong numb
 last number [] thread so = so.0
 last number (first ∷ before) thread so = last number before thread so.1
 
-neither : (a b : Bool) → a ≡ false → b ≡ false → (a || b) ≡ false
-neither true b e f = cc e
-neither false b e f = f
-
 -- a publication of another thread more
 one_other : (number : ℕ) (entries : List Entry) (thread : Thread) → is_published number entries ≡ false → (thread.number == number) ≡ false
     → is_published number (entries ++ Publish thread.number ∷ []) ≡ false
 one_other number entries thread so other =
     list_any-append (is_publication_of number) entries (Publish thread.number ∷ [])
-    ∙ neither (is_published number entries) ((thread.number == number) || false) so (neither (thread.number == number) false other refl)
+    ∙ or_from (is_published number entries) ((thread.number == number) || false) so (or_from (thread.number == number) false other refl)
 
 -- what was chosen of threads publishes no other
 not_published : (s : State) (waits : List ℕ) (number : ℕ) (threads : List Thread) (entries : List Entry) (polls : List Poll)
@@ -96,10 +92,6 @@ or_same : (a b : Bool) → b ≡ false → (a || b) ≡ a
 or_same true b e = refl
 or_same false b e = e
 
-or_last : (a b : Bool) → b ≡ true → (a || b) ≡ true
-or_last true b e = refl
-or_last false b e = e
-
 -- a publication of another thread leaves the others as they were
 left_same : (s : State) (entries : List Entry) (number place : ℕ) (threads : List Thread) → NotAmong number threads
     → left_among s (entries ++ Publish number ∷ []) place threads ≡ left_among s entries place threads
@@ -108,7 +100,7 @@ left_same s entries number place (thread ∷ threads) apart =
     let more = left_same s entries number (place + 1) threads apart.1 in
     let same : is_published thread.number (entries ++ Publish number ∷ []) ≡ is_published thread.number entries =
     list_any-append (is_publication_of thread.number) entries (Publish number ∷ [])
-    ∙ or_same (is_published thread.number entries) ((number == thread.number) || false) (neither (number == thread.number) false (turned thread.number number apart.0) refl) in
+    ∙ or_same (is_published thread.number entries) ((number == thread.number) || false) (or_from (number == thread.number) false (turned thread.number number apart.0) refl) in
     ap (λ (b : Bool). cond (has_round s place thread && not b) (suc (left_among s (entries ++ Publish number ∷ []) (place + 1) threads))
     (left_among s (entries ++ Publish number ∷ []) (place + 1) threads)) same
     ∙ ap (λ (n : ℕ). cond (has_round s place thread && not (is_published thread.number entries)) (suc n) n) more
@@ -153,10 +145,6 @@ ready_more (poll ∷ early) late =
     moved : (b : Bool) (n m : ℕ) → cond b (n + m) (suc (n + m)) ≡ cond b n (suc n) + m
     moved true n m = refl
     moved false n m = omega arith
-
-is_none : (a b : Bool) → a ≡ false → (a && b) ≡ false
-is_none true b e = cc e
-is_none false b e = refl
 
 no_more : (a b : Bool) → b ≡ true → (a && not b) ≡ false
 no_more true true e = refl
@@ -203,7 +191,7 @@ module _ (p : Plan) (found : AreFound (threads_beside p)) (s : State) (waits : L
       out : is_published thread.number (entries ++ Publish thread.number ∷ []) ≡ true
       out =
           list_any-append (is_publication_of thread.number) entries (Publish thread.number ∷ [])
-          ∙ or_last (is_published thread.number entries) ((thread.number == thread.number) || false)
+          ∙ or_right (is_published thread.number entries) ((thread.number == thread.number) || false)
           (ap (λ (b : Bool). b || false) (eq-eqb thread.number thread.number refl))
 
   left_chosen : (threads : List Thread) (entries : List Entry) (polls : List Poll) → Chooses s waits threads entries polls
@@ -211,7 +199,7 @@ module _ (p : Plan) (found : AreFound (threads_beside p)) (s : State) (waits : L
   left_chosen threads entries polls none rest all = refl
   left_chosen threads entries polls (idle before thread es earlier round so) rest all =
       one_thread before thread es (not_ready earlier) false (left_chosen before es earlier so (thread ∷ rest) (all ∙ append_assoc before (thread ∷ []) rest))
-      (is_none (has_round s (length before) thread) (not (is_published thread.number es)) round)
+      (and_left (has_round s (length before) thread) (not (is_published thread.number es)) round)
       ∙ none_more (not_ready earlier)
     where
       none_more : (n : ℕ) → n + 0 ≡ n

@@ -1,5 +1,6 @@
 -- Frozen frames without lines do nothing, and a run under lists goes on after their turns.
 use Rattle.std.proofs.Common.{◌≡◌, ◌∙◌, ℕ, List, [], ◌∷◌, ◌++◌, Bool, true, false, not, ◌&&◌, ap, append-nil, append_assoc, arith, refl, sym}
+use Rattle.std.proofs.lemmas.Bool.{and_parts, or_parts}
 use Rattle.std.proofs.lemmas.Bool.Decides.{nat_tests}
 use Rattle.std.specs.List.{list_any}
 use Rattle.std.specs.Prelude.{◌||◌, ◌/◌, IsTrue, cond, filter, nat_le, nat_lt}
@@ -34,14 +35,10 @@ on_by true out frozen e = cc e
 on_by false true frozen e = cc e
 on_by false false frozen e = refl
 
-both : (a b : Bool) → (a && b) ≡ true → (a ≡ true) × (b ≡ true)
-both true b e = (refl, e)
-both false b e = cc e
-
 goes_on_here : (p : Plan) (w : World) (owed : Bool) (entries : List Entry) (lists : List (List Entry)) → IsTrue (goes_owing owed p w (entries ∷ lists))
     → IsOn w × IsTrue (goes_owing owed p (turn p w entries).world lists)
 goes_on_here p w owed entries lists goes =
-    let parts = both (not (is_over_owing owed w.state (entries ∷ lists))) (goes_owing owed p (turn p w entries).world lists) goes in
+    let parts = and_parts (not (is_over_owing owed w.state (entries ∷ lists))) (goes_owing owed p (turn p w entries).world lists) goes in
     (on_by (is_shut w.state.mode) (nat_le w.state.limit w.state.tic) (is_frozen w.state.mode && not (owed || has_session_entry (entries ∷ lists))) parts.0, parts.1)
 
 pub all_on : (p : Plan) (w : World) (owed : Bool) (lists : List (List Entry)) → IsTrue (goes_owing owed p w lists) → AllOn p w lists
@@ -89,14 +86,10 @@ idle_writes p w entries frozen none =
     ++ rest_of_turn p entries (runs w.state) (begun w).asking) (none_noted p w.state entries still none)
     ∙ ap (λ (b : Bool). rest_of_turn p entries b (begun w).asking) still
 
-neither : (a b : Bool) → (a || b) ≡ false → (a ≡ false) × (b ≡ false)
-neither true b e = cc e
-neither false b e = (refl, e)
-
 all_idle : (p : Plan) (w : World) (lists : List (List Entry)) → is_frozen w.state.mode ≡ true → has_session_entry lists ≡ false → turns_writes p w lists ≡ []
 all_idle p w [] frozen none = refl
 all_idle p w (entries ∷ lists) frozen none =
-    let parts = neither (list_any is_of_session entries) (has_session_entry lists) none in
+    let parts = or_parts (list_any is_of_session entries) (has_session_entry lists) none in
     ap (λ (ws : List Write). ws ++ turns_writes p (turn p w entries).world lists) (idle_writes p w entries frozen parts.0)
     ∙ all_idle p (turn p w entries).world lists (ap (λ (s : State). is_frozen s.mode) (idle_turn p w entries parts.0 frozen) ∙ frozen) parts.1
 
@@ -161,7 +154,7 @@ all_quiet : (p : Plan) (w : World) (lists : List (List Entry)) → is_frozen w.s
     → turns_said p w lists ≡ []
 all_quiet p w [] frozen none asks = refl
 all_quiet p w (entries ∷ lists) frozen none asks =
-    let parts = neither (list_any is_of_session entries) (has_session_entry lists) none in
+    let parts = or_parts (list_any is_of_session entries) (has_session_entry lists) none in
     ap (λ (said : List Message). said ++ turns_said p (turn p w entries).world lists) (idle_said p w entries frozen parts.0 asks)
     ∙ all_quiet p (turn p w entries).world lists (ap (λ (s : State). is_frozen s.mode) (idle_turn p w entries parts.0 frozen) ∙ frozen) parts.1
     (staying_none (heard p entries (begun w)).sessions)

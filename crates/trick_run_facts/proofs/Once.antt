@@ -1,5 +1,6 @@
 -- A run makes its files once at most.
-use Rattle.std.proofs.Common.{◌≡◌, ◌∙◌, ℕ, zero, suc, ◌+◌, ◌<◌, ◌≤◌, List, [], ◌∷◌, ◌++◌, Bool, true, false, not, ◌&&◌, ap, append-nil, append_assoc, arith, drop, length, refl, subst, sym}
+use Rattle.std.proofs.Common.{◌≡◌, ◌∙◌, ℕ, zero, suc, ◌+◌, ◌<◌, ◌≤◌, List, [], ◌∷◌, ◌++◌, Bool, true, false, not, ap, append-nil, append_assoc, arith, drop, length, refl, subst, sym}
+use Rattle.std.proofs.lemmas.Bool.{and_parts}
 use Rattle.std.proofs.lemmas.Bool.Decides.{nat_tests}
 use Rattle.std.proofs.lemmas.Fmt.{decimal_injective}
 use Rattle.std.proofs.lemmas.List.{append_cancel_right}
@@ -8,6 +9,7 @@ use Rattle.std.specs.List.{list_any, slice_index_or}
 use Rattle.std.specs.Prelude.{◌||◌, ◌^◌, All, codes, decimal, flat_map, min}
 use Rattle.std.specs.Str.{bytes_eq}
 use Rattle.trick_base.proofs.FileLemmas.{name_itself, names_differ, names_equal}
+use Rattle.trick_base.proofs.Numbers.{less_before, none_below_zero}
 use Rattle.trick_base.specs.Content.{IsKept, IsTidy, same_name}
 use Rattle.trick_base.specs.Files.{Append, Create, Write}
 use Rattle.trick_model.specs.Files.{end_writes, journal_name, run_writes, start_writes, turn_writes, turns_writes}
@@ -88,10 +90,6 @@ either_false : (a b : Bool) → not (a || b) ≡ true → (a ≡ false) × (not 
 either_false true b h = cc h
 either_false false b h = (refl, h)
 
-both_true : (a b : Bool) → (a && b) ≡ true → (a ≡ true) × (b ≡ true)
-both_true true b h = (refl, h)
-both_true false b h = cc h
-
 log_of_name : (a b : List ℕ) → codes "log_" ++ a ++ codes ".csv" ≡ codes "log_" ++ b ++ codes ".csv" → a ≡ b
 log_of_name a b e = append_cancel_right a b (codes ".csv") (ap (drop 4) e)
 
@@ -108,15 +106,9 @@ others_kept p group (other ∷ groups) none =
     let parts = either_false (bytes_eq group.name other.name) (list_any (bytes_eq group.name) (group_names groups)) none in
     (logs_differ group other parts.0, others_kept p group groups parts.1)
 
-nowhere : (k : ℕ) → k < 0 → ⊥
-nowhere k less = omega (arith, less)
-
-one_less : (k n : ℕ) → suc k < suc n → k < n
-one_less k n less = omega (arith, less)
-
 other_log : (group : Group) (groups : List Group) → not (list_any (bytes_eq group.name) (group_names groups)) ≡ true
     → (k : ℕ) (d : Group) → k < length groups → same_name (log_name (slice_index_or groups k d)) (log_name group) ≡ false
-other_log group [] none k d less = absurd (nowhere k less)
+other_log group [] none k d less = absurd (none_below_zero k less)
 other_log group (other ∷ groups) none zero d less =
     let apart = logs_differ group other (either_false (bytes_eq group.name other.name) (list_any (bytes_eq group.name) (group_names groups)) none).0 in
     names_differ (log_name other) (log_name group)
@@ -124,20 +116,20 @@ other_log group (other ∷ groups) none zero d less =
     (subst (λ (name : List ℕ). same_name (log_name group) name ≡ true) (sym same) (name_itself (log_name group))) apart)
 other_log group (other ∷ groups) none (suc k) d less =
     other_log group groups (either_false (bytes_eq group.name other.name) (list_any (bytes_eq group.name) (group_names groups)) none).1 k d
-    (one_less k (length groups) less)
+    (less_before k (length groups) less)
 
 logs_tidy : (p : Plan) (groups : List Group) (rest : List Write) → all_differ (group_names groups) ≡ true → ((group : Group) → IsKept (log_name group) rest)
     → All (λ (group : Group). IsTidy (log_name group) (headers p groups ++ rest)) groups
-logs_tidy p [] rest apart kept k d less = absurd (nowhere k less)
+logs_tidy p [] rest apart kept k d less = absurd (none_below_zero k less)
 logs_tidy p (group ∷ groups) rest apart kept zero d less =
-    let parts = both_true (not (list_any (bytes_eq group.name) (group_names groups))) (all_differ (group_names groups)) apart in
+    let parts = and_parts (not (list_any (bytes_eq group.name) (group_names groups))) (all_differ (group_names groups)) apart in
     let name = log_name group in (
       λ same. kept_append name (headers p groups) rest (others_kept p group groups parts.0) (kept group),
       λ differs. absurd (clash (same_name name name) (name_itself name) differs),
     )
 logs_tidy p (group ∷ groups) rest apart kept (suc k) d less =
-    let parts = both_true (not (list_any (bytes_eq group.name) (group_names groups))) (all_differ (group_names groups)) apart in
-    let under = one_less k (length groups) less in
+    let parts = and_parts (not (list_any (bytes_eq group.name) (group_names groups))) (all_differ (group_names groups)) apart in
+    let under = less_before k (length groups) less in
     let name = log_name (slice_index_or groups k d) in
     let other : same_name name (log_name group) ≡ false = other_log group groups parts.0 k d under in (
       λ same. absurd (clash (same_name name (log_name group)) same other),

@@ -1,6 +1,6 @@
 -- Turns do the same under what they note.
 use Rattle.std.proofs.Common.{◌≡◌, ◌∙◌, ℕ, ◌==◌, List, [], ◌∷◌, ◌++◌, Bool, true, false, not, ◌&&◌, Option, Some, None, ap, refl, subst, sym}
-use Rattle.std.proofs.lemmas.Bool.{eq-eqb, eqb-true}
+use Rattle.std.proofs.lemmas.Bool.{and_from, and_parts, eq-eqb, eqb-true}
 use Rattle.std.specs.List.{list_any}
 use Rattle.std.specs.Prelude.{◌||◌, cond, nat_le}
 use Rattle.trick_base.specs.Files.{Write}
@@ -58,14 +58,6 @@ round_not : (p : Plan) (t : State) (found : Option (ℕ × Thread)) → flies t 
 round_not p t None e = refl
 round_not p t (Some found) e = sym (second_of (has_round t found.0 found.1) (publish p found.0 found.1 t.tic t) t e)
 
-both : (a b : Bool) → (a && b) ≡ true → (a ≡ true) × (b ≡ true)
-both true b e = (refl, e)
-both false b e = cc e
-
-and_true : (a b : Bool) → a ≡ true → b ≡ true → (a && b) ≡ true
-and_true true b e f = f
-and_true false b e f = cc e
-
 -- what flies after a round was published flew before
 flew : (p : Plan) (t : State) (found other : Option (ℕ × Thread)) → flies (round_of p t found) other ≡ true → flies t other ≡ true
 flew p t found None e = cc e
@@ -75,8 +67,8 @@ flew p t (Some found) (Some other) e = by (has_round t found.0 found.1) e
     by : (b : Bool) → (let s : State = elim b [ true ↦ publish p found.0 found.1 t.tic t | false ↦ t ] in has_round s other.0 other.1 ≡ true)
         → has_round t other.0 other.1 ≡ true
     by true now =
-        let parts = both (is_async other.1.process) (taken_at (publish p found.0 found.1 t.tic t) other.0).held now in
-        and_true (is_async other.1.process) (taken_at t other.0).held parts.0 (held_before p found.0 other.0 found.1 t.tic t parts.1)
+        let parts = and_parts (is_async other.1.process) (taken_at (publish p found.0 found.1 t.tic t) other.0).held now in
+        and_from (is_async other.1.process) (taken_at t other.0).held parts.0 (held_before p found.0 other.0 found.1 t.tic t parts.1)
     by false now = now
 
 -- What flies in one state flies in another.

@@ -1,7 +1,7 @@
 -- A round that has waited long enough is published.
 use Rattle.std.proofs.Common.{◌≡◌, ◌∙◌, ℕ, zero, suc, ◌+◌, ◌<◌, ◌≤◌, List, [], ◌∷◌, ◌++◌, Bool, true, false, not, ◌&&◌, ap, arith, length, length-append, refl, subst, sym, nat_lt}
 use Rattle.std.proofs.lemmas.Bool.Decides.{nat_tests}
-use Rattle.std.proofs.lemmas.Bool.{eq-eqb}
+use Rattle.std.proofs.lemmas.Bool.{eq-eqb, or_left, or_right}
 use Rattle.std.proofs.lemmas.List.{get_or_append_left, get_or_default, get_or_push}
 use Rattle.std.proofs.lemmas.List.Folds.{list_any-append}
 use Rattle.std.specs.List.{slice_index_or}
@@ -20,24 +20,16 @@ use Rattle.trick_runs.specs.Rounds.{AreChosen, Chooses, IsChosen, heard_state, i
 
 -- ---- a round that has waited long enough
 
-or_first : (a b : Bool) → a ≡ true → (a || b) ≡ true
-or_first true b e = refl
-or_first false b e = cc e
-
-or_second : (a b : Bool) → b ≡ true → (a || b) ≡ true
-or_second true b e = refl
-or_second false b e = e
-
 -- publications stay where more are chosen
 still_published : (number : ℕ) (entries : List Entry) (entry : Entry) → is_published number entries ≡ true → is_published number (entries ++ entry ∷ []) ≡ true
 still_published number entries entry e =
     list_any-append (is_publication_of number) entries (entry ∷ [])
-    ∙ or_first (is_published number entries) (is_published number (entry ∷ [])) e
+    ∙ or_left (is_published number entries) (is_published number (entry ∷ [])) e
 
 now_published : (number : ℕ) (entries : List Entry) → is_published number (entries ++ Publish number ∷ []) ≡ true
 now_published number entries =
     list_any-append (is_publication_of number) entries (Publish number ∷ [])
-    ∙ or_second (is_published number entries) (is_published number (Publish number ∷ []))
+    ∙ or_right (is_published number entries) (is_published number (Publish number ∷ []))
     (ap (λ (b : Bool). b || false) (eq-eqb number number refl))
 
 module _ (s : State) (waits : List ℕ) where

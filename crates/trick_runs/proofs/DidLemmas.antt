@@ -1,7 +1,8 @@
 -- Steps that were taken, with the calls that were made for them.
 use Rattle.std.proofs.Common.{◌≡◌, ◌∙◌, List, [], ◌++◌, false, Err, IsOk, ap, refl, subst, sym}
+use Rattle.std.proofs.lemmas.Bool.{false_from_ne_true}
 use Rattle.std.specs.Prelude.{Result, IsErrOf}
-use Rattle.trick_outside.proofs.CallLemmas.{ends-append, fails-late, part_of_early, part_of_late, true_or_false}
+use Rattle.trick_outside.proofs.CallLemmas.{ends-append, fails-late, part_of_early, part_of_late}
 use Rattle.trick_outside.proofs.DoesLemmas.{Joins, handed_on, not_ok, ok_not_fault, went_none, went_then}
 use Rattle.trick_outside.specs.Calls.{Call, fails}
 use Rattle.trick_outside.specs.Does.{Does, IsPartOf}
@@ -75,7 +76,7 @@ pub did_then : {S T U : Type 0} {shelf : Ghosts S} {old mid new : S} {first : Re
     → Joins shelf → Does shelf old mid first early → IsOk first → (more : Does shelf mid new result late)
     → (does : Does shelf old new result (early ++ late)) × (does.calls ≡ early ++ more.calls)
 did_then {first = first} {early = early} {late = late} join did ok more =
-    let quiet : fails did.calls ≡ false = true_or_false (fails did.calls) (λ e. ok_not_fault first ok (did.fault e)) in
+    let quiet : fails did.calls ≡ false = false_from_ne_true (fails did.calls) (λ e. ok_not_fault first ok (did.fault e)) in
     let same : fails (did.calls ++ more.calls) ≡ fails more.calls = fails-late did.calls more.calls quiet in
     let begins : did.calls ++ more.calls ≡ early ++ more.calls = ap (λ c. c ++ more.calls) (did.whole ok) in (
       record {

@@ -3,7 +3,7 @@ use Rattle.std.proofs.Common.{◌≡◌, ◌∙◌, ℕ, zero, suc, ◌<◌, ◌
 use Rattle.std.proofs.lemmas.List.{take_all}
 use Rattle.std.proofs.lemmas.Bool.Decides.{nat_tests}
 use Rattle.std.specs.Prelude.{◌≢◌, ◌⊎◌, ◌&&◌, ◌+◌, ◌-◌, max, min, IsTrue, nat_lt}
-use Rattle.trick_model.proofs.Runs.{and_left, and_right}
+use Rattle.trick_base.proofs.Truths.{first_holds, second_holds}
 use Rattle.trick_model.specs.Journal.{Noted, lists_from, live_before, with_joins}
 use Rattle.trick_model.specs.Plan.{Plan}
 use Rattle.trick_model.specs.Run.{Fits, JournalFits, after_turns, ended_at, goes_on, has_session_entry, is_over, lists_of, opened}
@@ -127,13 +127,13 @@ goes_there : (p : Plan) (w : World) (all : List (List Entry)) (end : ℕ) (lists
     → is_over (after_turns p w lists).state (left_of lists all) ≡ true → ⊥
 goes_there p w [] end lists goes follows short done = absurd (omega (arith, short))
 goes_there p w (list ∷ all) end [] goes follows short done =
-    never (is_over w.state (list ∷ all)) (and_left (not (is_over w.state (list ∷ all))) _ goes) done
+    never (is_over w.state (list ∷ all)) (first_holds (not (is_over w.state (list ∷ all))) _ goes) done
   where
     never : (b : Bool) → not b ≡ true → b ≡ true → ⊥
     never true e d = cc e
     never false e d = cc d
 goes_there p w (list ∷ all) end (entries ∷ lists) goes follows short done =
-    let rest : goes_on p (turn p w list).world all ≡ true = and_right (not (is_over w.state (list ∷ all))) _ goes in
+    let rest : goes_on p (turn p w list).world all ≡ true = second_holds (not (is_over w.state (list ∷ all))) _ goes in
     goes_there p (turn p w entries).world all end lists
     (subst (λ (e : List Entry). IsTrue (goes_on p (turn p w e).world all)) (sym follows.0) rest) follows.3 (omega (arith, short)) done
 

@@ -1,9 +1,10 @@
 -- A run goes on by one turn more, and is that of a journal that is told.
 use Rattle.std.proofs.Common.{◌≡◌, ◌∙◌, ℕ, ◌<◌, List, [], ◌∷◌, ◌++◌, Bool, true, false, not, ◌&&◌, ap, arith, refl, subst, sym}
+use Rattle.std.proofs.lemmas.Bool.{and_from}
 use Rattle.std.proofs.lemmas.Bool.Decides.{nat_tests}
 use Rattle.std.proofs.lemmas.List.Folds.{list_any-append}
 use Rattle.std.specs.Prelude.{◌||◌, cond, filter, nat_le, IsTrue}
-use Rattle.trick_model.proofs.Runs.{and_left, and_right}
+use Rattle.trick_base.proofs.Truths.{first_holds, second_holds}
 use Rattle.trick_model.specs.Journal.{is_of_session}
 use Rattle.trick_model.specs.Plan.{Plan}
 use Rattle.trick_model.specs.Run.{Lasts, after_turns, goes_on, has_session_entry, is_over, is_shut, next_of, on, over, rest_of}
@@ -78,15 +79,11 @@ first_owed false false false owed line s o = refl
 first_owed false false true owed true s o = refl
 first_owed false false true owed false s o = refl
 
-and_both : (a b : Bool) → a ≡ true → b ≡ true → (a && b) ≡ true
-and_both true b one two = two
-and_both false b one two = cc one
-
 pub goes_one : (p : Plan) (w : World) (lists : List (List Entry)) (entries : List Entry) (owed : Bool) → IsTrue (goes_owing owed p w lists)
     → is_shut (after_turns p w lists).state.mode ≡ false → nat_le (after_turns p w lists).state.limit (after_turns p w lists).state.tic ≡ false
     → IsTrue (goes_owing (owes_after (after_turns p w lists).state.mode entries owed) p w (lists ++ entries ∷ []))
 goes_one p w [] entries owed goes alive below =
-    and_both (not (is_over_owing (owes_after w.state.mode entries owed) w.state (entries ∷ []))) true
+    and_from (not (is_over_owing (owes_after w.state.mode entries owed) w.state (entries ∷ []))) true
     (first_owed (is_shut w.state.mode) (nat_le w.state.limit w.state.tic) (is_frozen w.state.mode) owed (has_line entries) alive below) refl
 goes_one p w (first ∷ lists) entries owed goes alive below =
     let s = w.state in
@@ -94,10 +91,10 @@ goes_one p w (first ∷ lists) entries owed goes alive below =
     let end = (after_turns p next lists).state in
     let now = owes_after end.mode entries owed in
     let had = has_session_entry (first ∷ lists) in
-    let here : not (is_over_owing owed s (first ∷ lists)) ≡ true = and_left (not (is_over_owing owed s (first ∷ lists))) (goes_owing owed p next lists) goes in
-    let rest : goes_owing owed p next lists ≡ true = and_right (not (is_over_owing owed s (first ∷ lists))) (goes_owing owed p next lists) goes in
+    let here : not (is_over_owing owed s (first ∷ lists)) ≡ true = first_holds (not (is_over_owing owed s (first ∷ lists))) (goes_owing owed p next lists) goes in
+    let rest : goes_owing owed p next lists ≡ true = second_holds (not (is_over_owing owed s (first ∷ lists))) (goes_owing owed p next lists) goes in
     let grows : has_session_entry ((first ∷ lists) ++ entries ∷ []) ≡ (had || (has_line entries || false)) = has_one (first ∷ lists) entries in
-    and_both (not (is_over_owing now s ((first ∷ lists) ++ entries ∷ []))) (goes_owing now p next (lists ++ entries ∷ []))
+    and_from (not (is_over_owing now s ((first ∷ lists) ++ entries ∷ []))) (goes_owing now p next (lists ++ entries ∷ []))
     (still (is_shut s.mode) (nat_le s.limit s.tic) (is_frozen s.mode) owed had now (has_session_entry ((first ∷ lists) ++ entries ∷ [])) here
     (λ e. ap (λ (b : Bool). now || b) grows ∙ owed_still owed had (has_line entries) (is_frozen end.mode) e))
     (goes_one p next lists entries owed rest alive below)

@@ -1,15 +1,12 @@
 -- Lists that may come one after another, and one more.
-use Rattle.std.proofs.Common.{◌≡◌, ◌∙◌, List, [], ◌∷◌, ◌++◌, Bool, true, false, ◌&&◌, ap, refl, subst, sym}
+use Rattle.std.proofs.Common.{◌≡◌, ◌∙◌, List, [], ◌∷◌, ◌++◌, Bool, true, ap, refl, subst, sym}
+use Rattle.std.proofs.lemmas.Bool.{and_from}
 use Rattle.std.proofs.lemmas.List.{map-append}
 use Rattle.std.specs.Prelude.{IsTrue, map}
-use Rattle.trick_model.proofs.Runs.{and_left, and_right}
+use Rattle.trick_base.proofs.Truths.{first_holds, second_holds}
 use Rattle.trick_model.specs.declared.entry.Entry.{Entry}
 use Rattle.trick_runs.specs.Answers.{given}
 use Rattle.trick_turns.specs.Turns.{Sessions, after_entries, after_lists, in_next, is_succession, may_all_come}
-
-both : (a b : Bool) → IsTrue a → IsTrue b → IsTrue (a && b)
-both true b one two = two
-both false b one two = one
 
 after_one : (lists : List (List Entry)) (list : List Entry) (s : Sessions)
     → after_lists (lists ++ list ∷ []) s ≡ after_entries list (in_next (after_lists lists s))
@@ -18,12 +15,12 @@ after_one (first ∷ lists) list s = after_one lists list (after_entries first (
 
 one_comes : (lists : List (List Entry)) (list : List Entry) (s : Sessions) → IsTrue (is_succession lists s)
     → IsTrue (may_all_come list (in_next (after_lists lists s))) → IsTrue (is_succession (lists ++ list ∷ []) s)
-one_comes [] list s so may = both (may_all_come list (in_next s)) true may refl
+one_comes [] list s so may = and_from (may_all_come list (in_next s)) true may refl
 one_comes (first ∷ lists) list s so may =
     let next = after_entries first (in_next s) in
     let now = may_all_come first (in_next s) in
-    both now (is_succession (lists ++ list ∷ []) next) (and_left now (is_succession lists next) so)
-    (one_comes lists list next (and_right now (is_succession lists next) so) may)
+    and_from now (is_succession (lists ++ list ∷ []) next) (first_holds now (is_succession lists next) so)
+    (one_comes lists list next (second_holds now (is_succession lists next) so) may)
 
 given_one : (decides : Bool) (lists : List (List Entry)) (entries : List Entry)
     → map (given decides) (lists ++ entries ∷ []) ≡ map (given decides) lists ++ given decides entries ∷ []

@@ -1,5 +1,6 @@
 -- A list that is gathered from many sessions.
 use Rattle.std.proofs.Common.{◌≡◌, ◌≢◌, ◌∙◌, ◌⊎◌, ⊎_elim, inl, inr, ℕ, ◌+◌, ◌-◌, ◌<◌, ◌≤◌, Bool, true, false, cond, eqb, List, [], ◌∷◌, ◌++◌, Some, ap, append_assoc, append-nil, arith, length, refl, slice_index_or, slice_set, subst, sym}
+use Rattle.std.proofs.Math.Bool.{or-false}
 use Rattle.std.proofs.lemmas.Bool.{and_from, false≢true}
 use Rattle.std.proofs.lemmas.Bool.Decides.{eqb_tells, nat_tests}
 use Rattle.std.proofs.lemmas.List.{length-set, length_push}
@@ -7,6 +8,7 @@ use Rattle.std.proofs.lemmas.List.Elements.{All-filter, filter-append}
 use Rattle.std.proofs.lemmas.List.Folds.{list_any-append, list_any_at}
 use Rattle.std.specs.List.{filter, list_any}
 use Rattle.std.specs.Prelude.{not, ◌&&◌, ◌||◌, nat_le, nat_lt}
+use Rattle.trick_base.proofs.Numbers.{equal_to_itself}
 use Rattle.trick_model.specs.Journal.{is_session}
 use Rattle.trick_model.specs.Session.{is_empty}
 use Rattle.trick_model.specs.declared.entry.Cause.TheVariants as cause
@@ -14,7 +16,7 @@ use Rattle.trick_model.specs.declared.entry.Entry.{Entry}
 use Rattle.trick_model.specs.declared.entry.Entry.TheVariants.{Join, Leave}
 use Rattle.trick_model.specs.declared.session.Session.{Session}
 use Rattle.trick_serve.proofs.Keeping.{keeps_all, keeps_leave, keeps_more, keeps_none, without_if}
-use Rattle.trick_serve.proofs.Living.{left_stays, lives_more, lives_none, other, own_all, own_all_other, own_leave, own_leave_other, own_more, own_more_other, own_pair, listed_same, self}
+use Rattle.trick_serve.proofs.Living.{left_stays, lives_more, lives_none, other, own_all, own_all_other, own_leave, own_leave_other, own_more, own_more_other, own_pair, listed_same}
 use Rattle.trick_serve.proofs.Placing.{among_filter, filter_all, filter_twice, live_left, live_push, live_same, side_after, side_at, side_before, side_other, side_past, side_push, side_set}
 use Rattle.trick_serve.specs.Gathering.{Gathers, HasListed, HasLooked}
 use Rattle.trick_serve.specs.Life.{Goes, Happening, HangsUp, IsSeated, Lives, is_idle, entries_of, entries_of_all, own}
@@ -326,7 +328,7 @@ gathers_joined there was known seats live list late n seat so is seated high slo
         rises is = grind (arith, nat_tests)
 
     among : is_among n joined.live ≡ true
-    among = list_any-append (λ s. eqb s n) mid.live (n ∷ []) ∙ right (list_any (λ s. eqb s n) mid.live) (eqb n n) (self n)
+    among = list_any-append (λ s. eqb s n) mid.live (n ∷ []) ∙ right (list_any (λ s. eqb s n) mid.live) (eqb n n) (equal_to_itself n)
       where
         right : (b c : Bool) → c ≡ true → (b || (c || false)) ≡ true
         right true c is = refl
@@ -349,7 +351,7 @@ gathers_joined there was known seats live list late n seat so is seated high slo
     without_new : filter (λ m. not (eqb m n)) (mid.live ++ n ∷ []) ≡ mid.live ++ []
     without_new =
         filter-append (λ m. not (eqb m n)) mid.live (n ∷ [])
-        ∙ (λ i. others_stay i ++ cond (not (self n i)) (n ∷ []) [])
+        ∙ (λ i. others_stay i ++ cond (not (equal_to_itself n i)) (n ∷ []) [])
 
     by_left : (left : Bool) → seat.left ≡ left
         → Keeps (sessions_by was known known) (list ++ (Join n ∷ cond seat.left (Leave n cause.NoThread ∷ []) []))
@@ -385,17 +387,13 @@ gathers_same there was known seats seats' live live' list list' done same_seats 
     (subst (λ (l : List ℕ). Gathers there was known seats' l list true) (sym same_live)
     (subst (λ (l : List Seat). Gathers there was known l live list true) (sym same_seats) so)))
 
-or_false : (b : Bool) → (b || false) ≡ b
-or_false true = refl
-or_false false = refl
-
 -- one of those that are shown
 pub idle_there : (n : ℕ) (there : List Session) (at : ℕ) (one : Session) → at < length there → one ≡ slice_index_or there at one
     → is_idle n (one ∷ []) ≡ true → is_idle n there ≡ true
 idle_there n there at one inside is idle =
     list_any_at (λ s. eqb s.number n && (s.paused || is_empty s.variables)) there at one inside
-    (subst (λ (s : Session). (eqb s.number n && (s.paused || is_empty s.variables)) ≡ true) is (sym (or_false (eqb one.number n && (one.paused || is_empty one.variables))) ∙ idle))
+    (subst (λ (s : Session). (eqb s.number n && (s.paused || is_empty s.variables)) ≡ true) is (sym (or-false (eqb one.number n && (one.paused || is_empty one.variables))) ∙ idle))
 
 pub among_at : (n : ℕ) (live : List ℕ) (at : ℕ) → at < length live → n ≡ slice_index_or live at 0 → is_among n live ≡ true
 among_at n live at inside is =
-    list_any_at (λ s. eqb s n) live at 0 inside (subst (λ (m : ℕ). eqb m n ≡ true) is (self n))
+    list_any_at (λ s. eqb s n) live at 0 inside (subst (λ (m : ℕ). eqb m n ≡ true) is (equal_to_itself n))

@@ -3,6 +3,7 @@ use Rattle.std.proofs.Common.{◌≡◌, ◌≢◌, ◌∙◌, inl, inr, ⊎_eli
 use Rattle.std.proofs.lemmas.Bool.{false≢true}
 use Rattle.std.proofs.lemmas.Bool.Decides.{eqb_tells}
 use Rattle.std.proofs.lemmas.List.Elements.{filter-append}
+use Rattle.trick_base.proofs.Numbers.{equal_to_itself}
 use Rattle.trick_model.specs.declared.entry.Cause.{Cause}
 use Rattle.trick_model.specs.declared.entry.Cause.TheVariants as cause
 use Rattle.trick_model.specs.declared.entry.Entry.{Entry}
@@ -85,9 +86,6 @@ own_self_one n entry is = ap (λ (b : Bool). cond b (entry ∷ []) []) is
 pub own_other_one : (n : ℕ) (entry : Entry) → is_of n entry ≡ false → own n (entry ∷ []) ≡ []
 own_other_one n entry is = ap (λ (b : Bool). cond b (entry ∷ []) []) is
 
-pub self : (n : ℕ) → eqb n n ≡ true
-self n = ⊎_elim (λ e. e.0) (λ e. absurd (e.1 refl)) (eqb_tells n n)
-
 pub other : (n m : ℕ) → m ≢ n → eqb m n ≡ false
 other n m apart = ⊎_elim (λ e. absurd (apart e.1)) (λ e. e.0) (eqb_tells m n)
 
@@ -96,14 +94,14 @@ own_pair n a b c d one two = filter-append (is_of n) a b ∙ (λ i. one i ++ two
 
 pub own_leave : (n : ℕ) (why : Option Cause) → own n (leave_of n why) ≡ leave_of n why
 own_leave n None = refl
-own_leave n (Some why) = own_self_one n (Leave n why) (self n)
+own_leave n (Some why) = own_self_one n (Leave n why) (equal_to_itself n)
 
 pub own_leave_other : (n m : ℕ) (why : Option Cause) → m ≢ n → own n (leave_of m why) ≡ []
 own_leave_other n m None apart = refl
 own_leave_other n m (Some why) apart = own_other_one n (Leave m why) (other n m apart)
 
 own_said : (n : ℕ) (item : Heard) → own n (said_of n item) ≡ said_of n item
-own_said n (heard.Line line) = own_self_one n (Said n line) (self n)
+own_said n (heard.Line line) = own_self_one n (Said n line) (equal_to_itself n)
 own_said n heard.End = refl
 own_said n heard.LongLine = refl
 own_said n heard.LinkFault = refl
@@ -117,7 +115,7 @@ own_said_other n m heard.LinkFault apart = refl
 own_said_other n m heard.OutOfMemory apart = refl
 
 own_refused : (n : ℕ) (refused : Bool) (why : Cause) → own n (cond refused (Leave n why ∷ []) []) ≡ cond refused (Leave n why ∷ []) []
-own_refused n true why = own_self_one n (Leave n why) (self n)
+own_refused n true why = own_self_one n (Leave n why) (equal_to_itself n)
 own_refused n false why = refl
 
 own_refused_other : (n m : ℕ) (refused : Bool) (why : Cause) → m ≢ n → own n (cond refused (Leave m why ∷ []) []) ≡ []
@@ -127,11 +125,11 @@ own_refused_other n m false why apart = refl
 own_happening : (n : ℕ) (h : Happening) → own n (entries_of n h) ≡ entries_of n h
 own_happening n (IsSeated s refused) =
     own_pair n (Join n ∷ []) (cond refused (Leave n cause.NoThread ∷ []) []) (Join n ∷ []) (cond refused (Leave n cause.NoThread ∷ []) [])
-    (own_self_one n (Join n) (self n)) (own_refused n refused cause.NoThread)
+    (own_self_one n (Join n) (equal_to_itself n)) (own_refused n refused cause.NoThread)
 own_happening n (Hears item) = own_pair n (said_of n item) (leave_of n (leave_by item)) (said_of n item) (leave_of n (leave_by item)) (own_said n item) (own_leave n (leave_by item))
-own_happening n (Misses item) = own_self_one n (Leave n cause.OutOfMemory) (self n)
+own_happening n (Misses item) = own_self_one n (Leave n cause.OutOfMemory) (equal_to_itself n)
 own_happening n (IsTold why) = own_leave n (leave_after why)
-own_happening n IsSlow = own_self_one n (Leave n cause.Slow) (self n)
+own_happening n IsSlow = own_self_one n (Leave n cause.Slow) (equal_to_itself n)
 
 own_happening_other : (n m : ℕ) (h : Happening) → m ≢ n → own n (entries_of m h) ≡ []
 own_happening_other n m (IsSeated s refused) apart =

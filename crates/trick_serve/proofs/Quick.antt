@@ -1,6 +1,6 @@
 -- To which sessions no message was left out.
-use Rattle.std.proofs.Common.{◌≡◌, ⊎_elim, ℕ, ◌+◌, ◌-◌, ◌<◌, ◌≤◌, Bool, true, false, List, arith, length, refl, slice_index_or, slice_set, subst, sym}
-use Rattle.std.proofs.lemmas.Bool.{cases_lt}
+use Rattle.std.proofs.Common.{◌≡◌, ⊎_elim, ℕ, ◌+◌, ◌-◌, ◌<◌, ◌≤◌, true, false, List, arith, length, slice_index_or, slice_set, subst, sym}
+use Rattle.std.proofs.lemmas.Bool.{cases_lt, not-true}
 use Rattle.std.proofs.lemmas.Bool.Decides.{eqb_tells}
 use Rattle.std.proofs.lemmas.List.{get_or_default}
 use Rattle.std.specs.Prelude.{not}
@@ -18,16 +18,12 @@ IsQuickAt seats n = is_live seats n ≡ true → (side seats (n - 1)).slow ≡ f
 abbrev pub AreQuickTo : List Seat → List ℕ → ℕ → Type 0
 AreQuickTo seats numbers count = (j : ℕ) → j < count → IsQuickAt seats (slice_index_or numbers j 0)
 
-not_left : (b : Bool) → not b ≡ true → b ≡ false
-not_left true is = cc is
-not_left false is = refl
-
 -- the session whose seat was set
 quick_here : (seats : List Seat) (i n : ℕ) (seat : Seat) → i < length seats → n - 1 ≡ i → (seat.left ≡ false → seat.slow ≡ false)
     → IsQuickAt (slice_set seats i seat) n
 quick_here seats i n seat inside is quick =
     subst (λ (m : ℕ). not (side (slice_set seats i seat) m).left ≡ true → (side (slice_set seats i seat) m).slow ≡ false) (sym is)
-    (subst (λ (s : Side). not s.left ≡ true → s.slow ≡ false) (sym (side_set seats i seat inside)) (λ live. quick (not_left seat.left live)))
+    (subst (λ (s : Side). not s.left ≡ true → s.slow ≡ false) (sym (side_set seats i seat inside)) (λ live. quick (not-true seat.left live)))
 
 -- or another one
 quick_set : (seats : List Seat) (i n : ℕ) (seat : Seat) → i < length seats → (seat.left ≡ false → seat.slow ≡ false) → IsQuickAt seats n

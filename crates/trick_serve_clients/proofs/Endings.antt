@@ -1,6 +1,6 @@
 -- Sessions that are ended, one after another.
-use Rattle.std.proofs.Common.{◌≡◌, ◌∙◌, ℕ, ◌+◌, Bool, true, false, List, [], ◌∷◌, ◌++◌, Option, Some, None, ap, append_assoc, append-nil, arith, length, length-append, map, refl, reverse, subst, sym}
-use Rattle.std.proofs.lemmas.Bool.{false≢true}
+use Rattle.std.proofs.Common.{◌≡◌, ◌∙◌, ℕ, ◌+◌, Bool, false, List, [], ◌∷◌, ◌++◌, Option, Some, None, ap, append_assoc, append-nil, arith, length, length-append, map, refl, reverse, subst, sym}
+use Rattle.std.proofs.lemmas.Bool.{or_parts}
 use Rattle.std.proofs.lemmas.List.Elements.{All-append, All-cons, All-nil}
 use Rattle.std.proofs.lemmas.List.{reverse-append, reverse-reverse}
 use Rattle.std.specs.Option.{option_to_list}
@@ -71,10 +71,6 @@ left_late old new (Some ends) none also cut empty =
 
 -- ---- one session after another
 
-neither : (one other : Bool) → (one || other) ≡ false → (one ≡ false) × (other ≡ false)
-neither false other is = (refl, is)
-neither true other is = absurd (false≢true (sym is))
-
 module _ {I O : Type 0} where
   -- some ends are left for a session that is
   pub not_none : (ends : List Ends) (past : Past I O) (pasts : List (Past I O)) → ends ≡ [] → AllFit AreItsEnds ends (past ∷ pasts) → ⊥
@@ -126,7 +122,7 @@ module _ {D I O : Type 0} (visited : D → List (Visit I O) → D → Type 0) (i
             (join first old new (backs_of 1 e.done) (Back (1 + length e.done) ended.input ended.output ∷ []) e.went
             (subst (λ (n : ℕ). visited old (Back n ended.input ended.output ∷ []) new) (more ∙ (let count = e.count in omega arith)) back));
         memory = λ no.
-            let none = neither was ended.lacked (sym said ∙ no) in
+            let none = or_parts was ended.lacked (sym said ∙ no) in
             let Holds : Ended I O → Type 0 = λ session. session.lacked ≡ false in
             All-append Holds e.done (ended ∷ []) (e.memory none.0) (All-cons Holds ended [] none.1 (All-nil Holds));
       }

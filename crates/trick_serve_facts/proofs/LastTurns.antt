@@ -1,10 +1,11 @@
 -- Of which turn the messages are that were left out.
-use Rattle.std.proofs.Common.{◌≡◌, ◌≢◌, ◌∙◌, ◌⊎◌, inl, inr, ⊎_elim, ℕ, ◌+◌, ◌-◌, ◌<◌, ◌≤◌, Bool, true, false, cond, eqb, List, [], ◌∷◌, ◌++◌, Option, Some, None, ap, append_assoc, append-nil, arith, map, refl, subst, sym}
+use Rattle.std.proofs.Common.{◌≡◌, ◌≢◌, ◌∙◌, ◌⊎◌, inl, inr, ⊎_elim, ℕ, ◌+◌, ◌-◌, ◌<◌, Bool, true, false, cond, eqb, List, [], ◌∷◌, ◌++◌, Option, Some, None, ap, append_assoc, append-nil, arith, map, refl, subst, sym}
 use Rattle.std.proofs.lemmas.Bool.{and_from, cases_Bool, false≢true}
 use Rattle.std.proofs.lemmas.Bool.Decides.{eqb_tells, nat_tests}
 use Rattle.std.proofs.lemmas.List.{append_cancel_left}
 use Rattle.std.proofs.lemmas.List.Concat.{flat_map-append}
 use Rattle.std.specs.Prelude.{nat_lt}
+use Rattle.trick_base.proofs.Numbers.{zero_at_most}
 use Rattle.trick_line_facts.proofs.Silence.{absent, leaving, left_gone}
 use Rattle.trick_line_facts.specs.Silence.{all_newcomers, entries_of as entries_to, is_there, newcomers}
 use Rattle.trick_model.proofs.Runs.{runs_join}
@@ -348,12 +349,9 @@ newcomers_more [] entries = append-nil (newcomers entries)
 newcomers_more (first ∷ lists) entries =
     ap (λ (l : List ℕ). newcomers first ++ l) (newcomers_more lists entries) ∙ sym (append_assoc (newcomers first) (all_newcomers lists) (newcomers entries))
 
-none_below_zero : (n : ℕ) → 0 ≤ n
-none_below_zero n = omega arith
-
 rise_serves : (p : Plan) (w : World) (lists : List (List Entry)) (old new : View) → Serves p w lists old new → new.broke ≡ false
     → (rest : List ℕ) → RiseAbove new.sessions.highest rest → RiseAbove 0 (all_newcomers lists ++ rest)
-rise_serves p w all old new (no_turn v) whole rest rise = rise_lower 0 v.sessions.highest rest (none_below_zero v.sessions.highest) rise
+rise_serves p w all old new (no_turn v) whole rest rise = rise_lower 0 v.sessions.highest rest (zero_at_most v.sessions.highest) rise
 rise_serves p w all old new (one_more lists entries one before gave now early gives said) whole rest rise =
     let gave_whole = whole_before gave now [] _ said whole in
     let before_whole = whole_before before gave _ [] gives gave_whole in

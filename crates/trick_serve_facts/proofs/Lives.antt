@@ -1,5 +1,6 @@
 -- The entries of one session, all along a run.
 use Rattle.std.proofs.Common.{◌≡◌, ◌≢◌, ◌∙◌, inl, inr, ⊎_elim, ℕ, Bool, true, false, cond, List, [], ◌∷◌, ◌++◌, Option, Some, None, ap, append_assoc, append-nil, map, refl, subst, sym}
+use Rattle.std.proofs.Math.Bool.{or-true}
 use Rattle.std.proofs.lemmas.Bool.{false≢true}
 use Rattle.std.proofs.lemmas.List.{map-append}
 use Rattle.std.proofs.lemmas.List.Elements.{All-nil, All-push}
@@ -32,14 +33,9 @@ lines_join (heard.LongLine ∷ early) late = lines_join early late
 lines_join (heard.LinkFault ∷ early) late = lines_join early late
 lines_join (heard.OutOfMemory ∷ early) late = lines_join early late
 
--- a test that the last item passes
-or_true : (b : Bool) → (b || true) ≡ true
-or_true true = refl
-or_true false = refl
-
 pub last_passes : {X : Type 0} → (test : X → Bool) (items : List X) (item : X) → test item ≡ true → list_any test (items ++ item ∷ []) ≡ true
 last_passes test items item passes =
-    list_any-append test items (item ∷ []) ∙ ap (λ (b : Bool). list_any test items || (b || false)) passes ∙ or_true (list_any test items)
+    list_any-append test items (item ∷ []) ∙ ap (λ (b : Bool). list_any test items || (b || false)) passes ∙ or-true (list_any test items)
 
 -- ---- leaves
 

@@ -1,9 +1,10 @@
 -- How many sessions left since a thread was refused to their clients.
 use Rattle.std.proofs.Common.{◌≡◌, ◌∙◌, inl, inr, ⊎_elim, ℕ, suc, ◌+◌, ◌<◌, ◌≤◌, Bool, true, false, cond, eqb, nat_le, List, [], ◌∷◌, ◌++◌, Option, Some, None, ap, arith, length, map, refl, subst, sym}
-use Rattle.std.proofs.lemmas.Bool.{and_parts, eq-eqb, false≢true}
+use Rattle.std.proofs.lemmas.Bool.{and_parts, eq-eqb, false≢true, or_from}
 use Rattle.std.proofs.lemmas.Bool.Decides.{eqb_tells, nat_tests}
 use Rattle.std.proofs.lemmas.List.Sums.{sum_by-cons}
-use Rattle.std.specs.Prelude.{◌&&◌, ◌||◌, count_by, nat_lt}
+use Rattle.std.specs.Prelude.{◌&&◌, count_by, nat_lt}
+use Rattle.trick_base.proofs.Numbers.{zero_at_most}
 use Rattle.trick_model.specs.Journal.{is_entry, may_follow}
 use Rattle.trick_model.specs.declared.entry.Cause.{Cause}
 use Rattle.trick_model.specs.declared.entry.Cause.TheVariants as cause
@@ -162,9 +163,6 @@ past_all first (entry ∷ entries) none =
 
 -- ---- nobody has the number 0
 
-or_both : (a b : Bool) → a ≡ false → b ≡ false → (a || b) ≡ false
-or_both a b one two = λ i. one i || two i
-
 -- a session that is live has another number than one that is not
 number_other : (session n : ℕ) (live : List ℕ) → is_among n live ≡ false → is_among session live ≡ true → eqb session n ≡ false
 number_other session n live away here = ⊎_elim
@@ -178,7 +176,7 @@ above_zero highest session above = grind (arith, nat_tests)
 zero_one : (entry : Entry) (s : Sessions) → is_among 0 s.live ≡ false → may_come entry s ≡ true
     → (is_of 0 entry ≡ false) × (is_among 0 (after_entry entry s).live ≡ false)
 zero_one (Join session) s away comes =
-    let other = above_zero s.highest session comes in (other, among_push 0 s.live session ∙ or_both (is_among 0 s.live) (eqb session 0) away other)
+    let other = above_zero s.highest session comes in (other, among_push 0 s.live session ∙ or_from (is_among 0 s.live) (eqb session 0) away other)
 zero_one (Said session line) s away comes = (number_other session 0 s.live away comes, away)
 zero_one (Leave session why) s away comes =
     let other = number_other session 0 s.live away comes in (other, among_other 0 session s.live other ∙ away)
@@ -219,22 +217,19 @@ abbrev refused_by : Option Queues → ℕ
 refused_by None = 0
 refused_by (Some queues) = cond queues.refused 1 0
 
-none_above : (n : ℕ) → 0 ≤ n
-none_above n = omega arith
-
 same_above : (m n : ℕ) → m ≡ n → m ≤ n
 same_above m n is = omega (arith, is)
 
 leave_refused : (n : ℕ) (leave : Option Cause) (s : Side) → HasReason leave s → refused_in (leave_of n leave) ≤ refused_by s.queues
-leave_refused n None s reason = none_above (refused_by s.queues)
-leave_refused n (Some cause.Exit) s reason = none_above (refused_by s.queues)
-leave_refused n (Some cause.HungUp) s reason = none_above (refused_by s.queues)
-leave_refused n (Some cause.LinkFault) s reason = none_above (refused_by s.queues)
-leave_refused n (Some cause.LongLine) s reason = none_above (refused_by s.queues)
-leave_refused n (Some cause.Slow) s reason = none_above (refused_by s.queues)
+leave_refused n None s reason = zero_at_most (refused_by s.queues)
+leave_refused n (Some cause.Exit) s reason = zero_at_most (refused_by s.queues)
+leave_refused n (Some cause.HungUp) s reason = zero_at_most (refused_by s.queues)
+leave_refused n (Some cause.LinkFault) s reason = zero_at_most (refused_by s.queues)
+leave_refused n (Some cause.LongLine) s reason = zero_at_most (refused_by s.queues)
+leave_refused n (Some cause.Slow) s reason = zero_at_most (refused_by s.queues)
 leave_refused n (Some cause.NoThread) s reason =
     same_above 1 (refused_by s.queues) (sym (ap refused_by reason.seated ∙ ap (λ (b : Bool). cond b 1 0) reason.refused))
-leave_refused n (Some cause.OutOfMemory) s reason = none_above (refused_by s.queues)
+leave_refused n (Some cause.OutOfMemory) s reason = zero_at_most (refused_by s.queues)
 
 lines_refused : (n : ℕ) (lines : List (List ℕ)) (leave : Option Cause)
     → refused_in (map (λ (line : List ℕ). Said n line) lines ++ leave_of n leave) ≡ refused_in (leave_of n leave)
@@ -244,7 +239,7 @@ lines_refused n (line ∷ lines) leave =
     refused_more (Said n line) later ∙ drop_zero (refused_in later) ∙ lines_refused n lines leave
 
 entries_refused : (n : ℕ) (s : Side) (entries : List Entry) → HasEntries n s entries → refused_in entries ≤ refused_by s.queues
-entries_refused n s entries (inl none) = subst (λ (l : List Entry). refused_in l ≤ refused_by s.queues) (sym none.1) (none_above (refused_by s.queues))
+entries_refused n s entries (inl none) = subst (λ (l : List Entry). refused_in l ≤ refused_by s.queues) (sym none.1) (zero_at_most (refused_by s.queues))
 entries_refused n s entries (inr lived) =
     let later = map (λ (line : List ℕ). Said n line) lived.lines ++ leave_of n lived.leave in
     subst (λ (m : ℕ). m ≤ refused_by s.queues)

@@ -1,5 +1,6 @@
 -- How a run ends that waits in Freeze.
 use Rattle.std.proofs.Common.{◌≡◌, ◌∙◌, inl, inr, ⊎_elim, ℕ, ◌+◌, ◌-◌, Bool, true, false, cond, eqb, not, List, [], ◌∷◌, ◌++◌, Option, Some, None, ap, arith, refl, subst, sym}
+use Rattle.std.proofs.Math.Bool.{or-false, or-true}
 use Rattle.std.proofs.lemmas.Bool.{eqb-true, false≢true}
 use Rattle.std.proofs.lemmas.Bool.Decides.{eqb_tells}
 use Rattle.std.proofs.lemmas.List.Elements.{All-head, All-tail}
@@ -51,17 +52,9 @@ stays_join (Said session line ∷ early) late here = stays_join early late here
 stays_join (Leave session why ∷ early) late here = stays_join early late false
 stays_join (Publish thread ∷ early) late here = stays_join early late here
 
-or_false : (b : Bool) → (b || false) ≡ b
-or_false true = refl
-or_false false = refl
-
-or_true : (b : Bool) → (b || true) ≡ true
-or_true true = refl
-or_true false = refl
-
 -- one more that is live
 pub among_push : (n : ℕ) (live : List ℕ) (m : ℕ) → is_among n (live ++ m ∷ []) ≡ (is_among n live || eqb m n)
-among_push n live m = list_any-append (λ s. eqb s n) live (m ∷ []) ∙ ap (λ (b : Bool). is_among n live || b) (or_false (eqb m n))
+among_push n live m = list_any-append (λ s. eqb s n) live (m ∷ []) ∙ ap (λ (b : Bool). is_among n live || b) (or-false (eqb m n))
 
 -- one that is live no more
 among_gone : (n : ℕ) (live : List ℕ) → is_among n (filter (λ other. not (eqb other n)) live) ≡ false
@@ -96,9 +89,9 @@ joined_after : (n : ℕ) (session : ℕ) (list : List Entry) (s : Sessions) (b :
     → is_among n (after_entries list (after_entry (Join session) s)).live ≡ stays_in (own n list) (is_among n (after_entry (Join session) s).live)
     → is_among n (after_entries list (after_entry (Join session) s)).live ≡ stays_in (cond b (Join session ∷ own n list) (own n list)) (is_among n s.live)
 joined_after n session list s true is more =
-    more ∙ ap (λ (b : Bool). stays_in (own n list) b) (among_push n s.live session ∙ ap (λ (b : Bool). is_among n s.live || b) is ∙ or_true (is_among n s.live))
+    more ∙ ap (λ (b : Bool). stays_in (own n list) b) (among_push n s.live session ∙ ap (λ (b : Bool). is_among n s.live || b) is ∙ or-true (is_among n s.live))
 joined_after n session list s false is more =
-    more ∙ ap (λ (b : Bool). stays_in (own n list) b) (among_push n s.live session ∙ ap (λ (b : Bool). is_among n s.live || b) is ∙ or_false (is_among n s.live))
+    more ∙ ap (λ (b : Bool). stays_in (own n list) b) (among_push n s.live session ∙ ap (λ (b : Bool). is_among n s.live || b) is ∙ or-false (is_among n s.live))
 
 left_after : (n : ℕ) (session : ℕ) (why : Cause) (list : List Entry) (s : Sessions) (b : Bool) → eqb session n ≡ b
     → is_among n (after_entries list (after_entry (Leave session why) s)).live ≡ stays_in (own n list) (is_among n (after_entry (Leave session why) s).live)

@@ -1,5 +1,6 @@
 -- Why a session left, by its entries, and want of memory that its writer told.
 use Rattle.std.proofs.Common.{◌≡◌, ◌∙◌, inl, inr, ⊎_elim, ℕ, ◌+◌, Bool, true, false, List, [], ◌∷◌, ◌++◌, Option, Some, None, ap, map, refl, sym}
+use Rattle.std.proofs.Math.Bool.{or-false}
 use Rattle.std.proofs.lemmas.Bool.{false≢true}
 use Rattle.std.proofs.lemmas.List.Folds.{list_any-append}
 use Rattle.std.specs.List.{list_any}
@@ -76,13 +77,9 @@ wanted_by cause.Slow is = absurd (false≢true is)
 wanted_by cause.NoThread is = absurd (false≢true is)
 wanted_by cause.OutOfMemory is = refl
 
-or_none : (b : Bool) → (b || false) ≡ b
-or_none true = refl
-or_none false = refl
-
 leave_wants : (n : ℕ) (leave : Option Cause) → list_any is_want_leave (leave_of n leave) ≡ true → leave ≡ Some cause.OutOfMemory
 leave_wants n None is = absurd (false≢true is)
-leave_wants n (Some why) is = ap (λ (w : Cause). Some w) (wanted_by why (sym (or_none (is_want why)) ∙ is))
+leave_wants n (Some why) is = ap (λ (w : Cause). Some w) (wanted_by why (sym (or-false (is_want why)) ∙ is))
 
 life_wants : (n : ℕ) (lines : List (List ℕ)) (leave : Option Cause)
     → list_any is_want_leave (map (λ (line : List ℕ). Said n line) lines ++ leave_of n leave) ≡ true → leave ≡ Some cause.OutOfMemory
@@ -106,7 +103,7 @@ here_unwanted a entries was stays told = false≢true (sym stays ∙ was.left to
 told_before : (told : List WriteStop) (why : WriteStop) → is_write_want why ≡ false → list_any is_write_want (told ++ why ∷ []) ≡ true
     → list_any is_write_want told ≡ true
 told_before told why other is =
-    sym (or_none (list_any is_write_want told))
+    sym (or-false (list_any is_write_want told))
     ∙ ap (λ (b : Bool). list_any is_write_want told || (b || false)) (sym other)
     ∙ sym (list_any-append is_write_want told (why ∷ [])) ∙ is
 

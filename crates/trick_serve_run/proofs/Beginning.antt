@@ -1,7 +1,8 @@
 -- A served run that could not begin.
-use Rattle.std.proofs.Common.{◌≡◌, inl, ℕ, ◌<◌, List, [], Some, Err, arith, refl, slice_get}
+use Rattle.std.proofs.Common.{◌≡◌, inl, ℕ, List, [], Some, Err, refl, slice_get}
 use Rattle.std.specs.FinMap.{get}
 use Rattle.std.specs.Prelude.{Result}
+use Rattle.trick_base.proofs.Numbers.{none_below_zero}
 use Rattle.trick_base.specs.Files.{Files}
 use Rattle.trick_headline.specs.Clients.{WereSent}
 use Rattle.trick_model.specs.Files.{journal_name, messages_to, run_writes, turns_said}
@@ -22,9 +23,6 @@ use Rattle.trick_tic.specs.Steps.{steps_of}
 none_at : {A : Type 0} (k : ℕ) (item : A) → (let none : List A = [] in slice_get none k ≡ Some item) → ⊥
 none_at k item is = cc
 
-none_below : (k : ℕ) → k < 0 → ⊥
-none_below k within = omega (arith, within)
-
 none_left : (p : Plan) (s : State) (before : Files) → Left p s [] [] before before
 none_left p s before = record {
   cut = [];
@@ -43,7 +41,7 @@ not_asked h door texts visited = record {
     asks = [];
     ended = [];
     visited = visited;
-    asked = λ k d within. absurd (none_below k within);
+    asked = λ k d within. absurd (none_below_zero k within);
     each = refl;
   };
   sent = λ k links end gave back. absurd (none_at k links gave);

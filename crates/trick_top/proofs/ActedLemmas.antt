@@ -1,5 +1,6 @@
 -- How a command goes with an accepted plan.
 use Rattle.std.proofs.Common.{◌≡◌, ◌≢◌, ◌∙◌, ℕ, List, [], Ok, Err, None, Option, Some, refl, sym, subst, ap, inl, inr}
+use Rattle.std.proofs.lemmas.Bool.{false_from_ne_true}
 use Rattle.std.specs.Prelude.{◌⊎◌, Result}
 use Rattle.trick_load.specs.CheckpointLines.{checkpoint}
 use Rattle.trick_codes.specs.Loads.{Refuses}
@@ -8,7 +9,6 @@ use Rattle.trick_codes.specs.declared.load_fault.LoadFault.{LoadFault}
 use Rattle.trick_model.specs.PlanOf.{plan_of}
 use Rattle.trick_model.specs.State.{State}
 use Rattle.trick_model.specs.declared.plan.Plan.{Plan}
-use Rattle.trick_outside.proofs.CallLemmas.{true_or_false}
 use Rattle.trick_outside.proofs.DoesLemmas.{went_none}
 use Rattle.trick_outside.specs.Calls.{fails}
 use Rattle.trick_outside.specs.declared.shelf.Shelf.{Ghosts}
@@ -79,7 +79,7 @@ module _ {S : Type 0} {shelf : Ghosts S} {old new : S} (plan : Plan) (from : Opt
   acted_run (Err stop.Memory) runs = record {
     calls = runs.runs.does.calls;
     went = runs.runs.does.went;
-    acts = no_memory_to_write first runs.lists starts (under_way runs) (stopped_so runs) (true_or_false (fails runs.runs.does.calls) (λ e. (let fault = runs.runs.does.fault e in cc)));
+    acts = no_memory_to_write first runs.lists starts (under_way runs) (stopped_so runs) (false_from_ne_true (fails runs.runs.does.calls) (λ e. (let fault = runs.runs.does.fault e in cc)));
   }
 
 -- a text that is no checkpoint

@@ -1,8 +1,8 @@
 -- How a generated simulation goes on a shelf.
 use Rattle.std.proofs.Common.{◌≡◌, ℕ, List, ◌++◌, IsOk, Err, None, sym, subst}
+use Rattle.std.proofs.lemmas.Bool.{false_from_ne_true}
 use Rattle.std.specs.Prelude.{IsErrOf, Result}
 use Rattle.trick_gen.specs.Texts.{definition_text, input_text}
-use Rattle.trick_outside.proofs.CallLemmas.{true_or_false}
 use Rattle.trick_outside.proofs.DoesLemmas.{Joins, went_then}
 use Rattle.trick_outside.specs.Calls.{fails}
 use Rattle.trick_outside.specs.Does.{Does, Went}
@@ -35,7 +35,7 @@ module _ {S T : Type 0} {shelf : Ghosts S} {old mid : S} (objects : ℕ) {result
   gone_short why is memory = record {
     calls = does.calls;
     went = does.went;
-    outcome = no_memory_for_texts does.part (true_or_false (fails does.calls) (λ e. (let fault = does.fault e in cc)));
+    outcome = no_memory_for_texts does.part (false_from_ne_true (fails does.calls) (λ e. (let fault = does.fault e in cc)));
   }
 
   -- both texts were written, and then run

@@ -1,5 +1,6 @@
 -- How a run goes under a journal.
 use Rattle.std.proofs.Common.{◌≡◌, ◌≢◌, ℕ, Bool, true, false, List, [], Ok, Err, Option, Some, refl, inl, inr}
+use Rattle.std.proofs.lemmas.Bool.{false_from_ne_true}
 use Rattle.std.specs.Prelude.{◌⊎◌, Result}
 use Rattle.trick_journal.specs.Refusals.{IsRefused}
 use Rattle.trick_journal.specs.declared.journal_fault.JournalFault.TheVariants as fault
@@ -13,7 +14,6 @@ use Rattle.trick_model.specs.Running.{run_class}
 use Rattle.trick_model.specs.State.{State}
 use Rattle.trick_model.specs.declared.journal.Journal.{Journal}
 use Rattle.trick_model.specs.declared.plan.Plan.{Plan}
-use Rattle.trick_outside.proofs.CallLemmas.{true_or_false}
 use Rattle.trick_outside.specs.Calls.{fails}
 use Rattle.trick_outside.specs.declared.shelf.Shelf.{Ghosts}
 use Rattle.trick_outside.specs.declared.stop.Stop.TheVariants as stop
@@ -62,7 +62,7 @@ module _ (plan : Plan) (from : Option (List ℕ)) (first : State) (starts : IsFi
       calls = runs.does.calls;
       went = runs.does.went;
       acts = no_memory_to_write first runs.lists starts (record { journal = journal; is = is; follows = runs.follows }) (record { part = runs.does.part; said = runs.stops.0; stops = runs.stops.1 })
-          (true_or_false (fails runs.does.calls) (λ e. (let fault = runs.does.fault e in cc)));
+          (false_from_ne_true (fails runs.does.calls) (λ e. (let fault = runs.does.fault e in cc)));
     }
 
   -- the text is no journal

@@ -1,4 +1,3 @@
-mod Small
 mod Rows
 mod Turns
 mod Lines

@@ -1,5 +1,7 @@
 -- The words of a line as `clap` walks them, and the items that they spell.
 use Rattle.std.proofs.Common.{◌≡◌, ◌++◌, ◌∷◌, ◌+◌, ◌||◌, ◌∙◌, [], ℕ, List, Bool, true, false, not, Some, None, refl, sym, ap, subst, inl, inr, min}
+use Rattle.std.proofs.Math.Bool.{or-false, or-true}
+use Rattle.std.proofs.lemmas.Bool.{or_parts}
 use Rattle.std.specs.List.{list_any, AllByRecursion}
 use Rattle.std.specs.Prelude.{fold}
 use Rattle.std.specs.Str.{bytes_eq}
@@ -12,15 +14,10 @@ use Rattle.clap.specs.Faults.{check_fault, defaults_fault, settle_fault, turn_fa
 use Rattle.clap.specs.Takes.{is_given}
 use Rattle.clap.specs.Simple.{Shape}
 use Rattle.trick_words.specs.CommandLine.{Given, IsAmong, NoneTwice, has_name}
-use Rattle.trick_words.proofs.Small.{or_false}
 use Rattle.trick_words.proofs.Rows.{rows, single}
 use Rattle.trick_words.proofs.Turns.{KnowsOption, bytes_same, or_else_free, or_else_parts}
 
 -- ---- names that stand once
-
-pub either_false : (a b : Bool) → (a || b) ≡ false → (a ≡ false) × (b ≡ false)
-either_false true b e = cc e
-either_false false b e = (refl, e)
 
 bytes_other : (x y : Text) → bytes_eq x y ≡ false → bytes_eq y x ≡ false
 bytes_other x y e = by (bytes_eq y x) refl
@@ -30,13 +27,13 @@ bytes_other x y e = by (bytes_eq y x) refl
     by true h = let same = (bytes_eq-Decides y x).0 h in let yes = (bytes_eq-Decides x y).1 (sym same) in cc (sym e ∙ yes)
 
 pub has_name_last : (name : Text) (ps : Given) (p : Text × Text) → has_name name (ps ++ p ∷ []) ≡ (has_name name ps || bytes_eq p.0 name)
-has_name_last name ps p = list_any-append (λ (q : Text × Text). bytes_eq q.0 name) ps (p ∷ []) ∙ ap (λ (b : Bool). has_name name ps || b) (or_false (bytes_eq p.0 name))
+has_name_last name ps p = list_any-append (λ (q : Text × Text). bytes_eq q.0 name) ps (p ∷ []) ∙ ap (λ (b : Bool). has_name name ps || b) (or-false (bytes_eq p.0 name))
 
 pub twice_last : (ps : Given) (p : Text × Text) → NoneTwice ps → has_name p.0 ps ≡ false → NoneTwice (ps ++ p ∷ [])
 unfolding NoneTwice
 twice_last [] p h e = (refl, tt)
 twice_last (x ∷ ps) p h e =
-    let (other, rest) = either_false (bytes_eq x.0 p.0) (has_name p.0 ps) e in
+    let (other, rest) = or_parts (bytes_eq x.0 p.0) (has_name p.0 ps) e in
     (has_name_last x.0 ps p ∙ rw (h.0) (bytes_other x.0 p.0 other), twice_last ps p h.1 rest)
 
 pub twice_new : (ps : Given) (p : Text × Text) (more : Given) → NoneTwice (ps ++ p ∷ more) → has_name p.0 ps ≡ false
@@ -44,7 +41,7 @@ unfolding NoneTwice
 twice_new [] p more h = refl
 twice_new (x ∷ ps) p more h =
     let all = sym (list_any-append (λ (q : Text × Text). bytes_eq q.0 x.0) ps (p ∷ more)) ∙ h.0 in
-    let here = (either_false (bytes_eq p.0 x.0) (has_name x.0 more) (either_false (has_name x.0 ps) _ all).1).0 in
+    let here = (or_parts (bytes_eq p.0 x.0) (has_name x.0 more) (or_parts (has_name x.0 ps) _ all).1).0 in
     rw (bytes_other p.0 x.0 here) (twice_new ps p more h.1)
 
 -- ---- names that are not there yet, and names that are
@@ -70,19 +67,15 @@ not_or false b e = cc e
 pub lacks_last : (used : List Text) (ps : Given) (p : Text × Text) → lacks used ps ≡ false → lacks used (ps ++ p ∷ []) ≡ false
 lacks_last [] ps p e = refl
 lacks_last (id ∷ used) ps p e =
-    let (here, rest) = either_false (not (has_name id ps)) (lacks used ps) e in
+    let (here, rest) = or_parts (not (has_name id ps)) (lacks used ps) e in
     rw (has_name_last id ps p, not_or (has_name id ps) (bytes_eq p.0 id) here) (lacks_last used ps p rest)
-
-or_right : (a : Bool) → (a || true) ≡ true
-or_right true = refl
-or_right false = refl
 
 pub lacks_used : (used : List Text) (ps : Given) (id w : Text) → lacks used ps ≡ false → lacks (used ++ id ∷ []) (ps ++ (id, w) ∷ []) ≡ false
 lacks_used used ps id w e = list_any-append (λ x. not (has_name x (ps ++ (id, w) ∷ []))) used (id ∷ [])
-    ∙ rw (lacks_last used ps (id, w) e, has_name_last id ps (id, w), bytes_same id, or_right (has_name id ps)) refl
+    ∙ rw (lacks_last used ps (id, w) e, has_name_last id ps (id, w), bytes_same id, or-true (has_name id ps)) refl
 
 pub lacks_place : (used rest : List Text) (id : Text) (ps : Given) → has_name id ps ≡ false → lacks (used ++ id ∷ rest) ps ≡ true
-lacks_place used rest id ps e = list_any-append (λ x. not (has_name x ps)) used (id ∷ rest) ∙ rw e (or_right (lacks used ps))
+lacks_place used rest id ps e = list_any-append (λ x. not (has_name x ps)) used (id ∷ rest) ∙ rw e (or-true (lacks used ps))
 
 given_is : (id : Text) (ps : Given) → is_given id (rows ps) ≡ has_name id ps
 given_is id [] = refl

@@ -1,5 +1,5 @@
 -- The words that a parse reads, and those that it refuses.
-use Rattle.std.proofs.Common.{◌≡◌, ◌≢◌, ◌++◌, ◌∷◌, ◌||◌, ◌&&◌, ◌∙◌, [], List, Bool, true, false, not, Option, Some, None, refl, sym, ap, subst, inl, inr, codes, Global, Bor, arith, if◌then◌else◌, is_some}
+use Rattle.std.proofs.Common.{◌≡◌, ◌≢◌, ◌++◌, ◌∷◌, ◌∙◌, [], List, Bool, true, false, Option, Some, None, refl, sym, ap, subst, inl, inr, codes, Global, Bor, arith, if◌then◌else◌, is_some}
 use Rattle.std.specs.List.{All, list_all, AllByRecursion}
 use Rattle.std.specs.Option.{MatchOption, option_map}
 use Rattle.std.specs.Prelude.{◌⊎◌, Box}
@@ -8,7 +8,7 @@ use Rattle.std.specs.Box.{box_value}
 use Rattle.std.proofs.lemmas.List.Elements.{All-drop}
 use Rattle.clap.proofs.WalkLemmas.{first_value-rows}
 use Rattle.std.proofs.lemmas.Slice.Eq.{bytes_eq-Decides}
-use Rattle.std.proofs.lemmas.Bool.{and_parts}
+use Rattle.std.proofs.lemmas.Bool.{and_from, and_parts, not-true}
 use Rattle.clap.specs.Walk.{Row, Text, first_of, rows_of}
 use Rattle.clap.specs.Faults.{fault_of, is_simple_and_free}
 use Rattle.clap.specs.Kinds.{HasKind}
@@ -54,10 +54,6 @@ pub same_kind : (a b : Kind) → name_of a ≡ name_of b → a ≡ b
 same_kind a b e = some_same a b (sym (named_is a) ∙ ap kind_named e ∙ named_is b)
 
 -- ---- the words
-
-pub or_right : (a b : Bool) → b ≡ true → (a || b) ≡ true
-or_right true b e = refl
-or_right false b e = e
 
 pub tail_same : (x y : Text) (xs ys : List Text) → x ∷ xs ≡ y ∷ ys → (x ≡ y) × (xs ≡ ys)
 tail_same x y xs ys e = (cc e, cc e)
@@ -122,15 +118,11 @@ named_by w = serial (pick kind.Serial w)
 abbrev pub IsGood : Text → Type 0
 IsGood w = IsUtf8 w × (is_bare w ≡ false)
 
-not_true : (b : Bool) → not b ≡ true → b ≡ false
-not_true false e = refl
-not_true true e = cc e
-
 pub all_good : (words : List Text) → list_all is_plain words ≡ true → All IsUtf8 words → AllByRecursion IsGood words
 all_good [] h texts = tt
 all_good (w ∷ words) h texts =
     let (here, rest) = and_parts (is_plain w) (list_all is_plain words) h in
-    ((texts 0 w (omega arith), not_true (is_bare w) here), all_good words rest (All-drop IsUtf8 1 (w ∷ words) texts))
+    ((texts 0 w (omega arith), not-true (is_bare w) here), all_good words rest (All-drop IsUtf8 1 (w ∷ words) texts))
 
 all_met : (k : Kind) (words : List Text) → AllByRecursion IsGood words → AllByRecursion (IsMet (shape_for k) [] (options_of k)) words
 all_met k [] h = tt
@@ -169,12 +161,9 @@ plain_of k [] (inl e) = refl
 plain_of k (x ∷ xs) (inl e) = rw e refl
 plain_of k w (inr (o, among, told)) = plain_option o w (option_named k o among) told
 
-and_both : (a b : Bool) → a ≡ true → b ≡ true → (a && b) ≡ true
-and_both a b e f = rw (e, f) refl
-
 all_plain : (k : Kind) (words : List Text) → AllByRecursion (IsAllowed (options_of k)) words → list_all is_plain words ≡ true
 all_plain k [] h = refl
-all_plain k (w ∷ words) h = and_both (is_plain w) (list_all is_plain words) (plain_of k w h.0) (all_plain k words h.1)
+all_plain k (w ∷ words) h = and_from (is_plain w) (list_all is_plain words) (plain_of k w h.0) (all_plain k words h.1)
 
 name_plain : (k : Kind) → is_plain (name_of k) ≡ true
 name_plain kind.Serial = refl
@@ -187,7 +176,7 @@ name_plain kind.Gen = refl
 pub not_plain : (words : List Text) → list_all is_plain words ≡ false → IsUsage words
 not_plain words h k given (rest, is, (items, spells, fills, once)) =
     let allowed = allowed_from (shape_for k) (places_of k) (options_of k) (fits k) items rest (places_of k) given spells fills in
-    let yes = and_both (is_plain (name_of k)) (list_all is_plain rest) (name_plain k) (all_plain k rest allowed) in
+    let yes = and_from (is_plain (name_of k)) (list_all is_plain rest) (name_plain k) (all_plain k rest allowed) in
     cc (sym h ∙ ap (list_all is_plain) is ∙ yes)
 
 -- ---- what the parse says

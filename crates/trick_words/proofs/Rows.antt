@@ -1,5 +1,7 @@
 -- What `clap` holds for a simple command whose arguments each take one value.
 use Rattle.std.proofs.Common.{◌≡◌, ◌++◌, ◌∷◌, ◌||◌, ◌∙◌, [], ℕ, List, Bool, true, false, Option, Some, None, map, refl, ap, append-nil, cond}
+use Rattle.std.proofs.Math.Bool.{or-true}
+use Rattle.std.proofs.lemmas.Bool.{or_parts}
 use Rattle.std.specs.List.{AllByRecursion}
 use Rattle.std.specs.Prelude.{fold}
 use Rattle.std.specs.Str.{bytes_eq}
@@ -50,15 +52,11 @@ pub has_row_is : (id : Text) (ps : Given) → has_row id (rows ps) ≡ has_name 
 has_row_is id [] = refl
 has_row_is id (p ∷ ps) = ap (λ (b : Bool). bytes_eq p.0 id || b) (has_row_is id ps)
 
-either_false : (a b : Bool) → (a || b) ≡ false → (a ≡ false) × (b ≡ false)
-either_false true b e = cc e
-either_false false b e = (refl, e)
-
 at_row_new : (id : Text) (change : Row → List Row) (missing : List Row) (ps : Given) → has_name id ps ≡ false
     → at_row id change missing (rows ps) ≡ rows ps ++ missing
 at_row_new id change missing [] h = refl
 at_row_new id change missing (p ∷ ps) h =
-    let (here, rest) = either_false (bytes_eq p.0 id) (has_name id ps) h in
+    let (here, rest) = or_parts (bytes_eq p.0 id) (has_name id ps) h in
     rw here (ap (λ (rs : List Row). row p ∷ rs) (at_row_new id change missing ps rest))
 
 rows_last : (ps : Given) (p : Text × Text) → rows ps ++ row p ∷ [] ≡ rows (ps ++ p ∷ [])
@@ -90,16 +88,12 @@ cond_same : {X : Type 0} (b : Bool) (x : X) → cond b x x ≡ x
 cond_same true x = refl
 cond_same false x = refl
 
-or_true : (b : Bool) → (b || true) ≡ true
-or_true true = refl
-or_true false = refl
-
 pub no_default_fault : (rs : List Row) (c : List Rule) → AllByRecursion (λ a. a.defaults ≡ []) c → defaults_fault rs c ≡ []
 unfolding defaults_fault
 no_default_fault rs [] h = refl
 no_default_fault rs (a ∷ c) h =
     let stays : with_default rs a ≡ rs = rw h.0 (cond_same (has_row a.id rs) rs) in
-    rw (h.0, or_true (has_row a.id rs), cond_same (has_row a.id rs) rs) (no_default_fault rs c h.1)
+    rw (h.0, or-true (has_row a.id rs), cond_same (has_row a.id rs) rs) (no_default_fault rs c h.1)
 
 pub no_defaults : (rs : List Row) (c : List Rule) → AllByRecursion (λ a. a.defaults ≡ []) c → fold with_default rs c ≡ rs
 no_defaults rs [] h = refl

@@ -1,5 +1,6 @@
 -- One word of a line, as `clap` takes it.
 use Rattle.std.proofs.Common.{◌≡◌, ◌≢◌, ◌++◌, ◌∷◌, ◌+◌, ◌∙◌, [], ℕ, List, Bool, true, false, Option, Some, None, refl, sym, ap, ap₂, cond, codes, min}
+use Rattle.std.proofs.Math.Bool.{and-false}
 use Rattle.std.specs.Prelude.{⊤}
 use Rattle.std.specs.Str.{bytes_eq}
 use Rattle.std.proofs.lemmas.Slice.Eq.{bytes_eq-Decides}
@@ -10,7 +11,6 @@ use Rattle.clap.specs.Faults.{settle_fault, step_fault, turn_fault, use_fault, w
 use Rattle.clap.specs.Simple.{Shape}
 use Rattle.clap.specs.declared.error.kind.ErrorKind.TheVariants as kind
 use Rattle.trick_words.specs.CommandLine.{Given, has_hyphen, has_name}
-use Rattle.trick_words.proofs.Small.{and_false}
 use Rattle.trick_words.proofs.Rows.{rows, single, use_needs, use_new, used_new}
 
 -- ---- where the walk stands
@@ -142,8 +142,8 @@ place_turn s ps q id w p again still e at more =
     let h = held ps q in
     let met = ap (λ (x : Waiting). word_met s.rules [] false x p w h) still ∙ plain_met s.rules p w h e in
     let fault = ap (λ (x : Waiting). word_fault s [] false x w h) still ∙ plain_free s w h e in (
-      ap₂ (turn_by s p) fault met ∙ rw (at, again, and_false (is_pending (single id None (Some p) true) (pending_for q))) refl,
-      λ done. ap (walk_by s (stand ps q p) w) met ∙ rw (at, and_false (is_pending (single id None (Some p) true) (pending_for q)))
+      ap₂ (turn_by s p) fault met ∙ rw (at, again, and-false (is_pending (single id None (Some p) true) (pending_for q))) refl,
+      λ done. ap (walk_by s (stand ps q p) w) met ∙ rw (at, and-false (is_pending (single id None (Some p) true) (pending_for q)))
           (ap₂ (λ (t : Held) (n : ℕ). record { held = record t { pending = Some (id, w ∷ []) }; waiting = idle; position = n; is_trailing = false; stopped = None }) done more),
     )
 

@@ -1,5 +1,6 @@
 -- One line, and a value for each place.
 use Rattle.std.proofs.Common.{◌≡◌, ◌∷◌, ◌∙◌, [], List, Bool, true, false, refl, sym, ap, ap₂, subst, is_some}
+use Rattle.std.proofs.lemmas.Bool.{or_right}
 use Rattle.std.specs.List.{AllByRecursion}
 use Rattle.std.specs.Str.{bytes_eq}
 use Rattle.std.specs.Prelude.{fold}
@@ -9,7 +10,7 @@ use Rattle.trick_words.specs.CommandLine.{Fills, Given, Item, has_name, option, 
 use Rattle.trick_words.specs.Reads.{IsCommand}
 use Rattle.trick_words.specs.declared.Kind.{Kind}
 use Rattle.trick_words.proofs.Main.{complete}
-use Rattle.trick_words.proofs.Reading.{same_kind, tail_same, or_right}
+use Rattle.trick_words.proofs.Reading.{same_kind, tail_same}
 use Rattle.trick_words.proofs.Rows.{row, rows}
 use Rattle.trick_words.proofs.Tops.{fits, shape_for}
 use Rattle.trick_words.proofs.Turns.{bytes_same, nothing, stand}

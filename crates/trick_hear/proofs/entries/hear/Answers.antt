@@ -1,7 +1,8 @@
 use Rattle.std.proofs.Common.{◌≡◌, ◌∙◌, ◌+◌, ◌++◌, [], ap, append-nil, drop, subst, sym}
 use Rattle.std.proofs.lemmas.List.{drop_all}
+use Rattle.trick_base.proofs.ListLemmas.{next_item}
 use Rattle.trick_hear.proofs.Kept.{hear_keeps, rising_now}
-use Rattle.trick_hear.proofs.ReplyLemmas.{heard_more, next_left, said_more}
+use Rattle.trick_hear.proofs.ReplyLemmas.{heard_more, said_more}
 use Rattle.trick_hear.proofs.entries.hear.Goals as goal
 use Rattle.trick_hear.specs.Hearing.{hearing_of, messages_in, said_of}
 use Rattle.trick_hear.specs.Sessions.{AreHeard, joining}
@@ -20,7 +21,7 @@ loop-entry-preserved g c =
     let at = c.loop-entry.entry-index in
     let entry = c.entry-item.result in
     let rest = drop (at + 1) entries in
-    let left = next_left entries at entry c.loop-entry-test.true c.entry-item.is in
+    let left = next_item entries at entry c.loop-entry-test.true c.entry-item.is in
     let old : Hearing = hearing_of g.M.Cells.numbers c.loop-entry.hearing in
     let now : Hearing = hearing_of g.M.Cells.numbers c.hear_entry.new.hearing in
     let is : now ≡ _ = c.in_ok-reply.ensures.heard in

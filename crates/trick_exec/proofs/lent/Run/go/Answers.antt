@@ -1,8 +1,9 @@
 use Rattle.std.proofs.Common.{rules, ◌≡◌, ◌∙◌, List, [], Err, None, Some, ap, length, refl, subst, sym}
+use Rattle.std.proofs.lemmas.Bool.{or_parts}
 use Rattle.std.proofs.lemmas.List.{length-map}
 use Rattle.std.proofs.lemmas.Result.{err_from_is_err_and}
 use Rattle.std.specs.Prelude.{Option, Result, nat_le}
-use Rattle.trick_exec.proofs.GoLemmas.{both_false, came_as, gave_as, gave_list, gave_nothing, none_known, step_as, under_more, under_stops}
+use Rattle.trick_exec.proofs.GoLemmas.{came_as, gave_as, gave_list, gave_nothing, none_known, step_as, under_more, under_stops}
 use Rattle.trick_exec.proofs.GapLemmas.{equipped_later, gap_as, gap_known, under_as, under_gap}
 use Rattle.trick_exec.proofs.IdleTurns.{idle_known, idle_turn}
 use Rattle.trick_exec.proofs.lent.Run.go.Goals as goal
@@ -83,7 +84,7 @@ loop-turn-preserved g c =
     let start : State = seen g.M.Cells.numbers c.args.world.state in
     let under = c.loop-turn.invariant.under in
     let w : World = world_of g.M.Cells.numbers c.loop-turn.world in
-    let tests = both_false (is_shut w.state.mode) (nat_le w.state.limit w.state.tic) (sym c.is_over.ensures ∙ c.if-is_over.false) in
+    let tests = or_parts (is_shut w.state.mode) (nat_le w.state.limit w.state.tic) (sym c.is_over.ensures ∙ c.if-is_over.false) in
     let gave : Gave g.T.Turns w c.deref-in-Entries.result.now c.loop-turn.self.turns.now c.ask.new.source =
     gave_as (sym c.deref-in-Entries.ensures.value)
     (gave_list g.T.Turns w c.deref.result.now c.in-Entries.entries c.loop-turn.self.turns.now c.ask.new.source c.deref.ensures.value
@@ -125,7 +126,7 @@ loop-turn-preserved-in-Nothing g c =
     let start : State = seen g.M.Cells.numbers c.args.world.state in
     let under = c.loop-turn.invariant.under in
     let w : World = world_of g.M.Cells.numbers c.loop-turn.world in
-    let tests = both_false (is_shut w.state.mode) (nat_le w.state.limit w.state.tic) (sym c.is_over.ensures ∙ c.if-is_over.false) in
+    let tests = or_parts (is_shut w.state.mode) (nat_le w.state.limit w.state.tic) (sym c.is_over.ensures ∙ c.if-is_over.false) in
     let gave : Gave g.T.Turns w [] c.loop-turn.self.turns.now c.ask.new.source =
     gave_nothing g.T.Turns w c.deref.result.now c.loop-turn.self.turns.now c.ask.new.source c.deref.ensures.value
     c.in-Nothing.ensures.step c.in-Nothing.ensures.pays c.in-Nothing.ensures.gives c.in-Nothing.ensures.rules c.in-Nothing.ensures.decides in
@@ -150,7 +151,7 @@ loop-turn-preserved-then-idles g c =
     let start : State = seen g.M.Cells.numbers c.args.world.state in
     let under = c.loop-turn.invariant.under in
     let w : World = world_of g.M.Cells.numbers c.loop-turn.world in
-    let tests = both_false (is_shut w.state.mode) (nat_le w.state.limit w.state.tic) (sym c.is_over.ensures ∙ c.if-is_over.false) in
+    let tests = or_parts (is_shut w.state.mode) (nat_le w.state.limit w.state.tic) (sym c.is_over.ensures ∙ c.if-is_over.false) in
     let gave : Gave g.T.Turns w [] c.loop-turn.self.turns.now c.ask.new.source =
     gave_nothing g.T.Turns w c.deref.result.now c.loop-turn.self.turns.now c.ask.new.source c.deref.ensures.value
     c.in-Nothing.ensures.step c.in-Nothing.ensures.pays c.in-Nothing.ensures.gives c.in-Nothing.ensures.rules c.in-Nothing.ensures.decides in
@@ -178,7 +179,7 @@ loop-turn-preserved-in-Gap g c =
     let quiet : AreQuiet h = record { shelf = g.met.F.Shelf.called_none; turns = g.met.T.Turns.went_none; posts = g.met.P.Posts.asked_none } in
     let start : State = seen g.M.Cells.numbers c.args.world.state in
     let w : World = world_of g.M.Cells.numbers c.loop-turn.world in
-    let tests = both_false (is_shut w.state.mode) (nat_le w.state.limit w.state.tic) (sym c.is_over.ensures ∙ c.if-is_over.false) in
+    let tests = or_parts (is_shut w.state.mode) (nat_le w.state.limit w.state.tic) (sym c.is_over.ensures ∙ c.if-is_over.false) in
     let now = c.ask.new.source in
     let given : Gap (GivesTurn g.T.Turns w.sessions) w.state c.in-Gap.turns c.loop-turn.self.turns.now now =
     gap_as g.T.Turns c.deref.result.now w.sessions w.state c.in-Gap.turns c.loop-turn.self.turns.now now c.deref.ensures.value c.in-Gap.ensures.gap in
@@ -206,7 +207,7 @@ returns-in_err-world-in-Entries-clause-turns g c =
     let start : State = seen g.M.Cells.numbers c.args.world.state in
     let under = c.loop-turn.invariant.under in
     let w : World = world_of g.M.Cells.numbers c.loop-turn.world in
-    let tests = both_false (is_shut w.state.mode) (nat_le w.state.limit w.state.tic) (sym c.is_over.ensures ∙ c.if-is_over.false) in
+    let tests = or_parts (is_shut w.state.mode) (nat_le w.state.limit w.state.tic) (sym c.is_over.ensures ∙ c.if-is_over.false) in
     let gave : Gave g.T.Turns w c.deref-in-Entries.result.now c.loop-turn.self.turns.now c.ask.new.source =
     gave_as (sym c.deref-in-Entries.ensures.value)
     (gave_list g.T.Turns w c.deref.result.now c.in-Entries.entries c.loop-turn.self.turns.now c.ask.new.source c.deref.ensures.value
@@ -228,7 +229,7 @@ returns-in_err-world-in-Nothing-clause-turns g c =
     let start : State = seen g.M.Cells.numbers c.args.world.state in
     let under = c.loop-turn.invariant.under in
     let w : World = world_of g.M.Cells.numbers c.loop-turn.world in
-    let tests = both_false (is_shut w.state.mode) (nat_le w.state.limit w.state.tic) (sym c.is_over.ensures ∙ c.if-is_over.false) in
+    let tests = or_parts (is_shut w.state.mode) (nat_le w.state.limit w.state.tic) (sym c.is_over.ensures ∙ c.if-is_over.false) in
     let gave : Gave g.T.Turns w [] c.loop-turn.self.turns.now c.ask.new.source =
     gave_nothing g.T.Turns w c.deref.result.now c.loop-turn.self.turns.now c.ask.new.source c.deref.ensures.value
     c.in-Nothing.ensures.step c.in-Nothing.ensures.pays c.in-Nothing.ensures.gives c.in-Nothing.ensures.rules c.in-Nothing.ensures.decides in
@@ -249,7 +250,7 @@ returns-in-NoMore-clause-turns g c =
     let start : State = seen g.M.Cells.numbers c.args.world.state in
     let under = c.loop-turn.invariant.under in
     let w : World = world_of g.M.Cells.numbers c.loop-turn.world in
-    let tests = both_false (is_shut w.state.mode) (nat_le w.state.limit w.state.tic) (sym c.is_over.ensures ∙ c.if-is_over.false) in (
+    let tests = or_parts (is_shut w.state.mode) (nat_le w.state.limit w.state.tic) (sym c.is_over.ensures ∙ c.if-is_over.false) in (
       under.lists,
       over_asked h laws p start c.ask.new.source under.going tests.1 c.in-NoMore.ensures.pays.0 c.in-NoMore.ensures.pays.1
           (step_as g.T.Turns w c.deref.result.now None c.loop-turn.self.turns.now c.ask.new.source c.deref.ensures.value c.in-NoMore.ensures.step)
@@ -266,7 +267,7 @@ returns-in-Length-clause-turns g c =
     let start : State = seen g.M.Cells.numbers c.args.world.state in
     let under = c.loop-turn.invariant.under in
     let w : World = world_of g.M.Cells.numbers c.loop-turn.world in
-    let tests = both_false (is_shut w.state.mode) (nat_le w.state.limit w.state.tic) (sym c.is_over.ensures ∙ c.if-is_over.false) in
+    let tests = or_parts (is_shut w.state.mode) (nat_le w.state.limit w.state.tic) (sym c.is_over.ensures ∙ c.if-is_over.false) in
     let told_of = λ (o : Option Told) (is : g.T.Turns.journal c.loop-turn.self.turns.now ≡ o).
     subst (λ (x : Option Told). Gives w.state x (next.Length c.in-Length.kept c.in-Length.given) (g.T.Turns.journal c.ask.new.source)) is c.in-Length.ensures.gives in (
       under.lists,
