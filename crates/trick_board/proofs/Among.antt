@@ -1,6 +1,6 @@
 -- Only the due jobs of a tic have another stage than idle.
-use Rattle.std.proofs.Common.{◌≡◌, inl, inr, ℕ, Bool, true, false, IsTrue, List, [], ◌∷◌, length, Option, Some, None, refl, sym, ◌∙◌, ap, subst}
-use Rattle.std.proofs.lemmas.Bool.{cases_eq, cases_lt}
+use Rattle.std.proofs.Common.{◌≡◌, inl, inr, ℕ, Bool, false, IsTrue, List, [], ◌∷◌, length, Option, Some, None, refl, sym, ◌∙◌, ap, subst}
+use Rattle.std.proofs.lemmas.Bool.{cases_eq, cases_lt, false≢true}
 use Rattle.std.proofs.lemmas.List.{ext_get_or, get_or-set_other, get_or-set_same, get_or_past, length-replicate, set_past}
 use Rattle.std.specs.Option.{IfSome, option_map}
 use Rattle.std.specs.Prelude.{ℤ, IsSome, replicate, slice_set}
@@ -15,12 +15,9 @@ use Rattle.trick_schedule.specs.Play.{is_due, stage_at, with_waiting}
 use Rattle.trick_schedule.specs.declared.stage.Stage.{Stage}
 use Rattle.trick_schedule.specs.declared.stage.Stage.TheVariants.{Done, Idle, InFlight, Waiting}
 
-none_is : false ≡ true → ⊥
-none_is e = cc
-
 -- at first no job is due
 pub none_due : (ks : List ℕ) (n : ℕ) → AreDueAmong ks (replicate n Idle)
-none_due ks n k due = absurd (none_is (sym (ap is_due (all_idle n k)) ∙ due))
+none_due ks n k due = absurd (false≢true (sym (ap is_due (all_idle n k)) ∙ due))
 
 -- a stage of one of these jobs leaves the others
 pub set_among : (ks : List ℕ) (stages : List Stage) (k : ℕ) (s : Stage) → AreDueAmong ks stages → IsTrue (is_among k ks) → AreDueAmong ks (slice_set stages k s)
@@ -63,7 +60,7 @@ idle_there stages k = elim (cases_lt k (length stages)) [
 -- one job is not due any more
 pub one_cleared : (j : ℕ) (ks : List ℕ) (stages : List Stage) → AreDueAmong (j ∷ ks) stages → AreDueAmong ks (slice_set stages j Idle)
 one_cleared j ks stages are i due = elim (cases_eq i j) [
-  | inl e ↦ absurd (none_is (sym (idle_there stages j) ∙ subst (λ (n : ℕ). IsTrue (is_due (stage_at (slice_set stages j Idle) n))) e due))
+  | inl e ↦ absurd (false≢true (sym (idle_there stages j) ∙ subst (λ (n : ℕ). IsTrue (is_due (stage_at (slice_set stages j Idle) n))) e due))
   | inr ne ↦ elim (among_cases i j ks (are i (sym (ap is_due (get_or-set_other stages j i Idle Idle ne)) ∙ due))) [
     | inl same ↦ absurd (ne (sym same))
     | inr later ↦ later
@@ -88,5 +85,5 @@ all_cleared stages n many are =
 pub stage_open : {M : Type 0} (numbers : M → List ℤ) (scalars : M → List Scalar) (tic : ℕ) (on : List Bool) (due : List JobId) (stages : List Stage)
     (memory : Option M) (k : ℕ) (s : Stage) → IsSome (option_map (opened_of numbers scalars tic on due stages) memory)
     → IfSome (option_map (opened_of numbers scalars tic on due stages) memory) (λ o. stage_at o.progress.stages k ≡ s) → stage_at stages k ≡ s
-stage_open numbers scalars tic on due stages None k s some is = absurd (none_is some)
+stage_open numbers scalars tic on due stages None k s some is = absurd (false≢true some)
 stage_open numbers scalars tic on due stages (Some m) k s some is = is

@@ -1,5 +1,6 @@
 -- What the calls of a board do, by its fields: the tic is open where there is a memory.
 use Rattle.std.proofs.Common.{◌≡◌, ℕ, ◌<◌, ◌≤◌, Bool, true, false, List, length, Option, Some, None, refl, sym, ◌∙◌, ap, subst}
+use Rattle.std.proofs.lemmas.Bool.{false≢true}
 use Rattle.std.specs.Option.{IfSome, option_map}
 use Rattle.std.specs.Prelude.{ℤ, IsSome, Result, Ok, Err, replicate}
 use Rattle.trick_board.proofs.Ends.{ends_serial, not_stale}
@@ -56,16 +57,13 @@ next_at numbers scalars tic on due stages (Some m) plan tables thread r law for_
     subst (λ (n : Next). CanDo (tic_at plan (opened_of numbers scalars tic on due stages m)) stages thread n) (sym is)
     (next_right plan (record { on = on }) tic tables stages (record { keys = law; tables_are = for_; due = open_.stages }) thread)
 
-none_is : false ≡ true → ⊥
-none_is e = cc
-
 -- where nothing is left before a waiting job, it is the first open one of its thread
 pub first_at : {M : Type 0} (numbers : M → List ℤ) (scalars : M → List Scalar) (tic : ℕ) (on : List Bool) (due : List JobId) (stages : List Stage)
     (memory : Option M) (plan : PlanValue) (tables : Tables) (ranks left : List ℕ) (thread : ℕ) → KeyOrderIsOne → IsFor (plan_of plan) tables
     → IsSome (option_map (opened_of numbers scalars tic on due stages) memory)
     → IfSome (option_map (opened_of numbers scalars tic on due stages) memory) (IsOpenOf plan)
     → AreRanked tables due stages ranks left → AreFirst tables stages (own_at tables ranks left) thread
-first_at numbers scalars tic on due stages None plan tables ranks left thread law for_ some open_ are = absurd (none_is some)
+first_at numbers scalars tic on due stages None plan tables ranks left thread law for_ some open_ are = absurd (false≢true some)
 first_at numbers scalars tic on due stages (Some m) plan tables ranks left thread law for_ some open_ are =
     first_on plan (record { on = on }) tic tables stages (record { keys = law; tables_are = for_; due = open_.stages }) due open_.due
     (subst (AreInKeyOrder plan.program.jobs) (sym open_.due) (due_order law plan (record { on = on }) tic)) (own_at tables ranks left) are thread
@@ -85,21 +83,21 @@ pub own_open : {M : Type 0} (numbers : M → List ℤ) (scalars : M → List Sca
     (memory : Option M) (tables : Tables) (k : ℕ) → IsSome (option_map (opened_of numbers scalars tic on due stages) memory)
     → IfSome (option_map (opened_of numbers scalars tic on due stages) memory) (λ o. own_anew tables o.due o.progress.stages k ≡ 0)
     → own_anew tables due stages k ≡ 0
-own_open numbers scalars tic on due stages None tables k some is = absurd (none_is some)
+own_open numbers scalars tic on due stages None tables k some is = absurd (false≢true some)
 own_open numbers scalars tic on due stages (Some m) tables k some is = is
 
 -- a due job of an open board is in its list at most once
 pub once_open : {M : Type 0} (numbers : M → List ℤ) (scalars : M → List Scalar) (tic : ℕ) (on : List Bool) (due : List JobId) (stages : List Stage)
     (memory : Option M) (plan : PlanValue) (k : ℕ) → KeyOrderIsOne → IsSome (option_map (opened_of numbers scalars tic on due stages) memory)
     → IfSome (option_map (opened_of numbers scalars tic on due stages) memory) (IsOpenOf plan) → occurrences k (ids due) ≤ 1
-once_open numbers scalars tic on due stages None plan k law some open_ = absurd (none_is some)
+once_open numbers scalars tic on due stages None plan k law some open_ = absurd (false≢true some)
 once_open numbers scalars tic on due stages (Some m) plan k law some open_ =
     once plan.program.jobs (ids due) (subst (AreInKeyOrder plan.program.jobs) (sym open_.due) (due_order law plan (record { on = on }) tic)) k
 
 -- a job that is ready is there
 pub ready_there : (opened : Option Opened) (plan : PlanValue) (thread : ℕ) (job : JobId) → IsSome opened → IfSome opened (IsOpenOf plan)
     → IfSome opened (λ o. CanDo (tic_at plan o) o.progress.stages thread (Ready job)) → job.0 < length plan.program.jobs
-ready_there None plan thread job some open_ can = absurd (none_is some)
+ready_there None plan thread job some open_ can = absurd (false≢true some)
 ready_there (Some o) plan thread job some open_ can =
     due_there (tic_at plan o) job.0 (sym (open_.stages job.0) ∙ ap is_due can.next.holds.1)
 
@@ -150,7 +148,7 @@ commit_belongs law plan b new job some belongs flies stored = by_open b.opened s
     by_open : (opened : Option Opened) → IsSome opened → IfSome opened (IsOpenOf plan)
         → IfSome opened (λ o. stage_at o.progress.stages job.0 ≡ InFlight) → IfSome opened (λ o. new ≡ stepped plan b o (CommitOf job))
         → IsBoardOf plan new
-    by_open None some open_ flies stored = absurd (none_is some)
+    by_open None some open_ flies stored = absurd (false≢true some)
     by_open (Some o) some open_ flies stored =
         subst (λ (v : BoardView). IsBoardOf plan v) (sym stored) (commit_open law plan b job o belongs.tables belongs.many open_ flies)
 

@@ -1,6 +1,6 @@
 -- Counts of what due jobs wait for: made at an open, kept by takes, and lowered by commits.
 use Rattle.std.proofs.Common.{◌≡◌, ◌⊎◌, inl, inr, ℕ, zero, suc, ◌+◌, ◌-◌, ◌<◌, ◌==◌, ◌&&◌, ◌||◌, Bool, true, false, cond, List, [], ◌∷◌, length, Option, Some, None, IsTrue, refl, sym, ◌∙◌, ap, subst, arith}
-use Rattle.std.proofs.lemmas.Bool.{cases_eq, cases_lt}
+use Rattle.std.proofs.lemmas.Bool.{cases_eq, cases_lt, eq-eqb, false≢true}
 use Rattle.std.proofs.lemmas.List.{get_or-set_other, get_or-set_same, get_or_past, set_past}
 use Rattle.std.specs.List.{slice_index_or}
 use Rattle.std.specs.Option.{IfSome, option_map}
@@ -25,14 +25,11 @@ use Rattle.trick_model.specs.Valid.{ids}
 use Rattle.trick_model.specs.declared.flags.Flags.{Flags}
 use Rattle.trick_model.specs.declared.plan.Plan.{Plan as PlanValue}
 use Rattle.trick_schedule.proofs.Due.{among_filter, due_there}
-use Rattle.trick_schedule.proofs.Keys.{among_cases, among_first, among_rest, before_among, none_among, not_itself, not_test, test_of}
+use Rattle.trick_schedule.proofs.Keys.{among_cases, among_first, among_rest, before_among, none_among, not_itself, not_test}
 use Rattle.trick_schedule.specs.Play.{is_due, stage_at}
 use Rattle.trick_schedule.specs.Tics.{IsDueIn, tic_of}
 use Rattle.trick_schedule.specs.declared.stage.Stage.{Stage}
 use Rattle.trick_schedule.specs.declared.stage.Stage.TheVariants.{Done, Idle, InFlight, Waiting}
-
-none_is : false ≡ true → ⊥
-none_is e = cc
 
 -- ---- how often a job is in a list
 
@@ -53,7 +50,7 @@ occurs_once jobs (j ∷ ks) k ordered = by_case (cases_eq k j) (occurs_once jobs
     by_case : (k ≡ j) ⊎ (k ≡ j → ⊥) → occurrences k ks ≡ one_if (is_among k ks)
         → one_if (j == k) + occurrences k ks ≡ one_if ((j == k) || is_among k ks)
     by_case (inl same) rest =
-        let here : (j == k) ≡ true = test_of j k (sym same) in
+        let here : (j == k) ≡ true = eq-eqb j k (sym same) in
         let one : one_if (j == k) ≡ 1 = ap one_if here in
         let none : occurrences k ks ≡ 0 = rest ∙ ap one_if (not_again same (is_among k ks) refl) in
         let there : one_if ((j == k) || is_among k ks) ≡ 1 = ap (λ (b : Bool). one_if (b || is_among k ks)) here in
@@ -104,7 +101,7 @@ fewer_at (j ∷ ks) counts k = fewer_at ks (slice_set counts j (count_at counts 
     by_case : (k ≡ j) ⊎ (k ≡ j → ⊥)
         → count_at (slice_set counts j (count_at counts j - 1)) k - occurrences k ks ≡ count_at counts k - (one_if (j == k) + occurrences k ks)
     by_case (inl same) =
-        let here : one_if (j == k) ≡ 1 = ap one_if (test_of j k (sym same)) in
+        let here : one_if (j == k) ≡ 1 = ap one_if (eq-eqb j k (sym same)) in
         let less : count_at (slice_set counts j (count_at counts j - 1)) k ≡ count_at counts k - 1 =
         subst (λ (n : ℕ). count_at (slice_set counts j (count_at counts j - 1)) n ≡ count_at counts n - 1) (sym same) (one_less counts j) in
         omega (arith, here, less)
@@ -169,7 +166,7 @@ closed_one stages j s (job ∷ jobs) opens shut =
         let now : is_open (stage_at (slice_set stages j s) job.0) ≡ false =
         subst (λ (n : ℕ). is_open (stage_at (slice_set stages j s) n) ≡ false) (sym same) (shut_there stages j s shut) in
         let was : is_open (stage_at stages job.0) ≡ true = subst (λ (n : ℕ). is_open (stage_at stages n) ≡ true) (sym same) opens in
-        let here : (job.0 == j) ≡ true = test_of job.0 j same in
+        let here : (job.0 == j) ≡ true = eq-eqb job.0 j same in
         let none_now : one_if (is_open (stage_at (slice_set stages j s) job.0)) ≡ 0 = ap one_if now in
         let one_here : one_if (job.0 == j) ≡ 1 = ap one_if here in
         let one_was : one_if (is_open (stage_at stages job.0)) ≡ 1 = ap one_if was in
@@ -185,7 +182,7 @@ closed_one stages j s (job ∷ jobs) opens shut =
 
 -- where no job is due nothing is counted
 pub none_counted : (tables : Tables) (n : ℕ) (counts : List ℕ) → AreCounted tables (replicate n Idle) counts
-none_counted tables n counts k due = absurd (none_is (sym (ap is_due (all_idle n k)) ∙ due))
+none_counted tables n counts k due = absurd (false≢true (sym (ap is_due (all_idle n k)) ∙ due))
 
 -- a take leaves the counts
 pub take_counted : (tables : Tables) (stages : List Stage) (counts : List ℕ) (k : ℕ) → stage_at stages k ≡ Waiting → AreCounted tables stages counts
@@ -305,7 +302,7 @@ pub open_sees : {M : Type 0} (numbers : M → List ℤ) (scalars : M → List Sc
     → IsSome (option_map (opened_of numbers scalars tic on due stages) memory)
     → IfSome (option_map (opened_of numbers scalars tic on due stages) memory) (IsOpenOf plan)
     → Sees plan (record { on = on }) tic tables stages
-open_sees numbers scalars tic on due stages None plan tables law right some is = absurd (none_is some)
+open_sees numbers scalars tic on due stages None plan tables law right some is = absurd (false≢true some)
 open_sees numbers scalars tic on due stages (Some m) plan tables law right some is = record { keys = law; tables_are = right; due = is.stages }
 
 -- ---- a job that is found

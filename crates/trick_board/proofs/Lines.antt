@@ -1,6 +1,6 @@
 -- The tables of a plan: threads that no job can have, and the pairs of one target.
 use Rattle.std.proofs.Common.{◌≡◌, ℕ, ◌≤◌, ◌==◌, ◌&&◌, ◌||◌, nat_le, Bool, true, false, cond, List, [], ◌∷◌, length, refl, sym, ◌∙◌, ap, subst, arith, inl, inr}
-use Rattle.std.proofs.lemmas.Bool.{and_left, cases_lt}
+use Rattle.std.proofs.lemmas.Bool.{and_left, cases_lt, leb-true}
 use Rattle.std.proofs.lemmas.Bool.Decides.{nat_tests}
 use Rattle.std.proofs.lemmas.List.{get_or_past}
 use Rattle.std.proofs.lemmas.List.Sums.{AllPass-from_list_all}
@@ -17,13 +17,10 @@ pub none_pass : (test : ℕ → Bool) (ks : List ℕ) → ((k : ℕ) → test k 
 none_pass test [] none = refl
 none_pass test (k ∷ ks) none = ap (λ (b : Bool). cond b (k ∷ filter test ks) (filter test ks)) (none k) ∙ none_pass test ks none
 
-le_of : (a b : ℕ) → nat_le a b ≡ true → a ≤ b
-le_of a b h = grind (arith, nat_tests)
-
 -- a thread is at most 15
 pub thread_small : (jobs : List Job) (k : ℕ) → have_right_threads jobs ≡ true → thread_of jobs k ≤ 15
 thread_small jobs k right = elim (cases_lt k (length jobs)) [
-  | inl less ↦ le_of _ _ (AllPass-from_list_all (λ (job : Job). nat_le job.thread 15) jobs right k no_job less)
+  | inl less ↦ leb-true _ _ (AllPass-from_list_all (λ (job : Job). nat_le job.thread 15) jobs right k no_job less)
   | inr past ↦ subst (λ (job : Job). job.thread ≤ 15) (sym (get_or_past jobs k no_job past)) (omega arith)
 ]
 

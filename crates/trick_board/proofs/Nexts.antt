@@ -1,6 +1,6 @@
 -- What a thread can do next, by the tables of a plan.
 use Rattle.std.proofs.Common.{◌≡◌, ◌⊎◌, inl, inr, ℕ, ◌==◌, Bool, true, false, cond, List, [], ◌∷◌, Option, Some, None, IsTrue, refl, sym, ◌∙◌, ap, subst}
-use Rattle.std.proofs.lemmas.Bool.{and_from, and_parts, both_ways}
+use Rattle.std.proofs.lemmas.Bool.{and_from, and_parts, both_ways, eq-eqb}
 use Rattle.std.specs.List.{slice_index_or}
 use Rattle.std.specs.Prelude.{filter, not}
 use Rattle.trick_board.proofs.Own.{before_all, before_first, before_thread, before_within, none_opens, open_some}
@@ -21,7 +21,7 @@ use Rattle.trick_model.specs.Valid.{ids}
 use Rattle.trick_model.specs.declared.flags.Flags.{Flags}
 use Rattle.trick_model.specs.declared.plan.Plan.{Plan as PlanValue}
 use Rattle.trick_schedule.proofs.Due.{due_there}
-use Rattle.trick_schedule.proofs.Keys.{one_first, precedes_all, same_of, test_of}
+use Rattle.trick_schedule.proofs.Keys.{one_first, precedes_all, same_of}
 use Rattle.trick_schedule.specs.Play.{is_done, is_due, stage_at}
 use Rattle.trick_schedule.specs.Tics.{IsDueIn, Tic, depends_on, due_jobs, tic_of}
 use Rattle.trick_schedule.specs.declared.stage.Stage.{Stage}
@@ -138,7 +138,7 @@ module _ (plan : PlanValue) (on : Flags) (number : ℕ) (tables : Tables) (stage
   due_on_line : Sees plan on number tables stages → (thread k : ℕ) → IsDueIn (tic_of plan on number) k → thread_of plan.program.jobs k ≡ thread
       → IsTrue (is_among k (line_of (plan_of plan) thread))
   due_on_line sees thread k due is =
-      among_tested (λ j. thread_of plan.program.jobs j == thread) k (scheduled (plan_of plan)) (test_of _ _ is) (due_scheduled sees.keys plan on number k due)
+      among_tested (λ j. thread_of plan.program.jobs j == thread) k (scheduled (plan_of plan)) (eq-eqb _ _ is) (due_scheduled sees.keys plan on number k due)
 
   its_thread : (thread k : ℕ) → IsTrue (is_among k (line_of (plan_of plan) thread)) → thread_of plan.program.jobs k ≡ thread
   its_thread thread k among = same_of _ _ (tested (λ j. thread_of plan.program.jobs j == thread) k (scheduled (plan_of plan)) among)
@@ -184,7 +184,7 @@ module _ (plan : PlanValue) (on : Flags) (number : ℕ) (tables : Tables) (stage
       open_not_done (stage_at stages o.0) found.passes,
       elim (one_first plan.program.jobs (line_of (plan_of plan) thread) o.0 job.0
           (tested_order sees.keys plan (λ j. thread_of plan.program.jobs j == thread)) found.among among) [
-            | inl same ↦ let on_it : (o.0 == job.0) ≡ true = test_of o.0 job.0 same in absurd (both_ways (o.0 == job.0) other on_it)
+            | inl same ↦ let on_it : (o.0 == job.0) ≡ true = eq-eqb o.0 job.0 same in absurd (both_ways (o.0 == job.0) other on_it)
             | inr (inl before) ↦ before
             | inr (inr behind) ↦ absurd (found.least job.0 among opens behind)
           ],

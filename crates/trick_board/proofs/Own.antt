@@ -1,6 +1,7 @@
 -- The jobs of a list that come before a job on its thread.
 use Rattle.std.proofs.Common.{◌≡◌, ◌⊎◌, inl, inr, ℕ, suc, ◌+◌, ◌≤◌, ◌==◌, Bool, true, false, cond, List, [], ◌∷◌, length, IsTrue, refl, sym, ◌∙◌, ap, subst, arith}
-use Rattle.std.proofs.lemmas.Bool.{both_ways}
+use Rattle.std.proofs.lemmas.Bool.{both_ways, eq-eqb}
+use Rattle.trick_base.proofs.Numbers.{zero_at_most}
 use Rattle.trick_board.specs.Counts.{before_on, many_on, one_if, open_among, rank_in}
 use Rattle.trick_board.specs.Search.{is_open}
 use Rattle.trick_board.specs.Tables.{thread_in}
@@ -10,7 +11,7 @@ use Rattle.trick_lang.specs.declared.job.JobId.{JobId}
 use Rattle.trick_model.specs.Laws.{AreInKeyOrder, is_among}
 use Rattle.trick_model.specs.Order.{precedes}
 use Rattle.trick_model.specs.Valid.{ids}
-use Rattle.trick_schedule.proofs.Keys.{among_cases, among_first, among_rest, before_among, none_among, not_both, not_itself, same_of, test_of}
+use Rattle.trick_schedule.proofs.Keys.{among_cases, among_first, among_rest, before_among, none_among, not_both, not_itself, same_of}
 use Rattle.trick_schedule.specs.Play.{stage_at}
 use Rattle.trick_schedule.specs.declared.stage.Stage.{Stage}
 
@@ -64,7 +65,7 @@ before_first all tables thread k (job ∷ jobs) a ordered there among =
         → IsTrue (is_among a (ids (cond here [] (cond own (job ∷ before_on tables thread k jobs) (before_on tables thread k jobs)))))
         → IsTrue (precedes all a k)
     by_test others true own e place among = absurd (none_among a among)
-    by_test others false own e (inl same) among = absurd (both_ways (job.0 == k) e (test_of job.0 k same))
+    by_test others false own e (inl same) among = absurd (both_ways (job.0 == k) e (eq-eqb job.0 k same))
     by_test others false true e (inr behind) among = elim (among_cases a job.0 (ids (before_on tables thread k jobs)) among) [
       | inl same ↦ subst (λ (n : ℕ). IsTrue (precedes all n k)) same (before_among all job.0 (ids jobs) k ordered.0 behind)
       | inr later ↦ others behind later
@@ -92,7 +93,7 @@ before_all all tables thread k (job ∷ jobs) a ordered there own first =
         (among_first job.0 (ids (before_on tables thread k jobs)))
     by_test others false true e t (inr later) = among_rest a job.0 (ids (before_on tables thread k jobs)) (others later)
     by_test others false false e t (inl same) =
-        absurd (both_ways (thread_in tables job.0 == thread) t (test_of (thread_in tables job.0) thread (ap (thread_in tables) same ∙ own)))
+        absurd (both_ways (thread_in tables job.0 == thread) t (eq-eqb (thread_in tables job.0) thread (ap (thread_in tables) same ∙ own)))
     by_test others false false e t (inr later) = others later
 
 -- ---- how many of them are open
@@ -135,9 +136,6 @@ all_open stages (job ∷ jobs) opens =
     let one : one_if (is_open (stage_at stages job.0)) ≡ 1 = ap one_if (opens job.0 (among_first job.0 (ids jobs))) in
     omega (arith, one, others)
 
-none_less : (n : ℕ) → 0 ≤ n
-none_less n = omega arith
-
 more_less : (n a b : ℕ) → a ≤ b → n + a ≤ n + b
 more_less n a b less = omega (arith, less)
 
@@ -145,7 +143,7 @@ more_less n a b less = omega (arith, less)
 pub before_fewer : (stages : List Stage) (tables : Tables) (thread j k : ℕ) (jobs : List JobId) → thread_in tables j ≡ thread
     → (IsTrue (is_among j (ids (before_on tables thread k jobs))) → ⊥)
     → open_among stages (before_on tables thread k jobs) ≤ open_among stages (before_on tables thread j jobs)
-before_fewer stages tables thread j k [] own none = none_less 0
+before_fewer stages tables thread j k [] own none = zero_at_most 0
 before_fewer stages tables thread j k (job ∷ jobs) own none =
     by_test (before_fewer stages tables thread j k jobs own) (job.0 == k) (job.0 == j) (thread_in tables job.0 == thread) refl refl none
   where
@@ -155,13 +153,13 @@ before_fewer stages tables thread j k (job ∷ jobs) own none =
         → (IsTrue (is_among j (ids (cond this [] (cond on (job ∷ before_on tables thread k jobs) (before_on tables thread k jobs))))) → ⊥)
         → open_among stages (cond this [] (cond on (job ∷ before_on tables thread k jobs) (before_on tables thread k jobs)))
         ≤ open_among stages (cond that [] (cond on (job ∷ before_on tables thread j jobs) (before_on tables thread j jobs)))
-    by_test others true that on e t none = none_less _
+    by_test others true that on e t none = zero_at_most _
     by_test others false true true e t none =
         absurd (none (subst (λ (n : ℕ). IsTrue (is_among n (job.0 ∷ ids (before_on tables thread k jobs)))) (same_of job.0 j e)
         (among_first job.0 (ids (before_on tables thread k jobs)))))
     by_test others false true false e t none =
         absurd (both_ways (thread_in tables job.0 == thread) t
-        (test_of (thread_in tables job.0) thread (ap (thread_in tables) (same_of job.0 j e) ∙ own)))
+        (eq-eqb (thread_in tables job.0) thread (ap (thread_in tables) (same_of job.0 j e) ∙ own)))
     by_test others false false true e t none =
         more_less (one_if (is_open (stage_at stages job.0))) _ _
         (others (λ among. none (among_rest j job.0 (ids (before_on tables thread k jobs)) among)))

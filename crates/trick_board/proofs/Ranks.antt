@@ -1,8 +1,9 @@
 -- What is left before a due job on its thread: ranked at an open, kept by takes, and lowered by commits.
 use Rattle.std.proofs.Common.{◌≡◌, ◌⊎◌, inl, inr, ℕ, ◌+◌, ◌-◌, ◌<◌, ◌≤◌, ◌==◌, ◌||◌, Bool, true, false, cond, List, [], ◌∷◌, length, IsTrue, refl, sym, ◌∙◌, ap, subst, arith}
-use Rattle.std.proofs.lemmas.Bool.{cases_Bool, cases_eq}
+use Rattle.std.proofs.lemmas.Bool.{cases_Bool, cases_eq, eq-eqb, false≢true}
 use Rattle.std.proofs.lemmas.List.{get_or-set_other, get_or-set_same, length-replicate}
 use Rattle.std.specs.Prelude.{replicate, slice_set}
+use Rattle.trick_base.proofs.Numbers.{zero_at_most}
 use Rattle.trick_board.proofs.Counting.{closed_one, occurrences, occurs_once, one_less, open_kept, same_open, was_due}
 use Rattle.trick_board.proofs.Own.{all_open, before_fewer, before_thread, before_within, rank_splits}
 use Rattle.trick_board.proofs.Stages.{all_idle}
@@ -16,13 +17,10 @@ use Rattle.trick_lang.specs.declared.job.JobId.{JobId}
 use Rattle.trick_model.specs.Laws.{AreInKeyOrder, is_among}
 use Rattle.trick_model.specs.Valid.{ids}
 use Rattle.trick_schedule.proofs.History.{waiting_at}
-use Rattle.trick_schedule.proofs.Keys.{among_cases, none_among, not_test, same_of, test_of}
+use Rattle.trick_schedule.proofs.Keys.{among_cases, none_among, not_test, same_of}
 use Rattle.trick_schedule.specs.Play.{is_due, is_taken, stage_at, with_waiting}
 use Rattle.trick_schedule.specs.declared.stage.Stage.{Stage}
 use Rattle.trick_schedule.specs.declared.stage.Stage.TheVariants.{Idle, InFlight, Waiting}
-
-none_is : false ≡ true → ⊥
-none_is e = cc
 
 -- ---- how often a job is before another one
 
@@ -31,7 +29,7 @@ occurs_some k [] among = absurd (none_among k among)
 occurs_some k (j ∷ ks) among = by_place (occurs_some k ks) (among_cases k j ks among)
   where
     by_place : (IsTrue (is_among k ks) → 1 ≤ occurrences k ks) → (j ≡ k) ⊎ IsTrue (is_among k ks) → 1 ≤ one_if (j == k) + occurrences k ks
-    by_place others (inl same) = let here : one_if (j == k) ≡ 1 = ap one_if (test_of j k same) in omega (arith, here)
+    by_place others (inl same) = let here : one_if (j == k) ≡ 1 = ap one_if (eq-eqb j k same) in omega (arith, here)
     by_place others (inr later) = let rest = others later in omega (arith, rest)
 
 occurs_none : (k : ℕ) (ks : List ℕ) → is_among k ks ≡ false → occurrences k ks ≡ 0
@@ -50,9 +48,6 @@ at_most_one false = omega arith
 pub once : (all : List Job) (ks : List ℕ) → AreInKeyOrder all ks → (k : ℕ) → occurrences k ks ≤ 1
 once all ks ordered k = subst (λ (n : ℕ). n ≤ 1) (sym (occurs_once all ks k ordered)) (at_most_one (is_among k ks))
 
-no_more : (n : ℕ) → 0 ≤ n
-no_more n = omega arith
-
 both_more : (n a b : ℕ) → a ≤ b → n + a ≤ n + b
 both_more n a b less = omega (arith, less)
 
@@ -61,14 +56,14 @@ one_more n a b less = omega (arith, less)
 
 before_occurs : (tables : Tables) (thread j k : ℕ) (jobs : List JobId)
     → occurrences j (ids (before_on tables thread k jobs)) ≤ occurrences j (ids jobs)
-before_occurs tables thread j k [] = no_more 0
+before_occurs tables thread j k [] = zero_at_most 0
 before_occurs tables thread j k (job ∷ jobs) =
     by_test (before_occurs tables thread j k jobs) (job.0 == k) (thread_in tables job.0 == thread)
   where
     by_test : occurrences j (ids (before_on tables thread k jobs)) ≤ occurrences j (ids jobs) → (here on : Bool)
         → occurrences j (ids (cond here [] (cond on (job ∷ before_on tables thread k jobs) (before_on tables thread k jobs))))
         ≤ one_if (job.0 == j) + occurrences j (ids jobs)
-    by_test others true on = no_more _
+    by_test others true on = zero_at_most _
     by_test others false true = both_more (one_if (job.0 == j)) _ _ others
     by_test others false false = one_more (one_if (job.0 == j)) _ _ others
 
@@ -76,10 +71,10 @@ before_occurs tables thread j k (job ∷ jobs) =
 
 -- where no job is due nothing is ranked
 pub none_ranked : (tables : Tables) (due : List JobId) (n : ℕ) (ranks left : List ℕ) → AreRanked tables due (replicate n Idle) ranks left
-none_ranked tables due n ranks left k is = absurd (none_is (sym (ap is_due (all_idle n k)) ∙ is))
+none_ranked tables due n ranks left k is = absurd (false≢true (sym (ap is_due (all_idle n k)) ∙ is))
 
 pub none_in_turn : (tables : Tables) (due : List JobId) (n : ℕ) → AreInTurn tables due (replicate n Idle)
-none_in_turn tables due n k taken = absurd (none_is (sym (ap is_taken (all_idle n k)) ∙ taken))
+none_in_turn tables due n k taken = absurd (false≢true (sym (ap is_taken (all_idle n k)) ∙ taken))
 
 -- ---- an open
 
@@ -98,7 +93,7 @@ not_taken false = refl
 pub opened_in_turn : (tables : Tables) (due : List JobId) (ks : List ℕ) (n : ℕ) → ((k : ℕ) → IsTrue (is_among k ks) → k < n)
     → AreInTurn tables due (with_waiting ks (replicate n Idle))
 opened_in_turn tables due ks n there k taken =
-    absurd (none_is (sym (ap is_taken (opened_stage ks n there k) ∙ not_taken (is_among k ks)) ∙ taken))
+    absurd (false≢true (sym (ap is_taken (opened_stage ks n there k) ∙ not_taken (is_among k ks)) ∙ taken))
 
 -- all due jobs are open, so what is left before each is what its rank leaves
 pub opened_ranked : (tables : Tables) (due : List JobId) (n : ℕ) (ranks left : List ℕ) → ((k : ℕ) → IsTrue (is_among k (ids due)) → k < n)
@@ -128,7 +123,7 @@ left_more tables left job rest n is less many t = by_case (cases_eq t (thread_in
     by_case : (t ≡ thread_in tables job.0) ⊎ (t ≡ thread_in tables job.0 → ⊥)
         → count_at (slice_set left (thread_in tables job.0) n) t ≡ one_if (thread_in tables job.0 == t) + many_on tables t rest
     by_case (inl same) =
-        let here : one_if (thread_in tables job.0 == t) ≡ 1 = ap one_if (test_of (thread_in tables job.0) t (sym same)) in
+        let here : one_if (thread_in tables job.0 == t) ≡ 1 = ap one_if (eq-eqb (thread_in tables job.0) t (sym same)) in
         let now : count_at (slice_set left (thread_in tables job.0) n) t ≡ n =
         subst (λ (i : ℕ). count_at (slice_set left (thread_in tables job.0) n) i ≡ n) (sym same) (get_or-set_same left (thread_in tables job.0) n 0 less) in
         let was : count_at left (thread_in tables job.0) ≡ many_on tables t rest = ap (count_at left) (sym same) ∙ many t in
@@ -146,7 +141,7 @@ pub first_rank : (tables : Tables) (left : List ℕ) (job : JobId) (rest : List 
     → count_at left (thread_in tables job.0) + 1 ≡ many_on tables (thread_in tables job.0) (job ∷ rest)
 first_rank tables left job rest many =
     let here : one_if (thread_in tables job.0 == thread_in tables job.0) ≡ 1 =
-    ap one_if (test_of (thread_in tables job.0) (thread_in tables job.0) refl) in
+    ap one_if (eq-eqb (thread_in tables job.0) (thread_in tables job.0) refl) in
     let right : count_at left (thread_in tables job.0) + 1
     ≡ one_if (thread_in tables job.0 == thread_in tables job.0) + many_on tables (thread_in tables job.0) rest = omega (arith, here, many) in
     right
@@ -178,9 +173,9 @@ rank_more tables ranks job rest n k right less others among = by_test (job.0 == 
         subst (λ (i : ℕ). count_at (slice_set ranks job.0 n) i ≡ many_on tables (thread_in tables i) (job ∷ rest)) (same_of job.0 k e)
         (get_or-set_same ranks job.0 n 0 less ∙ right)
     by_test false e =
-        get_or-set_other ranks job.0 k n 0 (λ same. none_is (sym e ∙ test_of job.0 k (sym same)))
+        get_or-set_other ranks job.0 k n 0 (λ same. false≢true (sym e ∙ eq-eqb job.0 k (sym same)))
         ∙ elim (among_cases k job.0 (ids rest) among) [
-          | inl same ↦ absurd (none_is (sym e ∙ test_of job.0 k same))
+          | inl same ↦ absurd (false≢true (sym e ∙ eq-eqb job.0 k same))
           | inr later ↦ others later
         ]
 
@@ -254,7 +249,7 @@ own_lower tables due stages j k was rank after only same none kept closed =
         omega (arith, some, few, only, kept, closed)
     by_test (inr off) =
         let zero_ = occurs_none j (ids (before_on tables (thread_in tables k) k due)) off in
-        let fewer = before_fewer stages tables (thread_in tables k) j k due (sym same) (λ on. none_is (sym off ∙ on)) in
+        let fewer = before_fewer stages tables (thread_in tables k) j k due (sym same) (λ on. false≢true (sym off ∙ on)) in
         let shut : open_among stages (before_on tables (thread_in tables k) j due) ≡ 0 =
         ap (λ (t : ℕ). open_among stages (before_on tables t j due)) same ∙ none in
         omega (arith, zero_, fewer, shut, kept, closed)

@@ -1,5 +1,6 @@
 -- A job that is taken, evaluated and at once committed.
-use Rattle.std.proofs.Common.{◌≡◌, ◌∙◌, ℕ, ◌<◌, pos, true, false, length, Option, Some, None, refl, sym, ap, subst}
+use Rattle.std.proofs.Common.{◌≡◌, ◌∙◌, ℕ, ◌<◌, pos, length, Option, Some, None, refl, sym, ap, subst}
+use Rattle.std.proofs.lemmas.Bool.{false≢true}
 use Rattle.std.proofs.lemmas.List.{get_or-set_same}
 use Rattle.std.specs.List.{slice_index_or}
 use Rattle.std.specs.Option.{IfSome}
@@ -16,19 +17,16 @@ use Rattle.trick_schedule.specs.Play.{is_due, stage_at}
 use Rattle.trick_schedule.specs.declared.stage.Stage.TheVariants.{InFlight, Waiting}
 use Rattle.trick_schedule.specs.declared.step.Step.TheVariants.{Commit, Take}
 
-none_is : false ≡ true → ⊥
-none_is e = cc
-
 -- a bench that a take filled has the job
 pub fill_job : (phase : ℕ) (plan : PlanValue) (opened : Option Opened) (was filled : BenchView) (job : JobId) → IsSome opened
     → IfSome opened (λ o. IsFilledBy phase (reads plan.program job) o.progress.memory was filled job) → filled.job ≡ Some job
-fill_job phase plan None was filled job some fill = absurd (none_is some)
+fill_job phase plan None was filled job some fill = absurd (false≢true some)
 fill_job phase plan (Some o) was filled job some fill = ap (λ (b : BenchView). b.job) fill.bench
 
 -- and the buffers that it had
 pub fill_parts : (phase : ℕ) (plan : PlanValue) (opened : Option Opened) (was filled : BenchView) (job : JobId) → IsSome opened
     → IfSome opened (λ o. IsFilledBy phase (reads plan.program job) o.progress.memory was filled job) → filled.parts ≡ was.parts
-fill_parts phase plan None was filled job some fill = absurd (none_is some)
+fill_parts phase plan None was filled job some fill = absurd (false≢true some)
 fill_parts phase plan (Some o) was filled job some fill = ap (λ (b : BenchView). b.parts) fill.bench
 
 pub fill_filled : (plan : PlanValue) (filled : BenchView) (job : JobId) → filled.job ≡ Some job → job.0 < length plan.program.jobs
@@ -56,7 +54,7 @@ underway plan old new job was filled done some waits taken fill evaluated = by_o
         → IfSome opened (λ o. new ≡ stepped plan old o (Take job))
         → IfSome opened (λ o. IsFilledBy old.phase (reads plan.program job) o.progress.memory was filled job)
         → IsUnderway plan new job done
-    by_open None some waits taken fill = absurd (none_is some)
+    by_open None some waits taken fill = absurd (false≢true some)
     by_open (Some o) some waits taken fill = subst (λ (b : BoardView). IsUnderway plan b job done) (sym taken) (record {
       open_ = refl;
       job_is = ap (λ (b : BenchView). b.job) evaluated ∙ ap (λ (b : BenchView). b.job) fill.bench;
@@ -73,7 +71,7 @@ taken_run plan old new after job some taken committed = by_open old.opened some 
   where
     by_open : (opened : Option Opened) → IsSome opened → IfSome opened (λ o. new ≡ stepped plan old o (Take job))
         → IfSome opened (λ o. after ≡ with_run plan old o job)
-    by_open None some taken = absurd (none_is some)
+    by_open None some taken = absurd (false≢true some)
     by_open (Some o) some taken = subst (λ (b : BoardView). IfSome b.opened (λ o. after ≡ stepped plan b o (Commit job))) taken committed
 
 -- the bench is empty then
@@ -81,7 +79,7 @@ pub cleared : (phase : ℕ) (plan : PlanValue) (opened : Option Opened) (was fil
     → IfSome opened (λ o. IsFilledBy phase (reads plan.program job) o.progress.memory was filled job)
     → done ≡ record filled { outcome = Some (effect plan.program (the_job filled.job) filled.inputs) }
     → empty ≡ record done { phase = 0; job = None; outcome = None } → IsEmptiedOf was empty
-cleared phase plan None was filled done empty job some fill evaluated clear = absurd (none_is some)
+cleared phase plan None was filled done empty job some fill evaluated clear = absurd (false≢true some)
 cleared phase plan (Some o) was filled done empty job some fill evaluated clear =
     let whole : empty ≡ record was { phase = 0; job = None; outcome = None; inputs = filled.inputs } =
     clear ∙ ap (λ (b : BenchView). record b { phase = 0; job = None; outcome = None }) evaluated

@@ -1,5 +1,5 @@
 -- Facts of all elements of a list, and beginnings of lists.
-use Rattle.std.proofs.Common.{◌≡◌, ◌∙◌, List, [], ◌∷◌, ◌++◌, append_assoc, ap, map, reverse, sym, subst}
+use Rattle.std.proofs.Common.{◌≡◌, ◌∙◌, List, [], ◌∷◌, ◌++◌, append_assoc, ap, reverse, sym, subst}
 use Rattle.std.proofs.lemmas.List.{reverse-append}
 use Rattle.std.proofs.lemmas.List.Elements.{All-cons, All-head, All-nil, All-tail}
 use Rattle.std.specs.Prelude.{All}
@@ -19,11 +19,6 @@ module _ {A : Type 0} (P : A → Type 0) where
   all_unreversed (x ∷ xs) all =
       let both : All P (reverse xs ++ x ∷ []) = subst (All P) (reverse-append (x ∷ []) xs) all in
       All-cons P x xs (All-head P x [] (all_right (reverse xs) (x ∷ []) both)) (all_unreversed xs (all_left (reverse xs) (x ∷ []) both))
-
-pub all_mapped : {A B : Type 0} (P : B → Type 0) (f : A → B) (xs : List A) → All P (map f xs) → All (λ x. P (f x)) xs
-all_mapped P f [] all = All-nil (λ x. P (f x))
-all_mapped P f (x ∷ xs) all =
-    All-cons (λ y. P (f y)) x xs (All-head P (f x) (map f xs) all) (all_mapped P f xs (All-tail P (f x) (map f xs) all))
 
 -- a beginning of a beginning is one
 pub prefix_of_prefix : {A : Type 0} (xs ys zs : List A) → IsPrefix xs ys → IsPrefix ys zs → IsPrefix xs zs

@@ -1,13 +1,15 @@
 -- The thread of each due job is thread 0, or a child thread that gets a worker.
 use Rattle.std.proofs.Common.{◌≡◌, ◌∙◌, ℕ, suc, ◌<◌, ◌≤◌, ◌==◌, nat_le, Bool, true, false, ◌&&◌, ◌||◌, IsTrue, List, [], ◌∷◌, length, arith, refl, sym}
+use Rattle.std.proofs.lemmas.Bool.{and_from}
 use Rattle.std.proofs.lemmas.Bool.Decides.{nat_tests}
 use Rattle.std.proofs.lemmas.List.Recursion.{or_at}
 use Rattle.std.proofs.lemmas.List.Sums.{AllPass-from_list_all}
 use Rattle.std.specs.List.{list_any}
 use Rattle.std.specs.Prelude.{filter}
+use Rattle.trick_base.proofs.Numbers.{equal_to_itself}
+use Rattle.trick_base.proofs.Truths.{second_holds}
 use Rattle.trick_board.proofs.Firsts.{among_tested, tested}
 use Rattle.trick_crew.specs.Children.{child_numbers, children, is_child}
-use Rattle.trick_lang.proofs.Tests.{both_right}
 use Rattle.trick_lang.specs.Valid.{have_right_threads}
 use Rattle.trick_lang.specs.declared.job.Job.{Job}
 use Rattle.trick_model.proofs.Keys.{key_order_is_one}
@@ -19,17 +21,10 @@ use Rattle.trick_model.specs.PlanOf.{plan_of}
 use Rattle.trick_model.specs.declared.flags.Flags.{Flags}
 use Rattle.trick_model.specs.declared.plan.Plan.{Plan}
 
-both : (a b : Bool) → IsTrue a → IsTrue b → IsTrue (a && b)
-both true b left right = right
-both false b left right = left
-
 -- what the first test gives, the second one does not take
 either_way : (a b c : Bool) → (IsTrue b → IsTrue c) → IsTrue (a || b) → IsTrue (a || c)
 either_way true b c step some = refl
 either_way false b c step some = step some
-
-number_same : (n : ℕ) → IsTrue (n == n)
-number_same n = grind (arith, nat_tests)
 
 same_number : (m n : ℕ) → IsTrue (m == n) → m ≡ n
 same_number m n is = grind (arith, nat_tests)
@@ -47,7 +42,7 @@ among_below k n (j ∷ ks) below among = less_of (j == k) j k n (same_number j k
 on_thread : (jobs : List Job) (k : ℕ) → k < length jobs → IsTrue (list_any (λ (job : Job). job.thread == thread_of jobs k) jobs)
 on_thread jobs k there =
     let on = λ (job : Job). job.thread == thread_of jobs k in
-    or_at (list_any on) on refl (λ _ _. refl) jobs k no_job there (number_same (thread_of jobs k))
+    or_at (list_any on) on refl (λ _ _. refl) jobs k no_job there (equal_to_itself (thread_of jobs k))
 
 at_most : (n limit : ℕ) → IsTrue (nat_le n limit) → n ≤ limit
 at_most n limit is = grind (arith, nat_tests)
@@ -68,7 +63,7 @@ due_threads_are_served plan on tic job due =
     let test = λ (k : ℕ). is_due (plan_of plan) on tic k && is_on_scheduled jobs plan.threads k in
     let among : IsTrue (is_among job (filter test (job_numbers jobs))) = key_order_is_one.same jobs (filter test (job_numbers jobs)) job ∙ due in
     let there : job < length jobs = among_below job (length jobs) (filter test (job_numbers jobs)) (filter_below (length jobs) test (job_numbers jobs) (jobs_below jobs)) among in
-    let scheduled = both_right (is_due (plan_of plan) on tic job) (is_on_scheduled jobs plan.threads job) (tested test job (job_numbers jobs) among) in
+    let scheduled = second_holds (is_due (plan_of plan) on tic job) (is_on_scheduled jobs plan.threads job) (tested test job (job_numbers jobs) among) in
     let thread = thread_of jobs job in
-    chosen (is_child plan) thread (both (is_on_scheduled jobs plan.threads job) (list_any (λ (j : Job). j.thread == thread) jobs) scheduled (on_thread jobs job there))
+    chosen (is_child plan) thread (and_from (is_on_scheduled jobs plan.threads job) (list_any (λ (j : Job). j.thread == thread) jobs) scheduled (on_thread jobs job there))
     (numbered thread (thread_small jobs job plan.program.right_threads there))

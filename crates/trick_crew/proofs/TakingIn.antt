@@ -7,7 +7,8 @@ use Rattle.std.specs.Prelude.{All}
 use base.Stored.{Coded-set}
 use mathlib.Core.List.{IsPrefix}
 use Rattle.atomic_table.specs.Seated.{TableId, table_id_coded}
-use Rattle.trick_crew.proofs.Lists.{all_left, all_mapped, all_right, all_unreversed, prefix_of_prefix}
+use Rattle.trick_base.proofs.ListLemmas.{all_unmapped}
+use Rattle.trick_crew.proofs.Lists.{all_left, all_right, all_unreversed, prefix_of_prefix}
 use Rattle.trick_crew.specs.Hands.{AreOfHall, IsLeftBy, IsTakenIn}
 use Rattle.trick_crew.specs.Members.{AreMembers, IsMember}
 use Rattle.trick_crew.specs.Working.{HasWorked}
@@ -69,7 +70,7 @@ module _ {M P G R : Type 0} {planned : Ghosts P} where
       let Of = λ (h : Hand M P). IsPassOf (arc_value h.lock) pass in
       let theirs = map (λ (w : Worker M P G R planned). w.hand) workers in
       let both : All Of (left ++ reverse theirs) = subst (All Of) (sym are) all in
-      (all_left Of left (reverse theirs) both, all_mapped Of (λ (w : Worker M P G R planned). w.hand) workers (all_unreversed Of theirs (all_right Of left (reverse theirs) both)))
+      (all_left Of left (reverse theirs) both, all_unmapped Of (λ (w : Worker M P G R planned). w.hand) workers (all_unreversed Of theirs (all_right Of left (reverse theirs) both)))
 
   -- the members are of the hall once their workers are
   pub members_of_hall : (pass : Pass HallView Entry) (workers : List (Worker M P G R planned)) (members : List (Begun (Worker M P G R planned) (Hand M P)))

@@ -4,7 +4,8 @@ use Rattle.std.proofs.Math.Logic.{∥∥₁_map}
 use Rattle.std.proofs.lemmas.List.Elements.{All-cons, All-head, All-tail}
 use Rattle.std.specs.Arc.{arc_value}
 use Rattle.std.specs.Prelude.{All}
-use Rattle.trick_crew_yard.proofs.Lists.{all_mapped, all_unreversed}
+use Rattle.trick_base.proofs.ListLemmas.{all_unmapped}
+use Rattle.trick_crew_yard.proofs.Lists.{all_unreversed}
 use Rattle.trick_crew_yard.proofs.Sharing.{shared_away, shared_here}
 use Rattle.trick_crew_yard.specs.Serving.{HasServed}
 use Rattle.trick_crew_yard.specs.Staffs.{AreOfPost, AreShared, RunsAtPost}
@@ -22,7 +23,7 @@ module _ {P G R : Type 0} {planned : Ghosts P} where
   pub made_of_post : (lock : TurnLock PostView Event) (clerks : List (Clerk P planned)) (shifts : List (Shift P G R planned))
       → map (λ (s : Shift P G R planned). s.clerk) shifts ≡ clerks → All (λ (c : Clerk P planned). arc_value c.lock ≡ lock) clerks → AreOfPost lock shifts
   made_of_post lock clerks shifts are all =
-      all_mapped (λ (c : Clerk P planned). arc_value c.lock ≡ lock) (λ (s : Shift P G R planned). s.clerk) shifts
+      all_unmapped (λ (c : Clerk P planned). arc_value c.lock ≡ lock) (λ (s : Shift P G R planned). s.clerk) shifts
       (subst (All (λ (c : Clerk P planned). arc_value c.lock ≡ lock)) (sym are) all)
 
   -- and they are for the clerks' threads

@@ -5,6 +5,7 @@ use Rattle.std.proofs.lemmas.List.{get_or-set_same, length-map}
 use Rattle.std.specs.List.{slice_index_or}
 use Rattle.std.specs.Option.{IfSome}
 use Rattle.std.specs.Prelude.{IsSome, Option, slice_set, vec_capacity}
+use Rattle.trick_base.proofs.Numbers.{equal_to_itself}
 use mathlib.Core.List.{IsPrefix}
 use Rattle.trick_desk.proofs.Entries.{started_more}
 use Rattle.trick_desk.specs.Answers.{AsksAt, HasTakenBack}
@@ -29,9 +30,6 @@ use Rattle.trick_turn.specs.declared.pass.Pass.{Pass}
 
 -- ---- what was started and not finished
 
-same_as : (n : ℕ) → (n == n) ≡ true
-same_as n = grind (arith, nat_tests)
-
 other_than : (k n : ℕ) → (k ≡ n → ⊥) → (k == n) ≡ false
 other_than k n ne = by_test (k == n) refl
   where
@@ -46,7 +44,7 @@ pub starts : (old mine : List Event) (seat n : ℕ) (taken : Taken) (work : Job1
     → started_in mine n ≡ Some (record { taken = taken; work = work })
 starts old mine seat n taken work is =
     ap (λ (l : List Event). started_in l n) is ∙ started_more n None old (Start seat n taken work)
-    ∙ ap (λ (b : Bool). cond b (Some (record { taken = taken; work = work })) (started_in old n)) (same_as n)
+    ∙ ap (λ (b : Bool). cond b (Some (record { taken = taken; work = work })) (started_in old n)) (equal_to_itself n)
 
 pub starts_other : (old mine : List Event) (seat n : ℕ) (taken : Taken) (work : Job1) (k : ℕ) → mine ≡ old ++ Start seat n taken work ∷ []
     → (k ≡ n → ⊥) → started_in mine k ≡ started_in old k
@@ -57,7 +55,7 @@ starts_other old mine seat n taken work k is ne =
 pub finishes : (old mine : List Event) (seat n : ℕ) → mine ≡ old ++ Finish seat n ∷ [] → started_in mine n ≡ None
 finishes old mine seat n is =
     ap (λ (l : List Event). started_in l n) is ∙ started_more n None old (Finish seat n)
-    ∙ ap (λ (b : Bool). cond b None (started_in old n)) (same_as n)
+    ∙ ap (λ (b : Bool). cond b None (started_in old n)) (equal_to_itself n)
 
 pub finishes_other : (old mine : List Event) (seat n k : ℕ) → mine ≡ old ++ Finish seat n ∷ [] → (k ≡ n → ⊥) → started_in mine k ≡ started_in old k
 finishes_other old mine seat n k is ne =

@@ -2,6 +2,7 @@
 use Rattle.std.proofs.Common.{◌≡◌, ◌∙◌, ℕ, ◌<◌, ◌≤◌, ◌==◌, Bool, true, false, cond, List, [], ◌∷◌, ◌++◌, length, Option, Some, refl, sym, ap, subst, arith, append-nil}
 use Rattle.std.proofs.lemmas.Bool.Decides.{nat_tests}
 use Rattle.std.proofs.lemmas.List.{get_or-set_other, get_or-set_same, length-set}
+use Rattle.std.proofs.lemmas.Option.{same_Some}
 use Rattle.std.specs.List.{slice_index_or}
 use Rattle.std.specs.Prelude.{nat_lt, slice_set}
 use Rattle.trick_desk.proofs.Entries.{after_more, legal_more}
@@ -23,13 +24,10 @@ stands_more plan next log e legal may at_ = record {
   legal = legal_more plan fresh log e legal may;
 }
 
-some_same : {A : Type 0} (x y : A) → Some x ≡ Some y → x ≡ y
-some_same x y e = cc
-
 -- the post of the one plan that was picked
 pub stands_at : (chosen : Option PlanValue) (plan : PlanValue) (post : PostView) (log : List Event) → chosen ≡ Some plan
     → StandsAt plan post log → Stands chosen post log
-stands_at chosen plan post log is s other e = subst (λ (p : PlanValue). StandsAt p post log) (some_same plan other (sym is ∙ e)) s
+stands_at chosen plan post log is s other e = subst (λ (p : PlanValue). StandsAt p post log) (same_Some plan other (sym is ∙ e)) s
 
 -- a turn that did nothing
 pub stands_same : (chosen : Option PlanValue) (post next : PostView) (log : List Event) → Stands chosen post log → next ≡ post

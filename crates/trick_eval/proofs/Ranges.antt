@@ -1,9 +1,9 @@
 -- Ranges in order.
 use Rattle.std.proofs.Common.{◌≡◌, ℕ, zero, suc, sym, ◌+◌, ◌<◌, ◌≤◌, Bool, true, false, ◌&&◌, ◌||◌, nat_le, nat_lt, IsTrue, List, [], ◌∷◌, drop, refl, subst, arith}
 use Rattle.std.proofs.lemmas.Bool.Decides.{nat_tests}
-use Rattle.std.proofs.lemmas.Bool.{ltb-true}
-use Rattle.trick_lang.proofs.Tests.{both_left, both_right, either_left, either_right}
+use Rattle.std.proofs.lemmas.Bool.{ltb-true, or_left, or_right}
 use Rattle.trick_access.specs.Ranges.{are_sorted}
+use Rattle.trick_base.proofs.Truths.{first_holds, second_holds}
 use Rattle.trick_lang.specs.Access.{is_in}
 use Rattle.trick_eval.specs.Bench.{covers}
 use Rattle.trick_lang.specs.declared.range.CellRange.{CellRange}
@@ -12,23 +12,23 @@ pub covered : (r : CellRange) (c : ℕ) → (r.first).0 ≤ c → c ≤ (r.last)
 covered r c h k = grind (arith, nat_tests)
 
 pub covers_from : (r : CellRange) (c : ℕ) → covers r c ≡ true → (r.first).0 ≤ c
-covers_from r c h = let a : IsTrue (nat_le (r.first).0 c) = both_left _ _ h in grind (arith, nat_tests)
+covers_from r c h = let a : IsTrue (nat_le (r.first).0 c) = first_holds _ _ h in grind (arith, nat_tests)
 
 pub covers_to : (r : CellRange) (c : ℕ) → covers r c ≡ true → c ≤ (r.last).0
-covers_to r c h = let a : IsTrue (nat_le c (r.last).0) = both_right (nat_le (r.first).0 c) _ h in grind (arith, nat_tests)
+covers_to r c h = let a : IsTrue (nat_le c (r.last).0) = second_holds (nat_le (r.first).0 c) _ h in grind (arith, nat_tests)
 
 -- the first of sorted ranges lies from the number on and below the cells, and the others after it
 pub head_from : (k cells : ℕ) (r : CellRange) (rs : List CellRange) → IsTrue (are_sorted k cells (r ∷ rs)) → k ≤ (r.first).0
-head_from k cells r rs h = let a : IsTrue (nat_le k (r.first).0) = both_left _ _ (both_left _ _ h) in grind (arith, nat_tests)
+head_from k cells r rs h = let a : IsTrue (nat_le k (r.first).0) = first_holds _ _ (first_holds _ _ h) in grind (arith, nat_tests)
 
 pub head_below : (k cells : ℕ) (r : CellRange) (rs : List CellRange) → IsTrue (are_sorted k cells (r ∷ rs)) → (r.last).0 < cells
-head_below k cells r rs h = ltb-true (r.last).0 cells (both_right (nat_le (r.first).0 (r.last).0) _ (both_right (nat_le k (r.first).0) _ (both_left _ _ h)))
+head_below k cells r rs h = ltb-true (r.last).0 cells (second_holds (nat_le (r.first).0 (r.last).0) _ (second_holds (nat_le k (r.first).0) _ (first_holds _ _ h)))
 
 pub head_rises : (k cells : ℕ) (r : CellRange) (rs : List CellRange) → IsTrue (are_sorted k cells (r ∷ rs)) → (r.first).0 ≤ (r.last).0
-head_rises k cells r rs h = let a : IsTrue (nat_le (r.first).0 (r.last).0) = both_left _ _ (both_right (nat_le k (r.first).0) _ (both_left _ _ h)) in grind (arith, nat_tests)
+head_rises k cells r rs h = let a : IsTrue (nat_le (r.first).0 (r.last).0) = first_holds _ _ (second_holds (nat_le k (r.first).0) _ (first_holds _ _ h)) in grind (arith, nat_tests)
 
 pub tail_sorted : (k cells : ℕ) (r : CellRange) (rs : List CellRange) → IsTrue (are_sorted k cells (r ∷ rs)) → IsTrue (are_sorted ((r.last).0 + 2) cells rs)
-tail_sorted k cells r rs h = both_right (nat_le k (r.first).0 && (nat_le (r.first).0 (r.last).0 && nat_lt (r.last).0 cells)) _ h
+tail_sorted k cells r rs h = second_holds (nat_le k (r.first).0 && (nat_le (r.first).0 (r.last).0 && nat_lt (r.last).0 cells)) _ h
 
 by_case : {Q : Type 0} (a b : Bool) → IsTrue (a || b) → (a ≡ true → Q) → (IsTrue b → Q) → Q
 by_case true b h f g = f refl
@@ -69,11 +69,11 @@ outside {Q = Q} r c h before after = go (nat_lt c (r.first).0) refl
 is_in_drop : (rs : List CellRange) (i c : ℕ) → IsTrue (is_in (drop i rs) c) → IsTrue (is_in rs c)
 is_in_drop rs zero c h = h
 is_in_drop [] (suc i) c h = h
-is_in_drop (r ∷ rs) (suc i) c h = either_right (covers r c) (is_in rs c) (is_in_drop rs i c h)
+is_in_drop (r ∷ rs) (suc i) c h = or_right (covers r c) (is_in rs c) (is_in_drop rs i c h)
 
 -- a cell of a range of the list is in the list
 pub in_here : (rs : List CellRange) (i : ℕ) (rest : List CellRange) (r : CellRange) (c : ℕ) → drop i rs ≡ r ∷ rest → (r.first).0 ≤ c → c ≤ (r.last).0 → IsTrue (is_in rs c)
-in_here rs i rest r c split from to = is_in_drop rs i c (subst (λ q. IsTrue (is_in q c)) (sym split) (either_left (covers r c) (is_in rest c) (covered r c from to)))
+in_here rs i rest r c split from to = is_in_drop rs i c (subst (λ q. IsTrue (is_in q c)) (sym split) (or_left (covers r c) (is_in rest c) (covered r c from to)))
 
 pub in_below : (rs : List CellRange) (k cells c : ℕ) → IsTrue (are_sorted k cells rs) → IsTrue (is_in rs c) → c < cells
 in_below [] k cells c h i = cc

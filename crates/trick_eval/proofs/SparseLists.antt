@@ -1,10 +1,9 @@
 -- Numbers beside the list of their places.
 use Rattle.std.proofs.Common.{◌≡◌, ◌≢◌, ℕ, zero, suc, ◌+◌, ◌<◌, ◌≤◌, ℤ, Bool, true, false, ◌==◌, ◌||◌, nat_lt, IsTrue, List, [], ◌∷◌, ◌++◌, length, drop, replicate, slice_set, Option, Some, None, refl, ap, sym, subst, ◌∙◌, arith, get_or-set_other, get_or-set_same}
 use Rattle.std.proofs.lemmas.Bool.Decides.{nat_tests}
-use Rattle.std.proofs.lemmas.Bool.{ltb-true}
+use Rattle.std.proofs.lemmas.Bool.{ltb-true, or_left, or_right}
 use Rattle.std.proofs.lemmas.List.{get_or_past, length-set, length-replicate, length_push, drop_more, drop_all, set_past}
 use Rattle.std.specs.List.{slice_index_or}
-use Rattle.trick_lang.proofs.Tests.{either_left, either_right}
 use Rattle.trick_eval.specs.Sparse.{has, count, AreAmong, IsListed}
 
 count_up_to : (xs : List (Option ℤ)) → count xs ≤ length xs
@@ -52,8 +51,8 @@ has_before (x ∷ xs) y c h = step (x == c) (has xs c) (has (xs ++ y ∷ []) c) 
     step false b d go h = go h
 
 has_last : (xs : List ℕ) (c : ℕ) → IsTrue (has (xs ++ c ∷ []) c)
-has_last [] c = either_left (c == c) false (grind (arith, nat_tests))
-has_last (x ∷ xs) c = either_right (x == c) _ (has_last xs c)
+has_last [] c = or_left (c == c) false (grind (arith, nat_tests))
+has_last (x ∷ xs) c = or_right (x == c) _ (has_last xs c)
 
 -- a place of a changed list is another one, or has the new number
 at_set : (P : ℕ → Type 0) (xs : List (Option ℤ)) (c d : ℕ) (v : Option ℤ) (n : ℤ) → slice_index_or (slice_set xs c v) d None ≡ Some n → (d ≢ c → slice_index_or xs d None ≡ Some n → P d) → (c < length xs → v ≡ Some n → P c) → P d

@@ -4,11 +4,11 @@ use Rattle.std.proofs.Math.Nat.{suc-mul}
 use Rattle.std.proofs.lemmas.Bool.Decides.{nat_tests}
 use Rattle.std.proofs.lemmas.Bool.{ltb-true}
 use Rattle.std.proofs.lemmas.List.{drop_all}
+use Rattle.trick_base.proofs.ListLemmas.{next_item}
+use Rattle.trick_base.proofs.Truths.{first_holds, second_holds}
 use Rattle.trick_lang.proofs.Alike.{runs_is}
 use Rattle.trick_lang.proofs.Blocks.{below, each_is}
-use Rattle.trick_lang.proofs.Lists.{from_here}
 use Rattle.trick_access.proofs.There.{block_is}
-use Rattle.trick_lang.proofs.Tests.{both_left, both_right}
 use Rattle.trick_lang.specs.Blocks.{block_at}
 use Rattle.trick_lang.specs.Effect.{ran, scalars_of}
 use Rattle.trick_eval.specs.Evaluation.{Ran, seen, setting_of}
@@ -40,7 +40,7 @@ drop_code (suc i) [] = refl
 drop_code (suc i) (x ∷ xs) = drop_code i xs
 
 pub code_next : (xs : List Stmt) (i : ℕ) (item : Stmt) → i < length xs → item ≡ get_or xs i item → drop i (code_list xs) ≡ code_of item ∷ drop (i + 1) (code_list xs)
-code_next xs i item h is = drop_code i xs ∙ ap code_list (from_here xs i item h is) ∙ ap (λ q. code_of item ∷ q) (sym (drop_code (i + 1) xs))
+code_next xs i item h is = drop_code i xs ∙ ap code_list (next_item xs i item h is) ∙ ap (λ q. code_of item ∷ q) (sym (drop_code (i + 1) xs))
 
 pub code_end : (xs : List Stmt) (i : ℕ) → length xs ≤ i → drop i (code_list xs) ≡ []
 code_end xs i h = drop_code i xs ∙ ap code_list (drop_all i xs h)
@@ -59,25 +59,25 @@ block_past bs k i h = ap (drop i) (block_none bs k h) ∙ drop_nil i
 
 pub pass_at : (xs : List Code) (i : ℕ) (b : Code) (rest : List Code) → drop i xs ≡ b ∷ rest → IsTrue (all_pass span_test xs) → IsTrue (code_passes span_test b)
 pass_at [] i b rest is h = let no : (let q : List Code = [] in q) ≡ b ∷ rest = sym (drop_nil i) ∙ is in cc
-pass_at (x ∷ xs) zero b rest is h = let same : x ≡ b = cc in subst (λ q. IsTrue (code_passes span_test q)) same (both_left _ _ h)
-pass_at (x ∷ xs) (suc i) b rest is h = pass_at xs i b rest is (both_right (code_passes span_test x) _ h)
+pass_at (x ∷ xs) zero b rest is h = let same : x ≡ b = cc in subst (λ q. IsTrue (code_passes span_test q)) same (first_holds _ _ h)
+pass_at (x ∷ xs) (suc i) b rest is h = pass_at xs i b rest is (second_holds (code_passes span_test x) _ h)
 
 -- ---- room
 
 pub deep_some : (all bs : List Block) (k : ℕ) → IsTrue (are_deep all bs) → 0 < deep_at bs k
 deep_some all [] k h = omega arith
-deep_some all (b ∷ bs) zero h = ltb-true 0 b.deep (both_left (nat_lt 0 b.deep) _ (both_left _ _ h))
-deep_some all (b ∷ bs) (suc k) h = deep_some all bs k (both_right (nat_lt 0 b.deep && all_fit all 1 b.deep (code_list b.statements)) _ h)
+deep_some all (b ∷ bs) zero h = ltb-true 0 b.deep (first_holds (nat_lt 0 b.deep) _ (first_holds _ _ h))
+deep_some all (b ∷ bs) (suc k) h = deep_some all bs k (second_holds (nat_lt 0 b.deep && all_fit all 1 b.deep (code_list b.statements)) _ h)
 
 deeper : (all bs : List Block) (k : ℕ) → IsTrue (are_deep all bs) → IsTrue (all_fit all 1 (deep_at bs k) (block_at (codes_of bs) k))
 deeper all [] k h = refl
-deeper all (b ∷ bs) zero h = both_right (nat_lt 0 b.deep) _ (both_left _ _ h)
-deeper all (b ∷ bs) (suc k) h = deeper all bs k (both_right (nat_lt 0 b.deep && all_fit all 1 b.deep (code_list b.statements)) _ h)
+deeper all (b ∷ bs) zero h = second_holds (nat_lt 0 b.deep) _ (first_holds _ _ h)
+deeper all (b ∷ bs) (suc k) h = deeper all bs k (second_holds (nat_lt 0 b.deep && all_fit all 1 b.deep (code_list b.statements)) _ h)
 
 branch_weaker : (p q : ℕ → Bool) → ((k : ℕ) → IsTrue (p k) → IsTrue (q k)) → (b : Branches) → IsTrue (branch_blocks p b) → IsTrue (branch_blocks q b)
 branch_weaker p q go NoElse h = refl
 branch_weaker p q go (Else k) h = go k h
-branch_weaker p q go (Test line test k rest) h = both _ _ (go k (both_left _ _ h)) (branch_weaker p q go rest (both_right (p k) _ h))
+branch_weaker p q go (Test line test k rest) h = both _ _ (go k (first_holds _ _ h)) (branch_weaker p q go rest (second_holds (p k) _ h))
   where
     both : (a b : Bool) → IsTrue a → IsTrue b → IsTrue (a && b)
     both true b h k = k
@@ -101,8 +101,8 @@ module _ (bs : List Block) (height deep room : ℕ) (fits : height + deep ≤ ro
 
 fits_at : (bs : List Block) (deep : ℕ) (xs : List Code) (i : ℕ) (b : Code) (rest : List Code) → drop i xs ≡ b ∷ rest → IsTrue (all_fit bs 1 deep xs) → IsTrue (code_fits bs 1 deep b)
 fits_at bs deep [] i b rest is h = let no : (let q : List Code = [] in q) ≡ b ∷ rest = sym (drop_nil i) ∙ is in cc
-fits_at bs deep (x ∷ xs) zero b rest is h = let same : x ≡ b = cc in subst (λ q. IsTrue (code_fits bs 1 deep q)) same (both_left _ _ h)
-fits_at bs deep (x ∷ xs) (suc i) b rest is h = fits_at bs deep xs i b rest is (both_right (code_fits bs 1 deep x) _ h)
+fits_at bs deep (x ∷ xs) zero b rest is h = let same : x ≡ b = cc in subst (λ q. IsTrue (code_fits bs 1 deep q)) same (first_holds _ _ h)
+fits_at bs deep (x ∷ xs) (suc i) b rest is h = fits_at bs deep xs i b rest is (second_holds (code_fits bs 1 deep x) _ h)
 
 -- what a statement of a block runs has room above the frame of the block
 pub room_at : (bs : List Block) (k i : ℕ) (b : Code) (rest : List Code) (height room : ℕ) → IsTrue (are_deep bs bs) → drop i (block_at (codes_of bs) k) ≡ b ∷ rest → height + deep_at bs k ≤ room → IsTrue (code_fits bs (suc height) room b)
@@ -193,7 +193,7 @@ pub picks_one : (p : ℕ → Bool) (b : Branches) (s : Sight) (k : ℕ) → pick
 picks_one p NoElse s k h all = cc
 picks_one p (Else block) s k h all = let same : block ≡ k = cc in subst (λ q. IsTrue (p q)) same all
 picks_one p (Test line test block rest) s k h all =
-    pick_case line block (value test s) (picked rest s) k (IsTrue (p k)) h (λ same. subst (λ q. IsTrue (p q)) same (both_left _ _ all)) (λ e. picks_one p rest s k e (both_right (p block) _ all))
+    pick_case line block (value test s) (picked rest s) k (IsTrue (p k)) h (λ same. subst (λ q. IsTrue (p q)) same (first_holds _ _ all)) (λ e. picks_one p rest s k e (second_holds (p block) _ all))
 
 -- the block that is picked has room
 pub picked_fits : (bs : List Block) (b : Branches) (s : Sight) (k height room : ℕ) → picked b s ≡ Ok (Some k) → IsTrue (code_fits bs height room (If b)) → height + deep_at bs k ≤ room
@@ -217,7 +217,7 @@ module _ (n : ℕ) (f g : ℕ → ℕ) (same : (j : ℕ) → j < n → f j ≡ g
   branch_weight_alike NoElse h = refl
   branch_weight_alike (Else k) h = ap (λ q. 1 + q) (same k (ltb-true k n h))
   branch_weight_alike (Test line test k rest) h =
-      ap₂ (λ q r. 1 + q + r) (same k (ltb-true k n (both_left _ _ h))) (branch_weight_alike rest (both_right (below n k) _ h))
+      ap₂ (λ q r. 1 + q + r) (same k (ltb-true k n (first_holds _ _ h))) (branch_weight_alike rest (second_holds (below n k) _ h))
 
   code_weight_alike : (b : Code) → IsTrue (code_blocks (below n) b) → code_weight b f ≡ code_weight b g
   code_weight_alike Empty h = refl
@@ -230,7 +230,7 @@ module _ (n : ℕ) (f g : ℕ → ℕ) (same : (j : ℕ) → j < n → f j ≡ g
 
   all_weight_alike : (all : List Code) → IsTrue (all_blocks (below n) all) → all_weight all f ≡ all_weight all g
   all_weight_alike [] h = refl
-  all_weight_alike (first ∷ rest) h = ap₂ (λ q r. q + r) (code_weight_alike first (both_left _ _ h)) (all_weight_alike rest (both_right (code_blocks (below n) first) _ h))
+  all_weight_alike (first ∷ rest) h = ap₂ (λ q r. q + r) (code_weight_alike first (first_holds _ _ h)) (all_weight_alike rest (second_holds (code_blocks (below n) first) _ h))
 
 weight_is : (bs : List (List Code)) → IsTrue (are_in_order 0 bs) → (k : ℕ) → block_weight bs k ≡ all_weight (block_at bs k) (block_weight bs)
 weight_is bs h k = each_is all_weight 0 (record { alike = λ b n f g h same. all_weight_alike n f g same b h; nil = λ f. refl }) bs h k

@@ -1,5 +1,6 @@
 -- The next tic at which something is due.
 use Rattle.std.proofs.Common.{◌≡◌, ◌≢◌, ◌∙◌, ℕ, zero, suc, ◌+◌, ◌<◌, ◌≤◌, List, [], ◌∷◌, Bool, true, false, Some, None, ap, arith, get_or, inl, inr, length, map, refl, subst, sym}
+use Rattle.std.proofs.lemmas.Bool.{eq-eqb}
 use Rattle.std.proofs.lemmas.Bool.Decides.{nat_tests}
 use Rattle.std.specs.Prelude.{◌%◌, ◌==◌, ◌&&◌, ◌||◌, ◌⊎◌, cond, min, nat_lt, All}
 use Rattle.std.specs.List.{list_any}
@@ -43,9 +44,6 @@ join false b g h = cc g
 equal : (m n : ℕ) → (m == n) ≡ true → m ≡ n
 equal m n h = grind (arith, nat_tests)
 
-tested : (m n : ℕ) → m ≡ n → (m == n) ≡ true
-tested m n h = grind (arith, nat_tests)
-
 -- ---- reads
 
 pub read_there : (reads : List ReadAt) (tic : ℕ) → read_is_due reads tic ≡ true → (k : ℕ) × (k < length reads) × (tic_of reads k ≡ tic)
@@ -57,7 +55,7 @@ read_there (read ∷ reads) tic h = elim (or_cases (read.tic == tic) (read_is_du
 
 pub read_back : (reads : List ReadAt) (k tic : ℕ) → k < length reads → tic_of reads k ≡ tic → read_is_due reads tic ≡ true
 read_back [] k tic less is = absurd (omega arith)
-read_back (read ∷ reads) zero tic less is = or_left (read.tic == tic) (read_is_due reads tic) (tested read.tic tic is)
+read_back (read ∷ reads) zero tic less is = or_left (read.tic == tic) (read_is_due reads tic) (eq-eqb read.tic tic is)
 read_back (read ∷ reads) (suc k) tic less is = or_right (read.tic == tic) (read_is_due reads tic) (read_back reads k tic (omega arith) is)
 
 -- ---- events
@@ -82,7 +80,7 @@ event_back [] s tic from k less on step = absurd (omega arith)
 event_back (event ∷ events) s tic from zero less on step =
     let same : from ≡ from + zero = omega arith in
     or_left (is_on s.events from && ((tic % event.cycle) == 0)) (event_is_due tic (suc from) (map event_of events) s)
-    (join (is_on s.events from) ((tic % event.cycle) == 0) (ap (is_on s.events) same ∙ on) (tested (tic % event.cycle) 0 step))
+    (join (is_on s.events from) ((tic % event.cycle) == 0) (ap (is_on s.events) same ∙ on) (eq-eqb (tic % event.cycle) 0 step))
 event_back (event ∷ events) s tic from (suc k) less on step =
     let same : suc from + k ≡ from + suc k = omega arith in
     or_right (is_on s.events from && ((tic % event.cycle) == 0)) (event_is_due tic (suc from) (map event_of events) s)

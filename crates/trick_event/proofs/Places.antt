@@ -1,8 +1,8 @@
 -- Places of conditions.
 use Rattle.std.proofs.Common.{◌≡◌, ◌∙◌, ℕ, ◌+◌, ◌<◌, ◌≤◌, ℤ, pos, Bool, true, false, not, ◌&&◌, nat_lt, nat_le, IsTrue, List, Ok, ap, arith, refl, slice_index_or}
 use Rattle.std.proofs.lemmas.Bool.{leb-true, ltb-true}
+use Rattle.trick_base.proofs.Truths.{first_holds, second_holds}
 use Rattle.trick_event.specs.Condition.{sight_of}
-use Rattle.trick_lang.proofs.Tests.{both_left, both_right}
 use Rattle.trick_lang.specs.Tree.{Cell, Spot, spot, Steps, NoStep, Step}
 use Rattle.trick_lang.specs.Value.{value}
 use Rattle.trick_model.specs.Condition.{has_no_step, is_plain_place}
@@ -21,7 +21,7 @@ plain_place cells memory false first span offset literals (Step length stride e 
 plain_place cells memory false first span offset literals NoStep plain =
     let same : 0 + first + offset ≡ first + offset = omega arith in
     record {
-      inside = ltb-true offset span (both_left (nat_lt offset span) (nat_le (first + span) cells) plain);
-      there = leb-true (first + span) cells (both_right (nat_lt offset span) (nat_le (first + span) cells) plain);
+      inside = ltb-true offset span (first_holds (nat_lt offset span) (nat_le (first + span) cells) plain);
+      there = leb-true (first + span) cells (second_holds (nat_lt offset span) (nat_le (first + span) cells) plain);
       number = ap (λ (c : ℕ). Ok (slice_index_or memory c (pos 0))) same;
     }

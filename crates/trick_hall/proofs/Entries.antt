@@ -1,5 +1,6 @@
 -- A history with one more entry.
 use Rattle.std.proofs.Common.{◌≡◌, ◌∙◌, true, false, Option, Some, List, [], ◌∷◌, ◌++◌, refl, sym, subst, append-nil}
+use Rattle.std.proofs.lemmas.Option.{same_Some}
 use Rattle.trick_hall.specs.HallView.{HallView}
 use Rattle.trick_hall.specs.Histories.{Account, IsLegal, May, after, after_from, fresh, has_shut, step}
 use Rattle.trick_hall.specs.Standing.{IsHallAt, Stands, StandsAt}
@@ -31,12 +32,9 @@ pub stands_same : (plan : PlanValue) (hall next : HallView) (log : List Entry) �
 stands_same plan hall next log stands is =
     subst (λ (h : HallView). StandsAt plan h (log ++ [])) (sym is) (subst (StandsAt plan hall) (sym (append-nil log)) stands)
 
-some_same : {A : Type 0} (x y : A) → Some x ≡ Some y → x ≡ y
-some_same x y e = cc
-
 -- one plan was picked
 pub stands_picked : (picked : Option PlanValue) (plan : PlanValue) (hall : HallView) (log : List Entry) → picked ≡ Some plan → StandsAt plan hall log → Stands picked hall log
-stands_picked picked plan hall log is stands other e = subst (λ (p : PlanValue). StandsAt p hall log) (some_same plan other (sym is ∙ e)) stands
+stands_picked picked plan hall log is stands other e = subst (λ (p : PlanValue). StandsAt p hall log) (same_Some plan other (sym is ∙ e)) stands
 
 -- ---- shut
 

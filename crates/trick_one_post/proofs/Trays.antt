@@ -1,12 +1,12 @@
 -- Trays of which one is changed.
 use Rattle.std.proofs.Common.{◌≡◌, ◌∙◌, ℕ, zero, suc, ◌<◌, List, [], ◌∷◌, length, None, refl, ap, arith}
+use Rattle.std.proofs.lemmas.Bool.{false≢true}
 use Rattle.std.proofs.lemmas.List.{get_or-set_same, length-set}
 use Rattle.std.specs.List.{slice_index_or}
 use Rattle.std.specs.Option.{option_map}
 use Rattle.std.specs.Prelude.{IsSome, slice_set}
 use Rattle.trick_one_post.specs.Posting.{started_at}
 use Rattle.trick_tray.proofs.Finish.{handed}
-use Rattle.trick_tray.proofs.Trays.{none_is}
 use Rattle.trick_tray.specs.Trays.{held_in}
 use Rattle.trick_tray.specs.declared.tray.Tray.{Tray}
 
@@ -33,6 +33,6 @@ none_started (tray ∷ trays) empty (suc n) = none_started trays (λ k d less. e
 
 -- a thread with something started has a tray
 pub started_there : (trays : List Tray) (n : ℕ) → IsSome (started_at trays n) → n < length trays
-started_there [] n some = absurd (none_is some)
+started_there [] n some = absurd (false≢true some)
 started_there (tray ∷ trays) zero some = omega arith
 started_there (tray ∷ trays) (suc n) some = let less : n < length trays = started_there trays n some in omega arith

@@ -1,5 +1,6 @@
 -- Calls, one after another.
 use Rattle.std.proofs.Common.{◌≡◌, ℕ, List, [], ◌∷◌, ◌++◌, refl, sym, ◌∙◌, ap, subst, Some, Bool, true, false, ◌||◌, arith, inl, inr}
+use Rattle.std.proofs.Math.Bool.{or-false, or_assoc}
 use Rattle.std.proofs.lemmas.Bool.{or_parts}
 use Rattle.std.specs.Prelude.{Option}
 use Rattle.trick_base.specs.Files.{Files}
@@ -7,20 +8,8 @@ use Rattle.trick_outside.specs.Calls.{AllLeave, Call, Calls, EndAtFault, Leaves,
 use Rattle.trick_outside.specs.Causes.{HasCause}
 use Rattle.trick_outside.specs.Does.{IsPartOf}
 
-pub true_or_false : (b : Bool) → (b ≡ true → ⊥) → b ≡ false
-true_or_false true never = absurd (never refl)
-true_or_false false never = refl
-
 pub not_both : (b : Bool) → b ≡ false → b ≡ true → ⊥
 not_both b one two = cc
-
-pub or_assoc : (a b c : Bool) → ((a || b) || c) ≡ (a || (b || c))
-or_assoc true b c = refl
-or_assoc false b c = refl
-
-pub or_none : (b : Bool) → (b || false) ≡ b
-or_none true = refl
-or_none false = refl
 
 -- a failure in one of two parts of the calls has its cause in that part
 pub cause_of_part : (a b : Bool) (before mid now : ℕ) → HasCause before mid (a ≡ true) → HasCause mid now (b ≡ true) → HasCause before now ((a || b) ≡ true)
@@ -62,7 +51,7 @@ calls_then {before = before} {then = then} {now = now} {early = early} {late = l
 -- one call, of a shelf that tells what it holds
 pub told_call : (old new : Files) (before now : ℕ) (call : Call) → HasCause before now (is_fault call ≡ true) → Leaves call old new → Calls (Some old) (Some new) before now (call ∷ [])
 told_call old new before now call cause leaves = record {
-  cause = subst (λ b. HasCause before now (b ≡ true)) (sym (or_none (is_fault call))) cause;
+  cause = subst (λ b. HasCause before now (b ≡ true)) (sym (or-false (is_fault call))) cause;
   left = λ files e. (new, refl, (new, subst (λ f. Leaves call f new) (same_some old files e) leaves, refl));
 }
   where

@@ -1,7 +1,8 @@
 -- `Does`, one step after another.
 use Rattle.std.proofs.Common.{inl, inr, ◌≡◌, List, [], ◌∷◌, ◌++◌, refl, sym, ◌∙◌, ap, subst, Ok, Err, IsOk, false}
+use Rattle.std.proofs.lemmas.Bool.{false_from_ne_true}
 use Rattle.std.specs.Prelude.{Result, IsErrOf}
-use Rattle.trick_outside.proofs.CallLemmas.{calls_none, calls_then, ends-append, fails-late, part_of_early, part_of_late, true_or_false}
+use Rattle.trick_outside.proofs.CallLemmas.{calls_none, calls_then, ends-append, fails-late, part_of_early, part_of_late}
 use Rattle.trick_outside.specs.Calls.{Call, Done, Put, Stopped, fails, write_call}
 use Rattle.trick_outside.specs.Does.{Does, IsPartOf, Went}
 use Rattle.trick_base.specs.Files.{Write}
@@ -109,7 +110,7 @@ does_stop {early = early} result late did never there back = record {
 pub does_then : {S T U : Type 0} {shelf : Ghosts S} {old mid new : S} {first : Result T Stop} {result : Result U Stop} {early late : List Call}
     → Joins shelf → Does shelf old mid first early → IsOk first → Does shelf mid new result late → Does shelf old new result (early ++ late)
 does_then {first = first} {result = result} {early = early} {late = late} join did ok more =
-    let quiet : fails did.calls ≡ false = true_or_false (fails did.calls) (λ e. ok_not_fault first ok (did.fault e)) in
+    let quiet : fails did.calls ≡ false = false_from_ne_true (fails did.calls) (λ e. ok_not_fault first ok (did.fault e)) in
     let same : fails (did.calls ++ more.calls) ≡ fails more.calls = fails-late did.calls more.calls quiet in
     record {
       calls = did.calls ++ more.calls;

@@ -1,9 +1,10 @@
 -- Bytes that are put piece after piece.
 use Rattle.std.proofs.Common.{◌≡◌, ℕ, ◌+◌, ◌-◌, ◌≤◌, List, [], ◌∷◌, ◌++◌, Bool, true, false, ◌||◌, length, take, drop, refl, sym, ◌∙◌, ap, subst, Some, append_assoc, append-nil, arith, length-drop}
+use Rattle.std.proofs.Math.Bool.{or-false, or_assoc}
 use Rattle.std.proofs.Math.Seq.{take-add}
 use Rattle.std.proofs.lemmas.List.{drop-drop, take_all}
 use Rattle.std.specs.Prelude.{Option}
-use Rattle.trick_outside.proofs.CallLemmas.{cause_of_part, or_assoc, or_none}
+use Rattle.trick_outside.proofs.CallLemmas.{cause_of_part}
 use Rattle.trick_outside.specs.Causes.{HasCause}
 use Rattle.trick_outside.specs.Pieces.{Failed, OutOfMemory, Piece, Pieces, Took, fails, is_fault, stops, taken_of}
 use Rattle.trick_outside.specs.Puts.{ArePiecesOf, Puts}
@@ -45,7 +46,7 @@ none_failed (Failed piece ∷ pieces) at bytes all = absurd all
 none_failed (OutOfMemory piece ∷ pieces) at bytes all = absurd all
 
 fails-then : (pieces : List Piece) (last : Piece) (at : ℕ) (bytes : List ℕ) → AllTook pieces at bytes → fails (pieces ++ last ∷ []) ≡ is_fault last
-fails-then pieces last at bytes all = fails-append pieces (last ∷ []) ∙ ap (λ b. b || fails (last ∷ [])) (none_failed pieces at bytes all) ∙ or_none (is_fault last)
+fails-then pieces last at bytes all = fails-append pieces (last ∷ []) ∙ ap (λ b. b || fails (last ∷ [])) (none_failed pieces at bytes all) ∙ or-false (is_fault last)
 
 dropped : (n at : ℕ) (bytes : List ℕ) → n ≤ at → drop (at - n) (drop n bytes) ≡ drop at bytes
 dropped n at bytes less = drop-drop (at - n) n bytes ∙ ap (λ k. drop k bytes) (omega arith)

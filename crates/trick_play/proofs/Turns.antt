@@ -1,11 +1,13 @@
 -- What takes and commits of jobs by name answer.
 use Rattle.std.proofs.Common.{◌≡◌, ◌≢◌, ◌∙◌, inl, inr, ℕ, ◌<◌, ◌≤◌, ◌==◌, ◌&&◌, nat_le, pos, Bool, true, false, IsTrue, List, length, Option, Some, None, refl, sym, ap, subst, arith}
+use Rattle.std.proofs.lemmas.Bool.{false≢true, leb-true}
 use Rattle.std.proofs.lemmas.Bool.Decides.{nat_tests}
 use Rattle.std.proofs.lemmas.List.{get_or-set_same, get_or_past}
 use Rattle.std.proofs.lemmas.List.Sums.{AllPass-from_list_all}
 use Rattle.std.specs.List.{slice_index_or}
 use Rattle.std.specs.Option.{IfSome, MatchOption}
 use Rattle.std.specs.Prelude.{IsSome, filter, slice_set}
+use Rattle.trick_base.proofs.Numbers.{equal_to_itself}
 use Rattle.trick_board.specs.Answers.{Commits as CommitsTo, IfDone, IfNotDone, IsEmptiedOf, IsFilledBy, IsMissing, IsReadyOn, Runs as RunsTo, Takes as TakesTo}
 use Rattle.trick_board.specs.Board.{BoardView, IsBoardOf, IsOpenOf, Opened, stepped, tic_at, with_run}
 use Rattle.trick_board.specs.declared.answers.Commit.{Commit as CommitAnswer}
@@ -39,13 +41,10 @@ use Rattle.trick_schedule.specs.declared.step.Step.TheVariants.{Commit, Take}
 
 -- ---- threads
 
-le_of : (a b : ℕ) → nat_le a b ≡ true → a ≤ b
-le_of a b h = grind (arith, nat_tests)
-
 -- no job is on a thread above 15
 pub thread_small : (jobs : List Job) (k : ℕ) → have_right_threads jobs ≡ true → thread_of jobs k ≤ 15
 thread_small jobs k right = elim (below_or k (length jobs)) [
-  | inl less ↦ le_of _ _ (AllPass-from_list_all (λ (job : Job). nat_le job.thread 15) jobs right k no_job less)
+  | inl less ↦ leb-true _ _ (AllPass-from_list_all (λ (job : Job). nat_le job.thread 15) jobs right k no_job less)
   | inr past ↦ subst (λ (job : Job). job.thread ≤ 15) (sym (get_or_past jobs k no_job past)) (omega arith)
 ]
 
@@ -85,9 +84,6 @@ apart_job a b e same = differ a.0 b.0 e same
   where
     differ : (n m : ℕ) → (n == m) ≡ false → n ≡ m → ⊥
     differ n m e same = grind (arith, nat_tests)
-
-none_is : false ≡ true → ⊥
-none_is e = cc
 
 taken_held : (plan : PlanValue) (old : BoardView) (o : Opened) (job : JobId) (was filled done : BenchView) → IsOpenOf plan o → filled.job ≡ Some job
     → CanBeTaken plan o job → IsFilledBy old.phase (reads plan.program job) o.progress.memory was filled job
@@ -140,7 +136,7 @@ took plan old new thread job was filled done some belongs on_thread answer taken
         → IfSome opened (λ o. new ≡ stepped plan old o (Take (the_job filled.job)))
         → IfSome opened (λ o. IsFilledBy old.phase (reads plan.program (the_job filled.job)) o.progress.memory was filled (the_job filled.job))
         → TakesFrom plan old new opened job done (has_job done.job job)
-    by_open None some open_ answer taken fill = absurd (none_is some)
+    by_open None some open_ answer taken fill = absurd (false≢true some)
     by_open (Some o) some open_ answer taken fill =
         let has : has_job done.job job ≡ ((the_job filled.job).0 == job.0) =
         ap (λ (b : BenchView). has_job b.job job) evaluated ∙ ap (λ (b : BenchView). has_job b.job job) fill.bench in
@@ -157,7 +153,7 @@ took_filled plan old thread was filled some belongs answer fill = by_open old.op
         → IfSome opened (λ o. TakesTo (tic_at plan o) o.progress.stages thread (the_job filled.job).0 WasTaken)
         → IfSome opened (λ o. IsFilledBy old.phase (reads plan.program (the_job filled.job)) o.progress.memory was filled (the_job filled.job))
         → IsFilled plan.program filled
-    by_open None some open_ answer fill = absurd (none_is some)
+    by_open None some open_ answer fill = absurd (false≢true some)
     by_open (Some o) some open_ answer fill = (
       ap (λ (b : BenchView). b.job) fill.bench,
       due_there (tic_at plan o) (the_job filled.job).0 (due_of plan o open_ (the_job filled.job).0 (ap is_due answer.next.holds.1)),
@@ -184,7 +180,7 @@ not_yet plan old new thread k job next waits bench some belongs on_thread answer
 
     by_open : (opened : Option Opened) → IsSome opened → IfSome opened (IsOpenOf plan)
         → IfSome opened (λ o. TakesTo (tic_at plan o) o.progress.stages thread k (NotYet next waits)) → IfSome opened (λ o. CanBeTaken plan o job → ⊥)
-    by_open None some open_ answer = absurd (none_is some)
+    by_open None some open_ answer = absurd (false≢true some)
     by_open (Some o) some open_ answer =
         by_answer o open_ (subst (λ (n : ℕ). TakesTo (tic_at plan o) o.progress.stages n k (NotYet next waits)) on_thread answer)
 
@@ -195,7 +191,7 @@ all_done plan old new thread k job bench some belongs on_thread answer = by_open
   where
     by_open : (opened : Option Opened) → IsSome opened → IfSome opened (IsOpenOf plan)
         → IfSome opened (λ o. TakesTo (tic_at plan o) o.progress.stages thread k ThreadDone) → IfSome opened (λ o. CanBeTaken plan o job → ⊥)
-    by_open None some open_ answer = absurd (none_is some)
+    by_open None some open_ answer = absurd (false≢true some)
     by_open (Some o) some open_ answer = λ can.
         waits_open (stage_at o.progress.stages job.0) can.next.holds.1
         (answer job.0 (due_of plan o open_ job.0 (ap is_due can.next.holds.1)) (sym on_thread))
@@ -214,11 +210,8 @@ has_is : (held : Option JobId) (job : JobId) → has_job held job ≡ true → h
 has_is None job e = cc
 has_is (Some held) job e = ap (λ (i : JobId). Some i) (same_job held job e)
 
-self_test : (n : ℕ) → (n == n) ≡ true
-self_test n = grind (arith, nat_tests)
-
 pub has_not : (held : Option JobId) (job : JobId) → has_job held job ≡ false → held ≢ Some job
-has_not held job e is = let has : has_job held job ≡ true = ap (λ (h : Option JobId). has_job h job) is ∙ self_test job.0 in let off : true ≡ false = sym has ∙ e in cc
+has_not held job e is = let has : has_job held job ≡ true = ap (λ (h : Option JobId). has_job h job) is ∙ equal_to_itself job.0 in let off : true ≡ false = sym has ∙ e in cc
 
 -- the bench of a job that is in flight
 pub record IsFlown (plan : PlanValue) (b : BoardView) (job : JobId) (bench : BenchView) : Type 0 where
@@ -297,7 +290,7 @@ has_run plan old new thread job done some belongs on_thread answer run = by_open
     by_open : (opened : Option Opened) → IsSome opened → IfSome opened (IsOpenOf plan)
         → IfSome opened (λ o. RunsTo (tic_at plan o) o.progress.stages thread (ran.Done done))
         → IfSome opened (λ o. new ≡ with_run plan old o done) → RunsFrom plan old new opened job (done.0 == job.0)
-    by_open None some open_ answer run = absurd (none_is some)
+    by_open None some open_ answer run = absurd (false≢true some)
     by_open (Some o) some open_ answer run = by_job o open_ answer run (done.0 == job.0) refl
 
 -- no job was run: the one that was asked for can't be taken

@@ -1,5 +1,7 @@
 -- Groups of jobs, as jobs are added.
 use Rattle.std.proofs.Common.{◌≡◌, ◌≢◌, ◌∙◌, ℕ, zero, suc, ◌+◌, ◌<◌, ◌==◌, Bool, true, false, ◌&&◌, ◌||◌, All, List, [], ◌∷◌, ◌++◌, Some, length, get_or, set, map, refl, sym, ap, subst, arith, inl, inr}
+use Rattle.std.proofs.Math.Bool.{or-true}
+use Rattle.std.proofs.lemmas.Bool.{false_from_ne_true, not-true, or_parts}
 use Rattle.std.proofs.lemmas.Bool.Decides.{nat_tests}
 use Rattle.std.proofs.lemmas.List.{append-nil, get_or-map, get_or-set_other, get_or-set_same, get_or_append_left, length-append, length-map, length-set, map-append, map-set, set-get_or}
 use Rattle.std.proofs.lemmas.List.Elements.{All-append, All-from_get_or, All-get_or}
@@ -34,26 +36,10 @@ same_is a b e =
 pub same_self : (a : Due) → are_same a a ≡ true
 same_self a = grind (arith, nat_tests)
 
-or_false : (p q : Bool) → (p || q) ≡ false → (p ≡ false) × (q ≡ false)
-or_false true q e = absurd (true≢false e)
-or_false false q e = (refl, e)
-
-or_true : (p : Bool) → (p || true) ≡ true
-or_true true = refl
-or_true false = refl
-
-false_of : (b : Bool) → (b ≡ true → ⊥) → b ≡ false
-false_of true not_so = absurd (not_so refl)
-false_of false not_so = refl
-
 -- the keys of times are searched as the times are
 pub keys_any : (d : Due) (ds : List Due) → list_any (λ (k : ℕ × ℕ × ℕ). ((d.start == k.0) && (d.cycle == k.1)) && (d.stop == k.2)) (keys_of ds) ≡ is_one_of d ds
 keys_any d [] = refl
 keys_any d (e ∷ ds) = ap (λ b. are_same d e || b) (keys_any d ds)
-
-not_false : (b : Bool) → not b ≡ true → b ≡ false
-not_false true e = absurd (true≢false (sym e))
-not_false false e = refl
 
 -- times that are new have a key that is not there
 pub new_times : (d : Due) (ks : List (ℕ × ℕ × ℕ)) (ds : List Due) → ks ≡ keys_of ds
@@ -61,12 +47,12 @@ pub new_times : (d : Due) (ks : List (ℕ × ℕ × ℕ)) (ds : List Due) → ks
 new_times d ks ds known is_new =
     sym (keys_any d ds)
     ∙ sym (ap (list_any (λ (k : ℕ × ℕ × ℕ). ((d.start == k.0) && (d.cycle == k.1)) && (d.stop == k.2))) known)
-    ∙ not_false (list_any (λ (k : ℕ × ℕ × ℕ). ((d.start == k.0) && (d.cycle == k.1)) && (d.stop == k.2)) ks) is_new
+    ∙ not-true (list_any (λ (k : ℕ × ℕ × ℕ). ((d.start == k.0) && (d.cycle == k.1)) && (d.stop == k.2)) ks) is_new
 
 not_at : {X : Type 0} (p : X → Bool) (xs : List X) (k : ℕ) (d : X) → list_any p xs ≡ false → k < length xs → p (get_or xs k d) ≡ false
 not_at p [] k d none less = absurd (omega arith)
-not_at p (x ∷ xs) zero d none less = (or_false (p x) (list_any p xs) none).0
-not_at p (x ∷ xs) (suc k) d none less = not_at p xs k d (or_false (p x) (list_any p xs) none).1 (omega arith)
+not_at p (x ∷ xs) zero d none less = (or_parts (p x) (list_any p xs) none).0
+not_at p (x ∷ xs) (suc k) d none less = not_at p xs k d (or_parts (p x) (list_any p xs) none).1 (omega arith)
 
 -- a key that is not there goes last
 pub goes_last : {X : Type 0} (p : X → Bool) (xs : List X) (d : X) → list_any p xs ≡ false → position_or_len p xs ≡ length xs
@@ -122,22 +108,22 @@ one_of_push x [] d among = absurd (true≢false (sym among))
 not_one_push : (x : Due) (ds : List Due) (d : Due) → is_one_of x ds ≡ false → are_same x d ≡ false → is_one_of x (ds ++ d ∷ []) ≡ false
 not_one_push x [] d none other = ap (λ b. b || false) other
 not_one_push x (e ∷ ds) d none other =
-    let both = or_false (are_same x e) (is_one_of x ds) none in
+    let both = or_parts (are_same x e) (is_one_of x ds) none in
     ap (λ b. b || is_one_of x (ds ++ d ∷ [])) both.0 ∙ not_one_push x ds d both.1 other
 
 same_swap : (a b : Due) → are_same a b ≡ false → are_same b a ≡ false
-same_swap a b not_so = false_of (are_same b a) (λ so. true≢false (sym (ap (λ x. are_same x b) (sym (same_is b a so)) ∙ same_self b) ∙ not_so))
+same_swap a b not_so = false_from_ne_true (are_same b a) (λ so. true≢false (sym (ap (λ x. are_same x b) (sym (same_is b a so)) ∙ same_self b) ∙ not_so))
 
 apart_push : (ds : List Due) (d : Due) → AreApart ds → is_one_of d ds ≡ false → AreApart (ds ++ d ∷ [])
 apart_push [] d apart none = (refl, tt)
 apart_push (e ∷ ds) d apart none =
-    let both = or_false (are_same d e) (is_one_of d ds) none in
+    let both = or_parts (are_same d e) (is_one_of d ds) none in
     (not_one_push e ds d apart.0 (same_swap d e both.0), apart_push ds d apart.1 both.1)
 
 not_there : (d none : Due) (ds : List Due) (i : ℕ) → i < length ds → is_one_of d ds ≡ false → are_same d (get_or ds i none) ≡ false
 not_there d none [] i less not_one = absurd (omega arith)
-not_there d none (e ∷ ds) zero less not_one = (or_false (are_same d e) (is_one_of d ds) not_one).0
-not_there d none (e ∷ ds) (suc i) less not_one = not_there d none ds i (omega arith) (or_false (are_same d e) (is_one_of d ds) not_one).1
+not_there d none (e ∷ ds) zero less not_one = (or_parts (are_same d e) (is_one_of d ds) not_one).0
+not_there d none (e ∷ ds) (suc i) less not_one = not_there d none ds i (omega arith) (or_parts (are_same d e) (is_one_of d ds) not_one).1
 
 -- times at two places differ
 pub apart_at : (ds : List Due) (none : Due) (i j : ℕ) → AreApart ds → i < length ds → j < length ds → i ≢ j → are_same (get_or ds i none) (get_or ds j none) ≡ false
@@ -150,7 +136,7 @@ apart_at (e ∷ ds) none (suc i) (suc j) apart first other differ = apart_at ds 
 one_at : (ds : List Due) (none : Due) (i : ℕ) → i < length ds → is_one_of (get_or ds i none) ds ≡ true
 one_at [] none i less = absurd (omega arith)
 one_at (e ∷ ds) none zero less = ap (λ b. b || is_one_of e ds) (same_self e)
-one_at (e ∷ ds) none (suc i) less = ap (λ b. are_same (get_or ds i none) e || b) (one_at ds none i (omega arith)) ∙ or_true (are_same (get_or ds i none) e)
+one_at (e ∷ ds) none (suc i) less = ap (λ b. are_same (get_or ds i none) e || b) (one_at ds none i (omega arith)) ∙ or-true (are_same (get_or ds i none) e)
 
 -- ---- a group more, a job more
 
@@ -165,7 +151,7 @@ pub groups_more : (jobs : List Job) (ids_of : List JobId) (end : ℕ) (groups : 
 groups_more jobs ids_of end groups group are not_one range no_places no_jobs =
     let times : times_by (groups ++ group ∷ []) ≡ times_by groups ++ group.times ∷ [] = map-append (λ (g : Group). g.times) groups (group ∷ []) in
     let none : (k : ℕ) → k < end → are_same (times_of jobs ids_of k) group.times ≡ false =
-    λ k less. false_of (are_same (times_of jobs ids_of k) group.times) (λ so.
+    λ k less. false_from_ne_true (are_same (times_of jobs ids_of k) group.times) (λ so.
     true≢false (sym (ap (λ (d : Due). is_one_of d (times_by groups)) (sym (same_is (times_of jobs ids_of k) group.times so)) ∙ are.all k less) ∙ not_one)) in
     record {
       each = All-append (IsGroup jobs ids_of end) groups (group ∷ []) are.each (all_one (IsGroup jobs ids_of end) group (record {

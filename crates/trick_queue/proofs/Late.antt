@@ -1,5 +1,6 @@
 -- The late groups are no more than the late jobs.
 use Rattle.std.proofs.Common.{◌≡◌, ◌∙◌, ℕ, zero, suc, ◌+◌, ◌-◌, ◌<◌, ◌≤◌, Bool, true, false, ◌&&◌, ◌||◌, ◌↔◌, IsTrue, List, [], ◌∷◌, length, get_or, map, refl, sym, ap, arith, inl, inr}
+use Rattle.std.proofs.lemmas.Bool.{or_right}
 use Rattle.std.proofs.lemmas.Bool.Decides.{nat_tests}
 use Rattle.std.specs.Prelude.{cond, filter, not, nat_le}
 use Rattle.trick_cycle.specs.Due.{IsDue, is_due_at}
@@ -20,16 +21,12 @@ use Rattle.trick_queue.specs.Tree.{never}
 
 -- ---- times that are late
 
-or_true : (b c : Bool) → c ≡ true → (b || c) ≡ true
-or_true true c is = refl
-or_true false c is = is
-
 -- a due tic among so many makes them late
 pub within : (d : Due) (from count t : ℕ) → from ≤ t → t < from + count → is_due_at d t ≡ true → is_due_within d from count ≡ true
 within d from zero t low high due = absurd (omega arith)
 within d from (suc count) t low high due = elim (same_or t from) [
   | inl e ↦ ap (λ b. b || is_due_within d (suc from) count) (ap (is_due_at d) (sym e) ∙ due)
-  | inr ne ↦ or_true (is_due_at d from) (is_due_within d (suc from) count) (within d (suc from) count t (omega (arith, low, ne)) (omega (arith, high)) due)
+  | inr ne ↦ or_right (is_due_at d from) (is_due_within d (suc from) count) (within d (suc from) count t (omega (arith, low, ne)) (omega (arith, high)) due)
 ]
 
 -- where they are late, there is a due tic among so many
@@ -145,7 +142,7 @@ late_few tic test (t ∷ tics) (d ∷ ds) same are =
 job_times : (f : ℕ → Due) (ks : List ℕ) (place : ℕ) (d : Due) → place < length ks → f (get_or ks place 0) ≡ d → is_one_of d (map f ks) ≡ true
 job_times f [] place d less is = absurd (omega arith)
 job_times f (k ∷ ks) zero d less is = ap (λ b. b || is_one_of d (map f ks)) (ap (are_same d) is ∙ same_self d)
-job_times f (k ∷ ks) (suc place) d less is = or_true (are_same d (f k)) (is_one_of d (map f ks)) (job_times f ks place d (omega arith) is)
+job_times f (k ∷ ks) (suc place) d less is = or_right (are_same d (f k)) (is_one_of d (map f ks)) (job_times f ks place d (omega arith) is)
 
 -- The groups that are late are no more than the jobs that are.
 pub few_late : (plan : PlanValue) (q : QueuesView) (tic : ℕ) → ((d : Due) (t : ℕ) → IsDue d t → IsTrue (is_due_at d t)) → IsFor plan q → tic < never

@@ -1,5 +1,6 @@
 -- The jobs of several groups, put together and sorted.
 use Rattle.std.proofs.Common.{◌≡◌, ◌≢◌, ◌∙◌, ℕ, zero, suc, ◌+◌, ◌-◌, ◌<◌, ◌≤◌, ◌==◌, Bool, true, false, ◌||◌, All, List, [], ◌∷◌, ◌++◌, drop, length, get_or, map, refl, sym, ap, subst, take, arith}
+use Rattle.std.proofs.Math.Bool.{or-false}
 use Rattle.std.proofs.Math.Seq.{take-suc}
 use Rattle.std.proofs.lemmas.Bool.Decides.{nat_tests}
 use Rattle.std.proofs.lemmas.List.{append_assoc, append-nil, get_or-map, length-append, length-map, take-append-drop}
@@ -8,6 +9,7 @@ use Rattle.std.proofs.lemmas.List.Sorted.{All-permutation, IsNonDecreasingBy-pus
 use Rattle.std.proofs.lemmas.List.Kept.{IsNonDecreasingBy-filter}
 use Rattle.std.specs.List.Sorted.{IsNonDecreasing, IsPermutation}
 use Rattle.std.specs.Prelude.{cond, filter}
+use Rattle.trick_base.proofs.Numbers.{equal_to_itself}
 use Rattle.trick_cycle.specs.declared.Due.{Due}
 use Rattle.trick_lang.specs.declared.job.Job.{Job}
 use Rattle.trick_lang.specs.declared.job.JobId.{JobId}
@@ -63,9 +65,6 @@ filter_no : (xs : List ℕ) → filter (λ k. false) xs ≡ []
 filter_no [] = refl
 filter_no (x ∷ xs) = filter_no xs
 
-eq_self : (n : ℕ) → (n == n) ≡ true
-eq_self n = grind (arith, nat_tests)
-
 none_same : (groups : List Group) (at : ℕ) (of : List ℕ) → AreApart (times_by groups) → at < length groups → All (λ n. n < length groups) of → is_among at of ≡ false
     → is_one_of (times_in (times_by groups) at) (times_with groups of) ≡ false
 none_same groups at [] apart there all none = refl
@@ -75,7 +74,7 @@ none_same groups at (k ∷ of) apart there all none = by_test (none_same groups 
         → is_one_of (times_in (times_by groups) at) (times_with groups (k ∷ of)) ≡ false
     by_test others true same none = absurd (true≢false none)
     by_test others false other none =
-        let ne : at ≢ k = λ e. true≢false (sym (ap (λ n. n == at) (sym e) ∙ eq_self at) ∙ other) in
+        let ne : at ≢ k = λ e. true≢false (sym (ap (λ n. n == at) (sym e) ∙ equal_to_itself at) ∙ other) in
         let many = length-map groups (λ (g : Group). g.times) in
         let here : are_same (times_in (times_by groups) at) (times_in (times_by groups) k) ≡ false =
         apart_at (times_by groups) no_times at k apart (omega (arith, there, many)) (omega (arith, many, all 0 0 (omega arith))) ne in
@@ -122,7 +121,7 @@ among_times groups (k ∷ of) at less apart there = by_test (k == at) refl (amon
     or_true false = refl
 
     k_there : k < length (times_by groups)
-    k_there = there k (ap (λ b. b || is_among k of) (eq_self k))
+    k_there = there k (ap (λ b. b || is_among k of) (equal_to_itself k))
 
     by_test : (b : Bool) → (k == at) ≡ b → is_among at of ≡ is_one_of (times_in (times_by groups) at) (times_with groups of)
         → (b || is_among at of) ≡ is_one_of (times_in (times_by groups) at) (times_with groups (k ∷ of))
@@ -131,7 +130,7 @@ among_times groups (k ∷ of) at less apart there = by_test (k == at) refl (amon
         sym (ap (λ b. b || is_one_of (times_in (times_by groups) at) (times_with groups of))
         (ap (λ i. are_same (times_in (times_by groups) at) (times_in (times_by groups) i)) is ∙ same_self (times_in (times_by groups) at)))
     by_test false e others =
-        let ne : at ≢ k = λ is. true≢false (sym (ap (λ n. k == n) is ∙ eq_self k) ∙ e) in
+        let ne : at ≢ k = λ is. true≢false (sym (ap (λ n. k == n) is ∙ equal_to_itself k) ∙ e) in
         others ∙ sym (ap (λ b. b || is_one_of (times_in (times_by groups) at) (times_with groups of)) (apart_at (times_by groups) no_times at k apart less k_there ne))
 
 below_length : (n : ℕ) → length (below n) ≡ n
@@ -187,15 +186,11 @@ merged_are jobs ids_of groups of places are there once moved rising =
 
 -- ---- the jobs that are due
 
-or_nothing : (b : Bool) → (b || false) ≡ b
-or_nothing true = refl
-or_nothing false = refl
-
 one_places : (jobs : List Job) (ids_of : List JobId) (groups : List Group) (at : ℕ) → AreGroups jobs ids_of (length ids_of) groups → at < length groups
     → places_in jobs ids_of groups (at ∷ []) ≡ get_or (places_by groups) at []
 one_places jobs ids_of groups at are there =
     filter_same (λ k. are_same (times_of jobs ids_of k) (times_in (times_by groups) at) || false) (λ k. are_same (times_of jobs ids_of k) (times_in (times_by groups) at))
-    (λ k. or_nothing (are_same (times_of jobs ids_of k) (times_in (times_by groups) at))) (below (length ids_of))
+    (λ k. or-false (are_same (times_of jobs ids_of k) (times_in (times_by groups) at))) (below (length ids_of))
     ∙ group_places jobs ids_of groups at are there
 
 one_jobs : (jobs : List Job) (ids_of : List JobId) (end : ℕ) (groups : List Group) (at : ℕ) → All (IsGroup jobs ids_of end) groups → at < length groups

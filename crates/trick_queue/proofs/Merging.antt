@@ -5,6 +5,7 @@ use Rattle.std.proofs.lemmas.List.Sorted.{IsPermutation-filter_both, sum_by-IsPe
 use Rattle.std.proofs.lemmas.List.Sums.{sum_by-cons}
 use Rattle.std.specs.List.Sorted.{IsNonDecreasing, IsPermutation}
 use Rattle.std.specs.Prelude.{cond, count_by, filter, not}
+use Rattle.trick_base.proofs.Numbers.{equal_to_itself}
 use Rattle.trick_queue.proofs.Orders.{filter_both, filter_same}
 use Rattle.trick_queue.proofs.Trees.{below_or}
 
@@ -28,9 +29,6 @@ abbrev pub Rises : List ℕ → Type 0
 Rises [] = Unit {0}
 Rises (x ∷ xs) = AreFrom x xs × Rises xs
 
-eq_self : (n : ℕ) → (n == n) ≡ true
-eq_self n = grind (arith, nat_tests)
-
 eq_not : (n m : ℕ) → n < m → (m == n) ≡ false
 eq_not n m less = grind (arith, nat_tests)
 
@@ -46,7 +44,7 @@ from_less low lower [] le from = tt
 from_less low lower (x ∷ xs) le from = (omega (arith, from.0, le), from_less low lower xs le from.1)
 
 head_counts : (x : ℕ) (xs : List ℕ) → count x (x ∷ xs) ≡ 1 + count x xs
-head_counts x xs = ap (λ b. one_if b + count x xs) (eq_self x)
+head_counts x xs = ap (λ b. one_if b + count x xs) (equal_to_itself x)
 
 -- lists that rise and have each number as often are one
 pub same_rising : (xs ys : List ℕ) → Rises xs → Rises ys → ((n : ℕ) → count n xs ≡ count n ys) → xs ≡ ys

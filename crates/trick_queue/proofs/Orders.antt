@@ -1,7 +1,9 @@
 -- The key order of some of the jobs, and which jobs are due.
 use Rattle.std.proofs.Common.{◌≡◌, ℕ, suc, ◌+◌, ◌==◌, ◌<◌, ◌≤◌, List, [], ◌∷◌, length, Bool, true, false, ◌&&◌, ◌||◌, refl, sym, ◌∙◌, ap, arith}
+use Rattle.std.proofs.Math.Bool.{and-false}
 use Rattle.std.proofs.lemmas.Bool.Decides.{nat_tests}
 use Rattle.std.specs.Prelude.{cond, filter}
+use Rattle.trick_base.proofs.Numbers.{other_than_less}
 use Rattle.trick_cycle.specs.Due.{is_due_at}
 use Rattle.trick_lang.specs.declared.class.Class.TheVariants as class
 use Rattle.trick_lang.specs.declared.job.Job.{Job}
@@ -19,13 +21,6 @@ use Rattle.trick_queue.specs.Line.{queue_of, times_at}
 same_of : (n m : ℕ) → (n == m) ≡ true → n ≡ m
 same_of n m e = grind (arith, nat_tests)
 
-other_of : (n m : ℕ) → m < n → (n == m) ≡ false
-other_of n m less = grind (arith, nat_tests)
-
-and_false : (b : Bool) → (b && false) ≡ false
-and_false true = refl
-and_false false = refl
-
 mix_on : (e t a : Bool) → (e ≡ true → t ≡ true) → (e || (t && a)) ≡ (t && (e || a))
 mix_on true true a h = refl
 mix_on true false a h = sym (h refl)
@@ -39,7 +34,7 @@ mix_off true true a h = let no : true ≡ false = h refl in cc
 -- ---- filtered lists
 
 pub among_filter : (test : ℕ → Bool) (m : ℕ) (xs : List ℕ) → is_among m (filter test xs) ≡ (test m && is_among m xs)
-among_filter test m [] = sym (and_false (test m))
+among_filter test m [] = sym (and-false (test m))
 among_filter test m (x ∷ xs) = by_test (among_filter test m xs) (test x) refl
   where
     by_test : is_among m (filter test xs) ≡ (test m && is_among m xs) → (b : Bool) → test x ≡ b → is_among m (cond b (x ∷ filter test xs) (filter test xs)) ≡ (test m && ((x == m) || is_among m xs))
@@ -66,7 +61,7 @@ and_swap true true c = sym (and_true c)
     and_true : (b : Bool) → (b && true) ≡ b
     and_true true = refl
     and_true false = refl
-and_swap true false c = sym (and_false c)
+and_swap true false c = sym (and-false c)
 and_swap false b c = refl
 
 -- ---- key order
@@ -92,12 +87,12 @@ jobs_kept jobs test [] are = tt
 jobs_kept jobs test (k ∷ ks) are = by_test (jobs_kept jobs test ks are.2) (test k)
   where
     by_test : AreJobs jobs (filter test ks) → (b : Bool) → AreJobs jobs (cond b (k ∷ filter test ks) (filter test ks))
-    by_test others true = (are.0, among_filter test k ks ∙ ap (λ b. test k && b) are.1 ∙ and_false (test k), others)
+    by_test others true = (are.0, among_filter test k ks ∙ ap (λ b. test k && b) are.1 ∙ and-false (test k), others)
     by_test others false = others
 
 not_later : {A : Type 0} (k j : ℕ) (xs : List A) → k < j → is_among k (numbers_from j xs) ≡ false
 not_later k j [] less = refl
-not_later k j (x ∷ xs) less = ap (λ b. b || is_among k (numbers_from (suc j) xs)) (other_of j k less) ∙ not_later k (suc j) xs (omega arith)
+not_later k j (x ∷ xs) less = ap (λ b. b || is_among k (numbers_from (suc j) xs)) (other_than_less j k less) ∙ not_later k (suc j) xs (omega arith)
 
 pub numbers_are : (all : List Job) {A : Type 0} (k : ℕ) (xs : List A) → k + length xs ≤ length all → AreJobs all (numbers_from k xs)
 numbers_are all k [] fits = tt

@@ -1,8 +1,11 @@
 -- A tic that is passed, group after group.
 use Rattle.std.proofs.Common.{◌≡◌, ◌≢◌, ◌∙◌, ℕ, zero, suc, ◌+◌, ◌<◌, ◌≤◌, ◌==◌, Bool, true, false, ◌||◌, All, List, [], ◌∷◌, ◌++◌, length, get_or, set, refl, sym, ap, subst, arith, inl, inr}
+use Rattle.std.proofs.Math.Bool.{or-false}
+use Rattle.std.proofs.lemmas.Bool.{le-leb}
 use Rattle.std.proofs.lemmas.Bool.Decides.{nat_tests}
 use Rattle.std.proofs.lemmas.List.{append-nil, get_or-map, get_or-set_other, get_or-set_same, length-append, length-map, length-set}
 use Rattle.std.specs.Prelude.{cond, nat_le}
+use Rattle.trick_base.proofs.Numbers.{equal_to_itself}
 use Rattle.trick_cycle.specs.Due.{IsDue, is_due_at}
 use Rattle.trick_cycle.specs.declared.Due.{Due}
 use Rattle.trick_model.specs.Laws.{is_among}
@@ -19,9 +22,6 @@ use Rattle.trick_queue.specs.declared.group.Group.{Group}
 abbrev one_if : Bool → ℕ
 one_if b = cond b 1 0
 
-le_true : (t tic : ℕ) → t ≤ tic → nat_le t tic ≡ true
-le_true t tic le = grind (arith, nat_tests)
-
 le_false : (t tic : ℕ) → tic < t → nat_le t tic ≡ false
 le_false t tic less = grind (arith, nat_tests)
 
@@ -30,7 +30,7 @@ le_false t tic less = grind (arith, nat_tests)
 pub late_set : (tic : ℕ) (tics : List ℕ) (at t : ℕ) → at < length tics → get_or tics at never ≤ tic → tic < t → late tic (set tics at t) + 1 ≡ late tic tics
 late_set tic [] at t there le later = absurd (omega arith)
 late_set tic (u ∷ tics) zero t there le later =
-    let old : one_if (nat_le u tic) ≡ 1 = ap one_if (le_true u tic le) in
+    let old : one_if (nat_le u tic) ≡ 1 = ap one_if (le-leb u tic le) in
     let new : one_if (nat_le t tic) ≡ 0 = ap one_if (le_false t tic later) in
     omega (arith, old, new)
 late_set tic (u ∷ tics) (suc at) t there le later = let others : late tic (set tics at t) + 1 ≡ late tic tics = late_set tic tics at t (omega arith) le later in omega (arith, others)
@@ -49,19 +49,12 @@ late_one tic tics at there le =
 
 -- ---- what was noted
 
-eq_self : (n : ℕ) → (n == n) ≡ true
-eq_self n = grind (arith, nat_tests)
-
 eq_other : (n m : ℕ) → n ≢ m → (n == m) ≡ false
 eq_other n m ne = by_test (n == m) refl
   where
     by_test : (b : Bool) → (n == m) ≡ b → b ≡ false
     by_test true e = absurd (ne (grind (arith, nat_tests, e)))
     by_test false e = refl
-
-or_nothing : (b : Bool) → (b || false) ≡ b
-or_nothing true = refl
-or_nothing false = refl
 
 among_append : (k : ℕ) (xs ys : List ℕ) → is_among k (xs ++ ys) ≡ (is_among k xs || is_among k ys)
 among_append k [] ys = refl
@@ -72,11 +65,11 @@ among_append k (x ∷ xs) ys = by_test (x == k) (among_append k xs ys)
     by_test false others = others
 
 noted_other : (k at : ℕ) (noted : List ℕ) (b : Bool) → at ≢ k → is_among k (noted ++ cond b (at ∷ []) []) ≡ is_among k noted
-noted_other k at noted true ne = among_append k noted (at ∷ []) ∙ ap (λ c. is_among k noted || (c || false)) (eq_other at k ne) ∙ or_nothing (is_among k noted)
+noted_other k at noted true ne = among_append k noted (at ∷ []) ∙ ap (λ c. is_among k noted || (c || false)) (eq_other at k ne) ∙ or-false (is_among k noted)
 noted_other k at noted false ne = ap (is_among k) (append-nil noted)
 
 noted_here : (at : ℕ) (noted : List ℕ) (b : Bool) → is_among at noted ≡ false → is_among at (noted ++ cond b (at ∷ []) []) ≡ b
-noted_here at noted true none = among_append at noted (at ∷ []) ∙ ap (λ c. c || ((at == at) || false)) none ∙ ap (λ c. c || false) (eq_self at)
+noted_here at noted true none = among_append at noted (at ∷ []) ∙ ap (λ c. c || ((at == at) || false)) none ∙ ap (λ c. c || false) (equal_to_itself at)
 noted_here at noted false none = ap (is_among at) (append-nil noted) ∙ none
 
 once_push : (at : ℕ) (noted : List ℕ) (b : Bool) → is_among at noted ≡ false → AreOnce noted → AreOnce (noted ++ cond b (at ∷ []) [])
@@ -87,7 +80,7 @@ once_push at (n ∷ noted) true none once = by_test (n == at) refl none (λ none
     by_test : (b : Bool) → (n == at) ≡ b → (b || is_among at noted) ≡ false → (is_among at noted ≡ false → AreOnce (noted ++ at ∷ [])) → AreOnce (n ∷ noted ++ at ∷ [])
     by_test true same none others = cc
     by_test false other none others =
-        let ne : at ≢ n = λ e. let yes : (n == at) ≡ true = ap (λ m. n == m) e ∙ eq_self n in let no : true ≡ false = sym yes ∙ other in cc in
+        let ne : at ≢ n = λ e. let yes : (n == at) ≡ true = ap (λ m. n == m) e ∙ equal_to_itself n in let no : true ≡ false = sym yes ∙ other in cc in
         (noted_other n at noted true ne ∙ once.0, others none)
 
 -- ---- one group more
@@ -202,7 +195,7 @@ as_many_times groups = length-map groups (λ (g : Group). g.times)
 
 among_at : (ns : List ℕ) (k none : ℕ) → k < length ns → is_among (get_or ns k none) ns ≡ true
 among_at [] k none less = absurd (omega arith)
-among_at (n ∷ ns) zero none less = ap (λ b. b || is_among n ns) (eq_self n)
+among_at (n ∷ ns) zero none less = ap (λ b. b || is_among n ns) (equal_to_itself n)
 among_at (n ∷ ns) (suc k) none less = or_true (n == get_or ns k none) (among_at ns k none (omega arith))
   where
     or_true : (b : Bool) → is_among (get_or ns k none) ns ≡ true → (b || is_among (get_or ns k none) ns) ≡ true

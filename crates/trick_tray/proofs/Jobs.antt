@@ -1,9 +1,11 @@
 -- The jobs of a thread beside the tics: their order, and which of them work.
 use Rattle.std.proofs.Common.{◌≡◌, ◌≢◌, ◌∙◌, inl, inr, ℕ, zero, suc, ◌<◌, ◌≤◌, ◌==◌, ◌&&◌, ◌||◌, Bool, true, false, IsTrue, List, [], ◌∷◌, length, Some, None, refl, sym, ap, subst, arith}
 use Rattle.std.proofs.Math.Logic.{∥∥₁_elim}
+use Rattle.std.proofs.lemmas.Bool.{and_from, or_left, or_right}
 use Rattle.std.proofs.lemmas.Bool.Decides.{nat_tests}
 use Rattle.std.specs.List.{slice_index_or}
 use Rattle.std.specs.Prelude.{All, Option, cond, filter, flat_map}
+use Rattle.trick_base.proofs.Truths.{first_holds, no_two_absurdities, second_holds}
 use Rattle.trick_cycle.specs.Due.{is_due_at}
 use Rattle.trick_lang.specs.declared.class.Class.TheVariants as class
 use Rattle.trick_lang.specs.declared.job.Job.{Job}
@@ -24,7 +26,7 @@ use Rattle.trick_model.specs.declared.taken.Taken.{Taken}
 use Rattle.trick_model.specs.declared.thread.Process.{Process}
 use Rattle.trick_model.specs.declared.thread.Process.TheVariants as process
 use Rattle.trick_model.specs.declared.thread.Thread.{Thread}
-use Rattle.trick_tray.proofs.Lists.{among_work, both_left, both_of, both_right, either_left, either_right, flat_same}
+use Rattle.trick_tray.proofs.Lists.{among_work, flat_same}
 use Rattle.trick_tray.specs.Calendars.{due_of, line_work, scheduled_of}
 use Rattle.trick_tray.specs.Trays.{AreThere, numbered}
 use Rattle.trick_post.specs.Work.{CanStart, IsKindOf, found_or_none, jobs_at_work, thread_at, tics_between}
@@ -116,14 +118,11 @@ not_main plan thread beside right named is = by_name thread.named refl
 abbrev pub IsScheduledOn : PlanValue → ℕ → Type 0
 IsScheduledOn plan number = (k : ℕ) → (thread_of plan.program.jobs k == number) ≡ true → is_of_class plan.program.jobs class.Scheduled k ≡ true
 
-no_two : (a b : ⊥) → a ≡ b
-no_two a b = absurd a
-
 pub scheduled_on : (plan : PlanValue) (number : ℕ) (thread : Thread) → IsBeside plan.threads number thread → ∥ IsAccepted (plan_of plan) ∥₁ → IsScheduledOn plan number
 scheduled_on plan number thread b accepted k on = by_class (is_of_class plan.program.jobs class.Scheduled k) refl
   where
     not_zero : number ≢ 0
-    not_zero e = ∥∥₁_elim accepted no_two (λ (a : IsAccepted (plan_of plan)). not_main plan thread b.beside
+    not_zero e = ∥∥₁_elim accepted no_two_absurdities (λ (a : IsAccepted (plan_of plan)). not_main plan thread b.beside
         (of_thread IsMainRight plan.threads number thread b plan.main_right)
         (of_thread (IsNamedRight (plan_of plan)) plan.threads number thread b a.named) (b.numbered ∙ e))
 
@@ -133,7 +132,7 @@ scheduled_on plan number thread b accepted k on = by_class (is_of_class plan.pro
     by_class : (c : Bool) → is_of_class plan.program.jobs class.Scheduled k ≡ c → is_of_class plan.program.jobs class.Scheduled k ≡ true
     by_class true e = e
     by_class false e = elim (below_or k (length plan.program.jobs)) [
-      | inl less ↦ absurd (∥∥₁_elim accepted no_two (λ (a : IsAccepted (plan_of plan)).
+      | inl less ↦ absurd (∥∥₁_elim accepted no_two_absurdities (λ (a : IsAccepted (plan_of plan)).
           not_zero (sym thread_is ∙ a.on_main k less (λ h. let off : true ≡ false = sym h ∙ e in cc))))
       | inr all ↦ absurd (not_zero (sym thread_is ∙ ap (λ (job : Job). job.thread) (past plan.program.jobs k no_job all)))
     ]
@@ -218,9 +217,9 @@ in_thread plan number k h =
     let c = λ (j : ℕ). is_of_class jobs class.Scheduled j in
     let numbers = job_numbers jobs in
     let both : IsTrue (t k && is_among k (in_key_order jobs (filter c numbers))) = sym (among_filter t k (in_key_order jobs (filter c numbers))) ∙ h in
-    let some : IsTrue (is_among k (in_key_order jobs (filter c numbers))) = both_right (t k) (is_among k (in_key_order jobs (filter c numbers))) both in
+    let some : IsTrue (is_among k (in_key_order jobs (filter c numbers))) = second_holds (t k) (is_among k (in_key_order jobs (filter c numbers))) both in
     let there : IsTrue (c k && is_among k numbers) = sym (among_filter c k numbers) ∙ key_order_is_one.same jobs (filter c numbers) k ∙ some in
-    among_filter t k numbers ∙ both_of (t k) (is_among k numbers) (both_left (t k) (is_among k (in_key_order jobs (filter c numbers))) both) (both_right (c k) (is_among k numbers) there)
+    among_filter t k numbers ∙ and_from (t k) (is_among k numbers) (first_holds (t k) (is_among k (in_key_order jobs (filter c numbers))) both) (second_holds (c k) (is_among k numbers) there)
 
 pub worker_in_line : (jobs : List Job) (line : List ℕ) (w : Job1) (k : ℕ) → IsTrue (is_among k (line_work jobs line w)) → IsTrue (is_among k line)
 worker_in_line jobs line (work.Frame first last) k h = among_work (λ j u. is_due_at (times_at jobs j) u) k line (tics_between first last) h
@@ -228,12 +227,12 @@ worker_in_line jobs line work.Round k h = h
 
 among_at : (all : List JobId) (place : ℕ) → place < length all → IsTrue (is_among (id_at all place) (ids all))
 among_at [] place less = absurd (omega arith)
-among_at (job ∷ all) zero less = either_left (job.0 == job.0) (is_among job.0 (ids all)) (same_as job.0)
+among_at (job ∷ all) zero less = or_left (job.0 == job.0) (is_among job.0 (ids all)) (same_as job.0)
   where
     same_as : (n : ℕ) → IsTrue (n == n)
     same_as n = grind (arith, nat_tests)
 among_at (job ∷ all) (suc place) less =
-    either_right (job.0 == id_at all place) (is_among (id_at all place) (ids all)) (among_at all place (omega arith))
+    or_right (job.0 == id_at all place) (is_among (id_at all place) (ids all)) (among_at all place (omega arith))
 
 -- the jobs of the line are of class scheduled
 pub line_scheduled : (plan : PlanValue) (number : ℕ) (all : List JobId) → ids all ≡ scheduled_of (plan_of plan) number → AreScheduled plan.program.jobs all
@@ -245,8 +244,8 @@ line_scheduled plan number all is place less =
     let k = id_at all place in
     let there : IsTrue (is_among k (scheduled_of (plan_of plan) number)) = subst (λ (ks : List ℕ). IsTrue (is_among k ks)) is (among_at all place less) in
     let some : IsTrue (is_among k (in_key_order jobs (filter c numbers))) =
-    both_right (t k) (is_among k (in_key_order jobs (filter c numbers))) (sym (among_filter t k (in_key_order jobs (filter c numbers))) ∙ there) in
-    both_left (c k) (is_among k numbers) (sym (among_filter c k numbers) ∙ key_order_is_one.same jobs (filter c numbers) k ∙ some)
+    second_holds (t k) (is_among k (in_key_order jobs (filter c numbers))) (sym (among_filter t k (in_key_order jobs (filter c numbers))) ∙ there) in
+    first_holds (c k) (is_among k numbers) (sym (among_filter c k numbers) ∙ key_order_is_one.same jobs (filter c numbers) k ∙ some)
 
 -- ---- jobs of the program
 

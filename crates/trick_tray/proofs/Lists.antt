@@ -1,5 +1,6 @@
 -- Tests over lists, and lists made tic by tic.
 use Rattle.std.proofs.Common.{◌≡◌, ◌∙◌, inl, inr, ℕ, zero, suc, ◌+◌, ◌-◌, ◌<◌, ◌≤◌, ◌==◌, ◌&&◌, ◌||◌, Bool, true, false, IsTrue, List, [], ◌∷◌, ◌++◌, refl, sym, ap, arith}
+use Rattle.std.proofs.lemmas.Bool.{or_left, or_right}
 use Rattle.std.proofs.lemmas.List.Folds.{list_any-append}
 use Rattle.std.proofs.lemmas.Bool.Decides.{nat_tests}
 use Rattle.std.specs.List.{list_any}
@@ -16,14 +17,6 @@ pub either : {Q : Type 0} (a b : Bool) → IsTrue (a || b) → (IsTrue a → Q) 
 either true b h f g = f refl
 either false b h f g = g h
 
-pub either_left : (a b : Bool) → IsTrue a → IsTrue (a || b)
-either_left true b h = refl
-either_left false b h = cc
-
-pub either_right : (a b : Bool) → IsTrue b → IsTrue (a || b)
-either_right true b h = refl
-either_right false b h = h
-
 pub neither_left : (a b : Bool) → (a || b) ≡ false → a ≡ false
 neither_left true b h = cc
 neither_left false b h = refl
@@ -31,18 +24,6 @@ neither_left false b h = refl
 pub neither_right : (a b : Bool) → (a || b) ≡ false → b ≡ false
 neither_right true b h = cc
 neither_right false b h = h
-
-pub both_left : (a b : Bool) → IsTrue (a && b) → IsTrue a
-both_left true b h = refl
-both_left false b h = h
-
-pub both_right : (a b : Bool) → IsTrue (a && b) → IsTrue b
-both_right true b h = h
-both_right false b h = cc
-
-pub both_of : (a b : Bool) → IsTrue a → IsTrue b → IsTrue (a && b)
-both_of true b h k = k
-both_of false b h k = h
 
 share : (g h f a b : Bool) → ((g && f) || a) || ((h && f) || b) ≡ (((g || h) && f) || (a || b))
 share true h true a b = refl
@@ -93,8 +74,8 @@ among_part test k (j ∷ js) h = by_test (among_part test k js) (test j) h
     by_test : (IsTrue (is_among k (filter test js)) → IsTrue (is_among k js)) → (b : Bool)
         → IsTrue (is_among k (cond b (j ∷ filter test js) (filter test js))) → IsTrue ((j == k) || is_among k js)
     by_test others true h = either (j == k) (is_among k (filter test js)) h
-        (λ e. either_left (j == k) (is_among k js) e) (λ e. either_right (j == k) (is_among k js) (others e))
-    by_test others false h = either_right (j == k) (is_among k js) (others h)
+        (λ e. or_left (j == k) (is_among k js) e) (λ e. or_right (j == k) (is_among k js) (others e))
+    by_test others false h = or_right (j == k) (is_among k js) (others h)
 
 -- what works is one of the jobs
 pub among_work : (d : ℕ → ℕ → Bool) (k : ℕ) (line us : List ℕ)
@@ -110,8 +91,8 @@ pub none_of_fewer : (f : ℕ → Bool) (ks js : List ℕ) → ((k : ℕ) → IsT
     → list_any f js ≡ false → list_any f ks ≡ false
 none_of_fewer f [] js fewer none = refl
 none_of_fewer f (k ∷ ks) js fewer none =
-    ap (λ (b : Bool). b || list_any f ks) (of_one js (fewer k (either_left (k == k) (is_among k ks) (same_as k))) none)
-    ∙ none_of_fewer f ks js (λ j h. fewer j (either_right (k == j) (is_among j ks) h)) none
+    ap (λ (b : Bool). b || list_any f ks) (of_one js (fewer k (or_left (k == k) (is_among k ks) (same_as k))) none)
+    ∙ none_of_fewer f ks js (λ j h. fewer j (or_right (k == j) (is_among j ks) h)) none
   where
     same_as : (n : ℕ) → IsTrue (n == n)
     same_as n = grind (arith, nat_tests)
@@ -174,8 +155,8 @@ next_first f from last next low high none =
 pub any_tic : (f : ℕ → Bool) (from count u : ℕ) → from ≤ u → u < from + count → f u ≡ true → list_any f (tics_from from count) ≡ true
 any_tic f from zero u low high is = absurd (omega arith)
 any_tic f from (suc count) u low high is = elim (same_or from u) [
-  | inl e ↦ either_left (f from) (list_any f (tics_from (from + 1) count)) (ap f e ∙ is)
-  | inr ne ↦ either_right (f from) (list_any f (tics_from (from + 1) count)) (any_tic f (from + 1) count u (omega arith) (omega arith) is)
+  | inl e ↦ or_left (f from) (list_any f (tics_from (from + 1) count)) (ap f e ∙ is)
+  | inr ne ↦ or_right (f from) (list_any f (tics_from (from + 1) count)) (any_tic f (from + 1) count u (omega arith) (omega arith) is)
 ]
 
 pub no_tic : (f : ℕ → Bool) (from count : ℕ) → ((u : ℕ) → from ≤ u → u < from + count → f u ≡ false) → list_any f (tics_from from count) ≡ false

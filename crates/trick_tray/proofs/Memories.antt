@@ -1,5 +1,6 @@
 -- What is written of a memory, and what a fold over a copy leaves of it.
 use Rattle.std.proofs.Common.{◌≡◌, ◌∙◌, inl, inr, ℕ, zero, suc, ◌+◌, ◌<◌, ◌≤◌, ◌==◌, ◌&&◌, ◌||◌, ℤ, pos, Bool, true, false, IsTrue, List, [], ◌∷◌, ◌++◌, length, Some, None, refl, sym, ap, arith}
+use Rattle.std.proofs.lemmas.Bool.{or_left}
 use Rattle.std.proofs.lemmas.Bool.Decides.{nat_tests}
 use Rattle.std.proofs.lemmas.List.{ext_get_or, get_or-set_other}
 use Rattle.std.specs.List.{slice_index_or}
@@ -19,7 +20,7 @@ use Rattle.trick_model.specs.Running.{After, after_jobs, apply, outcome}
 use Rattle.trick_model.specs.State.{number_at}
 use Rattle.trick_model.specs.declared.plan.Plan.{Plan as PlanValue}
 use Rattle.trick_model.specs.declared.thread.Thread.{Thread}
-use Rattle.trick_tray.proofs.Lists.{either_left, neither_left, neither_right}
+use Rattle.trick_tray.proofs.Lists.{neither_left, neither_right}
 use Rattle.trick_tray.specs.Scratch.{IsWritten}
 use Rattle.trick_queue.proofs.Orders.{among_filter}
 use Rattle.trick_queue.proofs.Trees.{same_or}
@@ -109,7 +110,7 @@ pub fold_same : (p : Plan) (on flags : ℕ → Bool) (tic : ℕ) (ks : List ℕ)
     → after_jobs p on tic ks memory ≡ after_jobs p flags tic ks memory
 fold_same p on flags tic [] memory same = refl
 fold_same p on flags tic (k ∷ ks) memory same =
-    ap (λ (b : Bool). joined (apply p b tic k memory) (after_jobs p on tic ks (apply p b tic k memory).memory)) (same k (either_left (k == k) (is_among k ks) (same_as k)))
+    ap (λ (b : Bool). joined (apply p b tic k memory) (after_jobs p on tic ks (apply p b tic k memory).memory)) (same k (or_left (k == k) (is_among k ks) (same_as k)))
     ∙ ap (joined (apply p (flags k) tic k memory)) (fold_same p on flags tic ks (apply p (flags k) tic k memory).memory (λ j h. same j (later k j ks h)))
   where
     joined : After → After → After
@@ -151,7 +152,7 @@ fold_faults p on tic (k ∷ ks) js memory faults =
 among_numbers : {A : Type 0} (xs : List A) (from c : ℕ) → from ≤ c → c < from + length xs → is_among c (numbers_from from xs) ≡ true
 among_numbers [] from c low high = absurd (omega arith)
 among_numbers (x ∷ xs) from c low high = elim (same_or from c) [
-  | inl e ↦ either_left (from == c) (is_among c (numbers_from (suc from) xs)) (equal from c e)
+  | inl e ↦ or_left (from == c) (is_among c (numbers_from (suc from) xs)) (equal from c e)
   | inr ne ↦ later (from == c) (among_numbers xs (suc from) c (omega arith) (omega arith))
 ]
   where

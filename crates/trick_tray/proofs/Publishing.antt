@@ -1,5 +1,6 @@
 -- What is published of a parcel is what its thread was to publish.
 use Rattle.std.proofs.Common.{◌≡◌, ◌∙◌, ℕ, ◌<◌, ◌==◌, ◌&&◌, ◌||◌, ℤ, pos, Bool, true, false, IsTrue, List, [], ◌∷◌, length, Some, refl, sym, ap, subst, arith}
+use Rattle.std.proofs.lemmas.Bool.{false≢true}
 use Rattle.std.proofs.lemmas.Bool.Decides.{nat_tests}
 use Rattle.std.proofs.lemmas.List.{ext_get_or, get_or-set_same, length-map, length-replicate, length-set}
 use Rattle.std.specs.List.{list_any}
@@ -31,7 +32,6 @@ use Rattle.trick_tray.proofs.Finish.{IsFinished, all_scheduled, handed, held_is,
 use Rattle.trick_tray.proofs.Jobs.{in_thread, worker_in_line}
 use Rattle.trick_tray.proofs.Lists.{none_of_fewer}
 use Rattle.trick_tray.proofs.Memories.{not_in_scope, spread_other, zero_at}
-use Rattle.trick_tray.proofs.Trays.{none_is}
 use Rattle.trick_tray.specs.Calendars.{line_work, scheduled_of}
 use Rattle.trick_tray.specs.Outputs.{IsOutcome, dated, no_faults}
 use Rattle.trick_tray.specs.Scratch.{IsWritten, Numbers, cell_ids, cleared}
@@ -45,13 +45,13 @@ use Rattle.trick_tray.specs.declared.worker.Worker.{Worker}
 -- Each of the cells has the number that was read of it.
 spread_here : (cells : List ℕ) (memory base : List ℤ) (c : ℕ) → is_among c cells ≡ true → c < length base
     → number_at (spread cells (map (number_at memory) cells) base) c ≡ number_at memory c
-spread_here [] memory base c among less = absurd (none_is among)
+spread_here [] memory base c among less = absurd (false≢true among)
 spread_here (cell ∷ cells) memory base c among less =
     by_test (is_among c cells) refl
     (λ e. spread_here cells memory (slice_set base cell (number_at memory cell)) c e (omega (arith, less, length-set base cell (number_at memory cell))))
   where
     first : (b : Bool) → ((cell == c) || b) ≡ true → b ≡ false → (cell == c) ≡ true
-    first true e off = absurd (none_is (sym off))
+    first true e off = absurd (false≢true (sym off))
     first false e off = or_false (cell == c) e
       where
         or_false : (a : Bool) → (a || false) ≡ true → a ≡ true

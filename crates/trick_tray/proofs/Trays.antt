@@ -1,7 +1,8 @@
 -- What a tray is handed fits it, and what it holds can be laid out.
-use Rattle.std.proofs.Common.{◌≡◌, ◌∙◌, ◌||◌, inl, inr, ℕ, zero, suc, ◌+◌, ◌<◌, ◌≤◌, ℤ, pos, true, false, List, [], ◌∷◌, length, Option, Some, None, refl, sym, ap, subst, arith}
+use Rattle.std.proofs.Common.{◌≡◌, ◌∙◌, ◌||◌, inl, inr, ℕ, zero, suc, ◌+◌, ◌<◌, ◌≤◌, ℤ, pos, List, [], ◌∷◌, length, Option, Some, None, refl, sym, ap, subst, arith}
 use Rattle.std.proofs.Math.IntN.{ℤ_set}
 use Rattle.std.proofs.Math.Logic.{∥∥₁_elim}
+use Rattle.std.proofs.lemmas.Bool.{false≢true}
 use Rattle.std.proofs.lemmas.List.{get_or-set_other, get_or-set_same, length-append, length-map, length-replicate, length-set}
 use Rattle.std.specs.List.{slice_index_or}
 use Rattle.std.specs.Option.{IfSome, option_map}
@@ -92,15 +93,12 @@ numbers_prop scalars [] (n ∷ ns) = hlevel
 numbers_prop scalars (cell ∷ cells) [] = hlevel
 numbers_prop scalars (cell ∷ cells) (n ∷ ns) = hlevel (ℤ_set, numbers_prop scalars cells ns)
 
-pub none_is : false ≡ true → ⊥
-none_is e = cc
-
 pub held_numbers : (plan : PlanValue) (tray : Tray) (worker : Worker) (cells : List Cell) (ns : List ℤ) → IsTrayOf plan tray → IsWorkerOf plan worker
     → IsSome tray.work → cells ≡ tray.scope → ns ≡ tray.cells.items → AreNumbersOf worker.scratch.scalars (cell_ids cells) ns
 held_numbers plan tray worker cells ns own clear some cells_are ns_are = by_work tray.work refl some
   where
     by_work : (work : Option Job1) → tray.work ≡ work → IsSome work → AreNumbersOf worker.scratch.scalars (cell_ids cells) ns
-    by_work None is some = absurd (none_is some)
+    by_work None is some = absurd (false≢true some)
     by_work (Some w) is some =
         ∥∥₁_elim (can_start plan tray w own is) (numbers_prop worker.scratch.scalars (cell_ids cells) ns)
         (λ (can : CanStart (plan_of plan) tray.number (handed tray.cells.items tray.on.items w).taken w).

@@ -1,5 +1,7 @@
 -- Cells that are written one after another, and flags that are set.
 use Rattle.std.proofs.Common.{◌≡◌, ◌≢◌, ◌⊎◌, ◌∙◌, inl, inr, ℕ, zero, suc, ◌+◌, ◌<◌, ◌≤◌, ◌==◌, ◌&&◌, ◌||◌, ℤ, pos, Bool, true, false, IsTrue, List, [], ◌∷◌, ◌++◌, length, take, refl, sym, ap, subst, arith}
+use Rattle.std.proofs.Math.Bool.{or-false, or-true}
+use Rattle.std.proofs.lemmas.Bool.{eq-eqb}
 use Rattle.std.proofs.lemmas.Bool.Decides.{nat_tests}
 use Rattle.std.proofs.lemmas.List.{get_or-set_other, get_or-set_same, length-replicate, length-set, take_more}
 use Rattle.std.proofs.lemmas.List.Folds.{list_any-append}
@@ -30,17 +32,6 @@ use Rattle.trick_queue.proofs.Trees.{same_or}
 use Rattle.trick_queue.specs.Line.{no_id}
 
 -- ---- cells
-
-or_none : (b : Bool) → (b || false) ≡ b
-or_none true = refl
-or_none false = refl
-
-or_more : (b : Bool) → (b || true) ≡ true
-or_more true = refl
-or_more false = refl
-
-test_same : (n m : ℕ) → n ≡ m → (n == m) ≡ true
-test_same n m e = grind (arith, nat_tests)
 
 test_other : (n m : ℕ) → (n ≡ m → ⊥) → (n == m) ≡ false
 test_other n m ne = by_test (n == m) refl
@@ -73,11 +64,11 @@ written_more chosen wanted others old mid cell n written there is more = record 
     by_cell : (c : ℕ) → c < length old → (c ≡ cell) ⊎ (c ≢ cell)
         → number_at (slice_set mid cell n) c ≡ cond (wanted c) (number_at others c) (number_at old c)
     by_cell c less (inl e) =
-        let is_wanted : wanted c ≡ true = more c ∙ ap (λ (b : Bool). chosen c || b) (test_same cell c (sym e)) ∙ or_more (chosen c) in
+        let is_wanted : wanted c ≡ true = more c ∙ ap (λ (b : Bool). chosen c || b) (eq-eqb cell c (sym e)) ∙ or-true (chosen c) in
         ap (λ (i : ℕ). number_at (slice_set mid cell n) i) e ∙ get_or-set_same mid cell n (pos 0) there ∙ is
         ∙ ap (number_at others) (sym e) ∙ sym (ap (λ (b : Bool). cond b (number_at others c) (number_at old c)) is_wanted)
     by_cell c less (inr ne) =
-        let same : wanted c ≡ chosen c = more c ∙ ap (λ (b : Bool). chosen c || b) (test_other cell c (λ e. ne (sym e))) ∙ or_none (chosen c) in
+        let same : wanted c ≡ chosen c = more c ∙ ap (λ (b : Bool). chosen c || b) (test_other cell c (λ e. ne (sym e))) ∙ or-false (chosen c) in
         get_or-set_other mid cell c n (pos 0) ne ∙ written.at c less ∙ sym (ap (λ (b : Bool). cond b (number_at others c) (number_at old c)) same)
 
 both_cond : (a b : Bool) (x y : ℤ) → cond b x (cond a x y) ≡ cond (a || b) x y
@@ -122,10 +113,10 @@ below_more r end c low = elim (same_or end c) [
   | inl e ↦
       let from : nat_le (r.first).0 c ≡ true = grind (arith, nat_tests) in
       let to : nat_lt c (end + 1) ≡ true = grind (arith, nat_tests) in
-      ap (λ (a : Bool). a && nat_lt c (end + 1)) from ∙ to ∙ sym (ap (λ (b : Bool). covers_below r end c || b) (test_same end c e) ∙ or_more (covers_below r end c))
+      ap (λ (a : Bool). a && nat_lt c (end + 1)) from ∙ to ∙ sym (ap (λ (b : Bool). covers_below r end c || b) (eq-eqb end c e) ∙ or-true (covers_below r end c))
   | inr ne ↦
       let same : nat_lt c (end + 1) ≡ nat_lt c end = grind (arith, nat_tests) in
-      ap (λ (b : Bool). nat_le (r.first).0 c && b) same ∙ sym (ap (λ (b : Bool). covers_below r end c || b) (test_other end c ne) ∙ or_none (covers_below r end c))
+      ap (λ (b : Bool). nat_le (r.first).0 c && b) same ∙ sym (ap (λ (b : Bool). covers_below r end c || b) (test_other end c ne) ∙ or-false (covers_below r end c))
 ]
 
 pub below_all : (r : CellRange) (end c : ℕ) → end ≡ (r.last).0 + 1 → covers_below r end c ≡ covers r c
@@ -146,7 +137,7 @@ below_all r end c is = ap (λ (b : Bool). nat_le (r.first).0 c && b) (by_end (na
 -- ---- ranges one after another
 
 pub in_more : (rs : List CellRange) (r : CellRange) (c : ℕ) → (is_in rs c || covers r c) ≡ is_in (rs ++ r ∷ []) c
-in_more [] r c = sym (or_none (covers r c))
+in_more [] r c = sym (or-false (covers r c))
 in_more (q ∷ rs) r c = assoc (covers q c) (is_in rs c) (covers r c) ∙ ap (λ (b : Bool). covers q c || b) (in_more rs r c)
   where
     assoc : (a b d : Bool) → ((a || b) || d) ≡ (a || (b || d))
@@ -194,7 +185,7 @@ set_more j js flag flags on there set k among = by_job (same_or k j)
     by_job : (k ≡ j) ⊎ (k ≢ j) → slice_index_or (slice_set on j flag) k false ≡ elim (j == k) [ true ↦ flag | false ↦ flag_in js flags k ]
     by_job (inl e) =
         ap (λ (i : ℕ). slice_index_or (slice_set on j flag) i false) e ∙ get_or-set_same on j flag false there
-        ∙ sym (ap (λ (b : Bool). pick b) (test_same j k (sym e)))
+        ∙ sym (ap (λ (b : Bool). pick b) (eq-eqb j k (sym e)))
       where
         pick : Bool → Bool
         pick b = elim b [ true ↦ flag | false ↦ flag_in js flags k ]
@@ -221,7 +212,7 @@ pub wanted_more : (plan : PlanValue) (all : List JobId) (i : ℕ) (w : Job1) (c 
 wanted_more plan all i w c less =
     let test = λ (k : ℕ). has_work plan.program.jobs w k && is_in (writes plan.program (record { 0 = k })) c in
     let k = (slice_index_or all i no_id).0 in
-    ap (λ (b : Bool). list_any test (ids (take i all)) || b) (sym (or_none (test k)))
+    ap (λ (b : Bool). list_any test (ids (take i all)) || b) (sym (or-false (test k)))
     ∙ sym (list_any-append test (ids (take i all)) (k ∷ []))
     ∙ ap (list_any test) (sym (ids_more all i less))
 

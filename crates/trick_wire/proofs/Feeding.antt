@@ -1,9 +1,9 @@
 -- Lines that are lines, in a feed.
-use Rattle.std.proofs.Common.{◌≡◌, ◌≢◌, ◌≤◌, ℕ, Bool, true, false, true≢false, not, ◌&&◌, ◌||◌, List, [], ◌∷◌, ◌++◌, length, Option, Some, None, Result, Ok, Err, refl, sym, ap, ◌∙◌, subst, arith, length-append, append-nil}
+use Rattle.std.proofs.Common.{◌≡◌, ◌≢◌, ◌≤◌, ℕ, Bool, true, false, not, ◌&&◌, ◌||◌, List, [], ◌∷◌, ◌++◌, length, Option, Some, None, Result, Ok, Err, refl, sym, ap, ◌∙◌, subst, arith, length-append, append-nil}
 use Rattle.std.specs.Prelude.{◌==◌, nat_le, nat_lt, IsTrue}
 use Rattle.std.specs.List.{All, list_any}
 use Rattle.std.specs.Option.{option_to_list, unwrap_or}
-use Rattle.std.proofs.lemmas.Bool.{le-leb, leb-true, ltb-true}
+use Rattle.std.proofs.lemmas.Bool.{and_parts, le-leb, leb-true, ltb-true, not-true, or_from, or_parts}
 use Rattle.std.proofs.lemmas.List.Elements.{All-append, All-cons, All-head, All-nil, All-tail}
 use Rattle.std.proofs.lemmas.List.Folds.{list_any-append}
 use Rattle.trick_feed.specs.Fed.{Fed, fed, held_behind, HasTaken}
@@ -21,28 +21,13 @@ is_feed byte = byte == 10
 
 -- ---- tests with two parts
 
-and_parts : (a b : Bool) → (a && b) ≡ true → (a ≡ true) × (b ≡ true)
-and_parts true b both = (refl, both)
-and_parts false b both = absurd (true≢false (sym both))
-
-not_true : (a : Bool) → not a ≡ true → a ≡ false
-not_true true none = absurd (true≢false (sym none))
-not_true false none = refl
-
-or_parts : (a b : Bool) → (a || b) ≡ false → (a ≡ false) × (b ≡ false)
-or_parts true b none = absurd (true≢false none)
-or_parts false b none = (refl, none)
-
-or_none : (a b : Bool) → a ≡ false → b ≡ false → (a || b) ≡ false
-or_none a b none also = λ i. none i || also i
-
 -- ---- one line
 
 short : (line : List ℕ) → IsLine line → length line ≤ 4096
 short line right = leb-true (length line) 4096 (and_parts (nat_le (length line) 4096) (not (list_any is_feed line)) right).0
 
 no_feed : (line : List ℕ) → IsLine line → list_any is_feed line ≡ false
-no_feed line right = not_true (list_any is_feed line) (and_parts (nat_le (length line) 4096) (not (list_any is_feed line)) right).1
+no_feed line right = not-true (list_any is_feed line) (and_parts (nat_le (length line) 4096) (not (list_any is_feed line)) right).1
 
 is_one : (line : List ℕ) → length line ≤ 4096 → list_any is_feed line ≡ false → IsLine line
 is_one line short none = λ i. le-leb (length line) 4096 short i && not (none i)
@@ -50,7 +35,7 @@ is_one line short none = λ i. le-leb (length line) 4096 short i && not (none i)
 -- one byte more
 longer : (held : List ℕ) (byte : ℕ) → IsLine held → is_feed byte ≡ false → nat_lt (length held) 4096 ≡ true → IsLine (held ++ byte ∷ [])
 longer held byte right other fits = is_one (held ++ byte ∷ []) (let room = ltb-true (length held) 4096 fits in omega (arith, length-append held (byte ∷ [])))
-    (list_any-append is_feed held (byte ∷ []) ∙ or_none (list_any is_feed held) (is_feed byte || false) (no_feed held right) (or_none (is_feed byte) false other refl))
+    (list_any-append is_feed held (byte ∷ []) ∙ or_from (list_any is_feed held) (is_feed byte || false) (no_feed held right) (or_from (is_feed byte) false other refl))
 
 -- without a carriage return at its end
 one_shorter : (byte : ℕ) (is_return : Bool) → length {A = ℕ} (elim is_return [ true ↦ [] | false ↦ byte ∷ [] ]) ≤ 1
@@ -70,7 +55,7 @@ none_left : (line : List ℕ) → list_any is_feed line ≡ false → list_any i
 none_left [] none = none
 none_left (byte ∷ []) none = one_left byte (byte == 13) none
 none_left (byte ∷ next ∷ line) none = let parts = or_parts (is_feed byte) (list_any is_feed (next ∷ line)) none in
-    or_none (is_feed byte) (list_any is_feed (without_return (next ∷ line))) parts.0 (none_left (next ∷ line) parts.1)
+    or_from (is_feed byte) (list_any is_feed (without_return (next ∷ line))) parts.0 (none_left (next ∷ line) parts.1)
 
 without : (line : List ℕ) → IsLine line → IsLine (without_return line)
 without line right = is_one (without_return line) (let less = shorter line in let fits = short line right in omega arith) (none_left line (no_feed line right))

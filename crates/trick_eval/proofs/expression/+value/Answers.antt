@@ -2,8 +2,8 @@ use Rattle.std.proofs.Common.{◌≡◌, ◌+◌, ◌^◌, ◌<◌, IsTrue, drop
 use Rattle.std.proofs.lemmas.Bool.{ltb-true}
 use Rattle.std.proofs.lemmas.Int.{to_z-of_z}
 use Rattle.trick_access.proofs.Loops.{links_next, steps_next, led_next}
+use Rattle.trick_base.proofs.Truths.{first_holds, second_holds}
 use Rattle.trick_lang.proofs.Places.{stepped_is}
-use Rattle.trick_lang.proofs.Tests.{both_left, both_right}
 use Rattle.trick_lang.proofs.TreeLists.{chain_is, choose_is, spot_is}
 use Rattle.trick_access.proofs.Weights.{term_weight, link_weight, spot_weight, step_weight, some_links}
 use Rattle.trick_eval.proofs.expression.+value.Goals as goal
@@ -20,7 +20,7 @@ value_of-chain-requires t c =
     let is = ap term_of c.in-Chain.is ∙ chain_is c.in-Chain.first c.in-Chain.links in
     let heavy = ap term_weight is in
     let fits = subst (λ e. IsTrue (term_passes span_test e)) is c.requires in
-    (rw c.deref-in-Chain-2.ensures.value (omega (arith, c.decreases, heavy)), rw c.deref-in-Chain-2.ensures.value (both_right (term_passes span_test (term_of c.in-Chain.first.value)) _ fits))
+    (rw c.deref-in-Chain-2.ensures.value (omega (arith, c.decreases, heavy)), rw c.deref-in-Chain-2.ensures.value (second_holds (term_passes span_test (term_of c.in-Chain.first.value)) _ fits))
 
 pub value_of-returns-in_ok-x-in-Chain : goal.value_of-returns-in_ok-x-in-Chain
 value_of-returns-in_ok-x-in-Chain t c =
@@ -50,18 +50,18 @@ chain-join-requires t c =
     let next = links_next c.args.links.now c.loop-link.link-index item c.loop-link-test.true c.link-item.is in
     let heavy : link_weight (links_of_list (drop c.loop-link.link-index c.args.links.now)) ≡ 1 + (term_weight (term_of item.operand) + link_weight (links_of_list (drop (c.loop-link.link-index + 1) c.args.links.now))) = ap link_weight next in
     let fits = subst (λ q. IsTrue (link_passes span_test q)) next c.loop-link.invariant.fits in
-    (omega (arith, c.decreases, heavy, some_links (links_of_list (drop (c.loop-link.link-index + 1) c.args.links.now)), c.loop-link.invariant.weighs), both_left (term_passes span_test (term_of item.operand)) _ fits)
+    (omega (arith, c.decreases, heavy, some_links (links_of_list (drop (c.loop-link.link-index + 1) c.args.links.now)), c.loop-link.invariant.weighs), first_holds (term_passes span_test (term_of item.operand)) _ fits)
 
 pub find-loop-index-init : goal.find-loop-index-init
 find-loop-index-init t c =
     let p = c.args.place.now in
     let sight = seen c.args.base c.args.memory.now c.args.working.now in
     let fit = subst (λ q. IsTrue (place_passes span_test q)) (spot_is p) c.requires in
-    let room = ltb-true ((out-Place p).offset + reach (steps_of_list (out-Place p).indexes.items)) (out-Place p).span (both_left _ _ fit) in
+    let room = ltb-true ((out-Place p).offset + reach (steps_of_list (out-Place p).indexes.items)) (out-Place p).span (first_holds _ _ fit) in
     let weighs = ap spot_weight (spot_is p) in
     record {
       told = rw (c.deref-index-items.ensures.value, c.first_cell-at.ensures.is) (sym (ap (λ q. cell_of q sight) (spot_is p)));
-      fits = rw c.deref-index-items.ensures.value (both_right (nat_lt ((out-Place p).offset + reach (steps_of_list (out-Place p).indexes.items)) (out-Place p).span) _ fit);
+      fits = rw c.deref-index-items.ensures.value (second_holds (nat_lt ((out-Place p).offset + reach (steps_of_list (out-Place p).indexes.items)) (out-Place p).span) _ fit);
       room = rw c.deref-index-items.ensures.value (omega (arith, room));
       weighs = rw c.deref-index-items.ensures.value (omega (arith, weighs));
     }
@@ -82,7 +82,7 @@ find-loop-index-preserved t c =
     let near = stepped_is item.length item.stride c.loop-index.at c.in_ok-number.number c.in_ok-at.at (sym moved) in
     record {
       told = led_next (steps_of_list (drop (i + 1) xs)) item.length item.stride _ (value (term_of item.at) sight) sight c.loop-index.at c.in_ok-at.at c.in_ok-number.number told c.in_ok-number.ensures moved;
-      fits = both_right (term_passes span_test (term_of item.at)) _ fits;
+      fits = second_holds (term_passes span_test (term_of item.at)) _ fits;
       room = omega (arith, room, near);
       weighs = omega (arith, weighs);
     }

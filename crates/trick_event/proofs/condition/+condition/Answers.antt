@@ -2,9 +2,9 @@ use Rattle.std.proofs.Common.{rules, ◌≡◌, ◌∙◌, ◌+◌, ◌<◌, IsT
 use Rattle.std.proofs.lemmas.Int.{to_z-of_z}
 use Rattle.trick_access.proofs.Loops.{links_next}
 use Rattle.trick_access.proofs.Weights.{link_weight, some_links, term_weight}
+use Rattle.trick_base.proofs.Truths.{first_holds, second_holds}
 use Rattle.trick_event.proofs.condition.+condition.Goals as goal
 use Rattle.trick_event.specs.Condition.{sight_of}
-use Rattle.trick_lang.proofs.Tests.{both_left, both_right}
 use Rattle.trick_lang.proofs.TreeLists.{chain_is, choose_is}
 use Rattle.trick_lang.specs.Numbers.{and_then}
 use Rattle.trick_lang.specs.TreeOf.{links_of_list, term_of}
@@ -19,9 +19,9 @@ chain-join-x-requires g t c κs within =
     let next = links_next c.args.links.now c.loop-link.link-index item c.loop-link-test.true c.link-item.is in
     let heavy : link_weight (links_of_list (drop c.loop-link.link-index c.args.links.now)) ≡ 1 + (term_weight (term_of item.operand) + link_weight rest) = ap link_weight next in
     let fits = subst (λ q. IsTrue (are_conditions n q)) next c.loop-link.invariant.fits in
-    let tests = both_right (is_safe item.operator) _ fits in (
+    let tests = second_holds (is_safe item.operator) _ fits in (
       omega (arith, c.decreases, heavy, some_links rest, c.loop-link.invariant.weighs),
-      (within, (both_left (is_safe item.operator) _ fits, both_left (is_condition n (term_of item.operand)) (are_conditions n rest) tests)),
+      (within, (first_holds (is_safe item.operator) _ fits, first_holds (is_condition n (term_of item.operand)) (are_conditions n rest) tests)),
     )
 
 pub number_of-chain-requires : goal.number_of-chain-requires
@@ -31,7 +31,7 @@ number_of-chain-requires g t c κs within =
     let heavy = ap term_weight is in
     let fits = subst (λ e. IsTrue (is_condition n e)) is c.requires in (
       rw c.deref-in-Chain-2.ensures.value (omega (arith, c.decreases, heavy)),
-      (within, rw c.deref-in-Chain-2.ensures.value (both_right (is_condition n (term_of c.in-Chain.first.value)) _ fits)),
+      (within, rw c.deref-in-Chain-2.ensures.value (second_holds (is_condition n (term_of c.in-Chain.first.value)) _ fits)),
     )
 
 pub number_of-choose-requires : goal.number_of-choose-requires
