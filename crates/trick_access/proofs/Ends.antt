@@ -1,5 +1,6 @@
 -- What is noted by cell are the cells of the ranges.
 use Rattle.std.proofs.Common.{◌≡◌, ℕ, zero, suc, ◌+◌, ◌<◌, ◌≤◌, Bool, true, false, ◌&&◌, ◌||◌, nat_le, nat_lt, if◌then◌else◌, List, [], ◌∷◌, ◌++◌, length, take, replicate, slice_set, refl, ap, ap₂, sym, ◌∙◌, arith}
+use Rattle.std.proofs.Math.Bool.{or-false, or_assoc}
 use Rattle.std.proofs.lemmas.Bool.Decides.{nat_tests}
 use Rattle.std.proofs.lemmas.Bool.{ltb-true}
 use Rattle.std.proofs.lemmas.List.{length-set}
@@ -7,14 +8,6 @@ use Rattle.std.specs.List.{slice_index_or}
 use Rattle.trick_lang.specs.Access.{is_in}
 use Rattle.trick_access.specs.Reached.{is_reached, larger, most, noted, noted_one}
 use Rattle.trick_lang.specs.declared.range.CellRange.{CellRange}
-
-pub or_assoc : (a b c : Bool) → ((a || b) || c) ≡ (a || (b || c))
-or_assoc true b c = refl
-or_assoc false b c = refl
-
-pub or_false : (a : Bool) → (a || false) ≡ a
-or_false true = refl
-or_false false = refl
 
 pub or_swap : (a b c : Bool) → (a || (b || c)) ≡ (b || (a || c))
 or_swap true true c = refl
@@ -24,7 +17,7 @@ or_swap false b c = refl
 pub or_turn : (a b : Bool) → (a || b) ≡ (b || a)
 or_turn true true = refl
 or_turn true false = refl
-or_turn false b = sym (or_false b)
+or_turn false b = sym (or-false b)
 
 pub noted_both : (xs ys : List CellRange) (ends : List ℕ) → noted (xs ++ ys) ends ≡ noted ys (noted xs ends)
 noted_both [] ys ends = refl

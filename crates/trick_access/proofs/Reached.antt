@@ -1,13 +1,14 @@
 -- One pass over the blocks, from one down, finds the cells of that block.
 use Rattle.std.proofs.Common.{◌≡◌, ◌≢◌, ℕ, zero, suc, ◌<◌, ◌≤◌, ◌==◌, Bool, true, false, ◌&&◌, ◌||◌, nat_le, nat_lt, IsTrue, List, [], ◌∷◌, ◌++◌, length, replicate, slice_set, refl, ap, ap₂, sym, subst, ◌∙◌, arith, get_or-set_other, get_or-set_same}
+use Rattle.std.proofs.Math.Bool.{or-false, or_assoc}
 use Rattle.std.proofs.lemmas.Bool.Decides.{nat_tests}
-use Rattle.std.proofs.lemmas.Bool.{ltb-true}
+use Rattle.std.proofs.lemmas.Bool.{and_from, ltb-true}
 use Rattle.std.proofs.lemmas.List.{length-set, length-replicate}
 use Rattle.std.specs.List.{slice_index_or}
+use Rattle.trick_base.proofs.Truths.{first_holds, second_holds}
 use Rattle.trick_lang.proofs.Alike.{reads_is, writes_is}
 use Rattle.trick_lang.proofs.Blocks.{below, block_before}
-use Rattle.trick_access.proofs.Ends.{or_assoc, or_false, or_swap}
-use Rattle.trick_lang.proofs.Tests.{both_left, both_right}
+use Rattle.trick_access.proofs.Ends.{or_swap}
 use Rattle.trick_lang.specs.Access.{is_in, term_reads, branch_reads, branch_writes}
 use Rattle.trick_lang.specs.Blocks.{block_at}
 use Rattle.trick_lang.specs.Passes.{all_blocks, branch_blocks, code_blocks}
@@ -53,7 +54,7 @@ no_writes (Test line test k rest) = no_writes rest
 module _ (base : ℕ) (f : ℕ → List CellRange) (c : ℕ) where
   branch_split : (b : Branches) → is_in (branch_reads b base f) c ≡ (is_in (branch_reads b base no_cells) c || any_in (branch_runs b) f c)
   branch_split NoElse = refl
-  branch_split (Else k) = sym (or_false (is_in (f k) c))
+  branch_split (Else k) = sym (or-false (is_in (f k) c))
   branch_split (Test line test k rest) =
       in_both (term_reads test base) (f k ++ branch_reads rest base f) c
       ∙ ap (λ q. is_in (term_reads test base) c || q) (in_both (f k) (branch_reads rest base f) c ∙ ap (λ q. is_in (f k) c || q) (branch_split rest) ∙ or_swap (is_in (f k) c) (is_in (branch_reads rest base no_cells) c) (any_in (branch_runs rest) f c))
@@ -62,7 +63,7 @@ module _ (base : ℕ) (f : ℕ → List CellRange) (c : ℕ) where
 
   branch_writes_split : (b : Branches) → is_in (branch_writes b f) c ≡ (is_in (branch_writes b no_cells) c || any_in (branch_runs b) f c)
   branch_writes_split NoElse = refl
-  branch_writes_split (Else k) = sym (or_false (is_in (f k) c))
+  branch_writes_split (Else k) = sym (or-false (is_in (f k) c))
   branch_writes_split (Test line test k rest) =
       in_both (f k) (branch_writes rest f) c
       ∙ ap (λ q. is_in (f k) c || q) (branch_writes_split rest)
@@ -70,19 +71,19 @@ module _ (base : ℕ) (f : ℕ → List CellRange) (c : ℕ) where
 
   code_split : (way : Way) (b : Code) → is_in (code_cells way b base f) c ≡ (is_in (code_cells way b base no_cells) c || any_in (code_runs b) f c)
   code_split Reads Empty = refl
-  code_split Reads (Declare line slot scalar e) = sym (or_false _)
-  code_split Reads (SetLocal line slot scalar change) = sym (or_false _)
-  code_split Reads (Assign line place change) = sym (or_false _)
+  code_split Reads (Declare line slot scalar e) = sym (or-false _)
+  code_split Reads (SetLocal line slot scalar change) = sym (or-false _)
+  code_split Reads (Assign line place change) = sym (or-false _)
   code_split Reads (If branches) = branch_split branches
-  code_split Reads (For slot from bound k) = sym (or_false (is_in (f k) c))
-  code_split Reads (Run k) = sym (or_false (is_in (f k) c))
+  code_split Reads (For slot from bound k) = sym (or-false (is_in (f k) c))
+  code_split Reads (Run k) = sym (or-false (is_in (f k) c))
   code_split Writes Empty = refl
   code_split Writes (Declare line slot scalar e) = refl
   code_split Writes (SetLocal line slot scalar change) = refl
-  code_split Writes (Assign line place change) = sym (or_false _)
+  code_split Writes (Assign line place change) = sym (or-false _)
   code_split Writes (If branches) = branch_writes_split branches
-  code_split Writes (For slot from bound k) = sym (or_false (is_in (f k) c))
-  code_split Writes (Run k) = sym (or_false (is_in (f k) c))
+  code_split Writes (For slot from bound k) = sym (or-false (is_in (f k) c))
+  code_split Writes (Run k) = sym (or-false (is_in (f k) c))
 
   -- a cell of statements is one of their own, or one of a block that they run
   all_split : (way : Way) (all : List Code) → is_in (all_cells way all base f) c ≡ (is_in (all_cells way all base no_cells) c || any_in (all_runs all) f c)
@@ -149,24 +150,20 @@ all_below n (k ∷ ks) = nat_lt k n && all_below n ks
 marks_below : (n : ℕ) (ks : List ℕ) (marks : List Bool) (f : ℕ → List CellRange) (c : ℕ) → n ≤ length marks → IsTrue (all_below n ks) → marked_in n (with_marks ks marks) f c ≡ (any_in ks f c || marked_in n marks f c)
 marks_below n [] marks f c long h = refl
 marks_below n (k ∷ ks) marks f c long h =
-    let less : k < n = ltb-true k n (both_left _ _ h) in
-    marks_below n ks (slice_set marks k true) f c (omega (arith, length-set marks k true)) (both_right (nat_lt k n) _ h)
+    let less : k < n = ltb-true k n (first_holds _ _ h) in
+    marks_below n ks (slice_set marks k true) f c (omega (arith, length-set marks k true)) (second_holds (nat_lt k n) _ h)
     ∙ ap (λ q. any_in ks f c || q) (mark_below n k marks f c less (omega arith))
     ∙ or_swap (any_in ks f c) (is_in (f k) c) (marked_in n marks f c)
     ∙ sym (or_assoc (is_in (f k) c) (any_in ks f c) (marked_in n marks f c))
 
-both : (a b : Bool) → IsTrue a → IsTrue b → IsTrue (a && b)
-both true b h k = k
-both false b h k = h
-
 below_both : (n : ℕ) (ks js : List ℕ) → IsTrue (all_below n ks) → IsTrue (all_below n js) → IsTrue (all_below n (ks ++ js))
 below_both n [] js h k = k
-below_both n (i ∷ ks) js h k = both (nat_lt i n) _ (both_left _ _ h) (below_both n ks js (both_right (nat_lt i n) _ h) k)
+below_both n (i ∷ ks) js h k = and_from (nat_lt i n) _ (first_holds _ _ h) (below_both n ks js (second_holds (nat_lt i n) _ h) k)
 
 branch_below : (n : ℕ) (b : Branches) → IsTrue (branch_blocks (below n) b) → IsTrue (all_below n (branch_runs b))
 branch_below n NoElse h = refl
-branch_below n (Else k) h = both (nat_lt k n) true h refl
-branch_below n (Test line test k rest) h = both (nat_lt k n) _ (both_left _ _ h) (branch_below n rest (both_right (below n k) _ h))
+branch_below n (Else k) h = and_from (nat_lt k n) true h refl
+branch_below n (Test line test k rest) h = and_from (nat_lt k n) _ (first_holds _ _ h) (branch_below n rest (second_holds (below n k) _ h))
 
 code_below : (n : ℕ) (b : Code) → IsTrue (code_blocks (below n) b) → IsTrue (all_below n (code_runs b))
 code_below n Empty h = refl
@@ -174,12 +171,12 @@ code_below n (Declare line slot scalar e) h = refl
 code_below n (SetLocal line slot scalar change) h = refl
 code_below n (Assign line place change) h = refl
 code_below n (If branches) h = branch_below n branches h
-code_below n (For slot from bound k) h = both (nat_lt k n) true h refl
-code_below n (Run k) h = both (nat_lt k n) true h refl
+code_below n (For slot from bound k) h = and_from (nat_lt k n) true h refl
+code_below n (Run k) h = and_from (nat_lt k n) true h refl
 
 runs_below : (n : ℕ) (all : List Code) → IsTrue (all_blocks (below n) all) → IsTrue (all_below n (all_runs all))
 runs_below n [] h = refl
-runs_below n (first ∷ rest) h = below_both n (code_runs first) (all_runs rest) (code_below n first (both_left _ _ h)) (runs_below n rest (both_right (code_blocks (below n) first) _ h))
+runs_below n (first ∷ rest) h = below_both n (code_runs first) (all_runs rest) (code_below n first (first_holds _ _ h)) (runs_below n rest (second_holds (code_blocks (below n) first) _ h))
 
 -- A step of the pass: a marked block gives the cells of its own, and marks the blocks that it runs.
 -- `now` says whether the cell was found, and `whole` whether it is to be found.
@@ -217,4 +214,4 @@ pub pass_begin : (f : ℕ → List CellRange) (k m c : ℕ) → k < m → marked
 pass_begin f k m c h =
     mark_below (suc k) k (replicate m false) f c (omega arith) (omega (arith, length-replicate m false))
     ∙ ap (λ q. is_in (f k) c || q) (none_marked (suc k) m f c)
-    ∙ or_false (is_in (f k) c)
+    ∙ or-false (is_in (f k) c)

@@ -1,8 +1,8 @@
 -- The ranges of the cells that a test holds for.
 use Rattle.std.proofs.Common.{◌≡◌, ℕ, zero, suc, ◌+◌, ◌-◌, ◌<◌, ◌≤◌, Bool, true, false, ◌&&◌, ◌||◌, nat_le, nat_lt, IsTrue, if◌then◌else◌, List, [], ◌∷◌, ◌++◌, length, Option, Some, None, refl, ap, ap₂, sym, ◌∙◌, arith}
+use Rattle.std.proofs.Math.Bool.{or-false, or_assoc}
 use Rattle.std.proofs.lemmas.Bool.Decides.{nat_tests}
-use Rattle.std.proofs.lemmas.Bool.{ltb-true}
-use Rattle.trick_access.proofs.Ends.{or_assoc, or_false}
+use Rattle.std.proofs.lemmas.Bool.{and_from, ltb-true}
 use Rattle.trick_access.specs.Ranges.{AreCellsOf, are_sorted}
 use Rattle.trick_lang.specs.Access.{is_in}
 use Rattle.trick_access.specs.Reached.{IsBegun, is_reached, range, spans}
@@ -56,7 +56,7 @@ covers_before first c q h = let e : nat_le q (c - 1) ≡ nat_lt q c = grind (ari
 before_next : (first c q : ℕ) → first < c → (nat_le first q && nat_lt q (c + 1)) ≡ ((nat_le first q && nat_lt q c) || (nat_le c q && nat_lt q (c + 1)))
 before_next first c q h = by_place q c
     (λ less. let a : nat_lt q (c + 1) ≡ true = grind (arith, nat_tests) in let b : nat_lt q c ≡ true = grind (arith, nat_tests) in let d : nat_le c q ≡ false = grind (arith, nat_tests) in
-    ap (λ t. nat_le first q && t) a ∙ sym (ap₂ (λ s t. (nat_le first q && s) || (t && nat_lt q (c + 1))) b d ∙ or_false (nat_le first q && true)))
+    ap (λ t. nat_le first q && t) a ∙ sym (ap₂ (λ s t. (nat_le first q && s) || (t && nat_lt q (c + 1))) b d ∙ or-false (nat_le first q && true)))
     (λ same. let a : nat_lt q (c + 1) ≡ true = grind (arith, nat_tests) in let b : nat_le first q ≡ true = grind (arith, nat_tests) in let d : nat_le c q ≡ true = grind (arith, nat_tests) in let e : nat_lt q c ≡ false = grind (arith, nat_tests) in
     ap₂ (λ s t. s && t) b a ∙ sym (ap₂ (λ s t. (s && nat_lt q c) || (t && nat_lt q (c + 1))) b d ∙ ap₂ (λ s t. s || t) e a))
     (λ more. let a : nat_lt q (c + 1) ≡ false = grind (arith, nat_tests) in let b : nat_lt q c ≡ false = grind (arith, nat_tests) in let d : nat_le c q ≡ true = grind (arith, nat_tests) in let e : nat_le first q ≡ true = grind (arith, nat_tests) in
@@ -90,22 +90,18 @@ module _ (f : ℕ → Bool) (q : ℕ) where
       go false is goes ended =
           ap₂ (λ s t. s || t) (covers_before first c q h) (ended ∙ window_out c n q (f q) (λ same. ap f same ∙ is))
 
-both : (a b : Bool) → IsTrue a → IsTrue b → IsTrue (a && b)
-both true b h k = k
-both false b h k = h
-
 abbrev From : ℕ → Option ℕ → ℕ → Type 0
 From k None c = k ≤ c
 From k (Some first) c = (k ≤ first) × (first < c)
 
 head : (k first c cells : ℕ) → k ≤ first → first < c → c ≤ cells → IsTrue (nat_le k first && (nat_le first (c - 1) && nat_lt (c - 1) cells))
 head k first c cells h i j =
-    both (nat_le k first) _ (grind (arith, nat_tests)) (both (nat_le first (c - 1)) _ (grind (arith, nat_tests)) (grind (arith, nat_tests)))
+    and_from (nat_le k first) _ (grind (arith, nat_tests)) (and_from (nat_le first (c - 1)) _ (grind (arith, nat_tests)) (grind (arith, nat_tests)))
 
 module _ (f : ℕ → Bool) (cells : ℕ) where
   pub spans_sorted : (n c k : ℕ) (began : Option ℕ) → c + n ≡ cells → From k began c → IsTrue (are_sorted k cells (spans f c n began))
   spans_sorted zero c k None e h = refl
-  spans_sorted zero c k (Some first) e h = both (nat_le k first && (nat_le first (c - 1) && nat_lt (c - 1) cells)) _ (head k first c cells h.0 h.1 (omega arith)) refl
+  spans_sorted zero c k (Some first) e h = and_from (nat_le k first && (nat_le first (c - 1) && nat_lt (c - 1) cells)) _ (head k first c cells h.0 h.1 (omega arith)) refl
   spans_sorted (suc n) c k None e h = go (f c) (spans_sorted n (c + 1) k (Some c) (omega arith) (h, omega arith)) (spans_sorted n (c + 1) k None (omega arith) (omega arith))
     where
       go : (t : Bool) → IsTrue (are_sorted k cells (spans f (c + 1) n (Some c))) → IsTrue (are_sorted k cells (spans f (c + 1) n None)) → IsTrue (are_sorted k cells (spans f (c + 1) n (if t then Some c else None)))
@@ -115,7 +111,7 @@ module _ (f : ℕ → Bool) (cells : ℕ) where
     where
       go : (t : Bool) → IsTrue (are_sorted k cells (spans f (c + 1) n (Some first))) → IsTrue (are_sorted (c - 1 + 2) cells (spans f (c + 1) n None)) → IsTrue (are_sorted k cells (if t then spans f (c + 1) n (Some first) else range first c ∷ spans f (c + 1) n None))
       go true goes ended = goes
-      go false goes ended = both (nat_le k first && (nat_le first (c - 1) && nat_lt (c - 1) cells)) _ (head k first c cells h.0 h.1 (omega arith)) ended
+      go false goes ended = and_from (nat_le k first && (nat_le first (c - 1) && nat_lt (c - 1) cells)) _ (head k first c cells h.0 h.1 (omega arith)) ended
 
 -- the cells of the ranges are those that the test holds for
 pub spans_are : (f : ℕ → Bool) (cells q : ℕ) → is_in (spans f 0 cells None) q ≡ window 0 cells q (f q)

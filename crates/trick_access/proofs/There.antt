@@ -5,8 +5,9 @@ use Rattle.std.specs.List.{list_all}
 use Rattle.trick_access.specs.Reached.{block_cells}
 use Rattle.trick_access.specs.declared.reach.way.Way.{Way}
 use Rattle.trick_access.specs.declared.reach.way.Way.TheVariants.{Reads, Writes}
+use Rattle.trick_base.proofs.ListLemmas.{item_there}
+use Rattle.trick_base.proofs.Truths.{first_holds, second_holds}
 use Rattle.trick_lang.proofs.Inside.{stays_in_cells}
-use Rattle.trick_lang.proofs.Tests.{both_left, both_right}
 use Rattle.trick_lang.specs.Access.{is_in}
 use Rattle.trick_lang.specs.Blocks.{block_at}
 use Rattle.trick_lang.specs.Effect.{base_of, body_of}
@@ -28,13 +29,8 @@ block_is (b ∷ bs) (suc k) item h is = block_is bs k item (omega arith) is
 -- what a test of all items says of one that is there
 all_at : {X : Type 0} (p : X → Bool) (xs : List X) (k : ℕ) (x : X) → IsTrue (list_all p xs) → slice_get xs k ≡ Some x → IsTrue (p x)
 all_at p [] k x h is = cc
-all_at p (y ∷ ys) zero x h is = let same : y ≡ x = cc in subst (λ q. IsTrue (p q)) same (both_left _ _ h)
-all_at p (y ∷ ys) (suc k) x h is = all_at p ys k x (both_right (p y) _ h) is
-
-there : {X : Type 0} (xs : List X) (k : ℕ) → k < length xs → (x : X) × (slice_get xs k ≡ Some x)
-there [] k h = absurd (omega arith)
-there (x ∷ xs) zero h = (x, refl)
-there (x ∷ xs) (suc k) h = there xs k (omega arith)
+all_at p (y ∷ ys) zero x h is = let same : y ≡ x = cc in subst (λ q. IsTrue (p q)) same (first_holds _ _ h)
+all_at p (y ∷ ys) (suc k) x h is = all_at p ys k x (second_holds (p y) _ h) is
 
 class_there : (bs : List Block) (k class : ℕ) → class_at bs k ≡ Some class → k < length bs
 class_there [] k class h = cc
@@ -48,7 +44,7 @@ class_is class (Some other) h = let same : other ≡ class = grind (arith, nat_t
 -- the block of a job is there
 pub body_there : (p : Program) (job : JobId) → job.0 < length p.jobs → body_of p job < length p.blocks
 body_there p job h =
-    let found = there p.jobs job.0 h in
+    let found = item_there p.jobs job.0 h in
     with_job found.0 found.1
   where
     with_parts : (j : Job) (o : Option Object) (m : Option Method) → slice_get p.jobs job.0 ≡ Some j → slice_get p.methods j.method ≡ m

@@ -1,6 +1,6 @@
 -- What the methods of a class call are parts of the class.
 use Rattle.std.proofs.Common.{◌≡◌, ℕ, zero, suc, ◌+◌, ◌≤◌, Bool, true, false, ◌&&◌, if◌then◌else◌, nat_lt, List, [], ◌∷◌, ◌++◌, length, is_some, Option, Some, refl, ap, sym, subst, arith}
-use Rattle.std.proofs.lemmas.Bool.{and_parts, lt-ltb}
+use Rattle.std.proofs.lemmas.Bool.{and_from, and_parts, lt-ltb}
 use Rattle.std.proofs.lemmas.List.{append-nil, append_assoc}
 use Rattle.std.specs.Str.{bytes_eq}
 use Rattle.trick_check.proofs.Below.{callees_below}
@@ -30,15 +30,11 @@ abbrev pub names_below : ℕ → Names Member → Bool
 names_below n [] = true
 names_below n (m ∷ ms) = one_below n m.1 && names_below n ms
 
-both : (x y : Bool) → x ≡ true → y ≡ true → (x && y) ≡ true
-both true y a b = b
-both false y a b = absurd (cc a)
-
 last_below : (n : ℕ) (ms : Names Member) (name : Name) (m : Member) → names_below n ms ≡ true → one_below n m ≡ true → names_below n (ms ++ (name, m) ∷ []) ≡ true
-last_below n [] name m all one = both (one_below n m) true one refl
+last_below n [] name m all one = and_from (one_below n m) true one refl
 last_below n (e ∷ es) name m all one =
     let parts = and_parts (one_below n e.1) (names_below n es) all in
-    both (one_below n e.1) (names_below n (es ++ (name, m) ∷ [])) parts.0 (last_below n es name m parts.1 one)
+    and_from (one_below n e.1) (names_below n (es ++ (name, m) ∷ [])) parts.0 (last_below n es name m parts.1 one)
 
 with_below : (n : ℕ) (ms : Names Member) (name : Name) (m : Member) → names_below n ms ≡ true → one_below n m ≡ true → names_below n (with_name name m ms) ≡ true
 with_below n ms name m all one = by (is_some (meaning_of name ms)) where
@@ -123,10 +119,10 @@ below_both : (n : ℕ) (xs ys : List ℕ) → all_below n xs ≡ true → all_be
 below_both n [] ys a b = b
 below_both n (x ∷ xs) ys a b =
     let parts = and_parts (nat_lt x n) (all_below n xs) a in
-    both (nat_lt x n) (all_below n (xs ++ ys)) parts.0 (below_both n xs ys parts.1 b)
+    and_from (nat_lt x n) (all_below n (xs ++ ys)) parts.0 (below_both n xs ys parts.1 b)
 
 method_one : (n : ℕ) (m : Member) → one_below n m ≡ true → all_below n (method_of (Some m)) ≡ true
-method_one n (Method k) h = both (nat_lt k n) true h refl
+method_one n (Method k) h = and_from (nat_lt k n) true h refl
 method_one n (Holds shape) h = refl
 
 method_found : (n : ℕ) (b : Bool) (m : Member) (o : Option Member) → one_below n m ≡ true → all_below n (method_of o) ≡ true → all_below n (method_of (if b then Some m else o)) ≡ true
@@ -168,7 +164,7 @@ part_below n (Constructor line name jobs) own h = refl
 
 class_below : (n : ℕ) (parts : List tree.Part) (own : Names Member) → names_below n own ≡ true → each_below n (class_calls parts own) ≡ true
 class_below n [] own h = refl
-class_below n (p ∷ ps) own h = both (all_below n (part_calls p own)) (each_below n (class_calls ps own)) (part_below n p own h) (class_below n ps own h)
+class_below n (p ∷ ps) own h = and_from (all_below n (part_calls p own)) (each_below n (class_calls ps own)) (part_below n p own h) (class_below n ps own h)
 
 pub calls_many : (parts : List tree.Part) (own : Names Member) → length (class_calls parts own) ≡ length parts
 calls_many [] own = refl

@@ -1,6 +1,6 @@
 -- No two cells have one full name, where the names that a file declares are plain and no two of one space are the same.
 use Rattle.std.proofs.Common.{◌≡◌, ℕ, zero, suc, ◌+◌, ◌^◌, ◌%◌, ◌<◌, ◌≤◌, Bool, true, false, not, ◌&&◌, ◌||◌, ◌==◌, nat_le, List, [], ◌∷◌, ◌++◌, refl, sym, ap, subst, ◌∙◌, arith}
-use Rattle.std.proofs.lemmas.Bool.{false_from_ne_true, leb-true, ne_eqb, not-true}
+use Rattle.std.proofs.lemmas.Bool.{and_parts, false_from_ne_true, leb-true, ne_eqb, not-true}
 use Rattle.std.proofs.lemmas.Fmt.{decimal_by_steps, decimal_injective}
 use Rattle.std.proofs.lemmas.Slice.Eq.{bytes_eq-Decides}
 use Rattle.std.specs.Fmt.{decimal}
@@ -21,7 +21,7 @@ use Rattle.trick_names.specs.declared.tables.Member.{Member}
 use Rattle.trick_names.specs.declared.tables.Member.TheVariants.{Variable as Holds, Method}
 use Rattle.trick_names.specs.declared.tables.Tables.{Tables}
 use Rattle.trick_check.proofs.Unlike.{are_tails, are_unlike, apart_append, is_plain, is_tail, under_apart, under_append, under_tails, under_under, under_unlike, unlike_append, unlike_none}
-use Rattle.trick_check.proofs.Jobs.{all_append, and_both}
+use Rattle.trick_check.proofs.Jobs.{all_append}
 
 -- ---- elements of arrays
 
@@ -109,7 +109,7 @@ array_good : (lengths : Lengths) (cs : List Variable) → are_few lengths ≡ tr
 array_good Plain cs few good = good
 array_good (One n) cs few good = each_good n cs few good
 array_good (Two m n) cs few good =
-    let both = and_both (is_few m) _ few in each_good m (each 0 n cs) both.0 (each_good n cs both.1 good)
+    let both = and_parts (is_few m) _ few in each_good m (each 0 n cs) both.0 (each_good n cs both.1 good)
 
 -- ---- names of one space, each with its cells
 
@@ -134,9 +134,9 @@ module _ {T : Type 0} (test : T → Bool) (cells : T → List Variable)
       → list_all (fits test) names ≡ true → are_unlike of_one_name (under name xs) (rows cells names) ≡ true
   rows_unlike name xs [] plain tails others fit = unlike_none of_one_name (under name xs)
   rows_unlike name xs (g ∷ gs) plain tails others fit =
-      let here = and_both (not (bytes_eq name g.0)) _ others in
-      let right = and_both (fits test g) _ fit in
-      let parts = and_both (is_plain splits g.0) _ right.0 in
+      let here = and_parts (not (bytes_eq name g.0)) _ others in
+      let right = and_parts (fits test g) _ fit in
+      let parts = and_parts (is_plain splits g.0) _ right.0 in
       unlike_append of_one_name (under name xs) (under g.0 (cells g.1)) (rows cells gs)
       (under_unlike splits name g.0 xs (cells g.1) plain parts.0 tails (good g.1 parts.1).1
       (not-true (bytes_eq name g.0) here.0))
@@ -144,15 +144,15 @@ module _ {T : Type 0} (test : T → Bool) (cells : T → List Variable)
 
   rows_apart : (names : Names T) → are_right test names ≡ true → are_apart of_one_name (rows cells names) ≡ true
   rows_apart names right =
-      let both = and_both (are_apart of_same_name names) _ right in by names both.0 both.1
+      let both = and_parts (are_apart of_same_name names) _ right in by names both.0 both.1
     where
       by : (gs : Names T) → are_apart of_same_name gs ≡ true → list_all (fits test) gs ≡ true
           → are_apart of_one_name (rows cells gs) ≡ true
       by [] apart fit = refl
       by (g ∷ gs) apart fit =
-          let others = and_both (list_all (λ known. not (of_same_name g known)) gs) _ apart in
-          let here = and_both (fits test g) _ fit in
-          let parts = and_both (is_plain splits g.0) _ here.0 in
+          let others = and_parts (list_all (λ known. not (of_same_name g known)) gs) _ apart in
+          let here = and_parts (fits test g) _ fit in
+          let parts = and_parts (is_plain splits g.0) _ here.0 in
           let own = good g.1 parts.1 in
           apart_append of_one_name (under g.0 (cells g.1)) (rows cells gs) (under_apart g.0 (cells g.1) ∙ own.0)
           (by gs others.1 here.1) (rows_unlike g.0 (cells g.1) gs parts.0 own.1 others.0 here.1)
@@ -206,7 +206,7 @@ groups_good : (gs : List (Names Member)) (done : List (List Variable)) → AreAl
     → list_all (are_right has_few) gs ≡ true → AreAllGood (group_cells gs done)
 groups_good [] done all right = all
 groups_good (g ∷ gs) done all right =
-    let both = and_both (are_right has_few g) _ right in
+    let both = and_parts (are_right has_few g) _ right in
     groups_good gs (done ++ members_cells done g ∷ [])
     (good_last done (members_cells done g) all (members_good done g all both.0)) both.1
 

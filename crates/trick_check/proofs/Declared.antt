@@ -1,6 +1,6 @@
 -- The names that a text declares are plain, no two of one space are the same, and no array is too long.
 use Rattle.std.proofs.Common.{◌≡◌, ◌⊎◌, ℕ, ◌+◌, ℤ, pos, ◌+ℤ◌, Bool, true, false, not, ◌&&◌, ◌==◌, nat_le, is_some, if◌then◌else◌, List, [], ◌∷◌, ◌++◌, length, Some, refl, sym, subst, ◌∙◌, inl, inr}
-use Rattle.std.proofs.lemmas.Bool.{and_from, eqb-true, false_from_ne_true, or_cases, not_from_false}
+use Rattle.std.proofs.lemmas.Bool.{and_from, eqb-true, false_from_ne_true, or_cases, not_from_false, and_parts}
 use Rattle.std.proofs.lemmas.Slice.Eq.{bytes_eq-Decides}
 use Rattle.std.specs.List.{list_all}
 use Rattle.std.specs.Str.{bytes_eq}
@@ -20,7 +20,7 @@ use Rattle.trick_lang.specs.Facts.{are_right_lengths}
 use Rattle.trick_lang.specs.PartTests.{PartTests, anything, declarator_passes, definition_passes, file_passes, item_passes, members_pass, part_passes, type_passes}
 use Rattle.trick_check.proofs.Unlike.{apart_append, are_unlike, is_plain}
 use Rattle.trick_check.proofs.Cells.{are_few, are_right, fits, for_all, has_few, is_few, of_same_name, splits}
-use Rattle.trick_check.proofs.Jobs.{all_append, and_both}
+use Rattle.trick_check.proofs.Jobs.{all_append}
 
 -- ---- names
 
@@ -39,13 +39,13 @@ no_split in_name dot bracket b inside =
 plain_inside : (bs : Name) → list_all is_letter_or_digit bs ≡ true → is_plain splits bs ≡ true
 plain_inside [] h = refl
 plain_inside (b ∷ bs) h =
-    let both = and_both (is_letter_or_digit b) _ h in
+    let both = and_parts (is_letter_or_digit b) _ h in
     rw (no_split is_letter_or_digit refl refl b both.0, plain_inside bs both.1) refl
 
 spelled_plain : (name : Name) → is_spelled name ≡ true → is_plain splits name ≡ true
 spelled_plain [] h = absurd cc
 spelled_plain (b ∷ bs) h =
-    let both = and_both (is_letter b) _ h in
+    let both = and_parts (is_letter b) _ h in
     rw (no_split is_letter refl refl b both.0, plain_inside bs both.1) refl
 
 -- ---- a name that becomes known
@@ -75,7 +75,7 @@ add_right {T} test name meaning names spelled passes right = by (is_some (meanin
         → are_right test (if b then names else names ++ (name, meaning) ∷ []) ≡ true
     by true e = right
     by false e =
-        let both = and_both (are_apart of_same_name names) _ right in
+        let both = and_parts (are_apart of_same_name names) _ right in
         and_from _ _
         (apart_append of_same_name names ((name, meaning) ∷ []) both.0 refl (new_unlike name meaning names e))
         (all_append (fits test) names ((name, meaning) ∷ []) both.1 (rw (spelled_plain name spelled, passes) refl))
@@ -90,14 +90,14 @@ abbrev pub measured : PartTests
 measured = record anything { lengths = are_right_lengths }
 
 few_of : (n : ℕ) (b : Bool) → ((nat_le 1 n && is_few n) && b) ≡ true → is_few n ≡ true
-few_of n b h = (and_both (nat_le 1 n) _ (and_both (nat_le 1 n && is_few n) b h).0).1
+few_of n b h = (and_parts (nat_le 1 n) _ (and_parts (nat_le 1 n && is_few n) b h).0).1
 
 few_lengths : (ls : List ℕ) → are_right_lengths ls ≡ true → are_few (lengths_of ls) ≡ true
 few_lengths [] h = refl
 few_lengths (n ∷ []) h = few_of n true h
 few_lengths (m ∷ n ∷ rest) h =
-    let all = (and_both (nat_le (length (m ∷ n ∷ rest)) 2) _ h).1 in
-    let later = (and_both (nat_le 1 m && is_few m) _ all).1 in
+    let all = (and_parts (nat_le (length (m ∷ n ∷ rest)) 2) _ h).1 in
+    let later = (and_parts (nat_le 1 m && is_few m) _ all).1 in
     rw (few_of m _ all, few_of n _ later) refl
 
 abbrev AreRight : Names Member → Type 0
@@ -108,25 +108,25 @@ declarators_right : (ds : List Declarator) (base : Base) (members : Names Member
     → AreRight members → AreRight (with_declarators ds base members)
 declarators_right [] base members h k right = right
 declarators_right (d ∷ ds) base members h k right =
-    let name = and_both (declarator_passes spelled d) _ h in
-    let lengths = and_both (declarator_passes measured d) _ k in
+    let name = and_parts (declarator_passes spelled d) _ h in
+    let lengths = and_parts (declarator_passes measured d) _ k in
     declarators_right ds base (with_declarator d base members) name.1 lengths.1
     (add_right has_few d.name (Holds (record { lengths = lengths_of d.lengths; base = base })) members
-    (and_both (is_spelled d.name) _ name.0).0 (few_lengths d.lengths lengths.0) right)
+    (and_parts (is_spelled d.name) _ name.0).0 (few_lengths d.lengths lengths.0) right)
 
 members_right : (m : Members) (names : Names Global) (members : Names Member) → members_pass spelled m ≡ true
     → members_pass measured m ≡ true → AreRight members → AreRight (with_members m names members)
 members_right m names members h k right =
-    declarators_right m.declarators (base_of m.written names) members (and_both (type_passes spelled m.written) _ h).1
-    (and_both (type_passes measured m.written) _ k).1 right
+    declarators_right m.declarators (base_of m.written names) members (and_parts (type_passes spelled m.written) _ h).1
+    (and_parts (type_passes measured m.written) _ k).1 right
 
 all_members_right : (ms : List Members) (names : Names Global) (members : Names Member)
     → list_all (members_pass spelled) ms ≡ true → list_all (members_pass measured) ms ≡ true
     → AreRight members → AreRight (with_all_members ms names members)
 all_members_right [] names members h k right = right
 all_members_right (m ∷ ms) names members h k right =
-    let name = and_both (members_pass spelled m) _ h in
-    let lengths = and_both (members_pass measured m) _ k in
+    let name = and_parts (members_pass spelled m) _ h in
+    let lengths = and_parts (members_pass measured m) _ k in
     all_members_right ms names (with_members m names members) name.1 lengths.1
     (members_right m names members name.0 lengths.0 right)
 
@@ -136,7 +136,7 @@ part_right : (part : Part) (number : ℕ) (names : Names Global) (inside : Insid
 part_right tree.Public number names inside h k right = right
 part_right (tree.HasMembers m) number names inside h k right = members_right m names inside.members h k right
 part_right (tree.HasMethod m) number names inside h k right =
-    add_right has_few m.name (Method number) inside.members (and_both (is_spelled m.name) _ h).0 refl right
+    add_right has_few m.name (Method number) inside.members (and_parts (is_spelled m.name) _ h).0 refl right
 part_right (tree.Constructor line name jobs) number names inside h k right = right
 
 parts_right : (parts : List Part) (number : ℕ) (names : Names Global) (inside : Inside)
@@ -144,8 +144,8 @@ parts_right : (parts : List Part) (number : ℕ) (names : Names Global) (inside 
     → AreRight inside.members → AreRight (behind_parts parts number names inside).members
 parts_right [] number names inside h k right = right
 parts_right (part ∷ rest) number names inside h k right =
-    let name = and_both (part_passes spelled part) _ h in
-    let lengths = and_both (part_passes measured part) _ k in
+    let name = and_parts (part_passes spelled part) _ h in
+    let lengths = and_parts (part_passes measured part) _ k in
     parts_right rest (number + 1) names (behind_part part number names inside) name.1 lengths.1
     (part_right part number names inside name.0 lengths.0 right)
 
@@ -154,9 +154,9 @@ group_right : (d : Definition) (names : Names Global) → definition_passes spel
 group_right tree.Include names h k = refl
 group_right (tree.Enum name items) names h k = refl
 group_right (tree.Struct name members) names h k =
-    all_members_right members names [] (and_both (is_spelled name) _ h).1 k refl
+    all_members_right members names [] (and_parts (is_spelled name) _ h).1 k refl
 group_right (tree.ClassOf name parts) names h k =
-    parts_right parts 0 names nothing_inside (and_both (is_spelled name) _ h).1 k refl
+    parts_right parts 0 names nothing_inside (and_parts (is_spelled name) _ h).1 k refl
 group_right (tree.Object line class name) names h k = refl
 
 -- ---- the names of the file
@@ -168,26 +168,26 @@ items_right : (items : List EnumItem) (next : ℤ) (names : Names Global) → li
     → AreKnown names → AreKnown (with_items items next names)
 items_right [] next names h right = right
 items_right (item ∷ rest) next names h right =
-    let both = and_both (item_passes spelled item) _ h in
+    let both = and_parts (item_passes spelled item) _ h in
     items_right rest (taken_value item.value next +ℤ pos 1) (with_item item next names) both.1
     (add_right for_all item.name (the.Item (taken_value item.value next)) names
-    (and_both (is_spelled item.name) _ both.0).0 refl right)
+    (and_parts (is_spelled item.name) _ both.0).0 refl right)
 
 definition_right : (d : Definition) (number : ℕ) (names : Names Global) → definition_passes spelled d ≡ true
     → AreKnown names → AreKnown (names_behind d number names)
 definition_right tree.Include number names h right = right
 definition_right (tree.Enum name items) number names h right =
-    let both = and_both (is_spelled name) _ h in
+    let both = and_parts (is_spelled name) _ h in
     items_right items (pos 0) (with_name name the.Enum names) both.1
     (add_right for_all name the.Enum names both.0 refl right)
 definition_right (tree.Struct name members) number names h right =
-    add_right for_all name (the.Struct number) names (and_both (is_spelled name) _ h).0 refl right
+    add_right for_all name (the.Struct number) names (and_parts (is_spelled name) _ h).0 refl right
 definition_right (tree.ClassOf name parts) number names h right =
-    add_right for_all name (the.Class number) names (and_both (is_spelled name) _ h).0 refl right
+    add_right for_all name (the.Class number) names (and_parts (is_spelled name) _ h).0 refl right
 definition_right (tree.Object line class name) number names h right =
-    let second = (and_both (is_spelled class) _ h).1 in
+    let second = (and_parts (is_spelled class) _ h).1 in
     add_right for_all name (the.Object (object_base (meaning_of class names))) names
-    (and_both (is_spelled name) _ second).0 refl right
+    (and_parts (is_spelled name) _ second).0 refl right
 
 -- names and groups of a file
 abbrev pub TablesRight : Tables → Type 0
@@ -197,8 +197,8 @@ pub definitions_right : (ds : SDefine) (t : Tables) → list_all (definition_pas
     → list_all (definition_passes measured) ds ≡ true → TablesRight t → TablesRight (behind_definitions ds t)
 definitions_right [] t h k right = right
 definitions_right (d ∷ ds) t h k right =
-    let name = and_both (definition_passes spelled d) _ h in
-    let lengths = and_both (definition_passes measured d) _ k in
+    let name = and_parts (definition_passes spelled d) _ h in
+    let lengths = and_parts (definition_passes measured d) _ k in
     definitions_right ds (behind_definition d t) name.1 lengths.1 (
       definition_right d (length t.groups) t.names name.0 right.0,
       all_append (are_right has_few) t.groups (members_in d t.names ∷ []) right.1

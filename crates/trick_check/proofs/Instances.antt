@@ -1,6 +1,6 @@
 -- No two jobs have one name and instance: instances of one method of an object rise, and names of objects are plain.
 use Rattle.std.proofs.Common.{◌≡◌, ℕ, ◌+◌, ◌<◌, Bool, true, false, not, ◌&&◌, ◌==◌, nat_lt, if◌then◌else◌, List, [], ◌∷◌, ◌++◌, length, slice_get, Some, None, refl, sym, ap, subst, ◌∙◌, arith}
-use Rattle.std.proofs.lemmas.Bool.{and_from, ltb-false, ltb-true, ne_eqb, not-true}
+use Rattle.std.proofs.lemmas.Bool.{and_from, and_parts, ltb-false, ltb-true, ne_eqb, not-true}
 use Rattle.std.proofs.lemmas.List.{append_assoc, append_cancel_left}
 use Rattle.std.proofs.lemmas.Slice.Eq.{bytes_eq-Decides}
 use Rattle.std.specs.List.{list_all}
@@ -25,7 +25,7 @@ use Rattle.trick_names.specs.declared.tables.Global.{Global}
 use Rattle.trick_names.specs.declared.tables.Global.TheVariants as the
 use Rattle.trick_check.proofs.Unlike.{apart_append, are_unlike, is_plain, unlike}
 use Rattle.trick_check.proofs.Cells.{are_right, fits, for_all, of_same_name, splits}
-use Rattle.trick_check.proofs.Jobs.{all_append, and_both}
+use Rattle.trick_check.proofs.Jobs.{all_append}
 use Rattle.trick_check.proofs.Methods.{has_method, lines_call_methods}
 use Rattle.trick_check.proofs.Names.{objects_pass}
 use Rattle.trick_check.proofs.Stands.{IsMade, at_place, has_own, is_called, is_made, last_longer, no_lines}
@@ -140,8 +140,8 @@ module _ (objects : List Object) (methods : List Method) where
   other_objects ds all a o object before [] here one is many others plain = refl
   other_objects ds all a o object before (p ∷ os) here one is many others plain =
       let there = object_at before os p object is many in
-      let differ = and_both (not (of_one_object_name o p)) _ others in
-      let both = and_both (is_plain_object p) _ plain in
+      let differ = and_parts (not (of_one_object_name o p)) _ others in
+      let both = and_parts (is_plain_object p) _ plain in
       let longer = last_longer before p in
       all_append (λ b. not (alike a b)) (object_jobs object (numbers_at all p.class) [] (lines_at ds p.class)) _
       (other_lines a o p object (numbers_at all p.class) [] (lines_at ds p.class) here there one both.0
@@ -172,8 +172,8 @@ module _ (objects : List Object) (methods : List Method) where
       let used = subst (λ ps. has_object ps o.class ≡ true) is (has_own before os o) in
       let next = append_assoc before (o ∷ []) os ∙ is in
       let longer = last_longer before o in
-      let others = and_both (list_all (λ p. not (of_one_object_name o p)) os) _ apart in
-      let both = and_both (is_plain_object o) _ plain in
+      let others = and_parts (list_all (λ p. not (of_one_object_name o p)) os) _ apart in
+      let both = and_parts (is_plain_object o) _ plain in
       apart_append alike (object_jobs object (numbers_at all o.class) [] (lines_at ds o.class))
       (jobs_from ds all (object + 1) os)
       (object_apart object (numbers_at all o.class) [] (lines_at ds o.class) (named o used))
@@ -197,7 +197,7 @@ objects_apart : (sizes : List ℕ) (first : ℕ) (names : Names Global) → are_
     → are_apart of_one_object_name (object_rows sizes first names) ≡ true
 objects_apart sizes first [] apart = refl
 objects_apart sizes first (g ∷ gs) apart =
-    let both = and_both (list_all (λ known. not (of_same_name g known)) gs) _ apart in
+    let both = and_parts (list_all (λ known. not (of_same_name g known)) gs) _ apart in
     let next = narrow (first + global_count sizes g.1) in
     row_apart first g.0 g.1 (object_rows sizes next gs) (objects_apart sizes next gs both.1)
     (objects_pass (λ name. not (bytes_eq g.0 name)) sizes next gs both.0)
@@ -206,8 +206,8 @@ plain_names : (names : Names Global) → list_all (fits for_all) names ≡ true
     → list_all (λ known. is_plain splits known.0) names ≡ true
 plain_names [] h = refl
 plain_names (g ∷ gs) h =
-    let both = and_both (fits for_all g) _ h in
-    rw ((and_both (is_plain splits g.0) _ both.0).0, plain_names gs both.1) refl
+    let both = and_parts (fits for_all g) _ h in
+    rw ((and_parts (is_plain splits g.0) _ both.0).0, plain_names gs both.1) refl
 
 -- ---- all jobs
 
@@ -216,7 +216,7 @@ lines_named : (class : ℕ) (parts : List Part) (m : Made) (lines : List JobLine
     → AreNamed m.methods (numbers_at m.numbers class) lines
 lines_named class parts m [] made h = tt
 lines_named class parts m (line ∷ rest) made h =
-    let both = and_both (has_method line.method parts) _ h in
+    let both = and_parts (has_method line.method parts) _ h in
     let called = is_called class parts m line made both.0 in
     (ap method_name called.method ∙ called.named, lines_named class parts m rest made both.1)
 
@@ -240,7 +240,7 @@ class_named ds objects class right used = by (nat_lt class (length ds)) refl
 pub instances_apart : (ds : SDefine) → fault_of (mistakes ds) ≡ None → are_right for_all (tables_of ds).names ≡ true
     → are_apart (of_one_instance (objects_of ds) (all_made ds).methods) (jobs_named ds) ≡ true
 instances_apart ds right names =
-    let both = and_both (are_apart of_same_name (tables_of ds).names) _ names in
+    let both = and_parts (are_apart of_same_name (tables_of ds).names) _ names in
     jobs_apart (objects_of ds) (all_made ds).methods ds (all_made ds).numbers 0 [] (objects_of ds)
     (λ o used. class_named ds (objects_of ds) o.class right used) refl refl
     (objects_apart (sizes_of ds) 0 (tables_of ds).names both.0)

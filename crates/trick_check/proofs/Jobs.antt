@@ -1,5 +1,6 @@
 -- What each job line of a tree passes, each job that the tree names passes.
-use Rattle.std.proofs.Common.{◌≡◌, ℕ, zero, suc, ◌+◌, Bool, true, false, ◌&&◌, if◌then◌else◌, List, [], ◌∷◌, ◌++◌, refl}
+use Rattle.std.proofs.Common.{◌≡◌, ℕ, zero, suc, ◌+◌, Bool, true, false, if◌then◌else◌, List, [], ◌∷◌, ◌++◌, refl}
+use Rattle.std.proofs.lemmas.Bool.{and_parts}
 use Rattle.std.specs.List.{list_all}
 use Rattle.trick_jobs.specs.Jobs.{class_lines, definition_lines, is_constructor, job_of, jobs_from, lines_at, numbers_at, object_jobs, part_lines}
 use Rattle.trick_lang.specs.SyntaxTree as tree
@@ -13,15 +14,11 @@ use Rattle.trick_names.specs.Names.{Names}
 use Rattle.trick_lang.specs.Facts.{has_right_times}
 use Rattle.trick_lang.specs.PartTests.{PartTests, anything, definition_passes, file_passes, part_passes}
 
-pub and_both : (a b : Bool) → (a && b) ≡ true → (a ≡ true) × (b ≡ true)
-and_both true b h = (refl, h)
-and_both false b h = absurd cc
-
 pub all_append : {A : Type 0} (p : A → Bool) (xs ys : List A) → list_all p xs ≡ true → list_all p ys ≡ true
     → list_all p (xs ++ ys) ≡ true
 all_append p [] ys all more = more
 all_append p (x ∷ xs) ys all more =
-    let both = and_both (p x) _ all in rw (both.0, all_append p xs ys both.1 more) refl
+    let both = and_parts (p x) _ all in rw (both.0, all_append p xs ys both.1 more) refl
 
 -- ---- the job lines of a file
 
@@ -38,7 +35,7 @@ module _ (q : JobLine → Bool) where
   lines_of_class : (parts : List Part) → list_all (part_passes l) parts ≡ true → list_all q (class_lines parts) ≡ true
   lines_of_class [] h = refl
   lines_of_class (part ∷ rest) h =
-      let both = and_both (part_passes l part) _ h in
+      let both = and_parts (part_passes l part) _ h in
       by (is_constructor part) (lines_of_part part both.0) (lines_of_class rest both.1)
     where
       by : (b : Bool) → list_all q (part_lines part) ≡ true → list_all q (class_lines rest) ≡ true
@@ -56,8 +53,8 @@ module _ (q : JobLine → Bool) where
   lines_of_file : (ds : SDefine) (class : ℕ) → list_all (definition_passes l) ds ≡ true
       → list_all q (lines_at ds class) ≡ true
   lines_of_file [] class h = refl
-  lines_of_file (d ∷ ds) zero h = lines_of_definition d (and_both (definition_passes l d) _ h).0
-  lines_of_file (d ∷ ds) (suc class) h = lines_of_file ds class (and_both (definition_passes l d) _ h).1
+  lines_of_file (d ∷ ds) zero h = lines_of_definition d (and_parts (definition_passes l d) _ h).0
+  lines_of_file (d ∷ ds) (suc class) h = lines_of_file ds class (and_parts (definition_passes l d) _ h).1
 
   -- ---- the jobs
 
@@ -67,7 +64,7 @@ module _ (q : JobLine → Bool) where
         → list_all p (object_jobs object numbers before lines) ≡ true
     jobs_of_object object numbers before [] h = refl
     jobs_of_object object numbers before (line ∷ rest) h =
-        let both = and_both (q line) _ h in
+        let both = and_parts (q line) _ h in
         rw (same object numbers before line both.0, jobs_of_object object numbers (before ++ line ∷ []) rest both.1) refl
 
     pub jobs_pass : (ds : SDefine) (all : List (Names ℕ)) (object : ℕ) (os : List Object) → file_passes l ds ≡ true

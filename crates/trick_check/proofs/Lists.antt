@@ -1,5 +1,5 @@
 -- Parts of classes and tables of definitions, by their numbers.
-use Rattle.std.proofs.Common.{◌≡◌, ℕ, zero, suc, ◌+◌, ◌<◌, ◌≤◌, List, [], ◌∷◌, length, get_or, slice_get, drop, drop-cons, add-one, Some, None, Result, Ok, Err, IfOk, OnOk, refl, ap, sym, arith}
+use Rattle.std.proofs.Common.{◌≡◌, ℕ, zero, suc, ◌<◌, ◌≤◌, List, [], ◌∷◌, length, get_or, slice_get, Some, None, Result, Ok, Err, IfOk, OnOk, refl, ap, arith}
 use Rattle.trick_blocks.specs.Kept.{is_one_of}
 use Rattle.trick_check.specs.Parts.{parts_at, parts_in}
 use Rattle.trick_lang.specs.Syntax.{class_part_of, class_parts_of, definition_of, definitions_of}
@@ -54,7 +54,3 @@ on_ok (Err e) f h = tt
 pub both_ok : {T E : Type 0} (P Q : T → Type 0) (r : Result T E) → IfOk r P → IfOk r Q → IfOk r (λ x. P x × Q x)
 both_ok P Q (Ok x) p q = (p, q)
 both_ok P Q (Err e) p q = tt
-
--- the items from one on are that one and the rest
-pub from_here : {A : Type 0} (xs : List A) (i : ℕ) (item : A) → i < length xs → item ≡ get_or xs i item → drop i xs ≡ item ∷ drop (i + 1) xs
-from_here xs i item h is = rw (add-one, drop-cons xs i item) (ap (λ x. x ∷ drop (suc i) xs) (sym is))

@@ -1,5 +1,6 @@
 -- Where the names of a file are right, each job calls a method of its class.
 use Rattle.std.proofs.Common.{◌≡◌, ◌⊎◌, ℕ, zero, suc, ◌+◌, Bool, true, false, ◌&&◌, ◌||◌, is_some, if◌then◌else◌, List, [], ◌∷◌, ◌++◌, Option, Some, None, refl, sym, inl, inr, subst, arith}
+use Rattle.std.proofs.lemmas.Bool.{or_right}
 use Rattle.std.proofs.lemmas.List.{append-nil, append_assoc}
 use Rattle.std.specs.List.{list_all}
 use Rattle.std.specs.Str.{bytes_eq}
@@ -174,10 +175,6 @@ in_members name [] names members h = h
 in_members name (m ∷ ms) names members h =
     in_declarators name m.declarators (base_of m.written names) members
     (in_members name ms names (with_members m names members) h)
-
-or_right : (a b : Bool) → b ≡ true → (a || b) ≡ true
-or_right true b h = refl
-or_right false b h = h
 
 in_parts : (name : Name) (parts : List Part) (number : ℕ) (names : Names Global) (inside : Inside)
     → IsIn name (behind_parts parts number names inside).members

@@ -1,11 +1,11 @@
 -- The names of objects, methods, items and cells that a tree names are made of names of the tree.
 use Rattle.std.proofs.Common.{◌≡◌, ℕ, ◌+◌, Bool, true, List, [], ◌∷◌, length, refl}
-use Rattle.std.proofs.lemmas.Bool.{and_from}
+use Rattle.std.proofs.lemmas.Bool.{and_from, and_parts}
 use Rattle.std.specs.List.{list_all}
 use Rattle.trick_cells.specs.Cells.{memory_cells}
 use Rattle.trick_cells.specs.Counts.{global_count}
 use Rattle.trick_cells.specs.Tables.{item_row, item_rows, narrow, object_row, object_rows}
-use Rattle.trick_check.proofs.Jobs.{all_append, and_both}
+use Rattle.trick_check.proofs.Jobs.{all_append}
 use Rattle.trick_check.proofs.PlainCells.{memory_plain}
 use Rattle.trick_check.proofs.Tables.{all_pass, made_named, named, tables_named}
 use Rattle.trick_check.specs.Walk.{all_made, objects_of, sizes_of}
@@ -38,7 +38,7 @@ module _ (p : Name → Bool) where
       → list_all (λ object. p object.name) (object_rows sizes first names) ≡ true
   objects_pass sizes first [] all = refl
   objects_pass sizes first (g ∷ gs) all =
-      let both = and_both (p g.0) _ all in
+      let both = and_parts (p g.0) _ all in
       all_append (λ object. p object.name) (object_row first g.0 g.1) _ (row_passes first g.0 g.1 both.0)
       (objects_pass sizes (narrow (first + global_count sizes g.1)) gs both.1)
 
@@ -54,7 +54,7 @@ module _ (p : Name → Bool) where
       → list_all (λ item. p item.name) (item_rows names) ≡ true
   items_pass [] all = refl
   items_pass (g ∷ gs) all =
-      let both = and_both (p g.0) _ all in
+      let both = and_parts (p g.0) _ all in
       all_append (λ item. p item.name) (item_row g.0 g.1) _ (item_passes_row g.0 g.1 both.0) (items_pass gs both.1)
 
 -- ---- what the program of a file is named
@@ -69,7 +69,7 @@ names_short ds h =
 all_weaker : {T : Type 0} (p q : T → Bool) → ((x : T) → p x ≡ true → q x ≡ true) → (xs : List T) → list_all p xs ≡ true → list_all q xs ≡ true
 all_weaker p q weaker [] h = refl
 all_weaker p q weaker (x ∷ xs) h =
-    let both = and_both (p x) _ h in and_from _ _ (weaker x both.0) (all_weaker p q weaker xs both.1)
+    let both = and_parts (p x) _ h in and_from _ _ (weaker x both.0) (all_weaker p q weaker xs both.1)
 
 -- spelled names are plain
 known_plain : {T : Type 0} (names : Names T) → all_pass is_spelled names ≡ true → all_pass is_plain names ≡ true

@@ -1,9 +1,10 @@
 -- Objects lie in the memory, and jobs have numbers of their own.
 use Rattle.std.proofs.Common.{◌≡◌, ℕ, zero, suc, ◌+◌, ◌<◌, ◌≤◌, ◌==◌, Bool, true, false, not, ◌&&◌, nat_le, if◌then◌else◌, List, [], ◌∷◌, ◌++◌, length, get_or, refl, ap, ◌∙◌, arith}
 use Rattle.std.proofs.Math.ListN.{length-append}
-use Rattle.std.proofs.lemmas.Bool.{eqb-true, le-leb}
+use Rattle.std.proofs.lemmas.Bool.{and_from, le-leb}
 use Rattle.std.proofs.lemmas.List.Folds.{list_all-append}
 use Rattle.std.specs.List.{list_all}
+use Rattle.trick_base.proofs.Numbers.{other_than_greater}
 use Rattle.trick_base.specs.Capped.{capped}
 use Rattle.trick_cells.specs.Counts.{global_count, names_count}
 use Rattle.trick_cells.specs.Tables.{narrow, object_row, object_rows, taken}
@@ -18,10 +19,6 @@ use Rattle.trick_names.specs.Names.{Names}
 use Rattle.trick_names.specs.declared.tables.Base.TheVariants.{Single, Group}
 use Rattle.trick_names.specs.declared.tables.Global.{Global}
 use Rattle.trick_names.specs.declared.tables.Global.TheVariants as the
-
-both : (a b : Bool) → a ≡ true → b ≡ true → (a && b) ≡ true
-both true b x y = y
-both false b x y = absurd (cc x)
 
 -- ---- objects
 
@@ -40,14 +37,14 @@ one_fits sizes first name (the.Class k) cells h = refl
 one_fits sizes first name (the.Item value) cells h = refl
 one_fits sizes first name (the.Object (Single scalar)) cells h = refl
 one_fits sizes first name (the.Object (Group k)) cells h =
-    both (nat_le (first + get_or (taken sizes) k 0) cells) true (le-leb (first + get_or (taken sizes) k 0) cells (omega (arith, h, taken_less sizes k))) refl
+    and_from (nat_le (first + get_or (taken sizes) k 0) cells) true (le-leb (first + get_or (taken sizes) k 0) cells (omega (arith, h, taken_less sizes k))) refl
 
 all_fit : (sizes : List ℕ) (first : ℕ) (gs : Names Global) (cells : ℕ) → first + names_count sizes gs ≤ cells → cells ≤ 65536 → list_all (object_stands cells (taken sizes)) (object_rows sizes first gs) ≡ true
 all_fit sizes first [] cells h low = refl
 all_fit sizes first (g ∷ gs) cells h low =
     let next : narrow (first + global_count sizes g.1) ≡ first + global_count sizes g.1 = omega (arith, h, low) in
     list_all-append (object_stands cells (taken sizes)) (object_row first g.0 g.1) (object_rows sizes (narrow (first + global_count sizes g.1)) gs)
-    ∙ both (list_all (object_stands cells (taken sizes)) (object_row first g.0 g.1)) (list_all (object_stands cells (taken sizes)) (object_rows sizes (narrow (first + global_count sizes g.1)) gs))
+    ∙ and_from (list_all (object_stands cells (taken sizes)) (object_row first g.0 g.1)) (list_all (object_stands cells (taken sizes)) (object_rows sizes (narrow (first + global_count sizes g.1)) gs))
     (one_fits sizes first g.0 g.1 cells (omega (arith, h)))
     (all_fit sizes (narrow (first + global_count sizes g.1)) gs cells (omega (arith, h, next)) low)
 
@@ -60,20 +57,14 @@ same_count a b is low = omega (arith, is, low)
 
 -- ---- numbers of jobs
 
-unlike : (m n : ℕ) → m < n → (m == n) ≡ false
-unlike m n h = by (m == n) refl where
-  by : (b : Bool) → (m == n) ≡ b → (m == n) ≡ false
-  by true e = let is = eqb-true m n e in absurd (omega (arith, h, is))
-  by false e = e
-
 unlike_number : (a b : Job) → a.number < b.number → not (of_one_number a b) ≡ true
-unlike_number a b h = by (a.object == b.object) (a.number == b.number) (unlike a.number b.number h) where
+unlike_number a b h = by (a.object == b.object) (a.number == b.number) (other_than_greater a.number b.number h) where
   by : (x y : Bool) → y ≡ false → not (x && y) ≡ true
   by true y e = ap not e
   by false y e = refl
 
 unlike_object : (a b : Job) → a.object < b.object → not (of_one_number a b) ≡ true
-unlike_object a b h = by (a.object == b.object) (a.number == b.number) (unlike a.object b.object h) where
+unlike_object a b h = by (a.object == b.object) (a.number == b.number) (other_than_greater a.object b.object h) where
   by : (x y : Bool) → x ≡ false → not (x && y) ≡ true
   by true y e = absurd (cc e)
   by false y e = refl
@@ -83,21 +74,21 @@ lower : (object : ℕ) (numbers : Names ℕ) (before lines : List tree.JobLine) 
 lower object numbers before [] a h = refl
 lower object numbers before (line ∷ rest) a h =
     let more : length (before ++ line ∷ []) ≡ length before + 1 = length-append before (line ∷ []) in
-    both (not (of_one_number a (job_of object numbers before line))) (list_all (λ y. not (of_one_number a y)) (object_jobs object numbers (before ++ line ∷ []) rest))
+    and_from (not (of_one_number a (job_of object numbers before line))) (list_all (λ y. not (of_one_number a y)) (object_jobs object numbers (before ++ line ∷ []) rest))
     (unlike_number a (job_of object numbers before line) h) (lower object numbers (before ++ line ∷ []) rest a (omega (arith, h, more)))
 
 -- a job of an object before
 earlier : (object : ℕ) (numbers : Names ℕ) (before lines : List tree.JobLine) (a : Job) → a.object < object → list_all (λ y. not (of_one_number a y)) (object_jobs object numbers before lines) ≡ true
 earlier object numbers before [] a h = refl
 earlier object numbers before (line ∷ rest) a h =
-    both (not (of_one_number a (job_of object numbers before line))) (list_all (λ y. not (of_one_number a y)) (object_jobs object numbers (before ++ line ∷ []) rest))
+    and_from (not (of_one_number a (job_of object numbers before line))) (list_all (λ y. not (of_one_number a y)) (object_jobs object numbers (before ++ line ∷ []) rest))
     (unlike_object a (job_of object numbers before line) h) (earlier object numbers (before ++ line ∷ []) rest a h)
 
 all_later : (ds : SDefine) (all : List (Names ℕ)) (object : ℕ) (os : List Object) (a : Job) → a.object < object → list_all (λ y. not (of_one_number a y)) (jobs_from ds all object os) ≡ true
 all_later ds all object [] a h = refl
 all_later ds all object (o ∷ os) a h =
     list_all-append (λ y. not (of_one_number a y)) (object_jobs object (numbers_at all o.class) [] (lines_at ds o.class)) (jobs_from ds all (object + 1) os)
-    ∙ both (list_all (λ y. not (of_one_number a y)) (object_jobs object (numbers_at all o.class) [] (lines_at ds o.class))) (list_all (λ y. not (of_one_number a y)) (jobs_from ds all (object + 1) os))
+    ∙ and_from (list_all (λ y. not (of_one_number a y)) (object_jobs object (numbers_at all o.class) [] (lines_at ds o.class))) (list_all (λ y. not (of_one_number a y)) (jobs_from ds all (object + 1) os))
     (earlier object (numbers_at all o.class) [] (lines_at ds o.class) a h) (all_later ds all (object + 1) os a (omega (arith, h)))
 
 object_then : (object : ℕ) (numbers : Names ℕ) (before lines : List tree.JobLine) (rest : List Job) → ((a : Job) → a.object ≡ object → list_all (λ y. not (of_one_number a y)) rest ≡ true) → are_apart of_one_number rest ≡ true → are_apart of_one_number (object_jobs object numbers before lines ++ rest) ≡ true
@@ -106,9 +97,9 @@ object_then object numbers before (line ∷ lines) rest f apart =
     let a = job_of object numbers before line in
     let behind = object_jobs object numbers (before ++ line ∷ []) lines in
     let more : length (before ++ line ∷ []) ≡ length before + 1 = length-append before (line ∷ []) in
-    both (list_all (λ y. not (of_one_number a y)) (behind ++ rest)) (are_apart of_one_number (behind ++ rest))
+    and_from (list_all (λ y. not (of_one_number a y)) (behind ++ rest)) (are_apart of_one_number (behind ++ rest))
     (list_all-append (λ y. not (of_one_number a y)) behind rest
-    ∙ both (list_all (λ y. not (of_one_number a y)) behind) (list_all (λ y. not (of_one_number a y)) rest) (lower object numbers (before ++ line ∷ []) lines a (omega (arith, more))) (f a refl))
+    ∙ and_from (list_all (λ y. not (of_one_number a y)) behind) (list_all (λ y. not (of_one_number a y)) rest) (lower object numbers (before ++ line ∷ []) lines a (omega (arith, more))) (f a refl))
     (object_then object numbers (before ++ line ∷ []) lines rest f apart)
 
 pub numbers_apart : (ds : SDefine) (all : List (Names ℕ)) (object : ℕ) (os : List Object) → are_apart of_one_number (jobs_from ds all object os) ≡ true

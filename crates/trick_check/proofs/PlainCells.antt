@@ -1,6 +1,6 @@
 -- The full names of the cells that a tree names.
 use Rattle.std.proofs.Common.{◌≡◌, ℕ, zero, suc, true, List, [], ◌∷◌, ◌++◌, refl}
-use Rattle.std.proofs.lemmas.Bool.{and_from}
+use Rattle.std.proofs.lemmas.Bool.{and_from, and_parts}
 use Rattle.std.specs.Fmt.{decimal}
 use Rattle.std.specs.List.{list_all}
 use Rattle.trick_cells.specs.Cells.{all_groups, array_cells, base_cells, bracket, cells_at, dotted, each, global_cells, group_cells, member_cells, members_cells, memory_cells, objects_cells, under}
@@ -19,13 +19,13 @@ use Rattle.trick_names.specs.declared.tables.Tables.{Tables}
 use Rattle.trick_lang.proofs.Plain.{decimal_plain, joined_plain}
 use Rattle.trick_lang.specs.Names.{are_plain_cells, is_plain}
 use Rattle.trick_check.proofs.Tables.{AreNamed, all_pass}
-use Rattle.trick_check.proofs.Jobs.{all_append, and_both}
+use Rattle.trick_check.proofs.Jobs.{all_append}
 
 under_plain : (prefix : Name) (cells : List Variable) → is_plain prefix ≡ true → are_plain_cells cells ≡ true
     → are_plain_cells (under prefix cells) ≡ true
 under_plain prefix [] h all = refl
 under_plain prefix (c ∷ cells) h all =
-    let both = and_both (is_plain c.name) _ all in
+    let both = and_parts (is_plain c.name) _ all in
     and_from _ _ (joined_plain prefix c.name h both.0) (under_plain prefix cells h both.1)
 
 bracket_plain : (k : ℕ) → is_plain (bracket k) ≡ true
@@ -68,7 +68,7 @@ members_plain : (done : List (List Variable)) (ms : Names Member) → AllPlain d
     → are_plain_cells (members_cells done ms) ≡ true
 members_plain done [] all h = refl
 members_plain done (m ∷ ms) all h =
-    let both = and_both (is_plain m.0) _ h in
+    let both = and_parts (is_plain m.0) _ h in
     both_plain (under (dotted m.0) (member_cells done m.1)) (members_cells done ms)
     (under_plain (dotted m.0) (member_cells done m.1) both.0 (member_plain done m.1 all))
     (members_plain done ms all both.1)
@@ -77,7 +77,7 @@ groups_plain : (gs : List (Names Member)) (done : List (List Variable)) → AllP
     → list_all (λ (members : Names Member). all_pass is_plain members) gs ≡ true → AllPlain (group_cells gs done)
 groups_plain [] done all h = all
 groups_plain (g ∷ gs) done all h =
-    let both = and_both (all_pass is_plain g) _ h in
+    let both = and_parts (all_pass is_plain g) _ h in
     groups_plain gs (done ++ members_cells done g ∷ []) (last_plain done (members_cells done g) all (members_plain done g all both.0)) both.1
 
 global_plain : (done : List (List Variable)) (g : Global) → AllPlain done → are_plain_cells (global_cells done g) ≡ true
@@ -92,7 +92,7 @@ objects_plain : (done : List (List Variable)) (names : Names Global) → AllPlai
     → are_plain_cells (objects_cells done names) ≡ true
 objects_plain done [] all h = refl
 objects_plain done (g ∷ gs) all h =
-    let both = and_both (is_plain g.0) _ h in
+    let both = and_parts (is_plain g.0) _ h in
     both_plain (under g.0 (global_cells done g.1)) (objects_cells done gs)
     (under_plain g.0 (global_cells done g.1) both.0 (global_plain done g.1 all)) (objects_plain done gs all both.1)
 

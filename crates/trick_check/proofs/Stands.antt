@@ -1,6 +1,6 @@
 -- Where the names of a file are right, the object and the method of each job are there, and of one class.
 use Rattle.std.proofs.Common.{◌≡◌, ℕ, zero, suc, ◌+◌, ◌<◌, ◌≤◌, Bool, true, false, ◌||◌, ◌==◌, nat_lt, is_some, unwrap_or, if◌then◌else◌, List, [], ◌∷◌, ◌++◌, length, slice_get, Some, None, IsTrue, refl, sym, ap, ◌∙◌, subst, arith, eq-eqb}
-use Rattle.std.proofs.lemmas.Bool.{eqb-true, ltb-false, ltb-true}
+use Rattle.std.proofs.lemmas.Bool.{and_parts, eqb-true, ltb-false, ltb-true}
 use Rattle.std.proofs.lemmas.List.{append-nil, append_assoc}
 use Rattle.std.proofs.lemmas.Slice.Eq.{bytes_eq-Decides}
 use Rattle.std.specs.List.{list_all}
@@ -19,7 +19,7 @@ use Rattle.trick_lang.specs.declared.object.Object.{Object}
 use Rattle.trick_names.specs.FileMistakes.{mistakes}
 use Rattle.trick_names.specs.Mistakes.{fault_of}
 use Rattle.trick_names.specs.Names.{Names, meaning_of, with_name}
-use Rattle.trick_check.proofs.Jobs.{all_append, and_both}
+use Rattle.trick_check.proofs.Jobs.{all_append}
 use Rattle.trick_check.proofs.Methods.{has_method, lines_call_methods}
 
 -- ---- the numbers of methods
@@ -157,9 +157,9 @@ one_of_them : (o : Object) (ms : List program.Method) (i : ℕ) → i < length m
     → list_all (λ m. m.class == o.class) ms ≡ true → of_one_class (Some o) (slice_get ms i) ≡ true
 one_of_them o [] i low all = absurd (omega (arith, low))
 one_of_them o (m ∷ ms) zero low all =
-    let is = eqb-true m.class o.class (and_both (m.class == o.class) _ all).0 in eq-eqb o.class m.class (sym is)
+    let is = eqb-true m.class o.class (and_parts (m.class == o.class) _ all).0 in eq-eqb o.class m.class (sym is)
 one_of_them o (m ∷ ms) (suc i) low all =
-    one_of_them o ms i (omega (arith, low)) (and_both (m.class == o.class) _ all).1
+    one_of_them o ms i (omega (arith, low)) (and_parts (m.class == o.class) _ all).1
 
 numbers_before : (all : List (Names ℕ)) (last : Names ℕ) (k : ℕ) → k < length all
     → numbers_at (all ++ last ∷ []) k ≡ numbers_at all k
@@ -293,7 +293,7 @@ lines_stand : (objects : List Object) (o : Object) (object : ℕ) (parts : List 
     → list_all (job_stands objects m.methods) (object_jobs object (numbers_at m.numbers o.class) before lines) ≡ true
 lines_stand objects o object parts m before [] made here h = refl
 lines_stand objects o object parts m before (line ∷ rest) made here h =
-    let two = and_both (has_method line.method parts) _ h in
+    let two = and_parts (has_method line.method parts) _ h in
     rw (line_stands objects o object parts m before line made here two.0, lines_stand objects o object parts m (before ++ line ∷ []) rest made here two.1) refl
 
 pub no_lines : (ds : SDefine) (class : ℕ) → length ds ≤ class → lines_at ds class ≡ []

@@ -1,5 +1,6 @@
 -- The names that a tree declares: what each name of the tree passes, they pass.
 use Rattle.std.proofs.Common.{◌≡◌, ℕ, zero, suc, ◌+◌, ℤ, pos, ◌+ℤ◌, Bool, true, false, is_some, if◌then◌else◌, List, [], ◌∷◌, ◌++◌, length, refl}
+use Rattle.std.proofs.lemmas.Bool.{and_parts}
 use Rattle.std.specs.List.{list_all}
 use Rattle.trick_bodies.specs.Classes.{Made}
 use Rattle.trick_check.specs.Parts.{order_at, parts_at, parts_in}
@@ -19,7 +20,7 @@ use Rattle.trick_names.specs.declared.tables.Member.{Member}
 use Rattle.trick_names.specs.declared.tables.Member.TheVariants.{Variable as Holds, Method as Does}
 use Rattle.trick_names.specs.declared.tables.Tables.{Tables}
 use Rattle.trick_lang.specs.PartTests.{PartTests, anything, declarator_passes, definition_passes, file_passes, item_passes, members_pass, part_passes, type_passes}
-use Rattle.trick_check.proofs.Jobs.{all_append, and_both}
+use Rattle.trick_check.proofs.Jobs.{all_append}
 
 -- each name that is known passes
 abbrev pub all_pass : {T : Type 0} → (Name → Bool) → Names T → Bool
@@ -45,23 +46,23 @@ module _ (p : Name → Bool) where
       → all_pass p names ≡ true → all_pass p (with_items items next names) ≡ true
   items_named [] next names h all = all
   items_named (item ∷ rest) next names h all =
-      let both = and_both (item_passes named item) _ h in
+      let both = and_parts (item_passes named item) _ h in
       items_named rest (taken_value item.value next +ℤ pos 1) (with_item item next names) both.1
-      (add_passes p item.name (the.Item (taken_value item.value next)) names (and_both (p item.name) _ both.0).0 all)
+      (add_passes p item.name (the.Item (taken_value item.value next)) names (and_parts (p item.name) _ both.0).0 all)
 
   definition_named : (d : Definition) (number : ℕ) (names : Names Global) → definition_passes named d ≡ true → all_pass p names ≡ true
       → all_pass p (names_behind d number names) ≡ true
   definition_named tree.Include number names h all = all
   definition_named (tree.Enum name items) number names h all =
-      let both = and_both (p name) _ h in
+      let both = and_parts (p name) _ h in
       items_named items (pos 0) (with_name name the.Enum names) both.1 (add_passes p name the.Enum names both.0 all)
   definition_named (tree.Struct name members) number names h all =
-      add_passes p name (the.Struct number) names (and_both (p name) _ h).0 all
+      add_passes p name (the.Struct number) names (and_parts (p name) _ h).0 all
   definition_named (tree.ClassOf name parts) number names h all =
-      add_passes p name (the.Class number) names (and_both (p name) _ h).0 all
+      add_passes p name (the.Class number) names (and_parts (p name) _ h).0 all
   definition_named (tree.Object line class name) number names h all =
-      let second = (and_both (p class) _ h).1 in
-      add_passes p name (the.Object (object_base (meaning_of class names))) names (and_both (p name) _ second).0 all
+      let second = (and_parts (p class) _ h).1 in
+      add_passes p name (the.Object (object_base (meaning_of class names))) names (and_parts (p name) _ second).0 all
 
   -- ---- the names of members
 
@@ -69,20 +70,20 @@ module _ (p : Name → Bool) where
       → all_pass p members ≡ true → all_pass p (with_declarators ds base members) ≡ true
   declarators_named [] base members h all = all
   declarators_named (d ∷ ds) base members h all =
-      let both = and_both (declarator_passes named d) _ h in
+      let both = and_parts (declarator_passes named d) _ h in
       declarators_named ds base (with_declarator d base members) both.1
-      (add_passes p d.name (Holds (record { lengths = lengths_of d.lengths; base = base })) members (and_both (p d.name) _ both.0).0 all)
+      (add_passes p d.name (Holds (record { lengths = lengths_of d.lengths; base = base })) members (and_parts (p d.name) _ both.0).0 all)
 
   members_named : (m : Members) (names : Names Global) (members : Names Member) → members_pass named m ≡ true → all_pass p members ≡ true
       → all_pass p (with_members m names members) ≡ true
   members_named m names members h all =
-      declarators_named m.declarators (base_of m.written names) members (and_both (type_passes named m.written) _ h).1 all
+      declarators_named m.declarators (base_of m.written names) members (and_parts (type_passes named m.written) _ h).1 all
 
   all_members_named : (ms : List Members) (names : Names Global) (members : Names Member) → list_all (members_pass named) ms ≡ true
       → all_pass p members ≡ true → all_pass p (with_all_members ms names members) ≡ true
   all_members_named [] names members h all = all
   all_members_named (m ∷ ms) names members h all =
-      let both = and_both (members_pass named m) _ h in
+      let both = and_parts (members_pass named m) _ h in
       all_members_named ms names (with_members m names members) both.1 (members_named m names members both.0 all)
 
   part_named : (part : Part) (number : ℕ) (names : Names Global) (inside : Inside) → part_passes named part ≡ true
@@ -90,21 +91,21 @@ module _ (p : Name → Bool) where
   part_named tree.Public number names inside h all = all
   part_named (tree.HasMembers m) number names inside h all = members_named m names inside.members h all
   part_named (tree.HasMethod m) number names inside h all =
-      add_passes p m.name (Does number) inside.members (and_both (p m.name) _ h).0 all
+      add_passes p m.name (Does number) inside.members (and_parts (p m.name) _ h).0 all
   part_named (tree.Constructor line name jobs) number names inside h all = all
 
   parts_named : (parts : List Part) (number : ℕ) (names : Names Global) (inside : Inside) → list_all (part_passes named) parts ≡ true
       → all_pass p inside.members ≡ true → all_pass p (behind_parts parts number names inside).members ≡ true
   parts_named [] number names inside h all = all
   parts_named (part ∷ rest) number names inside h all =
-      let both = and_both (part_passes named part) _ h in
+      let both = and_parts (part_passes named part) _ h in
       parts_named rest (number + 1) names (behind_part part number names inside) both.1 (part_named part number names inside both.0 all)
 
   group_named : (d : Definition) (names : Names Global) → definition_passes named d ≡ true → all_pass p (members_in d names) ≡ true
   group_named tree.Include names h = refl
   group_named (tree.Enum name items) names h = refl
-  group_named (tree.Struct name members) names h = all_members_named members names [] (and_both (p name) _ h).1 refl
-  group_named (tree.ClassOf name parts) names h = parts_named parts 0 names nothing_inside (and_both (p name) _ h).1 refl
+  group_named (tree.Struct name members) names h = all_members_named members names [] (and_parts (p name) _ h).1 refl
+  group_named (tree.ClassOf name parts) names h = parts_named parts 0 names nothing_inside (and_parts (p name) _ h).1 refl
   group_named (tree.Object line class name) names h = refl
 
   -- ---- both
@@ -118,7 +119,7 @@ module _ (p : Name → Bool) where
       → AreNamed (behind_definitions ds t)
   definitions_named [] t h all = all
   definitions_named (d ∷ ds) t h all =
-      let both = and_both (definition_passes named d) _ h in
+      let both = and_parts (definition_passes named d) _ h in
       definitions_named ds (behind_definition d t) both.1
       (record {
         names = definition_named d (length t.groups) t.names both.0 all.names;
@@ -138,14 +139,14 @@ module _ (p : Name → Bool) where
       → methods_pass (part_methods class blocks part) ≡ true
   method_named class blocks tree.Public h = refl
   method_named class blocks (tree.HasMembers m) h = refl
-  method_named class blocks (tree.HasMethod m) h = rw (and_both (p m.name) _ h).0 refl
+  method_named class blocks (tree.HasMethod m) h = rw (and_parts (p m.name) _ h).0 refl
   method_named class blocks (tree.Constructor line name jobs) h = refl
 
   class_named : (class : ℕ) (blocks : Names ℕ) (parts : List Part) → list_all (part_passes named) parts ≡ true
       → methods_pass (class_methods class blocks parts) ≡ true
   class_named class blocks [] h = refl
   class_named class blocks (part ∷ rest) h =
-      let both = and_both (part_passes named part) _ h in
+      let both = and_parts (part_passes named part) _ h in
       all_append (λ (method : Method). p method.name) (part_methods class blocks part) _ (method_named class blocks part both.0)
       (class_named class blocks rest both.1)
 
@@ -153,14 +154,14 @@ module _ (p : Name → Bool) where
   parts_right tree.Include h = refl
   parts_right (tree.Enum name items) h = refl
   parts_right (tree.Struct name members) h = refl
-  parts_right (tree.ClassOf name parts) h = (and_both (p name) _ h).1
+  parts_right (tree.ClassOf name parts) h = (and_parts (p name) _ h).1
   parts_right (tree.Object line class name) h = refl
 
   parts_at_right : (ds : SDefine) (class : ℕ) → list_all (definition_passes named) ds ≡ true
       → list_all (part_passes named) (parts_at ds class) ≡ true
   parts_at_right [] class h = refl
-  parts_at_right (d ∷ ds) zero h = parts_right d (and_both (definition_passes named d) _ h).0
-  parts_at_right (d ∷ ds) (suc class) h = parts_at_right ds class (and_both (definition_passes named d) _ h).1
+  parts_at_right (d ∷ ds) zero h = parts_right d (and_parts (definition_passes named d) _ h).0
+  parts_at_right (d ∷ ds) (suc class) h = parts_at_right ds class (and_parts (definition_passes named d) _ h).1
 
   used_named : (b : Bool) (class : ℕ) (order : List ℕ) (parts : List Part) (m : Made) → list_all (part_passes named) parts ≡ true
       → methods_pass m.methods ≡ true → methods_pass (with_class_if b class order parts m).methods ≡ true

@@ -1,6 +1,6 @@
 -- Lists of which no two are alike, and cells under names that differ.
 use Rattle.std.proofs.Common.{◌≡◌, ℕ, Bool, true, false, not, ◌&&◌, ◌==◌, List, [], ◌∷◌, ◌++◌, refl, sym, ap, subst, ◌∙◌, eq-eqb}
-use Rattle.std.proofs.lemmas.Bool.{ne_eqb}
+use Rattle.std.proofs.lemmas.Bool.{and_parts, ne_eqb}
 use Rattle.std.proofs.lemmas.List.{append_assoc}
 use Rattle.std.specs.List.{list_all}
 use Rattle.std.specs.Str.{bytes_eq}
@@ -8,7 +8,7 @@ use Rattle.trick_cells.specs.Cells.{under}
 use Rattle.trick_lang.specs.Names.{are_apart, of_one_name}
 use Rattle.trick_lang.specs.SyntaxTree.{Name}
 use Rattle.trick_lang.specs.declared.variable.Variable.{Variable}
-use Rattle.trick_check.proofs.Jobs.{all_append, and_both}
+use Rattle.trick_check.proofs.Jobs.{all_append}
 
 -- ---- lists
 
@@ -24,16 +24,16 @@ pub unlike_append : {X : Type 0} (alike : X → X → Bool) (xs ys zs : List X) 
     → are_unlike alike xs zs ≡ true → are_unlike alike xs (ys ++ zs) ≡ true
 unlike_append alike [] ys zs one other = refl
 unlike_append alike (x ∷ xs) ys zs one other =
-    let first = and_both (list_all (λ y. not (alike x y)) ys) _ one in
-    let second = and_both (list_all (λ y. not (alike x y)) zs) _ other in
+    let first = and_parts (list_all (λ y. not (alike x y)) ys) _ one in
+    let second = and_parts (list_all (λ y. not (alike x y)) zs) _ other in
     rw (all_append (λ y. not (alike x y)) ys zs first.0 second.0, unlike_append alike xs ys zs first.1 second.1) refl
 
 pub apart_append : {X : Type 0} (alike : X → X → Bool) (xs ys : List X) → are_apart alike xs ≡ true
     → are_apart alike ys ≡ true → are_unlike alike xs ys ≡ true → are_apart alike (xs ++ ys) ≡ true
 apart_append alike [] ys one other unlike = other
 apart_append alike (x ∷ xs) ys one other unlike =
-    let first = and_both (list_all (λ y. not (alike x y)) xs) _ one in
-    let cross = and_both (list_all (λ y. not (alike x y)) ys) _ unlike in
+    let first = and_parts (list_all (λ y. not (alike x y)) xs) _ one in
+    let cross = and_parts (list_all (λ y. not (alike x y)) ys) _ unlike in
     rw (all_append (λ y. not (alike x y)) xs ys first.0 cross.0, apart_append alike xs ys first.1 other cross.1) refl
 
 -- ---- names with the same front
@@ -86,15 +86,15 @@ module _ (ends : ℕ → Bool) where
   unlike [] [] s t one other first second differ = absurd cc
   unlike [] (y ∷ b) [] t one other first second differ = refl
   unlike [] (y ∷ b) (x ∷ s) t one other first second differ =
-      let none = (and_both (not (ends y)) _ other).0 in
+      let none = (and_parts (not (ends y)) _ other).0 in
       rw (ne_eqb x y (no_end x y first none)) refl
   unlike (x ∷ a) [] s [] one other first second differ = refl
   unlike (x ∷ a) [] s (y ∷ t) one other first second differ =
-      let none = (and_both (not (ends x)) _ one).0 in
+      let none = (and_parts (not (ends x)) _ one).0 in
       rw (ne_eqb x y (λ same. no_end y x second none (sym same))) refl
   unlike (x ∷ a) (y ∷ b) s t one other first second differ =
       by (x == y) differ
-      (unlike a b s t (and_both (not (ends x)) _ one).1 (and_both (not (ends y)) _ other).1 first second)
+      (unlike a b s t (and_parts (not (ends x)) _ one).1 (and_parts (not (ends y)) _ other).1 first second)
     where
       by : (c : Bool) → (c && bytes_eq a b) ≡ false → (bytes_eq a b ≡ false → bytes_eq (a ++ s) (b ++ t) ≡ false)
           → (c && bytes_eq (a ++ s) (b ++ t)) ≡ false
@@ -108,7 +108,7 @@ module _ (ends : ℕ → Bool) where
       → list_all (λ y. not (bytes_eq (a ++ s) y.name)) (under b ys) ≡ true
   one_unlike a b s [] one other tail tails differ = refl
   one_unlike a b s (y ∷ ys) one other tail tails differ =
-      let both = and_both (is_tail y.name) _ tails in
+      let both = and_parts (is_tail y.name) _ tails in
       rw (unlike a b s y.name one other tail both.0 differ, one_unlike a b s ys one other tail both.1 differ) refl
 
   pub under_unlike : (a b : Name) (xs ys : List Variable) → is_plain a ≡ true → is_plain b ≡ true
@@ -116,7 +116,7 @@ module _ (ends : ℕ → Bool) where
       → are_unlike of_one_name (under a xs) (under b ys) ≡ true
   under_unlike a b [] ys one other first second differ = refl
   under_unlike a b (x ∷ xs) ys one other first second differ =
-      let both = and_both (is_tail x.name) _ first in
+      let both = and_parts (is_tail x.name) _ first in
       let first_one = one_unlike a b x.name ys one other both.0 second differ in
       rw (first_one, under_unlike a b xs ys one other both.1 second differ) refl
 

@@ -1,14 +1,8 @@
 -- Which classes have objects.
-use Rattle.std.proofs.Common.{◌≡◌, ◌≢◌, ℕ, ◌<◌, Bool, true, false, ◌||◌, ◌==◌, List, length, get_or, set, eq-eqb, refl, ap, sym, ◌∙◌, subst, arith}
+use Rattle.std.proofs.Common.{◌≡◌, ◌≢◌, ℕ, ◌<◌, Bool, true, false, ◌||◌, ◌==◌, List, length, get_or, set, eq-eqb, refl, ap, sym, ◌∙◌, subst}
 use Rattle.std.proofs.lemmas.Bool.{eqb-true}
 use Rattle.std.proofs.lemmas.List.{get_or-set_other, get_or-set_same}
-
--- different numbers
-pub unlike : (m n : ℕ) → n < m → (m == n) ≡ false
-unlike m n h = by (m == n) refl where
-  by : (b : Bool) → (m == n) ≡ b → (m == n) ≡ false
-  by true e = let is = eqb-true m n e in absurd (omega (arith, h, is))
-  by false e = e
+use Rattle.trick_base.proofs.Numbers.{other_than_less}
 
 always : (x y : Bool) → (x || (true || y)) ≡ true
 always true y = refl
@@ -27,7 +21,7 @@ marked used class k rest h = by (class == k) refl where
 
 -- an object whose class is past them
 pub passed : (class k : ℕ) (x rest : Bool) → k < class → (x || rest) ≡ (x || ((class == k) || rest))
-passed class k x rest h = ap (λ b. x || (b || rest)) (sym (unlike class k h))
+passed class k x rest h = ap (λ b. x || (b || rest)) (sym (other_than_less class k h))
 
 pub or_none : (x : Bool) → x ≡ (x || false)
 or_none true = refl

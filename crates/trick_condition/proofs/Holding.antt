@@ -1,7 +1,7 @@
 -- Plain conditions are conditions of events.
-use Rattle.std.proofs.Common.{◌≡◌, ℕ, ◌<◌, ◌+◌, ◌≤◌, nat_lt, nat_le, Bool, true, false, ◌&&◌, not, IsTrue, Option, Some, None, ℤ, refl, sym, ap, ◌∙◌, arith, if◌then◌else◌, ◌++◌, List, []}
+use Rattle.std.proofs.Common.{◌≡◌, ℕ, ◌<◌, ◌+◌, ◌≤◌, nat_lt, nat_le, true, false, ◌&&◌, not, IsTrue, Option, Some, None, ℤ, refl, sym, ap, ◌∙◌, arith, if◌then◌else◌, ◌++◌, List, []}
 use Rattle.std.proofs.lemmas.Bool.Decides.{nat_tests}
-use Rattle.std.proofs.lemmas.Bool.{and_parts}
+use Rattle.std.proofs.lemmas.Bool.{and_from, and_parts}
 use Rattle.trick_blocks.specs.Places.{literal_count}
 use Rattle.trick_condition.specs.Conditions.{are_plain_choices, are_plain_links, choice_terms, is_plain, is_plain_path, link_terms, path_term, referent_term, term}
 use Rattle.trick_condition.specs.Laws.{KnowsCells}
@@ -11,9 +11,6 @@ use Rattle.trick_condition.specs.declared.place.Referent.TheVariants as stands_f
 use Rattle.trick_lang.specs.SyntaxTree.{Name, Expression, Whole, Truth, Named, Prefixed, Chain, Choose, Links, NoLink, Link, Choices, Last, Choice, Path, path, Parts}
 use Rattle.trick_lang.specs.declared.cells.Cell.{Cell}
 use Rattle.trick_model.specs.Condition.{are_all_conditions, are_conditions, is_condition, is_safe}
-
-both : (a b : Bool) → a ≡ true → b ≡ true → (a && b) ≡ true
-both a b x y = rw x y
 
 module _ (known : Known) (cells : ℕ) (knows : KnowsCells cells known) where
   one_cell : (cell : ℕ) → cell < cells → (nat_lt 0 1 && nat_le (cell + 1) cells) ≡ true
@@ -36,7 +33,7 @@ module _ (known : Known) (cells : ℕ) (knows : KnowsCells cells known) where
     holds (Prefixed o e) h = holds e h
     holds (Chain e links) h =
         let parts = and_parts (is_plain e) (are_plain_links links) h in
-        both (is_condition cells (term known e)) (are_conditions cells (link_terms known links)) (holds e parts.0) (links_hold links parts.1)
+        and_from (is_condition cells (term known e)) (are_conditions cells (link_terms known links)) (holds e parts.0) (links_hold links parts.1)
     holds (Choose choices) h = choices_hold choices h
 
     links_hold : (links : Links) → are_plain_links links ≡ true → are_conditions cells (link_terms known links) ≡ true
@@ -44,13 +41,13 @@ module _ (known : Known) (cells : ℕ) (knows : KnowsCells cells known) where
     links_hold (Link o e rest) h =
         let parts = and_parts (is_safe o) (is_plain e && are_plain_links rest) h in
         let rests = and_parts (is_plain e) (are_plain_links rest) parts.1 in
-        both (is_safe o) (is_condition cells (term known e) && are_conditions cells (link_terms known rest)) parts.0
-        (both (is_condition cells (term known e)) (are_conditions cells (link_terms known rest)) (holds e rests.0) (links_hold rest rests.1))
+        and_from (is_safe o) (is_condition cells (term known e) && are_conditions cells (link_terms known rest)) parts.0
+        (and_from (is_condition cells (term known e)) (are_conditions cells (link_terms known rest)) (holds e rests.0) (links_hold rest rests.1))
 
     choices_hold : (choices : Choices) → are_plain_choices choices ≡ true → are_all_conditions cells (choice_terms known choices) ≡ true
     choices_hold (Last e) h = holds e h
     choices_hold (Choice test e rest) h =
         let parts = and_parts (is_plain test) (is_plain e && are_plain_choices rest) h in
         let rests = and_parts (is_plain e) (are_plain_choices rest) parts.1 in
-        both (is_condition cells (term known test)) (is_condition cells (term known e) && are_all_conditions cells (choice_terms known rest)) (holds test parts.0)
-        (both (is_condition cells (term known e)) (are_all_conditions cells (choice_terms known rest)) (holds e rests.0) (choices_hold rest rests.1))
+        and_from (is_condition cells (term known test)) (is_condition cells (term known e) && are_all_conditions cells (choice_terms known rest)) (holds test parts.0)
+        (and_from (is_condition cells (term known e)) (are_all_conditions cells (choice_terms known rest)) (holds e rests.0) (choices_hold rest rests.1))

@@ -1,5 +1,4 @@
 -- What is left of lists, one item after another.
-pub mod Lists
 -- Places, part by part.
 pub mod Parts
 -- Plain conditions are conditions of events.

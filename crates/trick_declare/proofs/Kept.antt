@@ -1,13 +1,14 @@
 -- What a program keeps with the cells of a declaration.
 use Rattle.std.proofs.Common.{◌≡◌, ◌∙◌, ◌+◌, ◌*◌, ◌-◌, ◌^◌, ◌≤◌, ◌++◌, ◌∷◌, [], ℕ, zero, suc, min, List, Bool, true, false, length, refl, sym, ap, ap₂, subst, arith, if◌then◌else◌}
 use Rattle.std.proofs.Math.Nat.{suc-mul}
+use Rattle.std.proofs.lemmas.Bool.{or_parts}
 use Rattle.std.proofs.lemmas.List.{length-append, length-map}
 use Rattle.std.specs.List.{list_any}
 use Rattle.std.specs.Str.{bytes_eq}
 use Rattle.trick_declare.proofs.Apart.{all_of_both}
 use Rattle.trick_declare.proofs.Declared.{cells_of_plain}
 use Rattle.trick_declare.proofs.More.{lie_in_more, objects_stand_more}
-use Rattle.trick_declare.proofs.Names.{cell, neither, stay_apart}
+use Rattle.trick_declare.proofs.Names.{cell, stay_apart}
 use Rattle.trick_declare.specs.Cells.{begins_with, cells_of, count_of, element, elements, full_names, is_taken, row_elements, total}
 use Rattle.trick_declare.specs.declared.declaration.Declaration.{Declaration}
 use Rattle.trick_lang.proofs.Plain.{spelled_plain}
@@ -58,7 +59,7 @@ kept p d spelled free few =
     let size : length (p.cells ++ cells_of d) ≡ length p.cells + count_of d.lengths =
     length-append p.cells (cells_of d) ∙ ap (λ (n : ℕ). length p.cells + n) (length_cells d) in
     let more : length p.cells ≤ length (p.cells ++ cells_of d) = omega (arith, size) in
-    let parts = neither (list_any (λ (object : Object). bytes_eq object.name d.name) p.objects) (list_any (begins_with d.name) p.cells) free in
+    let parts = or_parts (list_any (λ (object : Object). bytes_eq object.name d.name) p.objects) (list_any (begins_with d.name) p.cells) free in
     record {
       cell_names = stay_apart p.cells d (omega (arith, fits)) parts.1 p.cell_names;
       plain_cells = all_of_both (λ cell. is_plain cell.name) p.cells (cells_of d) p.plain_cells (cells_of_plain d (spelled_plain d.name spelled));

@@ -1,6 +1,7 @@
 -- The names of the cells of a declaration differ, and are new where its name is free.
 use Rattle.std.proofs.Common.{◌≡◌, ◌∙◌, ◌*◌, ◌^◌, ◌<◌, ◌≤◌, ◌++◌, ◌∷◌, [], ℕ, zero, suc, List, Bool, true, false, not, ◌||◌, ◌==◌, codes, decimal, drop, slice_index_or, refl, sym, ap, subst, arith, append_assoc, append-nil, if◌then◌else◌}
 use Rattle.std.proofs.Math.Nat.{le-mul_of_pos_right, mul_comm}
+use Rattle.std.proofs.lemmas.Bool.{and_from, or_parts}
 use Rattle.std.proofs.lemmas.Fmt.{decimal_injective, decimal_is_IsNumeral}
 use Rattle.std.proofs.lemmas.List.{append_cancel_left, map-append}
 use Rattle.std.proofs.lemmas.Slice.Eq.{bytes_eq-Decides}
@@ -8,7 +9,7 @@ use Rattle.std.specs.Char.{digit_value}
 use Rattle.std.specs.List.{list_all, list_any}
 use Rattle.std.specs.Str.{bytes_eq}
 use Rattle.std.specs.Str.Parse.{AllDigits}
-use Rattle.trick_declare.proofs.Apart.{all_and_last, all_of_both, apart_and_last, both}
+use Rattle.trick_declare.proofs.Apart.{all_and_last, all_of_both, apart_and_last}
 use Rattle.trick_declare.specs.Cells.{begins_with, cells_named, cells_of, count_of, element, elements, first_name, full_names, row_elements}
 use Rattle.trick_declare.specs.declared.declaration.Declaration.{Declaration}
 use Rattle.trick_lang.specs.Names.{are_apart, of_one_name}
@@ -153,17 +154,13 @@ first_stays (b ∷ bs) s = ap (λ (rest : List ℕ). if (b == 46) || (b == 91) t
 first_of_element : (name : List ℕ) (i : ℕ) → first_name (element name i) ≡ first_name name
 first_of_element name i = first_stays name (decimal i ++ codes "]")
 
-pub neither : (a b : Bool) → (a || b) ≡ false → (a ≡ false) × (b ≡ false)
-neither true b h = (h, absurd (cc h))
-neither false b h = (refl, h)
-
 -- a name with a free first name is new
 pub new_name : (name other : List ℕ) (cells : List Variable) → list_any (begins_with name) cells ≡ false → first_name other ≡ first_name name
     → new_in other cells ≡ true
 new_name name other [] free first = refl
 new_name name other (c ∷ cs) free first =
-    let parts = neither (begins_with name c) (list_any (begins_with name) cs) free in
-    both (not (bytes_eq c.name other)) (new_in other cs)
+    let parts = or_parts (begins_with name c) (list_any (begins_with name) cs) free in
+    and_from (not (bytes_eq c.name other)) (new_in other cs)
     (differ c.name other (λ same. let here = (bytes_eq-Decides (first_name c.name) (first_name name)).1 (ap first_name same ∙ first) in let no = sym here ∙ parts.0 in cc no))
     (new_name name other cs parts.1 first)
 

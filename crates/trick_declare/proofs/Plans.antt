@@ -1,9 +1,8 @@
 -- What a plan keeps with more cells.
 use Rattle.std.proofs.Common.{◌≡◌, ◌∙◌, ◌+◌, ◌<◌, ◌≤◌, ◌++◌, ◌∷◌, [], ℕ, zero, suc, ℤ, List, true, ◌&&◌, not, nat_lt, nat_le, Option, Some, None, IsTrue, All, length, map, slice_index_or, refl, sym, ap, subst, arith, append-nil}
 use Rattle.std.proofs.lemmas.Bool.Decides.{nat_tests}
-use Rattle.std.proofs.lemmas.Bool.{and_parts}
+use Rattle.std.proofs.lemmas.Bool.{and_from, and_parts}
 use Rattle.std.proofs.lemmas.List.{length-append}
-use Rattle.trick_declare.proofs.Apart.{both}
 use Rattle.trick_lang.specs.Effect.{scalars_of}
 use Rattle.trick_lang.specs.Tree.{Term, Number, Local, Cell, Prefixed, Chain, Choose, Links, NoLink, Link, Choices, Last, Choice, Spot, spot}
 use Rattle.trick_lang.specs.TreeOf.{term_of}
@@ -77,9 +76,9 @@ module _ (a b : ℕ) (more : a ≤ b) where
       let parts = and_parts (not own) (has_no_step steps && (nat_lt offset span && nat_le (first + span) a)) h in
       let rest = and_parts (has_no_step steps) (nat_lt offset span && nat_le (first + span) a) parts.1 in
       let last = and_parts (nat_lt offset span) (nat_le (first + span) a) rest.1 in
-      both (not own) (has_no_step steps && (nat_lt offset span && nat_le (first + span) b)) parts.0
-      (both (has_no_step steps) (nat_lt offset span && nat_le (first + span) b) rest.0
-      (both (nat_lt offset span) (nat_le (first + span) b) last.0 (below (first + span) a b more last.1)))
+      and_from (not own) (has_no_step steps && (nat_lt offset span && nat_le (first + span) b)) parts.0
+      (and_from (has_no_step steps) (nat_lt offset span && nat_le (first + span) b) rest.0
+      (and_from (nat_lt offset span) (nat_le (first + span) b) last.0 (below (first + span) a b more last.1)))
 
   mutual
     condition_more : (e : Term) → is_condition a e ≡ true → is_condition b e ≡ true
@@ -89,7 +88,7 @@ module _ (a b : ℕ) (more : a ≤ b) where
     condition_more (Prefixed o e) h = condition_more e h
     condition_more (Chain e links) h =
         let parts = and_parts (is_condition a e) (are_conditions a links) h in
-        both (is_condition b e) (are_conditions b links) (condition_more e parts.0) (links_more links parts.1)
+        and_from (is_condition b e) (are_conditions b links) (condition_more e parts.0) (links_more links parts.1)
     condition_more (Choose choices) h = choices_more choices h
 
     links_more : (links : Links) → are_conditions a links ≡ true → are_conditions b links ≡ true
@@ -97,16 +96,16 @@ module _ (a b : ℕ) (more : a ≤ b) where
     links_more (Link o e rest) h =
         let parts = and_parts (is_safe o) (is_condition a e && are_conditions a rest) h in
         let rests = and_parts (is_condition a e) (are_conditions a rest) parts.1 in
-        both (is_safe o) (is_condition b e && are_conditions b rest) parts.0
-        (both (is_condition b e) (are_conditions b rest) (condition_more e rests.0) (links_more rest rests.1))
+        and_from (is_safe o) (is_condition b e && are_conditions b rest) parts.0
+        (and_from (is_condition b e) (are_conditions b rest) (condition_more e rests.0) (links_more rest rests.1))
 
     choices_more : (choices : Choices) → are_all_conditions a choices ≡ true → are_all_conditions b choices ≡ true
     choices_more (Last e) h = condition_more e h
     choices_more (Choice test e rest) h =
         let parts = and_parts (is_condition a test) (is_condition a e && are_all_conditions a rest) h in
         let rests = and_parts (is_condition a e) (are_all_conditions a rest) parts.1 in
-        both (is_condition b test) (is_condition b e && are_all_conditions b rest) (condition_more test parts.0)
-        (both (is_condition b e) (are_all_conditions b rest) (condition_more e rests.0) (choices_more rest rests.1))
+        and_from (is_condition b test) (is_condition b e && are_all_conditions b rest) (condition_more test parts.0)
+        (and_from (is_condition b e) (are_all_conditions b rest) (condition_more e rests.0) (choices_more rest rests.1))
 
   pub condition_of_more : (e : Option Expr) → is_condition_of a e ≡ true → is_condition_of b e ≡ true
   condition_of_more None h = refl

@@ -1,14 +1,12 @@
 -- Groups and events that are added, each once.
 use Rattle.std.proofs.Common.{◌≡◌, ◌≤◌, ◌++◌, ◌∷◌, [], ℕ, Bool, true, false, not, ◌||◌, nat_lt, List, Some, None, is_some, length, slice_get, refl, sym, ap, subst, arith, if◌then◌else◌}
 use Rattle.std.proofs.lemmas.Bool.Decides.{nat_tests}
-use Rattle.std.proofs.lemmas.Bool.{and_parts}
+use Rattle.std.proofs.lemmas.Bool.{and_from, and_parts, not-false, not-true, not_from_false, or_from, or_parts}
 use Rattle.std.proofs.lemmas.List.Elements.{All-push, All-weaker}
 use Rattle.std.specs.List.{list_any}
 use Rattle.std.specs.Str.{bytes_eq}
-use Rattle.trick_declare.proofs.Apart.{both}
 use Rattle.trick_draft.proofs.Lists.{get_longer, map_append}
 use Rattle.trick_draft.proofs.Mirrored.{differ_back}
-use Rattle.trick_draft.proofs.Passed.{holds, neither}
 use Rattle.trick_draft.specs.Cells.{only_names}
 use Rattle.trick_draft.specs.Kept.{AreAdded, IsOfPlace}
 use Rattle.trick_draft.specs.Lines.{is_full}
@@ -30,25 +28,13 @@ unknown_differs name (known ∷ rest) h = by (bytes_eq name known.0) h (unknown_
     by true e more = cc e
     by false e more = more e
 
-negated : (b : Bool) → b ≡ false → not b ≡ true
-negated true h = cc h
-negated false h = refl
-
-negated_back : (b : Bool) → not b ≡ true → b ≡ false
-negated_back true h = cc h
-negated_back false h = refl
-
-either_not : (a b : Bool) → a ≡ false → b ≡ false → (a || b) ≡ false
-either_not true b h e = cc h
-either_not false b h e = e
-
 any_longer : (other name : Name) (names : List Name) → list_any (bytes_eq other) names ≡ false → bytes_eq other name
     ≡ false
     → list_any (bytes_eq other) (names ++ name ∷ []) ≡ false
-any_longer other name [] h e = either_not (bytes_eq other name) false e refl
+any_longer other name [] h e = or_from (bytes_eq other name) false e refl
 any_longer other name (first ∷ names) h e =
-    let parts = neither (bytes_eq other first) (list_any (bytes_eq other) names) h in
-    either_not (bytes_eq other first) (list_any (bytes_eq other) (names ++ name ∷ [])) parts.0
+    let parts = or_parts (bytes_eq other first) (list_any (bytes_eq other) names) h in
+    or_from (bytes_eq other first) (list_any (bytes_eq other) (names ++ name ∷ [])) parts.0
     (any_longer other name names parts.1 e)
 
 differ_longer : (names : List Name) (name : Name) → all_differ names ≡ true → list_any (bytes_eq name) names ≡ false
@@ -56,11 +42,11 @@ differ_longer : (names : List Name) (name : Name) → all_differ names ≡ true 
 differ_longer [] name h new = refl
 differ_longer (first ∷ names) name h new =
     let parts = and_parts (not (list_any (bytes_eq first) names)) (all_differ names) h in
-    let news = neither (bytes_eq name first) (list_any (bytes_eq name) names) new in
-    both (not (list_any (bytes_eq first) (names ++ name ∷ []))) (all_differ (names ++ name ∷ []))
-    (negated (list_any (bytes_eq first) (names ++ name ∷ []))
-    (any_longer first name names (negated_back (list_any (bytes_eq first) names) parts.0)
-    (differ_back name first (negated (bytes_eq name first) news.0))))
+    let news = or_parts (bytes_eq name first) (list_any (bytes_eq name) names) new in
+    and_from (not (list_any (bytes_eq first) (names ++ name ∷ []))) (all_differ (names ++ name ∷ []))
+    (not_from_false (list_any (bytes_eq first) (names ++ name ∷ []))
+    (any_longer first name names (not-true (list_any (bytes_eq first) names) parts.0)
+    (differ_back name first (not_from_false (bytes_eq name first) news.0))))
     (differ_longer names name parts.1 news.1)
 
 -- ---- one more
@@ -77,7 +63,7 @@ longer_within (y ∷ ys) x limit h = grind (arith, nat_tests, h, Rattle.std.proo
 
 -- where a list is not full, there is room for one more
 pub room : {T : Type 0} (xs : List T) (x : T) (limit : ℕ) → is_full xs limit ≡ false → length (xs ++ x ∷ []) ≤ limit
-room xs x limit h = longer_within xs x limit (holds (nat_lt (length xs) limit) h)
+room xs x limit h = longer_within xs x limit (not-false (nat_lt (length xs) limit) h)
 
 pub one_added : (limit : ℕ) (names : List Name) (added : Names ℕ) (name : Name) (place : ℕ) → meaning_of name added
     ≡ None

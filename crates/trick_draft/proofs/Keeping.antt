@@ -1,14 +1,15 @@
 -- What lines about cells, jobs and reads keep of a draft.
-use Rattle.std.proofs.Common.{◌≡◌, ◌∙◌, ◌≤◌, ◌++◌, ◌∷◌, [], ℕ, ℤ, Bool, true, false, ◌&&◌, ◌||◌, List, Option, Some, None, is_none, Ok, All, length, slice_set, refl, sym, ap, subst, arith, if◌then◌else◌}
+use Rattle.std.proofs.Common.{◌≡◌, ◌∙◌, ◌≤◌, ◌++◌, ◌∷◌, [], ℕ, ℤ, Bool, true, false, ◌||◌, List, Option, Some, None, is_none, Ok, All, length, slice_set, refl, sym, ap, subst, arith, if◌then◌else◌}
+use Rattle.std.proofs.lemmas.Bool.{and_from, or_parts}
 use Rattle.std.proofs.lemmas.Bool.Decides.{Decides-int_eq}
-use Rattle.std.proofs.lemmas.List.Elements.{All-push}
+use Rattle.std.proofs.lemmas.List.Elements.{All-nil, All-push}
 use Rattle.std.proofs.lemmas.List.{length-replicate, length-set}
 use Rattle.std.specs.Ordering.{int_eq}
 use Rattle.std.specs.Prelude.{IfSome}
 use Rattle.trick_deed.specs.Deeds.{fitting}
 use Rattle.trick_draft.proofs.Added.{room}
 use Rattle.trick_draft.proofs.Mirrored.{cell_there, mirrored}
-use Rattle.trick_draft.proofs.Passed.{first_passed, is_answer, neither}
+use Rattle.trick_draft.proofs.Passed.{first_passed, is_answer}
 use Rattle.trick_draft.specs.Drafts.{begun, names_of}
 use Rattle.trick_draft.specs.Jobs.{Jobs, job_named, jobs_of, passing, waiting_job}
 use Rattle.trick_draft.specs.Kept.{IsDraftOf, IsSet}
@@ -33,10 +34,6 @@ use Rattle.trick_model.specs.declared.read_at.ReadAt.{ReadAt}
 use Rattle.trick_model.specs.declared.thread.Thread.{Thread}
 use Rattle.trick_names.specs.Names.{meaning_of}
 
--- nothing holds of each item of no list
-pub of_none : {A : Type 0} (P : A → Type 0) → All P []
-of_none P k d lt = absurd (omega (arith, lt))
-
 same_number : (a b : ℤ) → int_eq a b ≡ true → a ≡ b
 same_number a b e = (Decides-int_eq a b).0 e
 
@@ -60,9 +57,6 @@ passes {T} test (Some y) x h = by (test y) refl h
     by : (b : Bool) → test y ≡ b → (let none : Option T = None in if b then Some y else none) ≡ Some x → test x ≡ true
     by true e is = let one : y ≡ x = cc is in sym (ap test one) ∙ e
     by false e is = absurd (cc is)
-
-both : (a b : Bool) → a ≡ true → b ≡ true → (a && b) ≡ true
-both a b x y = rw x y
 
 module _ (jobs : Jobs) (threads : List Thread) where
   -- ---- cells
@@ -117,7 +111,7 @@ module _ (jobs : Jobs) (threads : List Thread) where
   pair_right None depended first second a b = absurd (cc a)
   pair_right (Some target) None first second a b = absurd (cc b)
   pair_right (Some target) (Some depended) first second a b =
-      both (can_depend jobs.all threads target) (can_depend jobs.all threads depended) (first target refl)
+      and_from (can_depend jobs.all threads target) (can_depend jobs.all threads depended) (first target refl)
       (second depended refl)
 
   pub depend : (target : Name) (instance : ℕ) (depended : Name) (depended_instance : ℕ) (d e : Draft)
@@ -131,7 +125,7 @@ module _ (jobs : Jobs) (threads : List Thread) where
       let p = first_passed (is_none first || is_none second) fault.UnknownJob
       ((is_full d.depends 512, fault.TooMany 512) ∷ []) new e h in
       let q = first_passed (is_full d.depends 512) (fault.TooMany 512) [] new e p.1 in
-      let found = neither (is_none first) (is_none second) p.0 in
+      let found = or_parts (is_none first) (is_none second) p.0 in
       subst (Keeps jobs threads d) (is_answer new e q.1) (record {
         cells = refl;
         deeds = λ action deed is. is;
@@ -222,11 +216,11 @@ pub begun_right : (p : Program) (threads : List Thread) → IsDraftOf (jobs_of p
 begun_right p threads = record {
   cells = (mirrored p (begun p) refl).cells;
   flagged = length-replicate (length p.jobs) true;
-  assigns = of_none _;
-  depends = record { few = omega arith; right = of_none _ };
-  reads = record { few = omega arith; times = of_none _; deeds = of_none _ };
-  groups = of_none _;
-  events = of_none _;
-  added_groups = record { few = omega arith; differ = refl; there = of_none _ };
-  added_events = record { few = omega arith; differ = refl; there = of_none _ };
+  assigns = All-nil _;
+  depends = record { few = omega arith; right = All-nil _ };
+  reads = record { few = omega arith; times = All-nil _; deeds = All-nil _ };
+  groups = All-nil _;
+  events = All-nil _;
+  added_groups = record { few = omega arith; differ = refl; there = All-nil _ };
+  added_events = record { few = omega arith; differ = refl; there = All-nil _ };
 }

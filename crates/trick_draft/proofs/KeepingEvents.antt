@@ -1,15 +1,16 @@
 -- What lines about events keep of a draft.
 use Rattle.std.proofs.Common.{rules, ◌≡◌, ◌∙◌, ◌≤◌, ◌++◌, ◌∷◌, [], ◌==◌, ℕ, Bool, true, false, not, ◌&&◌, ◌||◌, nat_lt, List, Option, Some, None, is_none, is_some, Ok, All, length, slice_get, append-nil, refl, sym, ap, ap₂, subst, arith}
+use Rattle.std.proofs.lemmas.Bool.{not-false}
 use Rattle.std.proofs.lemmas.Bool.Decides.{nat_tests}
-use Rattle.std.proofs.lemmas.List.Elements.{All-push}
+use Rattle.std.proofs.lemmas.List.Elements.{All-nil, All-push}
 use Rattle.trick_condition.specs.Laws.{PlainConditionsHold}
 use Rattle.trick_draft.proofs.Added.{known_last, more_places, one_added}
 use Rattle.trick_draft.proofs.Grows.{Allows, HasAdded, among_added, events_grow, reads_grow}
-use Rattle.trick_draft.proofs.Keeping.{deeds_among, of_none}
+use Rattle.trick_draft.proofs.Keeping.{deeds_among}
 use Rattle.trick_draft.proofs.KeepingGroups.{group_changed, keeps_on, place_there}
 use Rattle.trick_draft.proofs.Lists.{all_changed_at, get_mapped, map_append, map_changed_at}
 use Rattle.trick_draft.proofs.Mirrored.{cell_there}
-use Rattle.trick_draft.proofs.Passed.{first_passed, holds, is_answer, not_there, there}
+use Rattle.trick_draft.proofs.Passed.{first_passed, is_answer, not_there, there}
 use Rattle.trick_draft.proofs.Rising.{all_with, rises_with}
 use Rattle.trick_draft.proofs.Stays.{stays_added}
 use Rattle.trick_draft.specs.Cells.{only_names}
@@ -146,7 +147,7 @@ module _ (jobs : Jobs) (threads : List Thread) where
           groups = right.groups;
           events =
               All-push (IsEvent (names_of jobs d) n) d.events event right.events
-              (record { cycle = cycle; condition = tt; rising = refl; in_range = of_none _; deeds = of_none _ });
+              (record { cycle = cycle; condition = tt; rising = refl; in_range = All-nil _; deeds = All-nil _ });
           added_groups = right.added_groups;
           added_events =
               subst (λ (names : List Name). AreAdded 256 names d.added_events)
@@ -177,7 +178,7 @@ module _ (jobs : Jobs) (threads : List Thread) where
       subst (Keeps jobs threads d) (is_answer new e r.1)
       (event_changed d variable change (λ x. refl) (λ right k x is at event. record {
         cycle = event.cycle;
-        condition = condition_right plain d right condition (holds (is_right condition) r.0);
+        condition = condition_right plain d right condition (not-false (is_right condition) r.0);
         rising = event.rising;
         in_range = event.in_range;
         deeds = event.deeds;

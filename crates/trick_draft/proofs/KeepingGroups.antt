@@ -1,12 +1,13 @@
 -- What lines about groups keep of a draft.
-use Rattle.std.proofs.Common.{rules, ◌≡◌, ◌∙◌, ◌<◌, ◌++◌, ◌∷◌, [], ℕ, zero, suc, Bool, true, false, ◌||◌, nat_lt, List, Option, Some, None, is_none, is_some, Ok, length, slice_get, append-nil, refl, sym, ap, ap₂, subst, arith, if◌then◌else◌}
-use Rattle.std.proofs.lemmas.List.Elements.{All-push}
+use Rattle.std.proofs.Common.{◌≡◌, ◌∙◌, ◌++◌, ◌∷◌, [], ℕ, Bool, true, false, ◌||◌, nat_lt, List, Option, Some, None, is_none, is_some, Ok, length, slice_get, append-nil, refl, sym, ap, ap₂, subst, arith, if◌then◌else◌}
+use Rattle.std.proofs.lemmas.Bool.{ltb-true, or_parts}
+use Rattle.std.proofs.lemmas.List.Elements.{All-nil, All-push}
+use Rattle.trick_base.proofs.ListLemmas.{item_there}
 use Rattle.trick_draft.proofs.Added.{known_last, more_places, one_added, room}
 use Rattle.trick_draft.proofs.Grows.{Allows, HasAdded, among_added, events_grow, reads_grow}
-use Rattle.trick_draft.proofs.Keeping.{of_none}
 use Rattle.trick_draft.proofs.Lists.{all_changed_at, get_mapped, map_append, map_changed_at}
 use Rattle.trick_draft.proofs.Mirrored.{cell_there}
-use Rattle.trick_draft.proofs.Passed.{first_passed, is_answer, neither, not_there, there}
+use Rattle.trick_draft.proofs.Passed.{first_passed, is_answer, not_there, there}
 use Rattle.trick_draft.proofs.Stays.{stays_added}
 use Rattle.trick_draft.specs.Cells.{only_names}
 use Rattle.trick_draft.specs.Drafts.{as_group, asked, asked_of_group, group_of, item_at, names_of, new_group, place_in, with_group}
@@ -28,14 +29,6 @@ use Rattle.trick_names.specs.Names.{Names, meaning_of, with_name}
 
 -- ---- places
 
-less : (a b : ℕ) → nat_lt a b ≡ true → a < b
-less a b e = search rules
-
-got : {T : Type 0} (xs : List T) (k : ℕ) → k < length xs → (x : T) × (slice_get xs k ≡ Some x)
-got [] k lt = absurd (omega (arith, lt))
-got (x ∷ xs) zero lt = (x, refl)
-got (x ∷ xs) (suc k) lt = got xs k (omega (arith, lt))
-
 -- a place that is one of the list's has an item
 pub place_there : {T : Type 0} (xs : List T) (place k : ℕ) → place_in xs place ≡ Some k → (x : T)
     × (slice_get xs k ≡ Some x)
@@ -49,7 +42,7 @@ place_there {T} xs place k h = by (nat_lt place (length xs)) refl h
 
     by : (b : Bool) → nat_lt place (length xs) ≡ b → (let none : Option ℕ = None in if b then Some place else none)
         ≡ Some k → (x : T) × (slice_get xs k ≡ Some x)
-    by true e is = at (one is) (got xs place (less place (length xs) e))
+    by true e is = at (one is) (item_there xs place (ltb-true place (length xs) e))
     by false e is = absurd (cc is)
 
 of_handle : (d : Draft) (o : Option Handle) (k : ℕ) → as_group d o ≡ Some k → (x : GroupDraft)
@@ -143,7 +136,7 @@ module _ (jobs : Jobs) (threads : List Thread) where
       let p = first_passed (is_none (group_of d variable) || is_none cell) fault.UnknownName
       ((asked_of_group full false d variable, fault.TooMany 256) ∷ []) new e h in
       let q = first_passed (asked_of_group full false d variable) (fault.TooMany 256) [] new e p.1 in
-      let found = neither (is_none (group_of d variable)) (is_none cell) p.0 in
+      let found = or_parts (is_none (group_of d variable)) (is_none cell) p.0 in
       subst (Keeps jobs threads d) (is_answer new e q.1)
       (group_changed d variable change (λ x. refl) (λ right k x is at group.
       let free : is_full x.cells 256 ≡ false = sym (asked_there full false d variable k x is at) ∙ q.0 in
@@ -180,7 +173,7 @@ module _ (jobs : Jobs) (threads : List Thread) where
                 cycle = record { some = omega arith; in_range = omega arith };
                 few = omega arith;
                 there =
-                    of_none _;
+                    All-nil _;
               });
           events = right.events;
           added_groups =

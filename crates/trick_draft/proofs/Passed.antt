@@ -1,5 +1,5 @@
 -- A line that is not refused: none of its tests holds, and what is after them is its answer.
-use Rattle.std.proofs.Common.{◌≡◌, Bool, true, false, ◌||◌, not, List, [], ◌∷◌, Option, Some, None, is_none, is_some, Ok, refl}
+use Rattle.std.proofs.Common.{◌≡◌, Bool, true, false, List, [], ◌∷◌, Option, Some, None, is_none, is_some, Ok, refl}
 use Rattle.trick_draft.specs.Lines.{unless}
 use Rattle.trick_draft.specs.declared.draft.Draft.{Draft}
 use Rattle.trick_draft.specs.declared.fault.LineFault.{LineFault}
@@ -19,11 +19,3 @@ there (Some x) h = (x, refl)
 pub not_there : {T : Type 0} (o : Option T) → is_some o ≡ false → o ≡ None
 not_there None h = refl
 not_there (Some x) h = cc h
-
-pub neither : (a b : Bool) → (a || b) ≡ false → (a ≡ false) × (b ≡ false)
-neither true b h = cc h
-neither false b h = (refl, h)
-
-pub holds : (b : Bool) → not b ≡ false → b ≡ true
-holds true h = refl
-holds false h = cc h

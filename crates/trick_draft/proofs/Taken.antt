@@ -1,5 +1,6 @@
 -- A name is taken in a draft where it is taken in the program.
 use Rattle.std.proofs.Common.{◌≡◌, ◌∙◌, ◌++◌, ◌∷◌, [], ℕ, Bool, true, false, ◌||◌, List, Some, None, is_some, refl, sym, ap, if◌then◌else◌}
+use Rattle.std.proofs.Math.Bool.{or-false, or_assoc}
 use Rattle.std.proofs.lemmas.Slice.Eq.{bytes_eq-Decides}
 use Rattle.std.specs.List.{list_any}
 use Rattle.std.specs.Str.{bytes_eq}
@@ -10,14 +11,6 @@ use Rattle.trick_lang.specs.SyntaxTree.{Name}
 use Rattle.trick_lang.specs.declared.object.Object.{Object}
 use Rattle.trick_lang.specs.declared.variable.Variable.{Variable}
 use Rattle.trick_names.specs.Names.{Names, meaning_of, with_name}
-
-or_same : (a b c : Bool) → ((a || b) || c) ≡ (a || (b || c))
-or_same true b c = refl
-or_same false b c = refl
-
-or_false : (a : Bool) → (a || false) ≡ a
-or_false true = refl
-or_false false = refl
 
 same_back : (a b : List ℕ) → bytes_eq a b ≡ bytes_eq b a
 same_back a b = by (bytes_eq a b) (bytes_eq b a) refl refl
@@ -55,7 +48,7 @@ known_with name other x names = by (is_some (meaning_of other names)) refl
   where
     equal : (b : Bool) → bytes_eq other name ≡ b → is_some (meaning_of other names) ≡ true
         → is_some (meaning_of name names) ≡ (is_some (meaning_of name names) || b)
-    equal false e known = sym (or_false (is_some (meaning_of name names)))
+    equal false e known = sym (or-false (is_some (meaning_of name names)))
     equal true e known =
         let same : is_some (meaning_of name names) ≡ true =
         sym (ap (λ (n : Name). is_some (meaning_of n names)) ((bytes_eq-Decides other name).0 e)) ∙ known in
@@ -74,12 +67,12 @@ known_with name other x names = by (is_some (meaning_of other names)) refl
 objects_known : (name : Name) (objects : List Object) (known : KnownCells)
     → is_some (meaning_of name (with_objects objects known).objects)
     ≡ (is_some (meaning_of name known.objects) || list_any (λ (object : Object). bytes_eq object.name name) objects)
-objects_known name [] known = sym (or_false (is_some (meaning_of name known.objects)))
+objects_known name [] known = sym (or-false (is_some (meaning_of name known.objects)))
 objects_known name (object ∷ objects) known =
     let rest = list_any (λ (other : Object). bytes_eq other.name name) objects in
     objects_known name objects (with_object object known)
     ∙ (ap (λ (b : Bool). b || rest) (known_with name object.name true known.objects)
-    ∙ or_same (is_some (meaning_of name known.objects)) (bytes_eq object.name name) rest)
+    ∙ or_assoc (is_some (meaning_of name known.objects)) (bytes_eq object.name name) rest)
 
 no_first_more : (objects : List Object) (known : KnownCells) → (with_objects objects known).firsts ≡ known.firsts
 no_first_more [] known = refl
@@ -92,12 +85,12 @@ no_object_more (cell ∷ cells) known = no_object_more cells (with_cell cell kno
 firsts_known : (name : Name) (cells : List Variable) (known : KnownCells)
     → is_some (meaning_of (first_name name) (with_cells cells known).firsts)
     ≡ (is_some (meaning_of (first_name name) known.firsts) || list_any (begins_with name) cells)
-firsts_known name [] known = sym (or_false (is_some (meaning_of (first_name name) known.firsts)))
+firsts_known name [] known = sym (or-false (is_some (meaning_of (first_name name) known.firsts)))
 firsts_known name (cell ∷ cells) known =
     let rest = list_any (begins_with name) cells in
     firsts_known name cells (with_cell cell known)
     ∙ (ap (λ (b : Bool). b || rest) (known_with (first_name name) (first_name cell.name) true known.firsts)
-    ∙ or_same (is_some (meaning_of (first_name name) known.firsts))
+    ∙ or_assoc (is_some (meaning_of (first_name name) known.firsts))
     (bytes_eq (first_name cell.name) (first_name name)) rest)
 
 pub taken_is : (name : Name) (objects : List Object) (cells : List Variable)

@@ -4,6 +4,7 @@ use Rattle.std.proofs.lemmas.List.Elements.{All-cons, All-get_or, All-head, All-
 use Rattle.std.proofs.lemmas.List.{length-map}
 use Rattle.std.proofs.lemmas.Option.{get_or_from_slice_get, slice_get-map, slice_get_within}
 use Rattle.std.specs.Option.{option_map, option_to_list}
+use Rattle.trick_base.proofs.ListLemmas.{all_unmapped}
 use Rattle.trick_draft.specs.Cells.{only_names}
 use Rattle.trick_draft.specs.Drafts.{names_of}
 use Rattle.trick_draft.specs.Jobs.{jobs_of}
@@ -69,12 +70,6 @@ names_at {T} name xs (known ∷ names) there =
     by None e = cc e
     by (Some x) e = let is : name x ≡ known.0 = cc e in ap (λ (n : Name). n ∷ map name (added xs names)) is
 
--- What holds of what is made of all items.
-unmapped : {T U : Type 0} (P : U → Type 0) (f : T → U) (xs : List T) → All P (map f xs) → All (λ x. P (f x)) xs
-unmapped P f [] all = λ k d lt. absurd (omega (arith, lt))
-unmapped P f (x ∷ xs) all =
-    All-cons (λ y. P (f y)) x xs (All-head P (f x) (map f xs) all) (unmapped P f xs (All-tail P (f x) (map f xs) all))
-
 added_few : (limit : ℕ) (names : Names ℕ) (made : List Name) → made ≡ only_names names → length names ≤ limit
     → length made ≤ limit
 added_few limit names made same few =
@@ -127,7 +122,7 @@ module _ (known : model.Names) (cells : ℕ) (drafts : List EventDraft) (names :
       → ((draft : EventDraft) → IsEvent known cells draft → P (draft_tree draft))
       → All (λ (event : Event). P (event_tree event)) events
   each_event P all holds =
-      unmapped P event_tree events
+      all_unmapped P event_tree events
       (subst (All P) (sym are)
       (All-map P draft_tree (added drafts names)
       (All-weaker (IsEvent known cells) (λ (draft : EventDraft). P (draft_tree draft)) holds (added drafts names)

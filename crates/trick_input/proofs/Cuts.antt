@@ -1,8 +1,8 @@
 -- The first line of the tokens, and the calls of all lines.
 use Rattle.std.proofs.Common.{rules, ◌≡◌, ℕ, suc, ◌+◌, ◌-◌, ◌≤◌, ◌<◌, get_or, All, Bool, true, false, nat_eq, List, [], ◌∷◌, ◌++◌, length, take, drop, Result, Ok, Err, Option, Some, None, refl, sym, ap, ◌∙◌, subst, arith, append_assoc, length-drop}
+use Rattle.std.proofs.lemmas.Bool.{eqb-true}
 use Rattle.std.proofs.lemmas.List.Elements.{All-drop, All-take}
 use Rattle.std.specs.List.{prefix_len}
-use Rattle.trick_input.proofs.Steps.{same}
 use Rattle.trick_input.specs.Answers.{IsCall, Refuses}
 use Rattle.trick_input.specs.Forms.{outcome_of}
 use Rattle.trick_input.specs.Lexemes.{Lexeme, classes, line_of_words}
@@ -38,7 +38,7 @@ lines_front t (u ∷ us) = by (nat_eq u.line t.line) refl (lines_front u us)
   where
     by : (b : Bool) → nat_eq u.line t.line ≡ b → lines (u ∷ us) ≡ (u ∷ take (beside u.line us) us) ∷ lines (drop (beside u.line us) us)
         → joined t (lines (u ∷ us)) ≡ (t ∷ take (beside t.line (u ∷ us)) (u ∷ us)) ∷ lines (drop (beside t.line (u ∷ us)) (u ∷ us))
-    by true e h = let k : beside u.line us ≡ beside t.line us = ap (λ n. beside n us) (same u.line t.line e) in
+    by true e h = let k : beside u.line us ≡ beside t.line us = ap (λ n. beside n us) (eqb-true u.line t.line e) in
         ap (joined t) h ∙ rw (e, k) (join_one t (beside t.line us) u us)
     by false e h = ap (joined t) h ∙ (rw e (ap (λ (ls : List (List Token)). (t ∷ []) ∷ ls) (sym h)))
 
@@ -131,7 +131,7 @@ not_zero : (n : ℕ) → (n ≡ 0 → ⊥) → nat_eq n 0 ≡ false
 not_zero n h = by (nat_eq n 0) refl
   where
     by : (b : Bool) → nat_eq n 0 ≡ b → nat_eq n 0 ≡ false
-    by true e = absurd (h (same n 0 e))
+    by true e = absurd (h (eqb-true n 0 e))
     by false e = e
 
 cut_at : (text : List ℕ) (first : FirstFault) (ts : List Token) (ls : List Lexeme) (p : Place) → ls ≡ line_of_words text true ts → outcome_of (classes ls) ≡ Err p → nat_eq p.left 0 ≡ false

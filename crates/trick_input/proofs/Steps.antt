@@ -1,5 +1,7 @@
 -- What a form's pieces take, one token at a time.
-use Rattle.std.proofs.Common.{rules, ◌≡◌, ℕ, ◌+◌, ◌≤◌, Bool, true, false, nat_eq, List, [], ◌∷◌, ◌++◌, length, Option, Some, None, is_some, refl, sym, ap, ◌∙◌, subst, arith, if◌then◌else◌}
+use Rattle.std.proofs.Common.{◌≡◌, ℕ, ◌+◌, ◌≤◌, Bool, true, false, nat_eq, List, [], ◌∷◌, ◌++◌, length, Option, Some, None, is_some, refl, sym, ap, ◌∙◌, subst, arith, if◌then◌else◌}
+use Rattle.std.proofs.lemmas.Bool.{eqb-true}
+use Rattle.trick_base.proofs.Numbers.{equal_to_itself}
 use Rattle.trick_input.specs.Classes.{is, number_of}
 use Rattle.trick_input.specs.Forms.{fits, HasForm, PathTo, assigned, member, index, after, is_due, Walk, arrived, stands, walk, onward}
 use Rattle.trick_input.specs.declared.class.Class.{Class}
@@ -9,15 +11,9 @@ use Rattle.trick_input.specs.declared.form.Sort.TheVariants.{Is, Head, Variable,
 use Rattle.trick_input.specs.declared.form.Piece.{Piece}
 use Rattle.trick_input.specs.declared.form.Piece.TheVariants.{One, Path}
 
-pub same : (a b : ℕ) → nat_eq a b ≡ true → a ≡ b
-same a b h = search rules
-
-same_again : (a : ℕ) → nat_eq a a ≡ true
-same_again a = search rules
-
 -- a class that is this one is not that other one
 apart : (w u v : Class) → is w u ≡ true → is u v ≡ false → is w v ≡ false
-apart w u v h k = subst (λ n. nat_eq n (number_of v) ≡ false) (sym (same (number_of w) (number_of u) h)) k
+apart w u v h k = subst (λ n. nat_eq n (number_of v) ≡ false) (sym (eqb-true (number_of w) (number_of u) h)) k
 
 -- a form with a token taken from its front
 abbrev pub Taken : List Piece → Class → List Class → Type 0
@@ -88,7 +84,7 @@ sample Process = the.ScheduledType
 sample Recording = the.Always
 
 sample_fits : (s : Sort) → fits s (sample s) ≡ true
-sample_fits (Is v) = same_again (number_of v)
+sample_fits (Is v) = equal_to_itself (number_of v)
 sample_fits Head = refl
 sample_fits Variable = refl
 sample_fits Name = refl

@@ -1,5 +1,7 @@
 -- The outcome over a table.
-use Rattle.std.proofs.Common.{rules, ◌≡◌, ◌⊎◌, inl, inr, ℕ, ◌-◌, ◌≤◌, ◌<◌, Bool, true, false, ◌||◌, nat_lt, List, [], ◌∷◌, ◌++◌, length, take, drop, Result, Ok, Err, refl, sym, ap, ◌∙◌, subst, arith, ap₂, append_assoc, length-drop, take-append-drop}
+use Rattle.std.proofs.Common.{rules, ◌≡◌, ◌⊎◌, inl, inr, ℕ, ◌-◌, ◌≤◌, Bool, true, false, nat_lt, List, [], ◌∷◌, ◌++◌, length, take, drop, Result, Ok, Err, refl, sym, ap, ◌∙◌, subst, arith, ap₂, append_assoc, length-drop, take-append-drop}
+use Rattle.std.proofs.Math.Bool.{or-true}
+use Rattle.std.proofs.lemmas.Bool.{ltb-true, or_cases}
 use Rattle.trick_input.specs.Forms.{HasForm, Walk, arrived, stands, walk, pieces, further, decided, outcome, outcome_of, rows}
 use Rattle.trick_input.specs.Exact.{IsRow, GoesOn, IsFirst, IsRefused, IsExact}
 use Rattle.trick_input.proofs.Steps.{left_of, some_line, arrives, arrived_has, far, there, due_back, due_there}
@@ -30,17 +32,6 @@ record Nearer (p : Place) (l : ℕ) (d : Bool) (m : Place) : Type 0 where
   which : (m.left ≡ p.left) ⊎ (m.left ≡ l)
   from : m.due ≡ true → ((m.left ≡ p.left) × (p.due ≡ true)) ⊎ ((m.left ≡ l) × (d ≡ true))
 
-or_right : (a : Bool) → (a || true) ≡ true
-or_right true = refl
-or_right false = refl
-
-or_from : (a b : Bool) → (a || b) ≡ true → (a ≡ true) ⊎ (b ≡ true)
-or_from true b h = inl refl
-or_from false b h = inr h
-
-lt_true : (a b : ℕ) → nat_lt a b ≡ true → a < b
-lt_true a b h = search rules
-
 lt_false : (a b : ℕ) → nat_lt a b ≡ false → b ≤ a
 lt_false a b h = search rules
 
@@ -48,11 +39,11 @@ nearer : (p : Place) (l : ℕ) (d : Bool) → Nearer p l d (further p l d)
 nearer p l d = by (nat_lt l p.left) refl (nat_lt p.left l) refl
   where
     by : (a : Bool) → nat_lt l p.left ≡ a → (b : Bool) → nat_lt p.left l ≡ b → Nearer p l d (further p l d)
-    by true e b f = let lt = lt_true _ _ e in rw e (record { before = omega (arith, lt); beside = omega arith; keeps = λ h k. absurd (omega (arith, lt, h)); takes = λ h k. k; which = inr refl; from = λ h. inr (refl, h) })
-    by false e true f = let lt = lt_true _ _ f in rw (e, f) (record { before = omega arith; beside = omega (arith, lt); keeps = λ h k. k; takes = λ h k. absurd (omega (arith, lt, h)); which = inl refl; from = λ h. inl (refl, h) })
+    by true e b f = let lt = ltb-true _ _ e in rw e (record { before = omega (arith, lt); beside = omega arith; keeps = λ h k. absurd (omega (arith, lt, h)); takes = λ h k. k; which = inr refl; from = λ h. inr (refl, h) })
+    by false e true f = let lt = ltb-true _ _ f in rw (e, f) (record { before = omega arith; beside = omega (arith, lt); keeps = λ h k. k; takes = λ h k. absurd (omega (arith, lt, h)); which = inl refl; from = λ h. inl (refl, h) })
     by false e false f =
         let same : p.left ≡ l = omega (arith, lt_false _ _ e, lt_false _ _ f) in
-        rw (e, f) (record { before = omega arith; beside = omega (arith, same); keeps = λ h k. rw k refl; takes = λ h k. rw k (or_right p.due); which = inl refl; from = λ h. choose same (or_from p.due d h) })
+        rw (e, f) (record { before = omega arith; beside = omega (arith, same); keeps = λ h k. rw k refl; takes = λ h k. rw k (or-true p.due); which = inl refl; from = λ h. choose same (or_cases p.due d h) })
       where
         choose : p.left ≡ l → (p.due ≡ true) ⊎ (d ≡ true) → ((p.left ≡ p.left) × (p.due ≡ true)) ⊎ ((p.left ≡ l) × (d ≡ true))
         choose same (inl h) = inl (refl, h)

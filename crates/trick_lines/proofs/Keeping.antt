@@ -1,5 +1,6 @@
 -- What a line that is taken keeps of a draft.
-use Rattle.std.proofs.Common.{rules, ◌≡◌, ◌∙◌, ◌≤◌, ℕ, Bool, true, false, nat_le, List, [], ◌∷◌, map, Option, Some, None, Result, Ok, Err, refl, sym, ap, subst, arith, if◌then◌else◌}
+use Rattle.std.proofs.Common.{◌≡◌, ◌∙◌, ◌≤◌, ℕ, Bool, true, false, nat_le, List, [], ◌∷◌, map, Option, Some, None, Result, Ok, Err, refl, sym, ap, subst, arith, if◌then◌else◌}
+use Rattle.std.proofs.lemmas.Bool.{leb-true}
 use Rattle.trick_command.specs.Answers.{actions_in}
 use Rattle.trick_declare.specs.Cells.{KeepsRest}
 use Rattle.trick_draft.specs.Drafts.{names_of}
@@ -33,9 +34,6 @@ use Rattle.trick_settings.specs.declared.settings.Settings.{Settings}
 use Rattle.trick_text.specs.declared.fault.TimeFault.{TimeFault}
 use Rattle.trick_text.specs.declared.fault.TimeFault.TheVariants as fault
 
-at_most : (a b : ℕ) → nat_le a b ≡ true → a ≤ b
-at_most a b e = search rules
-
 -- a time that is one is in range
 pub in_range : (line : ℕ) (time : Result ℕ TimeFault) → fault_of_time line (Some time) ≡ None → tics_of time ≤ tic_limit
 in_range line (Err fault) h = absurd (cc h)
@@ -44,7 +42,7 @@ in_range line (Ok tics) h = by (nat_le tics tic_limit) refl h
     by : (b : Bool) → nat_le tics tic_limit ≡ b
         → (let none : Option TimeFault = None in if b then none else Some (fault.TimeTooLarge line)) ≡ None
         → tics ≤ tic_limit
-    by true e h = at_most tics tic_limit e
+    by true e h = leb-true tics tic_limit e
     by false e h = absurd (cc h)
 
 pub cycle_of_frame : (frame : ℕ) → IsFrame frame → IsCycle frame

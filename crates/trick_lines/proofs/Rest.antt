@@ -1,6 +1,5 @@
 -- What is kept of a program, and lists by their items.
-use Rattle.std.proofs.Common.{◌≡◌, ◌∙◌, ◌+◌, ◌<◌, ◌++◌, ℕ, suc, List, [], ◌∷◌, length, drop, take, get_or, refl, sym, ap, add-one}
-use Rattle.std.proofs.Math.Seq.{drop-cons}
+use Rattle.std.proofs.Common.{◌≡◌, ◌∙◌, ◌+◌, ◌<◌, ◌++◌, ℕ, List, [], ◌∷◌, length, take, get_or, refl, sym, ap}
 use Rattle.std.proofs.lemmas.List.{take_more}
 use Rattle.trick_declare.specs.Cells.{KeepsRest}
 use Rattle.trick_lang.specs.declared.program.Program.{Program}
@@ -26,10 +25,6 @@ rest_then p q r first then = record {
   jobs = then.jobs ∙ first.jobs;
   slots = then.slots ∙ first.slots;
 }
-
-pub from_here : {A : Type 0} (xs : List A) (i : ℕ) (item : A) → i < length xs → item ≡ get_or xs i item
-    → drop i xs ≡ item ∷ drop (i + 1) xs
-from_here xs i item h is = rw (add-one, drop-cons xs i item) (ap (λ x. x ∷ drop (suc i) xs) (sym is))
 
 pub up_to_here : {A : Type 0} (xs : List A) (i : ℕ) (item : A) → i < length xs → item ≡ get_or xs i item
     → take (i + 1) xs ≡ take i xs ++ item ∷ []

@@ -1,6 +1,6 @@
 -- Methods, each after those that it calls: the block of each does what its text says.
 use Rattle.std.proofs.Common.{◌≡◌, ◌⊎◌, ℕ, zero, suc, ◌+◌, ◌≤◌, ℤ, true, is_some, List, [], ◌∷◌, ◌++◌, length, slice_get, Option, Some, None, Result, Ok, Err, inl, inr, refl, ap, sym, ◌∙◌, subst, arith}
-use Rattle.std.proofs.lemmas.List.{append_assoc, length-append}
+use Rattle.std.proofs.lemmas.List.{append-nil, append_assoc, length-append}
 use Rattle.std.specs.List.{slice_index_or}
 use Rattle.trick_blocks.specs.Codes as codes
 use Rattle.trick_blocks.specs.Codes.{all_codes, all_count, all_inner}
@@ -28,7 +28,7 @@ use Rattle.trick_meaning_kept.proofs.Statements.{all_end, all_inner_count, below
 use Rattle.trick_meaning_kept.specs.Alike.{AreInOnePlace, AreSameTables, BlocksAreBelow, CallAlike, CanRunAll, EndAlike, HasBlocks, KeepsFrom, RunBlocks}
 use Rattle.trick_meaning_of_jobs.proofs.Bodies.{all_run}
 use Rattle.trick_meaning_of_jobs.proofs.Known.{new_case, new_known, grows_with}
-use Rattle.trick_meaning_of_jobs.proofs.Lists.{append_none, has_push, stand_first}
+use Rattle.trick_meaning_of_jobs.proofs.Lists.{has_push, stand_first}
 use Rattle.trick_meaning_of_jobs.proofs.Made.{Begin, begin_parts, blocks_below, codes_many, codes_with, has_made, parts_slots, slots_grow}
 use Rattle.trick_meaning_of_jobs.proofs.Parts.{AreNumbered}
 use Rattle.trick_lang.specs.Loops.{are_short_loops}
@@ -300,7 +300,7 @@ module _ (parts : List Part) (world : by_name.World) (object : Name) (memory : N
       pub parts_along : (order seen : List ℕ) (p : Progress) → stand_after calls seen order ≡ true
           → Begin blocks (codes_in (with_parts order parts p).bodies) → (with_parts order parts p).world.slots ≤ size
           → IsAlong seen p → IsAlong (seen ++ order) (with_parts order parts p)
-      parts_along [] seen p stands begin room along = subst (λ q. IsAlong q p) (sym (append_none seen)) along
+      parts_along [] seen p stands begin room along = subst (λ q. IsAlong q p) (sym (append-nil seen)) along
       parts_along (i ∷ is) seen p stands begin room along =
           let first = stand_first calls seen i is stands in
           let next = with_part (slice_get parts i) p in

@@ -1,12 +1,13 @@
 -- The bodies of a file without mistakes have none by all names of the file, and what they call is known.
 use Rattle.std.proofs.Common.{◌≡◌, ℕ, Bool, true, false, ◌&&◌, is_some, nat_le, List, [], ◌++◌, Option, Some, None, refl, ap, sym, ◌∙◌}
+use Rattle.std.proofs.lemmas.Bool.{and_parts}
 use Rattle.trick_blocks.specs.declared.world.World as blocks
 use Rattle.trick_lang.specs.Locals.{bound_number}
 use Rattle.trick_lang.specs.SyntaxTree.{Name, Expression, Whole, Truth, Named, Prefixed, Chain, Choose, Links, NoLink, Link, Choices, Last, Choice, Path, path, Parts, NoPart, Member, Index, TypeName, Basic, Custom, Change, Set, Update, Increase, Decrease, Statement, Empty, Block, Declare, Assign, If, For, Call, Branches, NoElse, Else, Test, Statements, NoStatement, Then}
 use Rattle.trick_meaning_kept.proofs.Values.{none_left, none_right}
 use Rattle.trick_meaning_kept.specs.Alike.{CanBranch, CanRun, CanRunAll}
 use Rattle.trick_meaning_of_jobs.proofs.Known.{Grow}
-use Rattle.trick_meaning_of_jobs.proofs.Lists.{all_in_two, both, none_both, two}
+use Rattle.trick_meaning_of_jobs.proofs.Lists.{all_in_two, none_both, two}
 use Rattle.trick_lang.specs.Loops.{branches_have_short_loops, has_short_loops, are_short_loops}
 use Rattle.trick_names.specs.BodyMistakes.{after, all_mistakes, astray, branch_mistakes, call_mistakes, change_mistakes, choice_mistakes, declared, ends, expression_mistakes, first_value_mistakes, line_of, link_mistakes, local_type_mistakes, loop_in, part_mistakes, path_mistakes, statement_mistakes, strays, type_mistakes, unless_fixed}
 use Rattle.trick_names.specs.Calls.{all_calls, branch_calls, method_of, statement_calls}
@@ -170,7 +171,7 @@ module _ (y : World) (w : blocks.World) (seen : List ℕ)
       → all_in (method_of o) seen ≡ true → is_some (meaning_of name w.methods) ≡ true
   call_runs line name None is none calls = absurd (cc none)
   call_runs line name (Some (Variable shape)) is none calls = absurd (cc none)
-  call_runs line name (Some (Method k)) is none calls = made name k is (both (has seen k) true calls).0
+  call_runs line name (Some (Method k)) is none calls = made name k is (and_parts (has seen k) true calls).0
 
   mutual
     statement_runs : (s : Statement) (locals : Names Local) → statement_mistakes s y locals ≡ []
@@ -181,7 +182,7 @@ module _ (y : World) (w : blocks.World) (seen : List ℕ)
     statement_runs (Assign line p change) locals none calls short = tt
     statement_runs (If branches) locals none calls short = branches_run branches locals none calls short
     statement_runs (For name from bound body) locals none calls short =
-        let shorts = both (nat_le (bound_number bound) 1000000) (has_short_loops body) short in
+        let shorts = and_parts (nat_le (bound_number bound) 1000000) (has_short_loops body) short in
         (shorts.0, statement_runs body (loop_in name locals) (none_right (twice name locals) _ none) calls shorts.1)
     statement_runs (Call line name) locals none calls short = call_runs line name (meaning_of name own) refl none calls
 
@@ -192,7 +193,7 @@ module _ (y : World) (w : blocks.World) (seen : List ℕ)
     branches_run (Else body) locals none calls short = statement_runs body locals none calls short
     branches_run (Test line test body rest) locals none calls short =
         let more = none_right (expression_mistakes test y locals) _ none in
-        let shorts = both (has_short_loops body) (branches_have_short_loops rest) short in
+        let shorts = and_parts (has_short_loops body) (branches_have_short_loops rest) short in
         let called = all_in_two (statement_calls body own) (branch_calls rest own) seen calls in (
           statement_runs body locals (none_left
               (statement_mistakes body y locals) _ more) called.0 shorts.0,
@@ -204,7 +205,7 @@ module _ (y : World) (w : blocks.World) (seen : List ℕ)
         → all_in (all_calls all own) seen ≡ true → are_short_loops all ≡ true → CanRunAll w all
     all_run NoStatement locals none calls short = tt
     all_run (Then s rest) locals none calls short =
-        let shorts = both (has_short_loops s) (are_short_loops rest) short in
+        let shorts = and_parts (has_short_loops s) (are_short_loops rest) short in
         let called = all_in_two (statement_calls s own) (all_calls rest own) seen calls in (
           statement_runs s locals (none_left (statement_mistakes s y locals) _ none) called.0 shorts.0,
           all_run rest

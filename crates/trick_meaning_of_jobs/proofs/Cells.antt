@@ -1,5 +1,6 @@
 -- Cells by their full names, and what was stored in them.
 use Rattle.std.proofs.Common.{◌≡◌, ℕ, zero, suc, ℤ, pos, Bool, true, false, not, if◌then◌else◌, List, [], ◌∷◌, length, replicate, Option, None, refl, ap, sym, ◌∙◌, subst, arith}
+use Rattle.std.proofs.lemmas.Bool.{and_parts}
 use Rattle.std.specs.List.{list_all, slice_index_or}
 use Rattle.std.specs.Str.{bytes_eq}
 use Rattle.trick_lang.specs.Names.{are_apart, of_one_name}
@@ -8,7 +9,6 @@ use Rattle.trick_lang.specs.declared.variable.Variable.{Variable}
 use Rattle.trick_meaning.specs.Meaning.{Stored}
 use Rattle.trick_meaning_kept.proofs.Cells.{IsAt, is_at}
 use Rattle.trick_meaning_of_jobs.proofs.Known.{name_same, same_name}
-use Rattle.trick_meaning_of_jobs.proofs.Lists.{both}
 use Rattle.trick_meaning_of_jobs.specs.Jobs.{by_cell, number_named}
 use Rattle.trick_names.specs.Names.{meaning_of}
 use Rattle.trick_places.specs.Named.{IsNamed}
@@ -44,8 +44,8 @@ next_named v vs cell full is = record {
 passes : (p : Variable → Bool) (cells : List Variable) (cell : ℕ) (v : Variable) → list_all p cells ≡ true
     → IsAt cells cell v → p v ≡ true
 passes p [] cell v h at = absurd at
-passes p (u ∷ us) zero v h at = subst (λ q. p q ≡ true) at (both (p u) (list_all p us) h).0
-passes p (u ∷ us) (suc cell) v h at = passes p us cell v (both (p u) (list_all p us) h).1 at
+passes p (u ∷ us) zero v h at = subst (λ q. p q ≡ true) at (and_parts (p u) (list_all p us) h).0
+passes p (u ∷ us) (suc cell) v h at = passes p us cell v (and_parts (p u) (list_all p us) h).1 at
 
 not_alike : (u v : Variable) → not (of_one_name u v) ≡ true → bytes_eq v.name u.name ≡ false
 not_alike u v h = by (bytes_eq v.name u.name) refl where
@@ -66,7 +66,7 @@ number_at (u ∷ us) (n ∷ ns) zero v apart at =
     sym (ap (λ b. if b then n else number_named us ns v.name)
     (subst (λ (q : Variable). bytes_eq v.name q.name ≡ true) (sym at) (name_same v.name)))
 number_at (u ∷ us) (n ∷ ns) (suc cell) v apart at =
-    let parts = both (list_all (λ y. not (of_one_name u y)) us) (are_apart of_one_name us) apart in
+    let parts = and_parts (list_all (λ y. not (of_one_name u y)) us) (are_apart of_one_name us) apart in
     let other = not_alike u v (passes (λ y. not (of_one_name u y)) us cell v parts.0 at) in
     number_at us ns cell v parts.1 at ∙ sym (ap (λ b. if b then n else number_named us ns v.name) other)
 

@@ -1,7 +1,7 @@
 -- What the blocks of methods and jobs do is what their text says.
 use Rattle.std.proofs.Common.{◌≡◌, ℕ, zero, suc, ◌<◌, ◌≤◌, ℤ, pos, Bool, true, is_some, List, [], ◌∷◌, length, slice_get, unwrap_or, Option, Some, None, Result, Ok, Err, refl, ap, sym, ◌∙◌, subst, arith}
-use Rattle.std.proofs.lemmas.Bool.{eqb-true}
-use Rattle.std.proofs.lemmas.List.{length-replicate}
+use Rattle.std.proofs.lemmas.Bool.{and_parts, eqb-true}
+use Rattle.std.proofs.lemmas.List.{append-nil, length-replicate}
 use Rattle.std.specs.List.{list_all, slice_index_or}
 use Rattle.trick_base.specs.Capped.{capped}
 use Rattle.trick_blocks.specs.Held.{bodies_of}
@@ -44,7 +44,7 @@ use Rattle.trick_meaning_kept.specs.Kept.{TablesKeep}
 use Rattle.trick_meaning_of_jobs.proofs.Along.{EndAsMeant, IsAlong, IsThere, StoreAlike, parts_along}
 use Rattle.trick_meaning_of_jobs.proofs.Cells.{nothing_stored, number_is, stored_is}
 use Rattle.trick_meaning_of_jobs.proofs.Classes.{IsMade, IsWithin, is_made, it_within, with_it}
-use Rattle.trick_meaning_of_jobs.proofs.Lists.{append_none, both, order_short}
+use Rattle.trick_meaning_of_jobs.proofs.Lists.{order_short}
 use Rattle.trick_meaning_of_jobs.proofs.Objects.{class_used, object_told}
 use Rattle.trick_meaning_of_jobs.proofs.Parts.{calls_are, class_numbered, is_method, parts_are}
 use Rattle.trick_meaning_of_jobs.specs.Jobs.{IsReadable, MethodsKeep, by_cell, meant, meant_by, number_named}
@@ -71,8 +71,8 @@ passes_at : {A : Type 0} (test : A → Bool) (xs : List A) (i : ℕ) (x : A) →
     → slice_get xs i ≡ Some x → test x ≡ true
 passes_at test [] i x all there = absurd (cc there)
 passes_at test (z ∷ xs) zero x all there =
-    let is : z ≡ x = cc there in subst (λ q. test q ≡ true) is (both (test z) (list_all test xs) all).0
-passes_at test (z ∷ xs) (suc i) x all there = passes_at test xs i x (both (test z) (list_all test xs) all).1 there
+    let is : z ≡ x = cc there in subst (λ q. test q ≡ true) is (and_parts (test z) (list_all test xs) all).0
+passes_at test (z ∷ xs) (suc i) x all there = passes_at test xs i x (and_parts (test z) (list_all test xs) all).1 there
 
 get_below : {A : Type 0} (xs : List A) (i : ℕ) (x : A) → slice_get xs i ≡ Some x → i < length xs
 get_below [] i x there = absurd (cc there)
@@ -220,7 +220,7 @@ module _ (laws : Laws) (ds : SDefine) (p : Program) (named : IsNamed ds p) (read
           begin = (
             [],
             codes_are p.blocks ∙ ap codes_in named.blocks ∙ sym
-                (append_none (codes_in (all_made ds).progress.bodies)),
+                (append-nil (codes_in (all_made ds).progress.bodies)),
           );
           room = (let slots = named.slots in omega (arith, slots));
         })

@@ -1,12 +1,12 @@
 -- No array of a text is without elements.
 use Rattle.std.proofs.Common.{◌≡◌, ◌⊎◌, ℕ, zero, suc, ◌+◌, Bool, true, false, ◌&&◌, nat_le, List, [], ◌∷◌, ◌++◌, length, Some, IsTrue, inl, inr, refl, subst}
+use Rattle.std.proofs.lemmas.Bool.{and_parts}
 use Rattle.std.specs.List.{list_all}
 use Rattle.trick_cells.specs.Tables.{has_elements}
 use Rattle.trick_lang.specs.SyntaxTree as tree
 use Rattle.trick_lang.specs.SyntaxTree.{Declarator, Definition, Members, Name, Part, SDefine}
 use Rattle.trick_meaning_kept.specs.Alike.{HaveElements}
 use Rattle.trick_meaning_of_jobs.proofs.Known.{new_case}
-use Rattle.trick_meaning_of_jobs.proofs.Lists.{both}
 use Rattle.trick_names.specs.Names.{Names, meaning_of, with_name}
 use Rattle.trick_names.specs.Places.{members_at}
 use Rattle.trick_names.specs.Tables.{base_of, behind_definition, behind_definitions, behind_part, behind_parts, lengths_of, members_in, nothing_inside, tables_of, with_all_members, with_declarator, with_declarators, with_members}
@@ -27,13 +27,13 @@ measured = record anything { lengths = are_right_lengths }
 lengths_full : (ls : List ℕ) → are_right_lengths ls ≡ true → has_elements (lengths_of ls) ≡ true
 lengths_full [] h = refl
 lengths_full (n ∷ []) h =
-    (both (nat_le 1 n) (nat_le n whole_limit) (both (nat_le 1 n && nat_le n whole_limit) true h).0).0
+    (and_parts (nat_le 1 n) (nat_le n whole_limit) (and_parts (nat_le 1 n && nat_le n whole_limit) true h).0).0
 lengths_full (m ∷ n ∷ rest) h =
-    let all = (both (nat_le (length (m ∷ n ∷ rest)) 2) _ h).1 in
-    let first = both (nat_le 1 m && nat_le m whole_limit) _ all in
-    let second = both (nat_le 1 n && nat_le n whole_limit) _ first.1 in
-    two (nat_le 1 m) (nat_le 1 n) (both (nat_le 1 m) (nat_le m whole_limit) first.0).0
-    (both (nat_le 1 n) (nat_le n whole_limit) second.0).0 where
+    let all = (and_parts (nat_le (length (m ∷ n ∷ rest)) 2) _ h).1 in
+    let first = and_parts (nat_le 1 m && nat_le m whole_limit) _ all in
+    let second = and_parts (nat_le 1 n && nat_le n whole_limit) _ first.1 in
+    two (nat_le 1 m) (nat_le 1 n) (and_parts (nat_le 1 m) (nat_le m whole_limit) first.0).0
+    (and_parts (nat_le 1 n) (nat_le n whole_limit) second.0).0 where
       two : (a b : Bool) → a ≡ true → b ≡ true → (a && b) ≡ true
       two true b p q = q
       two false b p q = absurd (cc p)
@@ -66,7 +66,7 @@ declarators_full : (ds : List Declarator) (base : Base) (members : Names Member)
     → list_all (declarator_passes measured) ds ≡ true → AreFull members → AreFull (with_declarators ds base members)
 declarators_full [] base members h full = full
 declarators_full (d ∷ ds) base members h full =
-    let parts = both (declarator_passes measured d) _ h in
+    let parts = and_parts (declarator_passes measured d) _ h in
     declarators_full ds base (with_declarator d base members) parts.1
     (variable_full d.name (record { lengths = lengths_of d.lengths; base = base }) members
     (lengths_full d.lengths parts.0) full)
@@ -75,13 +75,13 @@ members_full : (m : Members) (names : Names Global) (members : Names Member) →
     → AreFull members → AreFull (with_members m names members)
 members_full m names members h full =
     declarators_full m.declarators (base_of m.written names) members
-    (both (type_passes measured m.written) (list_all (declarator_passes measured) m.declarators) h).1 full
+    (and_parts (type_passes measured m.written) (list_all (declarator_passes measured) m.declarators) h).1 full
 
 all_members_full : (ms : List Members) (names : Names Global) (members : Names Member)
     → list_all (members_pass measured) ms ≡ true → AreFull members → AreFull (with_all_members ms names members)
 all_members_full [] names members h full = full
 all_members_full (m ∷ ms) names members h full =
-    let parts = both (members_pass measured m) _ h in
+    let parts = and_parts (members_pass measured m) _ h in
     all_members_full ms names (with_members m names members) parts.1 (members_full m names members parts.0 full)
 
 part_full : (part : Part) (number : ℕ) (names : Names Global) (inside : Inside) → part_passes measured part ≡ true
@@ -96,7 +96,7 @@ parts_full : (parts : List Part) (number : ℕ) (names : Names Global) (inside :
     → AreFull (behind_parts parts number names inside).members
 parts_full [] number names inside h full = full
 parts_full (part ∷ rest) number names inside h full =
-    let two = both (part_passes measured part) _ h in
+    let two = and_parts (part_passes measured part) _ h in
     parts_full rest (number + 1) names (behind_part part number names inside) two.1
     (part_full part number names inside two.0 full)
 
@@ -120,7 +120,7 @@ definitions_full : (ds : SDefine) (t : Tables) → list_all (definition_passes m
     → AllFull (behind_definitions ds t).groups
 definitions_full [] t h all = all
 definitions_full (d ∷ ds) t h all =
-    let two = both (definition_passes measured d) _ h in
+    let two = and_parts (definition_passes measured d) _ h in
     definitions_full ds (behind_definition d t) two.1
     (one_more t.groups (members_in d t.names) all (definition_full d t.names two.0))
 

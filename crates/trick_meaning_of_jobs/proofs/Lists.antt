@@ -1,35 +1,11 @@
 -- Lists, their items, and numbers in them.
 use Rattle.std.proofs.Common.{◌≡◌, ◌≢◌, ◌⊎◌, ℕ, zero, suc, ◌+◌, ◌<◌, ◌≤◌, ◌==◌, Bool, true, false, not, ◌&&◌, ◌||◌, if◌then◌else◌, List, [], ◌∷◌, ◌++◌, length, Some, slice_get, inl, inr, refl, ap, sym, ◌∙◌, subst, arith, eq-eqb}
-use Rattle.std.proofs.lemmas.Bool.{eqb-true}
+use Rattle.std.proofs.lemmas.Bool.{and_parts, eqb-true, not-true, or_cases, or_left, or_right}
 use Rattle.trick_order.specs.Calls.{all_in, callees, has, stand_after}
 
 -- ---- tests
 
-pub both : (a b : Bool) → (a && b) ≡ true → (a ≡ true) × (b ≡ true)
-both true b h = (refl, h)
-both false b h = absurd (cc h)
-
-pub or_cases : (a b : Bool) → (a || b) ≡ true → (a ≡ true) ⊎ (b ≡ true)
-or_cases true b h = inl refl
-or_cases false b h = inr h
-
-pub or_left : (a b : Bool) → a ≡ true → (a || b) ≡ true
-or_left true b h = refl
-or_left false b h = absurd (cc h)
-
-pub or_right : (a b : Bool) → b ≡ true → (a || b) ≡ true
-or_right true b h = refl
-or_right false b h = h
-
-not_true : (a : Bool) → not a ≡ true → a ≡ false
-not_true true h = absurd (cc h)
-not_true false h = refl
-
 -- ---- lists
-
-pub append_none : {A : Type 0} (xs : List A) → xs ++ [] ≡ xs
-append_none [] = refl
-append_none (x ∷ xs) = ap (λ ys. x ∷ ys) (append_none xs)
 
 pub two : {A : Type 0} {a b c d : List A} → a ≡ b → c ≡ d → a ++ c ≡ b ++ d
 two {A} {a} {b} {c} {d} h k = ap (λ q. q ++ c) h ∙ ap (λ q. b ++ q) k
@@ -80,7 +56,7 @@ pub all_in_two : (xs ys seen : List ℕ) → all_in (xs ++ ys) seen ≡ true
     → (all_in xs seen ≡ true) × (all_in ys seen ≡ true)
 all_in_two [] ys seen h = (refl, h)
 all_in_two (x ∷ xs) ys seen h =
-    let first = both (has seen x) (all_in (xs ++ ys) seen) h in
+    let first = and_parts (has seen x) (all_in (xs ++ ys) seen) h in
     let rest = all_in_two xs ys seen first.1 in
     (ap (λ b. b && all_in xs seen) first.0 ∙ rest.0, rest.1)
 
@@ -136,9 +112,9 @@ free_all (suc n) = omega (arith, free_all n)
 pub stand_first : (g : List (List ℕ)) (seen : List ℕ) (m : ℕ) (ms : List ℕ) → stand_after g seen (m ∷ ms) ≡ true
     → (has seen m ≡ false) × (all_in (callees g m) seen ≡ true) × (stand_after g (seen ++ m ∷ []) ms ≡ true)
 stand_first g seen m ms h =
-    let parts = both (not (has seen m) && all_in (callees g m) seen) (stand_after g (seen ++ m ∷ []) ms) h in
-    let first = both (not (has seen m)) (all_in (callees g m) seen) parts.0 in
-    (not_true (has seen m) first.0, first.1, parts.1)
+    let parts = and_parts (not (has seen m) && all_in (callees g m) seen) (stand_after g (seen ++ m ∷ []) ms) h in
+    let first = and_parts (not (has seen m)) (all_in (callees g m) seen) parts.0 in
+    (not-true (has seen m) first.0, first.1, parts.1)
 
 order_within : (g : List (List ℕ)) (n : ℕ) (order seen : List ℕ) → stand_after g seen order ≡ true
     → ((k : ℕ) → has order k ≡ true → k < n) → length order ≤ free n seen

@@ -1,7 +1,7 @@
 -- The blocks and slots of methods stay when more methods are made.
 use Rattle.std.proofs.Common.{◌≡◌, ℕ, suc, ◌+◌, ◌≤◌, max, nat_lt, true, List, [], ◌∷◌, ◌++◌, length, Option, Some, None, slice_get, refl, ap, sym, ◌∙◌, subst, arith}
 use Rattle.std.proofs.lemmas.Bool.{lt-ltb}
-use Rattle.std.proofs.lemmas.List.{append_assoc}
+use Rattle.std.proofs.lemmas.List.{append-nil, append_assoc}
 use Rattle.trick_blocks.specs.Bodies.{Body, with_bodies, with_body}
 use Rattle.trick_blocks.specs.Kept.{codes_in}
 use Rattle.trick_blocks.specs.Methods.{Progress, all_slots, block_slots, body_blocks, code_slots, with_part, with_parts}
@@ -9,7 +9,6 @@ use Rattle.trick_lang.specs.Blocks.{block_at}
 use Rattle.trick_lang.specs.SyntaxTree as tree
 use Rattle.trick_lang.specs.Tree.{Code, Empty, Declare, SetLocal, Assign, If, For, Run}
 use Rattle.trick_meaning_kept.specs.Alike.{AreBelow, BlocksAreBelow, HasBlocks, is_code_below}
-use Rattle.trick_meaning_of_jobs.proofs.Lists.{append_none}
 
 -- ---- blocks
 
@@ -19,7 +18,7 @@ codes_last (z ∷ bodies) b = ap (λ q. z.codes ∷ q) (codes_last bodies b)
 
 pub codes_with : (class : ℕ) (bs : List (List Code)) (bodies : List Body)
     → codes_in (with_bodies class bs bodies) ≡ codes_in bodies ++ bs
-codes_with class [] bodies = sym (append_none (codes_in bodies))
+codes_with class [] bodies = sym (append-nil (codes_in bodies))
 codes_with class (b ∷ bs) bodies =
     codes_with class bs (with_body class b bodies)
     ∙ (ap (λ q. q ++ bs) (codes_last bodies _) ∙ append_assoc (codes_in bodies) (b ∷ []) bs)
@@ -62,15 +61,15 @@ has_made all front bs n many h =
 
 part_codes : (o : Option tree.Part) (p : Progress)
     → (more : List (List Code)) × (codes_in (with_part o p).bodies ≡ codes_in p.bodies ++ more)
-part_codes None p = ([], sym (append_none (codes_in p.bodies)))
-part_codes (Some tree.Public) p = ([], sym (append_none (codes_in p.bodies)))
-part_codes (Some (tree.HasMembers m)) p = ([], sym (append_none (codes_in p.bodies)))
+part_codes None p = ([], sym (append-nil (codes_in p.bodies)))
+part_codes (Some tree.Public) p = ([], sym (append-nil (codes_in p.bodies)))
+part_codes (Some (tree.HasMembers m)) p = ([], sym (append-nil (codes_in p.bodies)))
 part_codes (Some (tree.HasMethod m)) p = (
   body_blocks m.body p.world (length p.bodies),
   codes_with p.world.class
       (body_blocks m.body p.world (length p.bodies)) p.bodies,
 )
-part_codes (Some (tree.Constructor line name jobs)) p = ([], sym (append_none (codes_in p.bodies)))
+part_codes (Some (tree.Constructor line name jobs)) p = ([], sym (append-nil (codes_in p.bodies)))
 
 begin_part : (all : List (List Code)) (o : Option tree.Part) (p : Progress)
     → Begin all (codes_in (with_part o p).bodies) → Begin all (codes_in p.bodies)

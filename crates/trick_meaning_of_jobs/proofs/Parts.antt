@@ -1,7 +1,8 @@
 -- The parts of a class: which body a method's name stands for, and which methods it calls.
 use Rattle.std.proofs.Common.{◌≡◌, ◌⊎◌, ℕ, zero, suc, ◌+◌, Bool, true, false, is_some, if◌then◌else◌, List, [], ◌∷◌, ◌++◌, length, slice_get, Option, Some, None, IsTrue, inl, inr, refl, ap, sym, ◌∙◌, subst, arith}
 use Rattle.std.proofs.Math.ListN.{length-append}
-use Rattle.std.proofs.lemmas.List.{append_assoc}
+use Rattle.std.proofs.lemmas.Bool.{and_parts}
+use Rattle.std.proofs.lemmas.List.{append-nil, append_assoc}
 use Rattle.std.specs.List.{list_all}
 use Rattle.std.specs.Str.{bytes_eq}
 use Rattle.trick_check.specs.Parts.{parts_at, parts_in}
@@ -13,7 +14,7 @@ use Rattle.trick_meaning_kept.proofs.Statements.{not_known}
 use Rattle.trick_meaning_kept.proofs.Values.{none_left, none_right}
 use Rattle.trick_meaning_of_jobs.proofs.Bodies.{all_none}
 use Rattle.trick_meaning_of_jobs.proofs.Known.{Grow, definitions_grow, name_same, new_case, new_known, part_grows, same_name, unknown_before}
-use Rattle.trick_meaning_of_jobs.proofs.Lists.{append_none, both, get_behind}
+use Rattle.trick_meaning_of_jobs.proofs.Lists.{get_behind}
 use Rattle.trick_lang.specs.Facts.{have_short_loops}
 use Rattle.trick_lang.specs.Loops.{are_short_loops}
 use Rattle.trick_names.specs.BodyMistakes.{all_mistakes}
@@ -122,7 +123,7 @@ match_last (e ∷ es) (k ∷ ks) d g h one = (h.0, match_last es ks d g h.1 one)
 
 match_all : (ds before : SDefine) (t : Tables) → Match before t.groups
     → Match (before ++ ds) (behind_definitions ds t).groups
-match_all [] before t h = subst (λ q. Match q t.groups) (sym (append_none before)) h
+match_all [] before t h = subst (λ q. Match q t.groups) (sym (append-nil before)) h
 match_all (d ∷ ds) before t h =
     subst (λ q. Match q (behind_definitions ds (behind_definition d t)).groups) (append_assoc before (d ∷ []) ds)
     (match_all ds (before ++ d ∷ []) (behind_definition d t)
@@ -272,10 +273,10 @@ part_short : (parts : List Part) (k : ℕ) (m : tree.Method)
 part_short [] k m all there = absurd (cc there)
 part_short (part ∷ rest) zero m all there =
     let is : part ≡ HasMethod m = cc there in
-    let here : part_passes (record anything { body = are_short_loops }) part ≡ true = (both _ _ all).0 in
+    let here : part_passes (record anything { body = are_short_loops }) part ≡ true = (and_parts _ _ all).0 in
     subst (λ p. part_passes (record anything { body = are_short_loops }) p ≡ true) is here
 part_short (part ∷ rest) (suc k) m all there =
-    part_short rest k m (both (part_passes (record anything { body = are_short_loops }) part) _ all).1 there
+    part_short rest k m (and_parts (part_passes (record anything { body = are_short_loops }) part) _ all).1 there
 
 definition_short : (ds : SDefine) (class k : ℕ) (m : tree.Method)
     → list_all (definition_passes (record anything { body = are_short_loops })) ds ≡ true
@@ -286,11 +287,11 @@ definition_short (tree.Enum name items ∷ ds) zero k m all there = absurd (cc t
 definition_short (tree.Struct name members ∷ ds) zero k m all there = absurd (cc there)
 definition_short (ClassOf name parts ∷ ds) zero k m all there =
     let here : definition_passes (record anything { body = are_short_loops })
-    (ClassOf name parts) ≡ true = (both _ _ all).0 in
+    (ClassOf name parts) ≡ true = (and_parts _ _ all).0 in
     part_short parts k m here there
 definition_short (tree.Object line class name ∷ ds) zero k m all there = absurd (cc there)
 definition_short (d ∷ ds) (suc class) k m all there =
-    definition_short ds class k m (both
+    definition_short ds class k m (and_parts
     (definition_passes (record anything { body = are_short_loops }) d) _ all).1 there
 
 -- ---- the methods of a class

@@ -1,5 +1,6 @@
 -- Plans that are accepted, and plans that are not.
 use Rattle.std.proofs.Common.{◌≡◌, ℕ, zero, suc, ◌<◌, ◌||◌, List, false, IsTrue, refl, arith, inl, inr}
+use Rattle.std.proofs.lemmas.List.Elements.{All-nil}
 use Rattle.std.specs.Prelude.{All, [], ◌∷◌, codes}
 use Rattle.trick_model.proofs.Beside.{rounds}
 use Rattle.trick_model.proofs.Samples.{all_on, cells, main_thread, plan_of_cells, scheduled, thread}
@@ -55,9 +56,6 @@ ordered = record (plan_of_cells (codes "a.x" ∷ codes "b.y" ∷ codes "c.z" ∷
   depends = record { target = record { 0 = 1 }; depended = record { 0 = 0 } } ∷ [];
   jobs_on = all_on 3;
 }
-
-none_of : {A : Type 0} (P : A → Type 0) → All P []
-none_of P k d there = absurd (omega (arith, there))
 
 one_more : {A : Type 0} (P : A → Type 0) (x : A) (xs : List A) → P x → All P xs → All P (x ∷ xs)
 one_more P x xs first others zero d there = first
@@ -133,11 +131,11 @@ ordered_is_accepted = record {
   named = each_thread (IsNamedRight ordered) (not_named main_thread refl) (not_named (thread 1 process.Scheduled 1) refl)
       (not_named (thread 2 process.Scheduled 1) refl) (not_named (thread 3 process.Scheduled 1) refl);
   on_main = λ k there other. absurd (other (scheduled_all k there));
-  forward = one_more (IsForward ordered) (record { target = record { 0 = 1 }; depended = record { 0 = 0 } }) [] refl (none_of (IsForward ordered));
+  forward = one_more (IsForward ordered) (record { target = record { 0 = 1 }; depended = record { 0 = 0 } }) [] refl (All-nil (IsForward ordered));
   written_once = each_thread (λ one. All (λ other. (cell : ℕ) → IsWrittenOnce ordered one other cell) ordered.threads)
       (once_all main_thread refl) (once_all (thread 1 process.Scheduled 1) refl) (once_all (thread 2 process.Scheduled 1) refl)
       (once_all (thread 3 process.Scheduled 1) refl);
-  recordable = none_of (λ (group : Group). All (IsRecordable ordered) group.cells);
-  decidable = none_of (IsDecidable ordered);
+  recordable = All-nil (λ (group : Group). All (IsRecordable ordered) group.cells);
+  decidable = All-nil (IsDecidable ordered);
   no_race = fine;
 }

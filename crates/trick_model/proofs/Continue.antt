@@ -1,9 +1,10 @@
 -- A run from the state after some turns goes on as the original; joins in front of a turn's entries.
 use Rattle.std.proofs.Common.{◌≡◌, ℕ, List, [], ◌∷◌, ◌++◌, Bool, true, false, not, ◌&&◌, IsTrue, refl, sym, ap, ◌∙◌, append_assoc}
 use Rattle.std.specs.Prelude.{filter, map}
+use Rattle.trick_base.proofs.Truths.{second_holds}
 use Rattle.trick_base.specs.Files.{Write}
 use Rattle.trick_lang.specs.declared.class.Class.TheVariants as class
-use Rattle.trick_model.proofs.Runs.{and_right, runs_join}
+use Rattle.trick_model.proofs.Runs.{runs_join}
 use Rattle.trick_model.proofs.Sessions.{same_heard, sessions_do_not_matter}
 use Rattle.trick_model.specs.Events.{Asking}
 use Rattle.trick_model.specs.Files.{end_writes, note, start_writes, turns_writes}
@@ -43,7 +44,7 @@ alike p w v (entries ∷ lists) e =
 goes_late : (p : Plan) (w : World) (early late : List (List Entry)) → IsTrue (goes_on p w (early ++ late)) → IsTrue (goes_on p (after_turns p w early) late)
 goes_late p w [] late goes = goes
 goes_late p w (entries ∷ early) late goes =
-    goes_late p (turn p w entries).world early late (and_right (not (is_over w.state (entries ∷ (early ++ late)))) _ goes)
+    goes_late p (turn p w entries).world early late (second_holds (not (is_over w.state (entries ∷ (early ++ late)))) _ goes)
 
 pub runs_continue : RunsContinue
 runs_continue p s early late fits =

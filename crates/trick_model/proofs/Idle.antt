@@ -1,5 +1,6 @@
 -- At an idle tic each part of a tic does nothing.
-use Rattle.std.proofs.Common.{◌≡◌, ℕ, zero, suc, ◌+◌, ◌<◌, ◌≤◌, ◌++◌, nat_lt, ◌%◌, ◌==◌, List, [], ◌∷◌, Bool, true, false, ◌&&◌, ◌||◌, refl, sym, subst, ap, ◌∙◌}
+use Rattle.std.proofs.Common.{◌≡◌, ℕ, zero, suc, ◌+◌, ◌≤◌, ◌++◌, nat_lt, ◌%◌, ◌==◌, List, [], ◌∷◌, Bool, true, false, ◌&&◌, ◌||◌, refl, sym, subst, ap, ◌∙◌}
+use Rattle.std.proofs.lemmas.Bool.{lt-ltb}
 use native.Mathlib.Omega.{arith}
 use Rattle.std.specs.List.{list_any}
 use Rattle.trick_model.specs.Beside.{each_thread, ends_at, must_finish, publish, take, where_ends}
@@ -96,9 +97,6 @@ abbrev pub joined : Plan → ℕ → Ticked → Ticked
 joined p count first =
     let others = tics p count first.asking in record { asking = others.asking; writes = first.writes ++ others.writes }
 
-pub below : (n m : ℕ) → n < m → nat_lt n m ≡ true
-below n m h = grind arith
-
 pub not_below : (n m : ℕ) → m ≤ n → nat_lt n m ≡ false
 not_below n m h = grind arith
 
@@ -109,7 +107,7 @@ idle_tics_pass p a zero more fits idle =
     λ i. tics p (none i) (record a { state = record (a.state) { tic = same i } })
 idle_tics_pass p a (suc count) more fits idle =
     let one_more : suc count + more ≡ suc (count + more) = omega arith in
-    let under : nat_lt a.state.tic a.state.limit ≡ true = below _ _ (omega arith) in
+    let under : nat_lt a.state.tic a.state.limit ≡ true = lt-ltb _ _ (omega arith) in
     let same_now : a.state.tic + 0 ≡ a.state.tic = omega arith in
     let now : IsIdle p a.state = subst (λ (n : ℕ). IsIdle p (record (a.state) { tic = n })) same_now (idle 0 (omega arith)) in
     let first : tic_below_limit p a ≡ record { asking = later 1 a; writes = [] } =

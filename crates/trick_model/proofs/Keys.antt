@@ -1,12 +1,13 @@
 -- No two jobs of a program have one key.
-use Rattle.std.proofs.Common.{◌≡◌, ℕ, zero, suc, ◌<◌, ◌==◌, nat_lt, List, [], ◌∷◌, length, Bool, true, false, not, ◌&&◌, ◌||◌, ◌⊎◌, IsTrue, inl, inr, refl, sym, subst, ap, ◌∙◌}
-use Rattle.std.proofs.lemmas.Bool.{cases_order}
+use Rattle.std.proofs.Common.{◌≡◌, ℕ, zero, suc, ◌<◌, ◌==◌, nat_lt, List, [], ◌∷◌, length, Bool, true, false, not, ◌||◌, ◌⊎◌, IsTrue, inl, inr, refl, sym, subst, ap, ◌∙◌}
+use Rattle.std.proofs.lemmas.Bool.{and_from, cases_order, eq-eqb, or_left, or_right}
 use Rattle.std.proofs.lemmas.List.Sums.{AllPass-from_list_all}
 use Rattle.std.specs.List.{list_all, slice_index_or}
+use Rattle.trick_base.proofs.Truths.{first_holds, second_holds}
 use native.Mathlib.Omega.{arith}
 use Rattle.trick_lang.specs.Names.{are_apart, of_one_number}
 use Rattle.trick_lang.specs.declared.job.Job.{Job}
-use Rattle.trick_model.proofs.Runs.{and_left, and_right, not_both}
+use Rattle.trick_model.proofs.Runs.{not_both}
 use Rattle.trick_model.specs.Laws.{AreInKeyOrder, AreJobs, HaveSame, IsBefore, KeyOrderIsOne, KeysDiffer, is_among}
 use Rattle.trick_model.specs.Order.{in_key_order, is_below, key, precedes, put_in}
 use Rattle.trick_model.specs.Plan.{job_at, no_job}
@@ -19,20 +20,17 @@ apart_at (job ∷ jobs) zero zero apart order fits same = absurd (omega (arith, 
 apart_at (job ∷ jobs) zero (suc b) apart order fits same =
     not_both (of_one_number job (job_at jobs b)) same
     (AllPass-from_list_all (λ other. not (of_one_number job other)) jobs
-    (and_left (list_all (λ other. not (of_one_number job other)) jobs) _ apart) b no_job (omega arith))
+    (first_holds (list_all (λ other. not (of_one_number job other)) jobs) _ apart) b no_job (omega arith))
 apart_at (job ∷ jobs) (suc a) zero apart order fits same = absurd (omega (arith, order))
 apart_at (job ∷ jobs) (suc a) (suc b) apart order fits same =
-    apart_at jobs a b (and_right (list_all (λ other. not (of_one_number job other)) jobs) _ apart) (omega arith) (omega arith) same
-
-equal : (n m : ℕ) → n ≡ m → (n == m) ≡ true
-equal n m e = grind arith
+    apart_at jobs a b (second_holds (list_all (λ other. not (of_one_number job other)) jobs) _ apart) (omega arith) (omega arith) same
 
 -- jobs of one key have one object and one number
 same_number : (a b : Job) → key a ≡ key b → IsTrue (of_one_number a b)
 same_number a b e =
     let objects : a.object ≡ b.object = ap (λ (ns : List ℕ). slice_index_or ns 2 0) e in
     let numbers : a.number ≡ b.number = ap (λ (ns : List ℕ). slice_index_or ns 3 0) e in
-    rw (equal _ _ objects, equal _ _ numbers) refl
+    rw (eq-eqb _ _ objects, eq-eqb _ _ numbers) refl
 
 pub keys_differ : KeysDiffer
 keys_differ plan a b in_a in_b e = elim (cases_order a b) [
@@ -49,23 +47,11 @@ or_cases : (x y : Bool) → IsTrue (x || y) → IsTrue x ⊎ IsTrue y
 or_cases true y h = inl refl
 or_cases false y h = inr h
 
-or_left : (x y : Bool) → IsTrue x → IsTrue (x || y)
-or_left true y h = refl
-or_left false y h = grind (arith, h)
-
-or_right : (x y : Bool) → IsTrue y → IsTrue (x || y)
-or_right true y h = refl
-or_right false y h = h
-
-both : (x y : Bool) → IsTrue x → IsTrue y → IsTrue (x && y)
-both true y hx hy = hy
-both false y hx hy = hx
-
 never_below : (ks : List ℕ) → IsTrue (is_below ks ks) → ⊥
 never_below [] h = grind (arith, h)
 never_below (k ∷ ks) h = elim (or_cases (nat_lt k k) _ h) [
   | inl less ↦ grind (arith, less)
-  | inr rest ↦ never_below ks (and_right (k == k) _ rest)
+  | inr rest ↦ never_below ks (second_holds (k == k) _ rest)
 ]
 
 below_below : (xs ys zs : List ℕ) → IsTrue (is_below xs ys) → IsTrue (is_below ys zs) → IsTrue (is_below xs zs)
@@ -75,14 +61,14 @@ below_below (x ∷ xs) (y ∷ ys) [] h g = grind (arith, g)
 below_below (x ∷ xs) (y ∷ ys) (z ∷ zs) h g = elim (or_cases (nat_lt x y) _ h) [
   | inl less ↦ elim (or_cases (nat_lt y z) _ g) [
     | inl more ↦ or_left (nat_lt x z) _ (grind (arith, less, more))
-    | inr rest ↦ let same = and_left (y == z) _ rest in or_left (nat_lt x z) _ (grind (arith, less, same))
+    | inr rest ↦ let same = first_holds (y == z) _ rest in or_left (nat_lt x z) _ (grind (arith, less, same))
   ]
-  | inr first ↦ let equal_first = and_left (x == y) _ first in elim (or_cases (nat_lt y z) _ g) [
+  | inr first ↦ let equal_first = first_holds (x == y) _ first in elim (or_cases (nat_lt y z) _ g) [
     | inl more ↦ or_left (nat_lt x z) _ (grind (arith, equal_first, more))
     | inr rest ↦
-        let same = and_left (y == z) _ rest in
-        or_right (nat_lt x z) _ (both (x == z) _ (grind (arith, equal_first, same))
-        (below_below xs ys zs (and_right (x == y) _ first) (and_right (y == z) _ rest)))
+        let same = first_holds (y == z) _ rest in
+        or_right (nat_lt x z) _ (and_from (x == z) _ (grind (arith, equal_first, same))
+        (below_below xs ys zs (second_holds (x == y) _ first) (second_holds (y == z) _ rest)))
   ]
 ]
 
@@ -92,9 +78,9 @@ one_below [] [] long differ not = absurd (differ refl)
 one_below [] (y ∷ ys) long differ not = absurd (omega (arith, long))
 one_below (x ∷ xs) [] long differ not = absurd (omega (arith, long))
 one_below (x ∷ xs) (y ∷ ys) long differ not = elim (cases_order x y) [
-  | inl same ↦ or_right (nat_lt y x) _ (both (y == x) _ (grind (arith, same))
+  | inl same ↦ or_right (nat_lt y x) _ (and_from (y == x) _ (grind (arith, same))
       (one_below xs ys (omega (arith, long)) (λ e. differ (λ i. same i ∷ e i))
-      (λ h. not (or_right (nat_lt x y) _ (both (x == y) _ (grind (arith, same)) h)))))
+      (λ h. not (or_right (nat_lt x y) _ (and_from (x == y) _ (grind (arith, same)) h)))))
   | inr other ↦ elim other [
     | inl less ↦ absurd (not (or_left (nat_lt x y) _ (grind (arith, less))))
     | inr more ↦ or_left (nat_lt y x) _ (grind (arith, more))
@@ -138,7 +124,7 @@ one_order jobs (k ∷ ks) [] hk hj same = let e : ((k == k) || is_among k ks) �
 one_order jobs (k ∷ ks) (j ∷ js) hk hj same = by_heads (λ same_rest. one_order jobs ks js hk.1 hj.1 same_rest) (cases_order k j)
   where
     among_first : (n : ℕ) (ns : List ℕ) → IsTrue ((n == n) || is_among n ns)
-    among_first n ns = or_left (n == n) _ (equal n n refl)
+    among_first n ns = or_left (n == n) _ (eq-eqb n n refl)
 
     k_in : IsTrue ((j == k) || is_among k js)
     k_in = sym (same k) ∙ among_first k ks
@@ -211,7 +197,7 @@ put_ordered jobs k (j ∷ js) differ ordered =
     by_test others false e =
         let later : IsTrue (precedes jobs j k) =
         one_below (key (job_at jobs k)) (key (job_at jobs j)) refl
-        (differ j (or_left (j == j) _ (equal j j refl))) (λ h. grind (arith, e, h)) in
+        (differ j (or_left (j == j) _ (eq-eqb j j refl))) (λ h. grind (arith, e, h)) in
         (before_put jobs j k js later ordered.0, others)
 
 jobs_there : (jobs : List Job) (ks : List ℕ) (m : ℕ) → AreJobs jobs ks → IsTrue (is_among m ks) → m < length jobs

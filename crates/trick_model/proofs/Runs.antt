@@ -1,5 +1,6 @@
 -- Runs, cut in two, and under a journal.
 use Rattle.std.proofs.Common.{◌≡◌, ℕ, ◌-◌, List, [], ◌∷◌, ◌++◌, Bool, true, false, not, ◌&&◌, ◌||◌, IsTrue, refl, sym, ap, ◌∙◌, append_assoc}
+use Rattle.trick_base.proofs.Truths.{first_holds, second_holds}
 use native.Mathlib.Omega.{arith}
 use Rattle.trick_model.specs.Files.{turn_writes, turns_said, turns_writes}
 use Rattle.std.specs.Prelude.{nat_le}
@@ -44,20 +45,12 @@ one_run p w end other left lists more (on h rest) (over g) = absurd (not_both (i
 one_run p w end other left lists more (on h rest) (on g others) =
     let same = one_run p _ end other _ _ _ rest others in (ap (λ (ls : List (List Entry)). next_of left ∷ ls) same.0, same.1)
 
-pub and_left : (a b : Bool) → IsTrue (a && b) → IsTrue a
-and_left true b h = refl
-and_left false b h = h
-
-pub and_right : (a b : Bool) → IsTrue (a && b) → IsTrue b
-and_right true b h = h
-and_right false b h = grind (arith, h)
-
 lasts : (p : Plan) (w : World) (lists : List (List Entry)) → IsTrue (goes_on p w lists)
     → IsTrue (is_over (after_turns p w lists).state []) → Lasts p w lists lists (after_turns p w lists)
 lasts p w [] goes done = over done
 lasts p w (entries ∷ lists) goes done =
-    on (and_left (not (is_over w.state (entries ∷ lists))) _ goes)
-    (lasts p (turn p w entries).world lists (and_right (not (is_over w.state (entries ∷ lists))) _ goes) done)
+    on (first_holds (not (is_over w.state (entries ∷ lists))) _ goes)
+    (lasts p (turn p w entries).world lists (second_holds (not (is_over w.state (entries ∷ lists))) _ goes) done)
 
 pub fitting_lasts : FittingLasts
 fitting_lasts p s lists fits = lasts p (opened s) lists fits.goes fits.over

@@ -3,6 +3,7 @@ use Rattle.std.proofs.Common.{◌≡◌, ℕ, zero, suc, ◌+◌, ◌-◌, ◌<�
 use Rattle.std.proofs.lemmas.List.{get_or_default, length-map, length-replicate}
 use Rattle.std.specs.List.{slice_index_or}
 use Rattle.std.specs.Prelude.{All, filter, flat_map, slice_set}
+use Rattle.trick_base.proofs.Truths.{first_holds}
 use native.Mathlib.Omega.{arith}
 use Rattle.trick_lang.specs.Wrap.{IsInRange}
 use Rattle.trick_lang.specs.declared.cells.Cell.{Cell}
@@ -173,16 +174,12 @@ row_numbers : (scalars : List Scalar) (memory : List ℤ) → AreInRange scalars
 row_numbers scalars memory range [] = tt
 row_numbers scalars memory range (cell ∷ cells) = (range cell.0, row_numbers scalars memory range cells)
 
-and_first : (a b : Bool) → (a && b) ≡ true → a ≡ true
-and_first true b h = refl
-and_first false b h = h
-
 row_right : (p : Plan) (tic k : ℕ) (group : Group) (s : State) → IsGroupAt p k group → IsStateOf p s → IsStateOf p (row_kept tic k group s)
 row_right p tic k group s at good =
     by_test p (group.changes && writes_row tic k group s) _ s
     (λ writes. with_last p s k (row_of group s)
     (λ d there. subst (λ (g : Group). IsLastRow p g (Some (row_of group s))) (sym (at d there))
-    (and_first group.changes (writes_row tic k group s) writes, row_numbers p.scalars s.memory good.memory group.cells))
+    (first_holds group.changes (writes_row tic k group s) writes, row_numbers p.scalars s.memory good.memory group.cells))
     (last_keeps s k (row_of group s)) good)
     (λ none. good)
 

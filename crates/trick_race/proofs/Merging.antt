@@ -1,8 +1,9 @@
 -- Ranges in order.
 use Rattle.std.proofs.Common.{◌≡◌, ℕ, zero, suc, ◌+◌, ◌<◌, ◌≤◌, ◌&&◌, ◌||◌, nat_le, nat_lt, Bool, true, false, ◌⊎◌, inl, inr, IsTrue, List, [], ◌∷◌, length, get_or, take, max, refl, sym, ap, ◌∙◌, arith}
+use Rattle.std.proofs.lemmas.Bool.{or_left, or_right}
 use Rattle.std.proofs.lemmas.Bool.Decides.{nat_tests}
 use Rattle.trick_access.specs.Ranges.{are_sorted}
-use Rattle.trick_lang.proofs.Tests.{both_left, both_right, either_left, either_right}
+use Rattle.trick_base.proofs.Truths.{first_holds, second_holds}
 use Rattle.trick_lang.specs.Access.{is_in}
 use Rattle.trick_lang.specs.declared.range.CellRange.{CellRange}
 
@@ -33,13 +34,13 @@ pub record Heads (from cells : ℕ) (r : CellRange) (rs : List CellRange) : Type
 pub heads : (from cells : ℕ) (r : CellRange) (rs : List CellRange) → IsTrue (are_sorted from cells (r ∷ rs))
     → Heads from cells r rs
 heads from cells r rs h =
-    let here = both_left (nat_le from (r.first).0 && (nat_le (r.first).0 (r.last).0 && nat_lt (r.last).0 cells)) _ h in
-    let inner = both_right (nat_le from (r.first).0) _ here in
+    let here = first_holds (nat_le from (r.first).0 && (nat_le (r.first).0 (r.last).0 && nat_lt (r.last).0 cells)) _ h in
+    let inner = second_holds (nat_le from (r.first).0) _ here in
     record {
-      starts = le_of _ _ (both_left (nat_le from (r.first).0) _ here);
-      long = le_of _ _ (both_left (nat_le (r.first).0 (r.last).0) _ inner);
-      ends = lt_of _ _ (both_right (nat_le (r.first).0 (r.last).0) _ inner);
-      rest = both_right (nat_le from (r.first).0 && (nat_le (r.first).0 (r.last).0 && nat_lt (r.last).0 cells)) _ h;
+      starts = le_of _ _ (first_holds (nat_le from (r.first).0) _ here);
+      long = le_of _ _ (first_holds (nat_le (r.first).0 (r.last).0) _ inner);
+      ends = lt_of _ _ (second_holds (nat_le (r.first).0 (r.last).0) _ inner);
+      rest = second_holds (nat_le from (r.first).0 && (nat_le (r.first).0 (r.last).0 && nat_lt (r.last).0 cells)) _ h;
     }
 
 -- the cell is in the range
@@ -51,18 +52,18 @@ pub within : (r : CellRange) (rs : List CellRange) (c : ℕ) → IsTrue (is_in (
     → Within r c ⊎ IsTrue (is_in rs c)
 within r rs c h = elim (either (nat_le (r.first).0 c && nat_le c (r.last).0) _ h) [
   | inl here ↦ inl (record {
-    from = le_of _ _ (both_left (nat_le (r.first).0 c) _ here);
-    to = le_of _ _ (both_right (nat_le (r.first).0 c) _ here);
+    from = le_of _ _ (first_holds (nat_le (r.first).0 c) _ here);
+    to = le_of _ _ (second_holds (nat_le (r.first).0 c) _ here);
   })
   | inr rest ↦ inr rest
 ]
 
 pub in_head : (r : CellRange) (rs : List CellRange) (c : ℕ) → Within r c → IsTrue (is_in (r ∷ rs) c)
-in_head r rs c w = either_left (nat_le (r.first).0 c && nat_le c (r.last).0) (is_in rs c)
+in_head r rs c w = or_left (nat_le (r.first).0 c && nat_le c (r.last).0) (is_in rs c)
     (both _ _ (of_le _ _ w.from) (of_le _ _ w.to))
 
 pub in_tail : (r : CellRange) (rs : List CellRange) (c : ℕ) → IsTrue (is_in rs c) → IsTrue (is_in (r ∷ rs) c)
-in_tail r rs c h = either_right (nat_le (r.first).0 c && nat_le c (r.last).0) _ h
+in_tail r rs c h = or_right (nat_le (r.first).0 c && nat_le c (r.last).0) _ h
 
 -- the cells of ranges in order are from the start on, and below the end
 pub record Inside (from cells c : ℕ) : Type 0 where

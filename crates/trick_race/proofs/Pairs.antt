@@ -2,11 +2,11 @@
 use Rattle.std.proofs.Common.{◌≡◌, ◌≢◌, ℕ, zero, suc, ◌<◌, Bool, false, ◌==◌, inl, inr, ◌↔◌, IsTrue, List, [], ◌∷◌, length, get_or, nat_le, sym, ap, subst, ◌∙◌, arith}
 use Rattle.std.specs.List.{list_all}
 use Rattle.trick_access.specs.declared.cells.Access.{Access}
+use Rattle.trick_base.proofs.Truths.{first_holds, second_holds}
 use Rattle.trick_cycle.specs.Due.{IsInRange}
 use Rattle.trick_cycle.specs.Least.{IsLeast}
 use Rattle.trick_cycle.specs.Shared.{Covers, IsShared}
 use Rattle.trick_cycle.specs.declared.Due.{Due}
-use Rattle.trick_lang.proofs.Tests.{both_left, both_right}
 use Rattle.trick_base.specs.Time.{tic_limit}
 use Rattle.trick_lang.specs.Valid.{has_right_times, is_scheduled_right}
 use Rattle.trick_lang.specs.declared.class.Class.{Class}
@@ -44,8 +44,8 @@ scheduled_times class.Shutdown job h right = cc
 all_at : (f : Job → Bool) (jobs : List Job) (k : ℕ) → IsTrue (list_all f jobs) → k < length jobs
     → IsTrue (f (job_at jobs k))
 all_at f [] k h there = absurd (omega arith)
-all_at f (job ∷ jobs) zero h there = both_left (f job) _ h
-all_at f (job ∷ jobs) (suc k) h there = all_at f jobs k (both_right (f job) _ h) (omega arith)
+all_at f (job ∷ jobs) zero h there = first_holds (f job) _ h
+all_at f (job ∷ jobs) (suc k) h there = all_at f jobs k (second_holds (f job) _ h) (omega arith)
 
 pub due_in_range : (plan : PlanValue) (flags : Flags) (k : ℕ) → IsRacer (plan_of plan) k
     → IsInRange (due_of (plan_of plan) flags k)
@@ -54,13 +54,13 @@ due_in_range plan flags k racer =
     let job = job_at jobs k in
     let right = scheduled_times job.class job racer.scheduled
     (all_at (λ job. has_right_times job.class job) jobs k plan.program.right_times racer.there) in
-    let rest = both_right (nat_le 1 job.cycle) _ right in
-    let times = both_right (nat_le job.cycle tic_limit) _ rest in
+    let rest = second_holds (nat_le 1 job.cycle) _ right in
+    let times = second_holds (nat_le job.cycle tic_limit) _ rest in
     record {
-      cycle_positive = le_of _ _ (both_left (nat_le 1 job.cycle) _ right);
-      start_in_range = le_of _ _ (both_left (nat_le job.start tic_limit) _ times);
-      cycle_in_range = le_of _ _ (both_left (nat_le job.cycle tic_limit) _ rest);
-      stop_in_range = le_of _ _ (both_right (nat_le job.start tic_limit) _ times);
+      cycle_positive = le_of _ _ (first_holds (nat_le 1 job.cycle) _ right);
+      start_in_range = le_of _ _ (first_holds (nat_le job.start tic_limit) _ times);
+      cycle_in_range = le_of _ _ (first_holds (nat_le job.cycle tic_limit) _ rest);
+      stop_in_range = le_of _ _ (second_holds (nat_le job.start tic_limit) _ times);
     }
 
 -- ---- what two jobs may read and write

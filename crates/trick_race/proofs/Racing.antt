@@ -1,9 +1,9 @@
 -- Jobs that may race, in key order.
 use Rattle.std.proofs.Common.{◌≡◌, ℕ, zero, suc, ◌+◌, ◌<◌, ◌≤◌, Bool, true, false, ◌||◌, ◌==◌, nat_lt, ◌⊎◌, inl, inr, IsTrue, List, [], ◌∷◌, ◌++◌, length, get_or, cond, take, refl, sym, ap, subst, ◌∙◌, arith}
-use Rattle.std.proofs.lemmas.Bool.{cases_lt, cases_eq}
+use Rattle.std.proofs.lemmas.Bool.{cases_lt, cases_eq, or_left, or_right, eq-eqb}
 use Rattle.std.proofs.lemmas.Bool.Decides.{nat_tests}
 use Rattle.std.specs.List.{filter}
-use Rattle.trick_lang.proofs.Tests.{both_left, both_right, either_left, either_right}
+use Rattle.trick_base.proofs.Truths.{first_holds, second_holds}
 use Rattle.trick_lang.specs.declared.class.Class.TheVariants as class
 use Rattle.trick_lang.specs.declared.job.Job.{Job}
 use Rattle.trick_lang.specs.declared.job.JobId.{JobId}
@@ -23,13 +23,10 @@ use Rattle.trick_race.specs.Refusals.{HaveNoRace, IsRace}
 same_of : (a b : ℕ) → IsTrue (a == b) → a ≡ b
 same_of a b h = grind (arith, nat_tests)
 
-of_same : (a b : ℕ) → a ≡ b → IsTrue (a == b)
-of_same a b h = grind (arith, nat_tests)
-
 among_at : (ks : List ℕ) (i : ℕ) → i < length ks → IsTrue (is_among (get_or ks i 0) ks)
 among_at [] i there = absurd (omega arith)
-among_at (k ∷ ks) zero there = either_left (k == k) _ (of_same k k refl)
-among_at (k ∷ ks) (suc i) there = either_right (k == get_or ks i 0) _ (among_at ks i (omega arith))
+among_at (k ∷ ks) zero there = or_left (k == k) _ (eq-eqb k k refl)
+among_at (k ∷ ks) (suc i) there = or_right (k == get_or ks i 0) _ (among_at ks i (omega arith))
 
 at_among : (ks : List ℕ) (k : ℕ) → IsTrue (is_among k ks) → (i : ℕ) × (i < length ks) × (get_or ks i 0 ≡ k)
 at_among [] k h = cc
@@ -46,8 +43,8 @@ to_filter f (j ∷ js) k passes h = by_test (f j) refl (to_filter f js k passes)
     by_test : (b : Bool) → f j ≡ b → (IsTrue (is_among k js) → IsTrue (is_among k (filter f js)))
         → IsTrue (j == k) ⊎ IsTrue (is_among k js)
         → IsTrue (is_among k (cond b (j ∷ filter f js) (filter f js)))
-    by_test true e rest (inl here) = either_left (j == k) _ here
-    by_test true e rest (inr further) = either_right (j == k) _ (rest further)
+    by_test true e rest (inl here) = or_left (j == k) _ here
+    by_test true e rest (inr further) = or_right (j == k) _ (rest further)
     by_test false e rest (inl here) = let no : true ≡ false = sym passes ∙ ap f (sym (same_of j k here)) ∙ e in cc
     by_test false e rest (inr further) = rest further
 
@@ -60,10 +57,10 @@ of_filter f (j ∷ js) k h = by_test (f j) refl (of_filter f js k) h
         → IsTrue (is_among k (cond b (j ∷ filter f js) (filter f js)))
         → IsTrue (f k) × IsTrue ((j == k) || is_among k js)
     by_test true e rest h = elim (either (j == k) _ h) [
-      | inl here ↦ (subst (λ n. IsTrue (f n)) (same_of j k here) e, either_left (j == k) _ here)
-      | inr further ↦ let found = rest further in (found.0, either_right (j == k) _ found.1)
+      | inl here ↦ (subst (λ n. IsTrue (f n)) (same_of j k here) e, or_left (j == k) _ here)
+      | inr further ↦ let found = rest further in (found.0, or_right (j == k) _ found.1)
     ]
-    by_test false e rest h = let found = rest h in (found.0, either_right (j == k) _ found.1)
+    by_test false e rest h = let found = rest h in (found.0, or_right (j == k) _ found.1)
 
 -- what is among numbers in a row
 record InRow (n m k : ℕ) : Type 0 where
@@ -83,9 +80,9 @@ to_numbers : {A : Type 0} (n : ℕ) (xs : List A) (k : ℕ) → InRow n (length 
     → IsTrue (is_among k (numbers_from n xs))
 to_numbers n [] k row = let low = row.from in let high = row.below in absurd (omega arith)
 to_numbers n (x ∷ xs) k row = elim (cases_eq n k) [
-  | inl same ↦ either_left (n == k) _ (of_same n k same)
+  | inl same ↦ or_left (n == k) _ (eq-eqb n k same)
   | inr other ↦ let low = row.from in let high = row.below in
-      either_right (n == k) _ (to_numbers (suc n) xs k (record { from = omega arith; below = omega arith }))
+      or_right (n == k) _ (to_numbers (suc n) xs k (record { from = omega arith; below = omega arith }))
 ]
 
 -- ---- key order
@@ -143,11 +140,11 @@ below_once (x ∷ xs) [] h g = cc
 below_once (x ∷ xs) (y ∷ ys) h g = elim (either (nat_lt x y) _ h) [
   | inl less ↦ elim (either (nat_lt y x) _ g) [
     | inl more ↦ grind (arith, nat_tests, less, more)
-    | inr rest ↦ let same = both_left (y == x) _ rest in grind (arith, nat_tests, less, same)
+    | inr rest ↦ let same = first_holds (y == x) _ rest in grind (arith, nat_tests, less, same)
   ]
   | inr first ↦ elim (either (nat_lt y x) _ g) [
-    | inl more ↦ let same = both_left (x == y) _ first in grind (arith, nat_tests, more, same)
-    | inr rest ↦ below_once xs ys (both_right (x == y) _ first) (both_right (y == x) _ rest)
+    | inl more ↦ let same = first_holds (x == y) _ first in grind (arith, nat_tests, more, same)
+    | inr rest ↦ below_once xs ys (second_holds (x == y) _ first) (second_holds (y == x) _ rest)
   ]
 ]
 
@@ -271,15 +268,15 @@ are_racers law plan racers e =
 racer_first : (p : Plan) (a b : ℕ) → a < length p.jobs → MayRace p a b → IsRacer p a
 racer_first p a b there may = record {
   there = there;
-  scheduled = both_left (is_of_class p.jobs class.Scheduled a) _ may.first_scheduled;
-  in_tics = both_right (is_of_class p.jobs class.Scheduled a) _ may.first_scheduled;
+  scheduled = first_holds (is_of_class p.jobs class.Scheduled a) _ may.first_scheduled;
+  in_tics = second_holds (is_of_class p.jobs class.Scheduled a) _ may.first_scheduled;
 }
 
 racer_second : (p : Plan) (a b : ℕ) → b < length p.jobs → MayRace p a b → IsRacer p b
 racer_second p a b there may = record {
   there = there;
-  scheduled = both_left (is_of_class p.jobs class.Scheduled b) _ may.second_scheduled;
-  in_tics = both_right (is_of_class p.jobs class.Scheduled b) _ may.second_scheduled;
+  scheduled = first_holds (is_of_class p.jobs class.Scheduled b) _ may.second_scheduled;
+  in_tics = second_holds (is_of_class p.jobs class.Scheduled b) _ may.second_scheduled;
 }
 
 -- the place of a smaller key is before that of a larger one

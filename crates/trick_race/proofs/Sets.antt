@@ -1,8 +1,7 @@
 -- Sets of cells and of jobs.
 use Rattle.std.proofs.Common.{◌≡◌, ℕ, zero, suc, ◌+◌, ◌<◌, Bool, true, false, ◌||◌, inl, inr, ◌↔◌, IsTrue, List, [], ◌∷◌, ◌++◌, length, get_or, sym, ap, subst, ◌∙◌, arith}
-use Rattle.std.proofs.lemmas.Bool.{cases_lt}
+use Rattle.std.proofs.lemmas.Bool.{cases_lt, or_left, or_right}
 use Rattle.trick_access.specs.declared.cells.Access.{Access}
-use Rattle.trick_lang.proofs.Tests.{either_left, either_right}
 use Rattle.trick_lang.specs.Access.{is_in}
 use Rattle.trick_race.proofs.Firsts.{read_at}
 use Rattle.trick_race.proofs.Merging.{either}
@@ -40,11 +39,11 @@ writes_more accesses jobs job c item old new is chosen there item_is told =
         | inr before ↦ let w = told.0 before in let low = w.1 in (w.0, omega arith, w.2, w.3)
       ],
       λ w. is ∙ (elim (cases_lt w.0 job) [
-        | inl less ↦ either_right (is_in item.writes c) old (told.1 (w.0, less, w.2, w.3))
+        | inl less ↦ or_right (is_in item.writes c) old (told.1 (w.0, less, w.2, w.3))
         | inr more ↦
             let low = w.1 in
             let here : w.0 ≡ job = omega arith in
-            either_left (is_in item.writes c) old (subst (λ rs. IsTrue (is_in rs c))
+            or_left (is_in item.writes c) old (subst (λ rs. IsTrue (is_in rs c))
             (ap (writes_of accesses) here ∙ same) w.3)
       ]),
     )

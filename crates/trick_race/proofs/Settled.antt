@@ -1,11 +1,11 @@
 -- What an accepted plan says of the jobs of a tic.
 use Rattle.std.proofs.Common.{◌≡◌, ℕ, ◌<◌, ◌-◌, ◌%◌, ◌&&◌, ◌==◌, nat_le, nat_lt, ◌⊎◌, inl, inr, IsTrue, List, [], ◌∷◌, length, refl, sym, ap, arith}
 use Rattle.std.proofs.Math.Logic.{∥∥₁_map}
-use Rattle.std.proofs.lemmas.Bool.{cases_order}
+use Rattle.std.proofs.lemmas.Bool.{cases_order, or_left, or_right}
 use Rattle.std.proofs.lemmas.Bool.Decides.{nat_tests}
+use Rattle.trick_base.proofs.Truths.{first_holds, second_holds}
 use Rattle.trick_cycle.specs.Due.{IsDue, is_due_at}
 use Rattle.trick_cycle.specs.declared.Due.{Due}
-use Rattle.trick_lang.proofs.Tests.{both_left, both_right, either_left, either_right}
 use Rattle.trick_lang.specs.declared.class.Class.TheVariants as class
 use Rattle.trick_model.specs.Acceptance.{AreIndependent, IsAccepted}
 use Rattle.trick_model.specs.Laws.{KeysDiffer}
@@ -33,20 +33,20 @@ below_cases (x ∷ xs) (y ∷ ys) long = by_heads (cases_order x y) (below_cases
 
     by_heads : (x ≡ y) ⊎ ((x < y) ⊎ (y < x)) → (IsTrue (is_below xs ys) ⊎ IsTrue (is_below ys xs)) ⊎ (xs ≡ ys)
         → (IsTrue (is_below (x ∷ xs) (y ∷ ys)) ⊎ IsTrue (is_below (y ∷ ys) (x ∷ xs))) ⊎ (x ∷ xs ≡ y ∷ ys)
-    by_heads (inr (inl h)) rest = inl (inl (either_left (nat_lt x y) _ (less x y h)))
-    by_heads (inr (inr h)) rest = inl (inr (either_left (nat_lt y x) _ (less y x h)))
-    by_heads (inl same) (inl (inl h)) = inl (inl (either_right (nat_lt x y) _ (both (x == y) _ (equal x y same) h)))
+    by_heads (inr (inl h)) rest = inl (inl (or_left (nat_lt x y) _ (less x y h)))
+    by_heads (inr (inr h)) rest = inl (inr (or_left (nat_lt y x) _ (less y x h)))
+    by_heads (inl same) (inl (inl h)) = inl (inl (or_right (nat_lt x y) _ (both (x == y) _ (equal x y same) h)))
     by_heads (inl same) (inl (inr h)) = inl (inr
-        (either_right (nat_lt y x) _ (both (y == x) _ (equal y x (sym same)) h)))
+        (or_right (nat_lt y x) _ (both (y == x) _ (equal y x (sym same)) h)))
     by_heads (inl same) (inr e) = inr (λ i. same i ∷ e i)
 
 due_is : (d : Due) (t : ℕ) → IsTrue (is_due_at d t) → IsDue d t
 due_is d t h =
-    let times = both_left (nat_le d.start t && nat_le t d.stop) _ h in
-    let step = both_right (nat_le d.start t && nat_le t d.stop) _ h in
+    let times = first_holds (nat_le d.start t && nat_le t d.stop) _ h in
+    let step = second_holds (nat_le d.start t && nat_le t d.stop) _ h in
     record {
-      started = le_of _ _ (both_left (nat_le d.start t) _ times);
-      not_over = le_of _ _ (both_right (nat_le d.start t) _ times);
+      started = le_of _ _ (first_holds (nat_le d.start t) _ times);
+      not_over = le_of _ _ (second_holds (nat_le d.start t) _ times);
       in_step = zero_of ((t - d.start) % d.cycle) step;
     }
   where
@@ -61,11 +61,11 @@ record Runs (p : Plan) (flags : Flags) (tic k : ℕ) : Type 0 where
 runs : (p : Plan) (flags : Flags) (tic k : ℕ) → IsTrue (is_due p flags tic k && is_on_scheduled p.jobs p.threads k)
     → Runs p flags tic k
 runs p flags tic k h =
-    let here = both_left (is_due p flags tic k) _ h in
+    let here = first_holds (is_due p flags tic k) _ h in
     record {
       racer = both (is_of_class p.jobs class.Scheduled k) (is_on_scheduled p.jobs p.threads k)
-          (both_left (is_of_class p.jobs class.Scheduled k) _ here) (both_right (is_due p flags tic k) _ h);
-      due = due_is (due_of p flags k) tic (both_right (is_of_class p.jobs class.Scheduled k) _ here);
+          (first_holds (is_of_class p.jobs class.Scheduled k) _ here) (second_holds (is_due p flags tic k) _ h);
+      due = due_is (due_of p flags k) tic (second_holds (is_of_class p.jobs class.Scheduled k) _ here);
     }
 
 swapped : (p : Plan) (a b : ℕ) → AreIndependent p a b → AreIndependent p b a

@@ -1,7 +1,6 @@
 -- Ranges that have a cell of a set.
 use Rattle.std.proofs.Common.{◌≡◌, ℕ, zero, suc, ◌+◌, ◌-◌, ◌<◌, ◌≤◌, Bool, true, false, ◌||◌, inl, inr, IsTrue, List, [], ◌∷◌, ◌++◌, length, get_or, map, refl, sym, ap, subst, ◌∙◌, arith}
-use Rattle.std.proofs.lemmas.Bool.{cases_eq}
-use Rattle.trick_lang.proofs.Tests.{either_left, either_right}
+use Rattle.std.proofs.lemmas.Bool.{cases_eq, or_left, or_right}
 use Rattle.trick_lang.specs.Access.{is_in}
 use Rattle.trick_lang.specs.Value.{origin}
 use Rattle.trick_lang.specs.declared.cells.Cell.{Cell}
@@ -35,10 +34,10 @@ among_from set first (suc n) h = elim (either (has set first) _ h) [
 from_among : (set : List Bool) (first n : ℕ) → Among set first n → IsTrue (has_from set first n)
 from_among set first zero found = let low = found.from in let high = found.below in absurd (omega arith)
 from_among set first (suc n) found = elim (cases_eq found.cell first) [
-  | inl here ↦ either_left (has set first) _ (subst (λ k. IsTrue (has set k)) here found.in_set)
+  | inl here ↦ or_left (has set first) _ (subst (λ k. IsTrue (has set k)) here found.in_set)
   | inr other ↦
       let low = found.from in let high = found.below in
-      either_right (has set first) _
+      or_right (has set first) _
       (from_among set (first + 1) n (record {
         cell = found.cell;
         from = omega arith;
@@ -75,10 +74,10 @@ of_touches set [] found = let h = found.in_ranges in cc
 of_touches set (r ∷ rs) found = elim (within r rs found.cell found.in_ranges) [
   | inl w ↦
       let low = w.from in let high = w.to in
-      either_left (has_from set (r.first).0 ((r.last).0 + 1 - (r.first).0)) _
+      or_left (has_from set (r.first).0 ((r.last).0 + 1 - (r.first).0)) _
       (from_among set (r.first).0 ((r.last).0 + 1 - (r.first).0)
       (record { cell = found.cell; from = low; below = omega arith; in_set = found.in_set }))
-  | inr rest ↦ either_right (has_from set (r.first).0 ((r.last).0 + 1 - (r.first).0)) _
+  | inr rest ↦ or_right (has_from set (r.first).0 ((r.last).0 + 1 - (r.first).0)) _
       (of_touches set rs (record { cell = found.cell; in_ranges = rest; in_set = found.in_set }))
 ]
 

@@ -1,11 +1,11 @@
 -- What the scheduled jobs of threads may write.
 use Rattle.std.proofs.Common.{◌≡◌, ◌≢◌, ℕ, zero, suc, ◌+◌, ◌<◌, ◌≤◌, Bool, true, false, ◌&&◌, ◌||◌, ◌==◌, nat_lt, inl, inr, ◌↔◌, IsTrue, List, [], ◌∷◌, length, get_or, cond, map, refl, sym, ap, subst, ◌∙◌, arith}
-use Rattle.std.proofs.lemmas.Bool.{cases_lt, cases_eq}
+use Rattle.std.proofs.lemmas.Bool.{cases_lt, cases_eq, or_left, or_right}
 use Rattle.std.proofs.lemmas.Bool.Decides.{nat_tests}
 use Rattle.std.proofs.lemmas.Option.{get_or_from_slice_get, slice_get_within}
 use Rattle.std.specs.List.{filter, list_any}
 use Rattle.trick_access.specs.declared.cells.Access.{Access}
-use Rattle.trick_lang.proofs.Tests.{both_left, both_right, either_left, either_right}
+use Rattle.trick_base.proofs.Truths.{first_holds, second_holds}
 use Rattle.trick_lang.specs.Access.{is_in}
 use Rattle.trick_lang.specs.declared.class.Class.TheVariants as class
 use Rattle.trick_lang.specs.declared.job.Job.{Job}
@@ -88,7 +88,7 @@ of_any f g h n (x ∷ xs) w = elim (cases_eq w.k n) [
         (filter h (numbers_from (suc n) xs)))))) (sym eh)
         (subst (λ a. IsTrue (list_any f (cond a (n ∷ filter g (filter h (numbers_from (suc n) xs)))
         (filter g (filter h (numbers_from (suc n) xs)))))) (sym eg)
-        (either_left (f n) _ ef))
+        (or_left (f n) _ ef))
 
     further : (a b : Bool) → h n ≡ a → g n ≡ b → IsTrue (list_any f (filter g (filter h (numbers_from (suc n) xs))))
         → IsTrue (list_any f (filter g (cond (h n) (n ∷ filter h (numbers_from (suc n) xs))
@@ -106,7 +106,7 @@ of_any f g h n (x ∷ xs) w = elim (cases_eq w.k n) [
         (filter h (numbers_from (suc n) xs)))))) (sym eh)
         (subst (λ a. IsTrue (list_any f (cond a (n ∷ filter g (filter h (numbers_from (suc n) xs)))
         (filter g (filter h (numbers_from (suc n) xs)))))) (sym eg)
-        (either_right (f n) _ found))
+        (or_right (f n) _ found))
 
 -- ---- what a thread may write
 
@@ -148,8 +148,8 @@ thread_set cells p accesses thread jobs set are is told c = bool_same (has set c
           k = k;
           from = omega arith;
           below = omega arith;
-          first = both_right (rank (job_at p.jobs k).class == rank class.Scheduled) _ test;
-          second = both_left (rank (job_at p.jobs k).class == rank class.Scheduled) _ test;
+          first = second_holds (rank (job_at p.jobs k).class == rank class.Scheduled) _ test;
+          second = first_holds (rank (job_at p.jobs k).class == rank class.Scheduled) _ test;
           third = to_write cells p accesses are k c there w;
         })
 
@@ -202,7 +202,7 @@ of_once p one other cell a b ea eb h =
 pub nothing_written : (p : Plan) (one other : Thread) (cell : ℕ) → false ≡ may_write_on p one cell
     → IsWrittenOnce p one other cell
 nothing_written p one other cell none differ beside written =
-    let h = none ∙ both_left (may_write_on p one cell) (may_write_on p other cell) written in cc
+    let h = none ∙ first_holds (may_write_on p one cell) (may_write_on p other cell) written in cc
 
 swap_or : (a b : Bool) → IsTrue (a || b) → IsTrue (b || a)
 swap_or a true h = refl
@@ -213,8 +213,8 @@ pub once_swapped : (p : Plan) (one other : Thread) (cell : ℕ) → IsWrittenOnc
     → IsWrittenOnce p other one cell
 once_swapped p one other cell h differ beside written =
     h (λ e. differ (sym e)) (swap_or (is_beside other.process) (is_beside one.process) beside)
-    (both (may_write_on p one cell) (may_write_on p other cell) (both_right (may_write_on p other cell) _ written)
-    (both_left (may_write_on p other cell) _ written))
+    (both (may_write_on p one cell) (may_write_on p other cell) (second_holds (may_write_on p other cell) _ written)
+    (first_holds (may_write_on p other cell) _ written))
 
 -- one thread alone breaks no rule
 pub once_alone : (p : Plan) (one other : Thread) (cell : ℕ) → one.number ≡ other.number → IsWrittenOnce p one other cell
@@ -224,12 +224,12 @@ once_alone p one other cell same differ = absurd (differ same)
 
 head_below : (n : ℕ) (ns : List ℕ) (j : ℕ) → IsTrue (rises (n ∷ ns)) → j < length ns → n < get_or ns j 0
 head_below n [] j rising there = absurd (omega arith)
-head_below n (m ∷ ms) zero rising there = let h = both_left (nat_lt n m) (rises (m ∷ ms)) rising in
+head_below n (m ∷ ms) zero rising there = let h = first_holds (nat_lt n m) (rises (m ∷ ms)) rising in
     grind (arith, nat_tests, h)
 head_below n (m ∷ ms) (suc j) rising there =
-    let h = both_left (nat_lt n m) (rises (m ∷ ms)) rising in
+    let h = first_holds (nat_lt n m) (rises (m ∷ ms)) rising in
     let first : n < m = grind (arith, nat_tests, h) in
-    let rest = head_below m ms j (both_right (nat_lt n m) (rises (m ∷ ms)) rising) (omega arith) in
+    let rest = head_below m ms j (second_holds (nat_lt n m) (rises (m ∷ ms)) rising) (omega arith) in
     omega arith
 
 rise_at : (ns : List ℕ) (i j : ℕ) → IsTrue (rises ns) → i < j → j < length ns → get_or ns i 0 < get_or ns j 0
@@ -238,7 +238,7 @@ rise_at (n ∷ ns) i zero rising less there = absurd (omega arith)
 rise_at (n ∷ ns) zero (suc j) rising less there = head_below n ns j rising (omega arith)
 rise_at (n ∷ []) (suc i) (suc j) rising less there = absurd (omega arith)
 rise_at (n ∷ m ∷ ms) (suc i) (suc j) rising less there =
-    rise_at (m ∷ ms) i j (both_right (nat_lt n m) (rises (m ∷ ms)) rising) (omega arith) (omega arith)
+    rise_at (m ∷ ms) i j (second_holds (nat_lt n m) (rises (m ∷ ms)) rising) (omega arith) (omega arith)
 
 numbers_length : (threads : List Thread) → length (thread_numbers threads) ≡ length threads
 numbers_length [] = refl
@@ -302,5 +302,5 @@ one_writer_past cells p accesses are below c = elim (cases_lt c cells) [
   | inl less ↦ below c less
   | inr more ↦ λ k one k_there j other j_there differ beside written.
       absurd (none_past cells p accesses (get_or p.threads k one) c are more
-      (both_left (may_write_on p (get_or p.threads k one) c) (may_write_on p (get_or p.threads j other) c) written))
+      (first_holds (may_write_on p (get_or p.threads k one) c) (may_write_on p (get_or p.threads j other) c) written))
 ]

@@ -1,12 +1,15 @@
 -- The jobs of a tic of an accepted plan.
 use Rattle.std.proofs.Common.{◌≡◌, ◌≢◌, ◌⊎◌, inl, inr, ℕ, suc, ◌+◌, ◌<◌, ◌≤◌, ◌==◌, nat_le, nat_lt, Bool, true, false, cond, ◌&&◌, ◌||◌, List, [], ◌∷◌, length, IsTrue, refl, sym, ◌∙◌, ap, subst, arith}
+use Rattle.std.proofs.Math.Bool.{and-false}
 use Rattle.std.proofs.Math.Logic.{∥∥₁_elim, ∥∥₁_map}
-use Rattle.std.proofs.lemmas.Bool.{and_from, and_parts, both_ways, cases_Bool}
+use Rattle.std.proofs.lemmas.Bool.{and_from, and_parts, both_ways, cases_Bool, eq-eqb}
 use Rattle.std.proofs.lemmas.Bool.Decides.{nat_tests}
 use Rattle.std.proofs.lemmas.List.Elements.{All-contains}
 use Rattle.std.proofs.lemmas.List.Folds.{Any-from_list_any, list_any-from_Any}
 use Rattle.std.specs.List.{Any}
 use Rattle.std.specs.Prelude.{filter}
+use Rattle.trick_base.proofs.Numbers.{other_than_less}
+use Rattle.trick_base.proofs.Truths.{no_two_absurdities}
 use Rattle.trick_cycle.specs.Due.{IsDue, is_due_at}
 use Rattle.trick_cycle.specs.declared.Due.{Due}
 use Rattle.trick_lang.specs.Laws.{SameEffect, WritesOnly}
@@ -24,19 +27,11 @@ use Rattle.trick_model.specs.declared.depends.Depends.{Depends}
 use Rattle.trick_model.specs.declared.flags.Flags.{Flags}
 use Rattle.trick_model.specs.declared.plan.Plan.{Plan as PlanValue}
 use Rattle.trick_race.specs.Laws.{AreSettled, DueJobsAreSettled}
-use Rattle.trick_schedule.proofs.Keys.{among_cases, among_rest, none_among, not_both, one_first, precedes_all, same_of, test_of}
+use Rattle.trick_schedule.proofs.Keys.{among_cases, among_rest, none_among, not_both, one_first, precedes_all, same_of}
 use Rattle.trick_schedule.proofs.Right.{AreOrdered, IsRight}
-use Rattle.trick_schedule.proofs.Steps.{no_two}
 use Rattle.trick_schedule.specs.Tics.{IsDueIn, Tic, depends_on, due_jobs, tic_of}
 
 -- ---- numbers of jobs
-
-other_of : (n m : ℕ) → m < n → (n == m) ≡ false
-other_of n m less = grind (arith, nat_tests)
-
-and_off : (b : Bool) → (b && false) ≡ false
-and_off true = refl
-and_off false = refl
 
 mix_on : (e t a : Bool) → (e ≡ true → t ≡ true) → (e || (t && a)) ≡ (t && (e || a))
 mix_on true true a h = refl
@@ -49,7 +44,7 @@ mix_off true false a h = refl
 mix_off true true a h = let no : true ≡ false = h refl in cc
 
 pub among_filter : (test : ℕ → Bool) (m : ℕ) (xs : List ℕ) → is_among m (filter test xs) ≡ (test m && is_among m xs)
-among_filter test m [] = sym (and_off (test m))
+among_filter test m [] = sym (and-false (test m))
 among_filter test m (x ∷ xs) = by_test (among_filter test m xs) (test x) refl
   where
     by_test : is_among m (filter test xs) ≡ (test m && is_among m xs) → (b : Bool) → test x ≡ b
@@ -63,12 +58,12 @@ jobs_kept jobs test [] are = tt
 jobs_kept jobs test (k ∷ ks) are = by_test (jobs_kept jobs test ks are.2) (test k)
   where
     by_test : AreJobs jobs (filter test ks) → (b : Bool) → AreJobs jobs (cond b (k ∷ filter test ks) (filter test ks))
-    by_test others true = (are.0, among_filter test k ks ∙ ap (λ b. test k && b) are.1 ∙ and_off (test k), others)
+    by_test others true = (are.0, among_filter test k ks ∙ ap (λ b. test k && b) are.1 ∙ and-false (test k), others)
     by_test others false = others
 
 not_later : {A : Type 0} (k j : ℕ) (xs : List A) → k < j → is_among k (numbers_from j xs) ≡ false
 not_later k j [] less = refl
-not_later k j (x ∷ xs) less = ap (λ b. b || is_among k (numbers_from (suc j) xs)) (other_of j k less) ∙ not_later k (suc j) xs (omega arith)
+not_later k j (x ∷ xs) less = ap (λ b. b || is_among k (numbers_from (suc j) xs)) (other_than_less j k less) ∙ not_later k (suc j) xs (omega arith)
 
 pub numbers_are : (all : List Job) {A : Type 0} (k : ℕ) (xs : List A) → k + length xs ≤ length all → AreJobs all (numbers_from k xs)
 numbers_are all k [] fits = tt
@@ -138,7 +133,7 @@ test_time : (d : Due) (tic : ℕ) → IsDue d tic → IsTrue (is_due_at d tic)
 test_time d tic h =
     and_from (nat_le d.start tic && nat_le tic d.stop) _
     (and_from (nat_le d.start tic) _ (of_le _ _ h.started) (of_le _ _ h.not_over))
-    (test_of _ _ h.in_step)
+    (eq-eqb _ _ h.in_step)
 
 due_time : KeyOrderIsOne → (t : Tic) (k : ℕ) → IsDueIn t k → IsDue (due_of t.plan t.plan.jobs_on k) t.number
 due_time law t k due =
@@ -164,7 +159,7 @@ forward_pair plan k a accepted (i, pair, less, is, test) =
 forward : (plan : PlanValue) → ∥ IsAccepted (plan_of plan) ∥₁ → (k a : ℕ) → IsTrue (depends_on plan.depends k a) → IsTrue (precedes plan.program.jobs a k)
 forward plan accepted k a h = elim (cases_Bool (precedes plan.program.jobs a k)) [
   | inl on ↦ on
-  | inr off ↦ absurd (∥∥₁_elim accepted no_two
+  | inr off ↦ absurd (∥∥₁_elim accepted no_two_absurdities
       (λ (h' : IsAccepted (plan_of plan)). both_ways (precedes plan.program.jobs a k) off (forward_pair plan k a h' (found_pair plan.depends k a h))))
 ]
 
@@ -201,7 +196,7 @@ pair_of law plan on number a b due_a due_b (i, pair, less, is, orders) =
       pair,
       record {
         listed = list_any-from_Any (is_pair (pair.target).0 (pair.depended).0) plan.depends
-            (i, pair, less, is, and_from ((pair.target).0 == (pair.target).0) _ (test_of _ _ refl) (test_of _ _ refl));
+            (i, pair, less, is, and_from ((pair.target).0 == (pair.target).0) _ (eq-eqb _ _ refl) (eq-eqb _ _ refl));
         depended_due = can_be_due law plan on number (pair.depended).0 both.1 (orders.depended_due number times);
         target_due = can_be_due law plan on number (pair.target).0 both.0 (orders.target_due number times);
         orders = orders;

@@ -1,6 +1,6 @@
 -- Jobs in key order: each job of a list comes before, or after, each other one.
 use Rattle.std.proofs.Common.{◌≡◌, ◌⊎◌, inl, inr, ℕ, ◌==◌, nat_lt, List, [], ◌∷◌, false, IsTrue, refl, subst, arith}
-use Rattle.std.proofs.lemmas.Bool.{and_from, and_parts, or_cases, or_left, or_right}
+use Rattle.std.proofs.lemmas.Bool.{and_from, and_parts, eq-eqb, or_cases, or_left, or_right}
 use Rattle.trick_lang.specs.declared.job.Job.{Job}
 use Rattle.trick_model.specs.Laws.{AreInKeyOrder, IsBefore, is_among}
 use Rattle.trick_model.specs.Order.{is_below, key, precedes}
@@ -47,9 +47,6 @@ not_both jobs a b h g = not_itself jobs a (precedes_all jobs a b a h g)
 pub same_of : (a b : ℕ) → IsTrue (a == b) → a ≡ b
 same_of a b h = grind arith
 
-pub test_of : (a b : ℕ) → a ≡ b → IsTrue (a == b)
-test_of a b h = grind arith
-
 pub not_test : (a b : ℕ) → (a ≡ b → ⊥) → (a == b) ≡ false
 not_test a b h = grind arith
 
@@ -61,7 +58,7 @@ pub among_rest : (k j : ℕ) (ks : List ℕ) → IsTrue (is_among k ks) → IsTr
 among_rest k j ks h = or_right (j == k) _ h
 
 pub among_first : (k : ℕ) (ks : List ℕ) → IsTrue (is_among k (k ∷ ks))
-among_first k ks = or_left (k == k) _ (test_of k k refl)
+among_first k ks = or_left (k == k) _ (eq-eqb k k refl)
 
 pub none_among : (k : ℕ) → IsTrue (is_among k []) → ⊥
 none_among k h = cc

@@ -5,6 +5,7 @@ use Rattle.std.proofs.lemmas.Bool.{cases_eq, cases_lt}
 use Rattle.std.proofs.lemmas.List.{get_or_past, length-set}
 use Rattle.std.specs.Option.{option_to_list}
 use Rattle.std.specs.Prelude.{ℤ, slice_set}
+use Rattle.trick_base.proofs.Truths.{no_two_absurdities}
 use Rattle.trick_lang.specs.declared.fault.JobFault.{JobFault}
 use Rattle.trick_model.specs.Acceptance.{AreIndependent}
 use Rattle.trick_model.specs.Laws.{is_among}
@@ -58,9 +59,6 @@ is_due_in t stages k order due = sym (order.due k) ∙ due
 
 -- ---- independent jobs
 
-pub no_two : (a b : ⊥) → a ≡ b
-no_two a b = absurd a
-
 -- a due job that is not committed, and a taken one of larger key, are independent
 pub ordered_apart : (t : Tic) (stages : List Stage) (a b : ℕ) → IsRight t → IsInOrder t stages → IsTrue (precedes t.plan.jobs a b)
     → IsDueIn t a → IsTrue (is_taken (stage_at stages b)) → (IsTrue (is_done (stage_at stages a)) → ⊥) → AreIndependent t.plan a b
@@ -97,9 +95,9 @@ ordered_apart t stages a b right order first due taken out = elim (cases_eq (thr
 
     by_law : ∥ AreIndependent t.plan a b ⊎ AreOrdered t a b ∥₁ → AreIndependent t.plan a b
     by_law h = record {
-      from = λ c x y. ∥∥₁_elim h no_two (λ (s : AreIndependent t.plan a b ⊎ AreOrdered t a b). (independent s).from c x y);
-      to = λ c x y. ∥∥₁_elim h no_two (λ (s : AreIndependent t.plan a b ⊎ AreOrdered t a b). (independent s).to c x y);
-      both = λ c x y. ∥∥₁_elim h no_two (λ (s : AreIndependent t.plan a b ⊎ AreOrdered t a b). (independent s).both c x y);
+      from = λ c x y. ∥∥₁_elim h no_two_absurdities (λ (s : AreIndependent t.plan a b ⊎ AreOrdered t a b). (independent s).from c x y);
+      to = λ c x y. ∥∥₁_elim h no_two_absurdities (λ (s : AreIndependent t.plan a b ⊎ AreOrdered t a b). (independent s).to c x y);
+      both = λ c x y. ∥∥₁_elim h no_two_absurdities (λ (s : AreIndependent t.plan a b ⊎ AreOrdered t a b). (independent s).both c x y);
     }
 
 -- two jobs in flight are independent

@@ -1,6 +1,6 @@
 -- The ranges of what lines say of the run and of its threads.
-use Rattle.std.proofs.Common.{rules, ◌≡◌, ℕ, zero, suc, ◌+◌, ◌≤◌, ◌<◌, ◌==◌, ◌&&◌, Bool, true, false, nat_lt, nat_le, List, [], ◌∷◌, ◌++◌, All, Option, Some, None, Ok, unwrap_or, refl, subst, arith, if◌then◌else◌}
-use Rattle.std.proofs.lemmas.Bool.{and_parts}
+use Rattle.std.proofs.Common.{◌≡◌, ℕ, zero, suc, ◌+◌, ◌≤◌, ◌==◌, ◌&&◌, Bool, true, false, nat_lt, nat_le, List, [], ◌∷◌, ◌++◌, All, Option, Some, None, Ok, unwrap_or, refl, subst, arith, if◌then◌else◌}
+use Rattle.std.proofs.lemmas.Bool.{and_parts, leb-true, ltb-true}
 use Rattle.std.specs.Option.{ForSome}
 use Rattle.trick_input.specs.declared.call.Call.{Call}
 use Rattle.trick_input.specs.declared.call.Form.{Form}
@@ -11,12 +11,6 @@ use Rattle.trick_model.specs.Valid.{IsCycle, IsFrame}
 use Rattle.trick_settings.proofs.Lists.{Each, each_all}
 use Rattle.trick_settings.specs.Settings.{cycle_said, frame_of, frame_said, is_frame, later, latest, limit_of, limit_said, setting_of, settings_below, settings_by_number}
 use Rattle.trick_threads.specs.Threads.{HasCycle}
-
-less : (a b : ℕ) → nat_lt a b ≡ true → a < b
-less a b e = search rules
-
-at_most : (a b : ℕ) → nat_le a b ≡ true → a ≤ b
-at_most a b e = search rules
 
 -- what may be said of a value that is there
 abbrev IfThere : {A : Type 0} → (A → Type 0) → Option A → Type 0
@@ -50,8 +44,8 @@ or_else P (Some x) d there default = there
 frame_is : (tics : ℕ) → is_frame tics ≡ true → IsFrame tics
 frame_is tics e =
     let parts = and_parts (nat_lt 0 tics) (nat_le tics 1000000000) e in
-    let some = less 0 tics parts.0 in
-    let few = at_most tics 1000000000 parts.1 in
+    let some = ltb-true 0 tics parts.0 in
+    let few = leb-true tics 1000000000 parts.1 in
     record { some = omega (arith, some); in_range = omega (arith, few) }
 
 frame_fits : (f : Form) → IfThere IsFrame (frame_said f)
@@ -73,7 +67,7 @@ limit_fits : (f : Form) → IfThere IsLimit (limit_said f)
 limit_fits (form.Run (run.Stop (Ok tics))) = by (nat_le tics tic_limit) refl
   where
     by : (b : Bool) → nat_le tics tic_limit ≡ b → IfThere IsLimit (let none : Option ℕ = None in if b then Some (tics + 1) else none)
-    by true e = let few = at_most tics tic_limit e in omega (arith, few)
+    by true e = let few = leb-true tics tic_limit e in omega (arith, few)
     by false e = tt
 limit_fits other = tt
 
@@ -90,8 +84,8 @@ cycle_fits number (form.Run (run.AmfCycle thread (Ok tics))) = by ((thread == nu
     by true e =
         let parts = and_parts (thread == number) (nat_lt 0 tics && nat_le tics tic_limit) e in
         let rest = and_parts (nat_lt 0 tics) (nat_le tics tic_limit) parts.1 in
-        let some = less 0 tics rest.0 in
-        let few = at_most tics tic_limit rest.1 in
+        let some = ltb-true 0 tics rest.0 in
+        let few = leb-true tics tic_limit rest.1 in
         record { some = omega (arith, some); in_range = few }
     by false e = tt
 cycle_fits number other = tt

@@ -1,6 +1,6 @@
 -- What a plan keeps of its threads.
-use Rattle.std.proofs.Common.{rules, ◌≡◌, ◌∙◌, ℕ, zero, suc, ◌+◌, ◌≤◌, ◌<◌, ◌==◌, ◌&&◌, ◌||◌, Bool, true, false, nat_eq, nat_lt, nat_le, List, [], ◌∷◌, length, filter, cond, All, IsTrue, Option, Some, None, is_some, unwrap_or, slice_index_or, refl, sym, ap, arith}
-use Rattle.std.proofs.lemmas.Bool.{and_parts}
+use Rattle.std.proofs.Common.{rules, ◌≡◌, ℕ, zero, suc, ◌+◌, ◌≤◌, ◌<◌, ◌==◌, ◌||◌, Bool, true, false, nat_eq, nat_lt, nat_le, List, [], ◌∷◌, length, filter, cond, All, IsTrue, Option, Some, None, is_some, unwrap_or, slice_index_or, refl, sym, arith}
+use Rattle.std.proofs.lemmas.Bool.{and_from, and_parts, eq-eqb, eqb-true, leb-true, lt-ltb, or_left, or_right}
 use Rattle.std.proofs.lemmas.List.Elements.{filter_passes}
 use Rattle.std.specs.List.{list_all, list_any}
 use Rattle.std.specs.Option.{ForSome}
@@ -15,33 +15,8 @@ use Rattle.trick_threads.proofs.Order.{Each, all_each, each_all}
 use Rattle.trick_threads.specs.Threads.{AreThreads, HasCycle, thread_of, threads_from, threads_of}
 use Rattle.trick_threads.specs.declared.setting.Setting.{Setting}
 
-lt_true : (a b : ℕ) → a < b → nat_lt a b ≡ true
-lt_true a b h = search rules
-
-le : (a b : ℕ) → nat_le a b ≡ true → a ≤ b
-le a b e = search rules
-
-eq_true : (a b : ℕ) → a ≡ b → nat_eq a b ≡ true
-eq_true a b h = search rules
-
-same : (a b : ℕ) → nat_eq a b ≡ true → a ≡ b
-same a b e = search rules
-
 other : (a b : ℕ) → nat_eq a b ≡ false → a ≡ b → ⊥
 other a b e h = search rules
-
-or_true : (a : Bool) → (a || true) ≡ true
-or_true true = refl
-or_true false = refl
-
-second : (a b : Bool) → b ≡ true → (a || b) ≡ true
-second a b h = ap (λ (x : Bool). a || x) h ∙ or_true a
-
-first : (a b : Bool) → a ≡ true → (a || b) ≡ true
-first a b h = ap (λ (x : Bool). x || b) h
-
-both : (a b : Bool) → a ≡ true → b ≡ true → (a && b) ≡ true
-both a b x y = rw x y
 
 -- ---- filters
 
@@ -69,7 +44,7 @@ rise_filter p (x ∷ xs) h = by (p x) (rise_filter p xs h.1)
 rises_of : (xs : List Thread) → Rise xs → rises (thread_numbers xs) ≡ true
 rises_of [] h = refl
 rises_of (x ∷ []) h = refl
-rises_of (x ∷ y ∷ ys) h = both (nat_lt x.number y.number) (rises (thread_numbers (y ∷ ys))) (lt_true x.number y.number h.0.0) (rises_of (y ∷ ys) h.1)
+rises_of (x ∷ y ∷ ys) h = and_from (nat_lt x.number y.number) (rises (thread_numbers (y ∷ ys))) (lt-ltb x.number y.number h.0.0) (rises_of (y ∷ ys) h.1)
 
 -- ---- all numbers
 
@@ -116,8 +91,8 @@ module _ (frame : ℕ) where
 
       by : (b : Bool) → nat_eq n t ≡ b → (c : Bool) → p (thread_of frame n s) ≡ c → (suc n ≤ t → has_thread (filter p (threads_from frame (suc n) ss)) t ≡ true)
           → has_thread (cond (p (thread_of frame n s)) (thread_of frame n s ∷ filter p (threads_from frame (suc n) ss)) (filter p (threads_from frame (suc n) ss))) t ≡ true
-      by true e c f later = rw (passes (thread_of frame n s) (same n t e)) (first (nat_eq n t) (has_thread (filter p (threads_from frame (suc n) ss)) t) e)
-      by false e true f later = rw f (second (nat_eq n t) (has_thread (filter p (threads_from frame (suc n) ss)) t) (later (behind e)))
+      by true e c f later = rw (passes (thread_of frame n s) (eqb-true n t e)) (or_left (nat_eq n t) (has_thread (filter p (threads_from frame (suc n) ss)) t) e)
+      by false e true f later = rw f (or_right (nat_eq n t) (has_thread (filter p (threads_from frame (suc n) ss)) t) (later (behind e)))
         where
           behind : nat_eq n t ≡ false → suc n ≤ t
           behind g = let apart = other n t g in omega (arith, low, apart)
@@ -130,12 +105,12 @@ module _ (frame : ℕ) where
 
 some_job : (number : ℕ) (jobs : List Job) (k : ℕ) (d : Job) → k < length jobs → (slice_index_or jobs k d).thread ≡ number → list_any (λ (job : Job). job.thread == number) jobs ≡ true
 some_job number [] k d lt e = absurd (omega (arith, lt))
-some_job number (x ∷ xs) zero d lt e = first (x.thread == number) (list_any (λ (job : Job). job.thread == number) xs) (eq_true x.thread number e)
-some_job number (x ∷ xs) (suc k) d lt e = second (x.thread == number) (list_any (λ (job : Job). job.thread == number) xs) (some_job number xs k d (omega (arith, lt)) e)
+some_job number (x ∷ xs) zero d lt e = or_left (x.thread == number) (list_any (λ (job : Job). job.thread == number) xs) (eq-eqb x.thread number e)
+some_job number (x ∷ xs) (suc k) d lt e = or_right (x.thread == number) (list_any (λ (job : Job). job.thread == number) xs) (some_job number xs k d (omega (arith, lt)) e)
 
 job_limit : (jobs : List Job) (k : ℕ) (d : Job) → k < length jobs → list_all (λ (job : Job). nat_le job.thread 15) jobs ≡ true → (slice_index_or jobs k d).thread ≤ 15
 job_limit [] k d lt h = absurd (omega (arith, lt))
-job_limit (x ∷ xs) zero d lt h = le x.thread 15 (and_parts (nat_le x.thread 15) (list_all (λ (job : Job). nat_le job.thread 15) xs) h).0
+job_limit (x ∷ xs) zero d lt h = leb-true x.thread 15 (and_parts (nat_le x.thread 15) (list_all (λ (job : Job). nat_le job.thread 15) xs) h).0
 job_limit (x ∷ xs) (suc k) d lt h = job_limit xs k d (omega (arith, lt)) (and_parts (nat_le x.thread 15) (list_all (λ (job : Job). nat_le job.thread 15) xs) h).1
 
 module _ (jobs : List Job) (frame : ℕ) where
@@ -145,8 +120,8 @@ module _ (jobs : List Job) (frame : ℕ) where
 
   there : (k : ℕ) (d : Job) → k < length jobs → (thread : Thread) → thread.number ≡ (slice_index_or jobs k d).thread → is_there jobs thread ≡ true
   there k d lt thread e =
-      second (thread.number == 0) (thread.named || has_job jobs thread)
-      (second thread.named (has_job jobs thread) (some_job thread.number jobs k d lt (sym e)))
+      or_right (thread.number == 0) (thread.named || has_job jobs thread)
+      (or_right thread.named (has_job jobs thread) (some_job thread.number jobs k d lt (sym e)))
 
   -- what the threads of a plan keep
   pub facts : (settings : List Setting) → IsFrame frame → length settings ≡ 16 → All HasCycle settings → IsTrue (have_right_threads jobs) → AreThreads jobs (threads_of jobs frame settings)

@@ -1,7 +1,8 @@
 -- The keys of jobs.
-use Rattle.std.proofs.Common.{rules, ◌≡◌, ◌∙◌, ℕ, zero, suc, ◌+◌, ◌*◌, ◌^◌, ◌≤◌, ◌<◌, ◌==◌, ◌&&◌, ◌||◌, not, Bool, true, false, nat_eq, nat_lt, List, [], ◌∷◌, length, refl, sym, ap, ap₂, arith}
-use Rattle.std.proofs.lemmas.Bool.{and_parts}
+use Rattle.std.proofs.Common.{rules, ◌≡◌, ◌∙◌, ℕ, zero, suc, ◌+◌, ◌*◌, ◌^◌, ◌≤◌, ◌<◌, ◌==◌, ◌&&◌, ◌||◌, not, Bool, true, false, nat_lt, List, [], ◌∷◌, length, refl, sym, ap, ap₂, arith}
+use Rattle.std.proofs.lemmas.Bool.{and_parts, eq-eqb, lt-ltb, ltb-true}
 use Rattle.std.specs.List.{list_all}
+use Rattle.trick_base.proofs.Numbers.{other_than_less}
 use Rattle.trick_lang.specs.Names.{are_apart, of_one_number}
 use Rattle.trick_lang.specs.declared.job.Job.{Job}
 use Rattle.trick_model.specs.Order.{is_below, key, rank}
@@ -10,45 +11,30 @@ use Rattle.trick_threads.specs.Keys.{HasSmallKey, key_number}
 
 -- ---- one number for each key
 
-lt_true : (a b : ℕ) → a < b → nat_lt a b ≡ true
-lt_true a b h = search rules
-
 lt_false : (a b : ℕ) → b ≤ a → nat_lt a b ≡ false
 lt_false a b h = search rules
 
-up : (a b : ℕ) → nat_lt a b ≡ true → a < b
-up a b e = search rules
-
 down : (a b : ℕ) → nat_lt a b ≡ false → b ≤ a
 down a b e = search rules
-
-eq_true : (a b : ℕ) → a ≡ b → nat_eq a b ≡ true
-eq_true a b h = search rules
-
-eq_false : (a b : ℕ) → b < a → nat_eq a b ≡ false
-eq_false a b h = search rules
-
-pub same : (a b : ℕ) → nat_eq a b ≡ true → a ≡ b
-same a b e = search rules
 
 -- Of two sums the first parts decide, where they differ, and then the rest.
 level : (a x m n u v : ℕ) → (a < x → m + u < n + v) → (x < a → n + v ≤ m + u) → (a ≡ x → m ≡ n) → (nat_lt a x || ((a == x) && nat_lt u v)) ≡ nat_lt (m + u) (n + v)
 level a x m n u v less more equal = by (nat_lt a x) refl (nat_lt x a) refl
   where
     by : (s : Bool) → nat_lt a x ≡ s → (t : Bool) → nat_lt x a ≡ t → (nat_lt a x || ((a == x) && nat_lt u v)) ≡ nat_lt (m + u) (n + v)
-    by true e t f = let h = less (up a x e) in rw (e, lt_true (m + u) (n + v) h)
+    by true e t f = let h = less (ltb-true a x e) in rw (e, lt-ltb (m + u) (n + v) h)
     by false e true f =
-        let g = up x a f in
+        let g = ltb-true x a f in
         let h = more g in
-        rw (e, eq_false a x g, lt_false (m + u) (n + v) h)
+        rw (e, other_than_less a x g, lt_false (m + u) (n + v) h)
     by false e false f =
         let i = down a x e in
         let j = down x a f in
         let one : a ≡ x = omega (arith, i, j) in
-        rw (e, eq_true a x one) (rest (nat_lt u v) refl (equal one))
+        rw (e, eq-eqb a x one) (rest (nat_lt u v) refl (equal one))
       where
         rest : (w : Bool) → nat_lt u v ≡ w → m ≡ n → nat_lt u v ≡ nat_lt (m + u) (n + v)
-        rest true g is = let h = up u v g in rw (g, lt_true (m + u) (n + v) (omega (arith, h, is)))
+        rest true g is = let h = ltb-true u v g in rw (g, lt-ltb (m + u) (n + v) (omega (arith, h, is)))
         rest false g is = let h = down u v g in rw (g, lt_false (m + u) (n + v) (omega (arith, h, is)))
 
 last : (b c : Bool) → (b || (c && false)) ≡ b
@@ -57,7 +43,7 @@ last false true = refl
 last false false = refl
 
 no_rank : (r s : ℕ) (x : Bool) → r ≡ s → (nat_lt r s || ((r == s) && x)) ≡ x
-no_rank r s x h = rw (lt_false r s (omega (arith, h)), eq_true r s h) refl
+no_rank r s x h = rw (lt_false r s (omega (arith, h)), eq-eqb r s h) refl
 
 object_below : (o t n m : ℕ) → n < 4294967296 → m < 4294967296
     → (nat_lt o t || ((o == t) && (nat_lt n m || ((n == m) && false)))) ≡ nat_lt (o * 4294967296 + n) (t * 4294967296 + m)
@@ -100,8 +86,8 @@ neither : (p q : ℕ) → (p < q → ⊥) → (q < p → ⊥) → p ≡ q
 neither p q less more = by (nat_lt p q) refl (nat_lt q p) refl
   where
     by : (s : Bool) → nat_lt p q ≡ s → (t : Bool) → nat_lt q p ≡ t → p ≡ q
-    by true e t f = absurd (less (up p q e))
-    by false e true f = absurd (more (up q p f))
+    by true e t f = absurd (less (ltb-true p q e))
+    by false e true f = absurd (more (ltb-true q p f))
     by false e false f = omega (arith, down p q e, down q p f)
 
 -- the parts of equal numbers
@@ -129,7 +115,7 @@ never true h g = cc
 never false h g = cc
 
 alike : (a b : Job) → a.object ≡ b.object → a.number ≡ b.number → of_one_number a b ≡ true
-alike a b p q = rw (eq_true a.object b.object p, eq_true a.number b.number q) refl
+alike a b p q = rw (eq-eqb a.object b.object p, eq-eqb a.number b.number q) refl
 
 -- No two jobs of a program have one object and one number.
 pub one_place : (jobs : List Job) → are_apart of_one_number jobs ≡ true → (a b : ℕ) → a < length jobs → b < length jobs

@@ -1,8 +1,10 @@
 -- Two orders of the same items by rising keys are one.
 use Rattle.std.proofs.Common.{rules, ◌≡◌, ℕ, zero, suc, ◌+◌, ◌≤◌, ◌<◌, Bool, true, false, nat_eq, nat_lt, List, [], ◌∷◌, length, map, All, slice_index_or, if◌then◌else◌, refl, sym, ap, ap₂, arith}
+use Rattle.std.proofs.lemmas.Bool.{ltb-true}
 use Rattle.std.specs.List.{fold}
 use Rattle.std.specs.List.Sorted.{IsNonDecreasingBy, IsPermutation}
 use Rattle.std.proofs.lemmas.List.Sorted.{sum_by-IsPermutation}
+use Rattle.trick_base.proofs.Numbers.{equal_to_itself, other_than_less}
 
 -- each item has the property
 abbrev pub Each : {X : Type 0} → (X → Type 0) → List X → Type 0
@@ -22,15 +24,6 @@ all_each P (x ∷ xs) h = (h 0 x (omega arith), all_each P xs (λ k d lt. h (suc
 
 abbrev pub hit : ℕ → ℕ → ℕ
 hit k n = if nat_eq n k then 1 else 0
-
-not_same : (a b : ℕ) → b < a → nat_eq a b ≡ false
-not_same a b h = search rules
-
-same_one : (a : ℕ) → nat_eq a a ≡ true
-same_one a = search rules
-
-up : (m n : ℕ) → nat_lt m n ≡ true → m < n
-up m n e = search rules
 
 down : (m n : ℕ) → nat_lt m n ≡ false → n ≤ m
 down m n e = search rules
@@ -63,10 +56,10 @@ module _ {X : Type 0} (key : X → ℕ) where
   hits_none k m [] h p = refl
   hits_none k m (y ∷ ys) h p =
       let q : k < key y = omega (arith, p, h.0) in
-      rw (not_same (key y) k q) (omega (arith, hits_none k m ys h.1 p))
+      rw (other_than_less (key y) k q) (omega (arith, hits_none k m ys h.1 p))
 
   hits_first : (x : X) (xs : List X) → 1 ≤ hits (key x) (x ∷ xs)
-  hits_first x xs = rw (same_one (key x)) (omega arith)
+  hits_first x xs = rw (equal_to_itself (key x)) (omega arith)
 
   never_below : (x y : X) (xs ys : List X) → Least (key y) ys → hits (key x) (x ∷ xs) ≡ hits (key x) (y ∷ ys) → key x < key y → ⊥
   never_below x y xs ys l e p =
@@ -81,8 +74,8 @@ module _ {X : Type 0} (key : X → ℕ) where
       by (nat_lt (key x) (key y)) refl (nat_lt (key y) (key x)) refl a b
     where
       by : (p : Bool) → nat_lt (key x) (key y) ≡ p → (q : Bool) → nat_lt (key y) (key x) ≡ q → (key x < key y → ⊥) → (key y < key x → ⊥) → key x ≡ key y
-      by true e q f a b = absurd (a (up _ _ e))
-      by false e true f a b = absurd (b (up _ _ f))
+      by true e q f a b = absurd (a (ltb-true _ _ e))
+      by false e true f a b = absurd (b (ltb-true _ _ f))
       by false e false f a b = omega (arith, down _ _ e, down _ _ f)
 
   pub same_keys : (xs ys : List X) → Rising xs → Rising ys → ((k : ℕ) → hits k xs ≡ hits k ys) → map key xs ≡ map key ys

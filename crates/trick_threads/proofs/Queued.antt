@@ -1,5 +1,6 @@
 -- The jobs of a class, put in order.
 use Rattle.std.proofs.Common.{rules, ◌≡◌, ◌∙◌, ℕ, suc, ◌+◌, ◌≤◌, ◌<◌, Bool, true, false, nat_lt, List, [], ◌∷◌, length, map, filter, cond, All, refl, sym, ap, subst, arith}
+use Rattle.std.proofs.lemmas.Bool.{eqb-true, ltb-true}
 use Rattle.std.proofs.lemmas.List.Sorted.{All-permutation}
 use Rattle.std.specs.List.Sorted.{IsNonDecreasingBy, IsPermutation}
 use Rattle.trick_lang.specs.Names.{are_apart, of_one_number}
@@ -7,13 +8,10 @@ use Rattle.trick_lang.specs.declared.class.Class.{Class}
 use Rattle.trick_lang.specs.declared.job.Job.{Job}
 use Rattle.trick_model.specs.Order.{in_key_order, is_of_class, jobs_in, precedes, put_in, rank}
 use Rattle.trick_model.specs.Plan.{job_at, no_job, numbers_from}
-use Rattle.trick_threads.proofs.Jobs.{below_is, one_place, same, same_parts}
+use Rattle.trick_threads.proofs.Jobs.{below_is, one_place, same_parts}
 use Rattle.trick_threads.proofs.Order.{Each, Least, Rising, all_each, each_all, hit, hits, rising, same_hits, same_items, same_keys}
 use Rattle.trick_threads.specs.Keys.{HasSmallKey, entry_of, jobs_of, key_number, key_of, numbers_of}
 use Rattle.trick_threads.specs.declared.queue.Entry.{Entry}
-
-up : (a b : ℕ) → nat_lt a b ≡ true → a < b
-up a b e = search rules
 
 down : (a b : ℕ) → nat_lt a b ≡ false → b ≤ a
 down a b e = search rules
@@ -77,8 +75,8 @@ module _ (jobs : List Job) (class : Class) (small : All HasSmallKey jobs) where
 
   precedes_is : (a b : ℕ) → Member a → Member b → precedes jobs a b ≡ nat_lt (key_of (entry_of jobs a)) (key_of (entry_of jobs b))
   precedes_is a b m n =
-      let p : rank (job_at jobs a).class ≡ rank class = same (rank (job_at jobs a).class) (rank class) m.1 in
-      let q : rank (job_at jobs b).class ≡ rank class = same (rank (job_at jobs b).class) (rank class) n.1 in
+      let p : rank (job_at jobs a).class ≡ rank class = eqb-true (rank (job_at jobs a).class) (rank class) m.1 in
+      let q : rank (job_at jobs b).class ≡ rank class = eqb-true (rank (job_at jobs b).class) (rank class) n.1 in
       below_is (job_at jobs a) (job_at jobs b) (p ∙ sym q) (small a no_job m.0) (small b no_job n.0)
 
   least_put : (m k : ℕ) (xs : List ℕ) → m ≤ key_of (entry_of jobs k) → Least key_of m (map (entry_of jobs) xs) → Least key_of m (map (entry_of jobs) (put_in jobs k xs))
@@ -95,7 +93,7 @@ module _ (jobs : List Job) (class : Class) (small : All HasSmallKey jobs) where
     where
       by : (b : Bool) → precedes jobs k j ≡ b → Rising key_of (map (entry_of jobs) (put_in jobs k js)) → Rising key_of (map (entry_of jobs) (put_by jobs k j js b))
       by true e rest =
-          let less = up (key_of (entry_of jobs k)) (key_of (entry_of jobs j)) (sym (precedes_is k j m ms.0) ∙ e) in
+          let less = ltb-true (key_of (entry_of jobs k)) (key_of (entry_of jobs j)) (sym (precedes_is k j m ms.0) ∙ e) in
           let first : key_of (entry_of jobs k) ≤ key_of (entry_of jobs j) = omega (arith, less) in
           ((first, least_below (key_of (entry_of jobs k)) (key_of (entry_of jobs j)) (map (entry_of jobs) js) first h.0), h)
       by false e rest =

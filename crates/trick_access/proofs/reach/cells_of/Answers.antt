@@ -1,6 +1,7 @@
 use Rattle.std.proofs.Common.{◌≡◌, ◌||◌, None, Result, Ok, Err, IfOk, length, ap, ap₂, sym, subst, ◌∙◌, arith}
+use Rattle.std.proofs.Math.Bool.{or-false}
 use Rattle.std.proofs.lemmas.List.{length-replicate}
-use Rattle.trick_access.proofs.Ends.{none_reached, or_false}
+use Rattle.trick_access.proofs.Ends.{none_reached}
 use Rattle.trick_access.proofs.There.{body_there, cells_there}
 use Rattle.trick_access.proofs.Spans.{are_cells}
 use Rattle.trick_access.proofs.reach.cells_of.Goals as goal
@@ -36,4 +37,4 @@ returns c =
     ∙ ap₂ (λ s t. s || t)
     (ap₂ (λ b k. is_in (block_cells way b codes k) q) c.base-base.ensures c.body-block.ensures)
     (ap (λ e. is_reached e q) c.in_ok-ends.ensures ∙ none_reached c.len.result q)
-    ∙ or_false (is_in given q))))
+    ∙ or-false (is_in given q))))

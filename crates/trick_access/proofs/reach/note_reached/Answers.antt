@@ -1,6 +1,7 @@
 use Rattle.std.proofs.Common.{◌≡◌, ◌+◌, ◌||◌, suc, true, false, length, slice_set, refl, ap, ap₂, sym, subst, ◌∙◌, arith}
+use Rattle.std.proofs.Math.Bool.{or-false}
 use Rattle.std.proofs.lemmas.List.{length-set, length-replicate}
-use Rattle.trick_access.proofs.Ends.{noted_length, noted_reached, or_false, or_turn}
+use Rattle.trick_access.proofs.Ends.{noted_length, noted_reached, or_turn}
 use Rattle.trick_access.proofs.Marks.{passed_in}
 use Rattle.trick_access.proofs.There.{block_is}
 use Rattle.trick_access.proofs.Reached.{marks_length, pass_begin, pass_marked}
@@ -66,5 +67,5 @@ pub returns-clause-reached : goal.returns-clause-reached
 returns-clause-reached c = λ q h.
     let f = block_cells c.args.way c.args.base (codes_of c.args.program.now.blocks) in
     let ends = c.loop-marked.ends in
-    sym (ap (λ t. is_reached ends q || t) (passed_in c.loop-marked.left 0 c.loop-marked.marks f q (omega arith) c.in_default.ensures) ∙ or_false (is_reached ends q))
+    sym (ap (λ t. is_reached ends q || t) (passed_in c.loop-marked.left 0 c.loop-marked.marks f q (omega arith) c.in_default.ensures) ∙ or-false (is_reached ends q))
     ∙ c.loop-marked.invariant.told q h

@@ -1,7 +1,7 @@
 use Rattle.std.proofs.Common.{◌+◌, ◌||◌, false, drop, get_or, ap, sym, ◌∙◌, arith}
 use Rattle.std.proofs.Math.ListN.{drop_of_length-le}
+use Rattle.trick_base.proofs.ListLemmas.{next_item}
 use Rattle.trick_check.proofs.walk.used_classes.Goals as goal
-use Rattle.trick_check.proofs.Lists.{from_here}
 use Rattle.trick_check.proofs.Used.{or_none}
 use Rattle.trick_check.specs.Walk.{has_object}
 
@@ -9,7 +9,7 @@ pub loop-object-preserved : goal.loop-object-preserved
 loop-object-preserved c =
     let os = c.args.objects.now in
     let i = c.loop-object.object-index in
-    let next = from_here os i c.object-item.result c.loop-object-test.true c.object-item.is in
+    let next = next_item os i c.object-item.result c.loop-object-test.true c.object-item.is in
     let old = c.loop-object.used.items in
     record {
       many = c.mark.ensures.many ∙ c.loop-object.invariant.many;

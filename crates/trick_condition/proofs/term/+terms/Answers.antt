@@ -1,9 +1,10 @@
 use Rattle.std.proofs.Common.{rules, ◌≡◌, ◌+◌, ◌||◌, [], ◌∷◌, false, drop, List, Err, Ok, ap, sym, ◌∙◌, subst, arith}
+use Rattle.std.proofs.lemmas.Bool.{or_from}
 use Rattle.std.proofs.lemmas.List.{drop_all, drop_more}
 use Rattle.std.proofs.lemmas.Result.{err_from_is_err_and}
+use Rattle.trick_base.proofs.ListLemmas.{next_item}
 use Rattle.trick_blocks.proofs.Build.{choices_after, choices_done, choices_grown, choices_heavy, choices_weight, links_after, links_done, links_grown}
-use Rattle.trick_condition.proofs.Lists.{from_here}
-use Rattle.trick_condition.proofs.Resolved.{choices_fail, last_fails, links_fail, neither, parts_fail, place_resolves, test_fails, value_fails}
+use Rattle.trick_condition.proofs.Resolved.{choices_fail, last_fails, links_fail, parts_fail, place_resolves, test_fails, value_fails}
 use Rattle.trick_blocks.proofs.Weights.{expression_weight, link_weight}
 use Rattle.trick_condition.proofs.term.+terms.Goals as goal
 use Rattle.trick_condition.specs.Conditions.{choice_terms, choices_unknown, has_unknown, link_terms, links_unknown, term}
@@ -83,7 +84,7 @@ resolve-returns-in_ok-new-in-Chain t c =
     let boxed : c.in_ok-new-in-Chain.field-0.value ≡ begin = search rules in
     let first : Resolves known one (Ok begin) = subst (λ (e : Expr). Resolves known (text.expression_of e) (Ok begin)) c.deref-in-Chain.ensures c.in_ok-begin-in-Chain.ensures in
     let rest : ResolvesLinks known links (Ok more) = subst (λ (ls : List Link). ResolvesLinks known (text.links_of_list ls) (Ok more)) c.deref-in-Chain-2.ensures.value c.in_ok-more-in-Chain.ensures in (
-      ap (has_unknown known) is ∙ neither (has_unknown known one) (links_unknown known links) first.0 rest.0,
+      ap (has_unknown known) is ∙ or_from (has_unknown known one) (links_unknown known links) first.0 rest.0,
       built.chain_is c.in_ok-new-in-Chain.field-0 more
           ∙ (ap (λ e. Tree.Chain e (tree.links_of_list more.items)) (ap tree.term_of boxed ∙ first.1)
           ∙ (ap (Tree.Chain (term known one)) rest.1 ∙ ap (term known) (sym is))),
@@ -133,7 +134,7 @@ resolve_links-loop-link-preserved t c =
     let i = c.loop-link.link-index in
     let item = c.link-item.result in
     let out = c.loop-link.out.items in
-    let next = ap text.links_of_list (from_here xs i item c.loop-link-test.true c.link-item.is) in
+    let next = ap text.links_of_list (next_item xs i item c.loop-link-test.true c.link-item.is) in
     let heavy = ap link_weight next in
     let rest = text.links_of_list (drop (i + 1) xs) in
     let more = link_terms known rest in
@@ -164,7 +165,7 @@ resolve_choices-returns-in_err-test t c =
     let xs = c.args.choices.now in
     let i = c.loop-choice.choice-index in
     let item = c.choice-item.result in
-    let next = from_here xs i item c.loop-choice-test.true c.choice-item.is in
+    let next = next_item xs i item c.loop-choice-test.true c.choice-item.is in
     let p = err_from_is_err_and c.from_residual.result c.from_residual.ensures.1 in
     rw (p.1, p.2)
     (test_fails known xs (drop (i + 1) xs) item
@@ -177,7 +178,7 @@ resolve_choices-returns-in_err-value t c =
     let xs = c.args.choices.now in
     let i = c.loop-choice.choice-index in
     let item = c.choice-item.result in
-    let next = from_here xs i item c.loop-choice-test.true c.choice-item.is in
+    let next = next_item xs i item c.loop-choice-test.true c.choice-item.is in
     let p = err_from_is_err_and c.from_residual-in_err-value.result c.from_residual-in_err-value.ensures.1 in
     rw (p.1, p.2)
     (value_fails known xs (drop (i + 1) xs) item
@@ -191,7 +192,7 @@ resolve_choices-loop-choice-preserved t c =
     let i = c.loop-choice.choice-index in
     let item = c.choice-item.result in
     let out = c.loop-choice.out.items in
-    let next = from_here xs i item c.loop-choice-test.true c.choice-item.is in
+    let next = next_item xs i item c.loop-choice-test.true c.choice-item.is in
     let heavy = ap choices_weight next in
     record {
       made = λ last.

@@ -1,6 +1,7 @@
 use Rattle.std.proofs.Common.{◌≡◌, ◌+◌, ◌++◌, ◌∷◌, [], List, Err, Ok, ap, arith, drop, subst, sym, take}
 use Rattle.std.proofs.lemmas.List.{take_all}
 use Rattle.std.proofs.lemmas.Result.{err_from_is_err_and}
+use Rattle.trick_base.proofs.ListLemmas.{next_item}
 use Rattle.trick_draft.specs.Drafts.{begun}
 use Rattle.trick_draft.specs.Jobs.{Jobs, jobs_of}
 use Rattle.trick_draft.specs.Kept.{IsDraftOf}
@@ -8,7 +9,7 @@ use Rattle.trick_draft.specs.Laws.{KeepsDeeds}
 use Rattle.trick_draft.specs.declared.draft.Draft.{Draft}
 use Rattle.trick_lines.proofs.Going.{ends, left_at_first, left_behind, left_with}
 use Rattle.trick_lines.proofs.Keeping.{same_jobs}
-use Rattle.trick_lines.proofs.Rest.{from_here, rest_then, same_rest, up_to_here}
+use Rattle.trick_lines.proofs.Rest.{rest_then, same_rest, up_to_here}
 use Rattle.trick_lines.proofs.Staying.{one_more, stay_at_first, stay_with}
 use Rattle.trick_lines.proofs.lines.draft.Goals as goal
 use Rattle.trick_input.specs.declared.call.Call.{Call}
@@ -38,7 +39,7 @@ returns-in_err-add_line-clause-draft c =
     let call = c.call-item.result in
     let p = err_from_is_err_and c.from_residual-in_err-add_line.result c.from_residual-in_err-add_line.ensures.1 in
     let f = c.in_err-add_line.field-0.0 in
-    let next = from_here calls i call c.loop-call-test.true c.call-item.is in
+    let next = next_item calls i call c.loop-call-test.true c.call-item.is in
     let left = left_with (jobs_of first) c.args.settings.now calls (begun first) call (drop (i + 1) calls) (drop i calls)
     c.loop-call.draft next c.loop-call.invariant.left in
     let done : Answers (Drafted (jobs_of first) c.args.settings.now calls (begun first)) (Err f) =
@@ -54,7 +55,7 @@ loop-call-preserved c =
     let calls = c.args.calls.now in
     let i = c.loop-call.call-index in
     let call = c.call-item.result in
-    let next = from_here calls i call c.loop-call-test.true c.call-item.is in
+    let next = next_item calls i call c.loop-call-test.true c.call-item.is in
     let left = left_with (jobs_of first) c.args.settings.now calls (begun first) call (drop (i + 1) calls) (drop i calls)
     c.loop-call.draft next c.loop-call.invariant.left in
     let jobs = jobs_of first in

@@ -1,7 +1,7 @@
 use Rattle.std.proofs.Common.{◌≡◌, ◌+◌, drop, refl, sym, ap, subst, ◌∙◌, arith}
 use Rattle.trick_access.proofs.Loops.{links_next, steps_next}
 use Rattle.trick_access.proofs.Weights.{choice_weight, link_weight, spot_weight, step_weight, term_weight}
-use Rattle.trick_lang.proofs.Lists.{from_here}
+use Rattle.trick_base.proofs.ListLemmas.{next_item}
 use Rattle.trick_lang.proofs.TreeLists.{chain_is, choose_is, spot_is}
 use Rattle.trick_lang.specs.Access.{choice_reads, index_reads, link_reads, step_reads, term_reads}
 use Rattle.trick_lang.specs.TreeOf.{choices_of_list, links_of_list, spot_of, steps_of_list, term_of}
@@ -47,7 +47,7 @@ choices_read_some-loop-choice-preserved t c =
     let item = c.choice-item.result in
     let last = term_of c.args.last.now in
     let rest = choices_of_list (drop (i + 1) xs) last in
-    let next = ap (λ q. choices_of_list q last) (from_here xs i item c.loop-choice-test.true c.choice-item.is) in
+    let next = ap (λ q. choices_of_list q last) (next_item xs i item c.loop-choice-test.true c.choice-item.is) in
     let heavy = ap choice_weight next in
     let told = subst (λ q. has_some set (choice_reads q 0) ≡ has_some set (choice_reads (choices_of_list xs last) 0))
     next c.loop-choice.invariant.told in
@@ -66,7 +66,7 @@ choices_read_some-returns-then-tested t c =
     let i = c.loop-choice.choice-index in
     let item = c.choice-item.result in
     let last = term_of c.args.last.now in
-    let next = ap (λ q. choices_of_list q last) (from_here xs i item c.loop-choice-test.true c.choice-item.is) in
+    let next = ap (λ q. choices_of_list q last) (next_item xs i item c.loop-choice-test.true c.choice-item.is) in
     let told = subst (λ q. has_some set (choice_reads q 0) ≡ has_some set (choice_reads (choices_of_list xs last) 0))
     next c.loop-choice.invariant.told in
     some_here set (term_reads (term_of item.test) 0) _ _ c.reads_some-tested.result told c.reads_some-tested.ensures
@@ -80,7 +80,7 @@ choices_read_some-returns-then-chosen t c =
     let item = c.choice-item.result in
     let last = term_of c.args.last.now in
     let rest = choices_of_list (drop (i + 1) xs) last in
-    let next = ap (λ q. choices_of_list q last) (from_here xs i item c.loop-choice-test.true c.choice-item.is) in
+    let next = ap (λ q. choices_of_list q last) (next_item xs i item c.loop-choice-test.true c.choice-item.is) in
     let told = subst (λ q. has_some set (choice_reads q 0) ≡ has_some set (choice_reads (choices_of_list xs last) 0))
     next c.loop-choice.invariant.told in
     some_here set (term_reads (term_of item.value) 0) (choice_reads rest 0) _ c.reads_some-chosen.result

@@ -1,6 +1,6 @@
 use Rattle.std.proofs.Common.{◌≡◌, ◌+◌, max, drop, ap, sym, ◌∙◌, arith}
+use Rattle.trick_base.proofs.ListLemmas.{next_item}
 use Rattle.trick_base.specs.Capped.{capped}
-use Rattle.trick_lang.proofs.Lists.{from_here}
 use Rattle.trick_lang.specs.Count.{branch_steps, term_steps}
 use Rattle.trick_lang.specs.TreeOf.{branches_of, else_of, term_of}
 use Rattle.trick_steps.proofs.Capped.{branch_next}
@@ -9,7 +9,7 @@ use Rattle.trick_steps.specs.Steps.{count_at}
 
 pub loop-branch-preserved : goal.loop-branch-preserved
 loop-branch-preserved c =
-    let more = ap (λ xs. branch_steps (branches_of xs (else_of c.args.otherwise)) (count_at c.args.counts.now)) (from_here c.args.branches.now c.loop-branch.branch-index c.branch-item.result c.loop-branch-test.true c.branch-item.is) in
+    let more = ap (λ xs. branch_steps (branches_of xs (else_of c.args.otherwise)) (count_at c.args.counts.now)) (next_item c.args.branches.now c.loop-branch.branch-index c.branch-item.result c.loop-branch-test.true c.branch-item.is) in
     let tests = c.loop-branch.tests in
     let most = c.loop-branch.most in
     let item = c.branch-item.result in

@@ -2,7 +2,7 @@ use Rattle.std.proofs.Common.{◌≡◌, ◌+◌, [], drop, sym, ap, subst, ◌�
 use Rattle.std.proofs.Math.ListN.{drop_of_length-le}
 use Rattle.trick_access.proofs.Loops.{links_next, steps_next}
 use Rattle.trick_access.proofs.Weights.{choice_weight, link_weight, spot_weight, step_weight, term_weight}
-use Rattle.trick_lang.proofs.Lists.{from_here}
+use Rattle.trick_base.proofs.ListLemmas.{next_item}
 use Rattle.trick_lang.proofs.TreeLists.{chain_is, choose_is, spot_is}
 use Rattle.trick_lang.specs.Count.{choice_steps, computed_steps, index_steps, link_steps, term_steps}
 use Rattle.trick_lang.specs.TreeOf.{choices_of_list, links_of_list, spot_of, steps_of_list, term_of}
@@ -27,7 +27,7 @@ link_steps-returns t c =
 pub choice_steps-loop-choice-preserved : goal.choice_steps-loop-choice-preserved
 choice_steps-loop-choice-preserved t c =
     let last = term_of c.args.last.now in
-    let next = ap (λ q. choices_of_list q last) (from_here c.args.choices.now c.loop-choice.choice-index c.choice-item.result c.loop-choice-test.true c.choice-item.is) in
+    let next = ap (λ q. choices_of_list q last) (next_item c.args.choices.now c.loop-choice.choice-index c.choice-item.result c.loop-choice-test.true c.choice-item.is) in
     let more = ap choice_steps next in
     let heavy = ap choice_weight next in
     record {

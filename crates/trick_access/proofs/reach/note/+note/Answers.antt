@@ -1,7 +1,7 @@
 use Rattle.std.proofs.Common.{◌≡◌, ◌+◌, drop, sym, ap, subst, ◌∙◌, arith}
 use Rattle.trick_access.proofs.Ends.{note_next, noted_both}
-use Rattle.trick_lang.proofs.Lists.{from_here}
 use Rattle.trick_access.proofs.Loops.{links_next, steps_next}
+use Rattle.trick_base.proofs.ListLemmas.{next_item}
 use Rattle.trick_lang.proofs.TreeLists.{chain_is, choose_is, spot_is}
 use Rattle.trick_access.proofs.Weights.{choice_weight, link_weight, spot_weight, step_weight, term_weight}
 use Rattle.trick_access.proofs.reach.note.+note.Goals as goal
@@ -32,7 +32,7 @@ note_choices-loop-choice-preserved t c =
     let base = c.args.base in
     let last = term_of c.args.last.now in
     let rest = choices_of_list (drop (i + 1) xs) last in
-    let next = ap (λ q. choices_of_list q last) (from_here xs i item c.loop-choice-test.true c.choice-item.is) in
+    let next = ap (λ q. choices_of_list q last) (next_item xs i item c.loop-choice-test.true c.choice-item.is) in
     let heavy = ap choice_weight next in
     let told = subst (λ q. noted (choice_reads q base) c.loop-choice.ends ≡ noted (choice_reads (choices_of_list xs last) base) c.args.ends.now) next c.loop-choice.invariant.told in
     record {
