@@ -1,7 +1,6 @@
 -- Statements, branches and blocks that grow at their ends, and locals that are forgotten again.
 use Rattle.std.proofs.Common.{◌≡◌, ℕ, ◌++◌, List, [], ◌∷◌, length, take, Bool, true, false, if◌then◌else◌, is_some, refl, ap, sym, ◌∙◌}
-use Rattle.std.proofs.lemmas.List.{append_assoc}
-use Rattle.trick_blocks.proofs.Lists.{append_none}
+use Rattle.std.proofs.lemmas.List.{append-nil, append_assoc}
 use Rattle.trick_blocks.specs.Bodies.{Body, with_body, with_bodies}
 use Rattle.trick_blocks.specs.Codes.{after, after_all}
 use Rattle.trick_blocks.specs.Held.{bodies_of}
@@ -54,26 +53,26 @@ abbrev pub Begins : Names Local → Names Local → Type 0
 Begins locals all = (more : Names Local) × (all ≡ locals ++ more)
 
 by_test : (b : Bool) (locals more : Names Local) → Begins locals (if b then locals else locals ++ more)
-by_test true locals more = ([], sym (append_none locals))
+by_test true locals more = ([], sym (append-nil locals))
 by_test false locals more = (more, refl)
 
 pub known_begins : (name : Name) (x : Local) (locals : Names Local) → Begins locals (with_name name x locals)
 known_begins name x locals = by_test (is_some (meaning_of name locals)) locals ((name, x) ∷ [])
 
 pub after_begins : (s : Statement) (w : World) (locals : Names Local) → Begins locals (after s w locals)
-after_begins Empty w locals = ([], sym (append_none locals))
-after_begins (Block all) w locals = ([], sym (append_none locals))
+after_begins Empty w locals = ([], sym (append-nil locals))
+after_begins (Block all) w locals = ([], sym (append-nil locals))
 after_begins (Declare line written name value) w locals = known_begins name _ locals
-after_begins (Assign line p change) w locals = ([], sym (append_none locals))
-after_begins (If branches) w locals = ([], sym (append_none locals))
-after_begins (For name from bound body) w locals = ([], sym (append_none locals))
-after_begins (Call line name) w locals = ([], sym (append_none locals))
+after_begins (Assign line p change) w locals = ([], sym (append-nil locals))
+after_begins (If branches) w locals = ([], sym (append-nil locals))
+after_begins (For name from bound body) w locals = ([], sym (append-nil locals))
+after_begins (Call line name) w locals = ([], sym (append-nil locals))
 
 begins_then : (a b c : Names Local) → Begins a b → Begins b c → Begins a c
 begins_then a b c p q = (p.0 ++ q.0, q.1 ∙ (ap (λ xs. xs ++ q.0) p.1 ∙ append_assoc a p.0 q.0))
 
 pub all_begins : (all : Statements) (w : World) (locals : Names Local) → Begins locals (after_all all w locals)
-all_begins NoStatement w locals = ([], sym (append_none locals))
+all_begins NoStatement w locals = ([], sym (append-nil locals))
 all_begins (Then s rest) w locals = begins_then _ _ _ (after_begins s w locals) (all_begins rest w (after s w locals))
 
 take_front : (xs ys : Names Local) → take (length xs) (xs ++ ys) ≡ xs

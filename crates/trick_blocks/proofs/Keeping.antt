@@ -1,16 +1,16 @@
 -- What is kept of blocks when more are made.
 use Rattle.std.proofs.Common.{◌≡◌, ℕ, zero, suc, ◌+◌, ◌≤◌, ◌<◌, ◌++◌, ◌&&◌, nat_lt, nat_le, IsTrue, List, [], ◌∷◌, length, Option, Some, None, Bool, true, false, refl, ap, sym, ◌∙◌, subst, arith}
 use Rattle.std.proofs.Math.ListN.{length-append}
+use Rattle.std.proofs.lemmas.Bool.{and_from}
 use Rattle.std.proofs.lemmas.Bool.Decides.{nat_tests}
-use Rattle.std.proofs.lemmas.List.{append_assoc}
+use Rattle.std.proofs.lemmas.List.{append-nil, append_assoc}
+use Rattle.trick_base.proofs.Truths.{first_holds, second_holds}
 use Rattle.trick_blocks.proofs.Grow.{bodies_grown}
-use Rattle.trick_blocks.proofs.Lists.{append_none}
-use Rattle.trick_blocks.proofs.Passing.{both, each_passes}
+use Rattle.trick_blocks.proofs.Passing.{each_passes}
 use Rattle.trick_blocks.proofs.Running.{below, each_runs}
 use Rattle.trick_blocks.specs.Bodies.{Body, all_depth, branch_depth, code_depth, depth_at, with_bodies, with_body}
 use Rattle.trick_blocks.specs.Held.{bodies_of}
 use Rattle.trick_blocks.specs.Kept.{Deepen, bodies_lie, bodies_run_own, class_in}
-use Rattle.trick_lang.proofs.Tests.{both_left, both_right}
 use Rattle.trick_lang.specs.Passes.{all_blocks, all_pass, branch_blocks, code_blocks}
 use Rattle.trick_lang.specs.Tree.{Code, Empty, Declare, SetLocal, Assign, If, For, Run, Branches, NoElse, Else, Test}
 use Rattle.trick_lang.specs.TreeOf.{code_list, codes_of}
@@ -29,13 +29,13 @@ case true c d f h = f h
 case false c d f h = h
 
 lie_one : (cells : ℕ) (sizes : List ℕ) (bodies : List Body) (b : Body) → IsTrue (bodies_lie cells sizes bodies) → IsTrue (all_pass (cells_test cells (size_at sizes b.class)) b.codes) → IsTrue (bodies_lie cells sizes (bodies ++ b ∷ []))
-lie_one cells sizes [] b h k = both (all_pass (cells_test cells (size_at sizes b.class)) b.codes) true k refl
+lie_one cells sizes [] b h k = and_from (all_pass (cells_test cells (size_at sizes b.class)) b.codes) true k refl
 lie_one cells sizes (x ∷ bodies) b h k = case (all_pass (cells_test cells (size_at sizes x.class)) x.codes) (bodies_lie cells sizes bodies) (bodies_lie cells sizes (bodies ++ b ∷ [])) (λ t. lie_one cells sizes bodies b t k) h
 
 pub lie_with : (cells : ℕ) (sizes : List ℕ) (class : ℕ) (bs : List (List Code)) (bodies : List Body) → IsTrue (bodies_lie cells sizes bodies) → IsTrue (each_passes (cells_test cells (size_at sizes class)) bs) → IsTrue (bodies_lie cells sizes (with_bodies class bs bodies))
 lie_with cells sizes class [] bodies h k = h
 lie_with cells sizes class (b ∷ bs) bodies h k =
-    lie_with cells sizes class bs (with_body class b bodies) (lie_one cells sizes bodies _ h (both_left _ _ k)) (both_right (all_pass (cells_test cells (size_at sizes class)) b) _ k)
+    lie_with cells sizes class bs (with_body class b bodies) (lie_one cells sizes bodies _ h (first_holds _ _ k)) (second_holds (all_pass (cells_test cells (size_at sizes class)) b) _ k)
 
 pub lie_blocks : (cells : ℕ) (sizes : List ℕ) (bs : List Block) → lie_in cells sizes bs ≡ bodies_lie cells sizes (bodies_of bs)
 lie_blocks cells sizes [] = refl
@@ -54,7 +54,7 @@ class_last (x ∷ xs) b = class_last xs b
 
 -- what is made stands after what there was
 pub with_behind : (class : ℕ) (bs : List (List Code)) (bodies : List Body) → (more : List Body) × (with_bodies class bs bodies ≡ bodies ++ more)
-with_behind class [] bodies = ([], sym (append_none bodies))
+with_behind class [] bodies = ([], sym (append-nil bodies))
 with_behind class (b ∷ bs) bodies =
     let made : Body = record { class = class; codes = b; deep = all_depth b bodies + 1 } in
     let rest = with_behind class bs (with_body class b bodies) in
@@ -86,7 +86,7 @@ class_made class (b ∷ bs) bodies k low high = by_case (nat_lt (length bodies) 
 branch_mono : (p q : ℕ → Bool) → ((k : ℕ) → IsTrue (p k) → IsTrue (q k)) → (b : Branches) → IsTrue (branch_blocks p b) → IsTrue (branch_blocks q b)
 branch_mono p q f NoElse h = refl
 branch_mono p q f (Else k) h = f k h
-branch_mono p q f (Test line test k rest) h = both _ _ (f k (both_left _ _ h)) (branch_mono p q f rest (both_right (p k) _ h))
+branch_mono p q f (Test line test k rest) h = and_from _ _ (f k (first_holds _ _ h)) (branch_mono p q f rest (second_holds (p k) _ h))
 
 code_mono : (p q : ℕ → Bool) → ((k : ℕ) → IsTrue (p k) → IsTrue (q k)) → (c : Code) → IsTrue (code_blocks p c) → IsTrue (code_blocks q c)
 code_mono p q f Empty h = refl
@@ -99,7 +99,7 @@ code_mono p q f (Run k) h = f k h
 
 all_mono : (p q : ℕ → Bool) → ((k : ℕ) → IsTrue (p k) → IsTrue (q k)) → (all : List Code) → IsTrue (all_blocks p all) → IsTrue (all_blocks q all)
 all_mono p q f [] h = refl
-all_mono p q f (c ∷ cs) h = both _ _ (code_mono p q f c (both_left _ _ h)) (all_mono p q f cs (both_right (code_blocks p c) _ h))
+all_mono p q f (c ∷ cs) h = and_from _ _ (code_mono p q f c (first_holds _ _ h)) (all_mono p q f cs (second_holds (code_blocks p c) _ h))
 
 is_of_more : (class : ℕ) (o o' : Option ℕ) → ((other : ℕ) → o ≡ Some other → o' ≡ Some other) → IsTrue (is_of class o) → IsTrue (is_of class o')
 is_of_more class None o' f h = absurd (cc h)
@@ -108,17 +108,17 @@ is_of_more class (Some other) o' f h = subst (λ q. IsTrue (is_of class q)) (sym
 own_more : (all more : List Body) → ((k other : ℕ) → class_in all k ≡ Some other → class_in more k ≡ Some other) → (bodies : List Body) → IsTrue (bodies_run_own all bodies) → IsTrue (bodies_run_own more bodies)
 own_more all more f [] h = refl
 own_more all more f (b ∷ bs) h =
-    both _ _ (all_mono (λ k. is_of b.class (class_in all k)) (λ k. is_of b.class (class_in more k)) (λ k t. is_of_more b.class (class_in all k) (class_in more k) (f k) t) b.codes (both_left _ _ h))
-    (own_more all more f bs (both_right (all_blocks (λ k. is_of b.class (class_in all k)) b.codes) _ h))
+    and_from _ _ (all_mono (λ k. is_of b.class (class_in all k)) (λ k. is_of b.class (class_in more k)) (λ k t. is_of_more b.class (class_in all k) (class_in more k) (f k) t) b.codes (first_holds _ _ h))
+    (own_more all more f bs (second_holds (all_blocks (λ k. is_of b.class (class_in all k)) b.codes) _ h))
 
 own_one : (all bodies : List Body) (b : Body) → IsTrue (bodies_run_own all bodies) → IsTrue (all_blocks (λ k. is_of b.class (class_in all k)) b.codes) → IsTrue (bodies_run_own all (bodies ++ b ∷ []))
-own_one all [] b h k = both (all_blocks (λ k. is_of b.class (class_in all k)) b.codes) true k refl
+own_one all [] b h k = and_from (all_blocks (λ k. is_of b.class (class_in all k)) b.codes) true k refl
 own_one all (x ∷ bodies) b h k = case (all_blocks (λ k. is_of x.class (class_in all k)) x.codes) (bodies_run_own all bodies) (bodies_run_own all (bodies ++ b ∷ [])) (λ t. own_one all bodies b t k) h
 
 own_with : (all : List Body) (class : ℕ) (bs : List (List Code)) (bodies : List Body) → IsTrue (bodies_run_own all bodies) → IsTrue (each_runs (λ k. is_of class (class_in all k)) bs) → IsTrue (bodies_run_own all (with_bodies class bs bodies))
 own_with all class [] bodies h k = h
 own_with all class (b ∷ bs) bodies h k =
-    own_with all class bs (with_body class b bodies) (own_one all bodies _ h (both_left _ _ k)) (both_right (all_blocks (λ k. is_of class (class_in all k)) b) _ k)
+    own_with all class bs (with_body class b bodies) (own_one all bodies _ h (first_holds _ _ k)) (second_holds (all_blocks (λ k. is_of class (class_in all k)) b) _ k)
 
 -- blocks of a class that run only blocks of the class
 pub own_made : (class : ℕ) (bs : List (List Code)) (bodies : List Body) → IsTrue (bodies_run_own bodies bodies) → IsTrue (each_runs (λ k. is_of class (class_in (with_bodies class bs bodies) k)) bs) → IsTrue (bodies_run_own (with_bodies class bs bodies) (with_bodies class bs bodies))
@@ -134,13 +134,13 @@ class_blocks (b ∷ bs) (suc k) = class_blocks bs k
 pub own_blocks : (all bs : List Block) → IsTrue (bodies_run_own (bodies_of all) (bodies_of bs)) → IsTrue (run_own_class all bs)
 own_blocks all [] h = refl
 own_blocks all (b ∷ bs) h =
-    both _ _ (all_mono (λ k. is_of b.class (class_in (bodies_of all) k)) (has_class all b.class) (λ k t. subst (λ q. IsTrue (is_of b.class q)) (sym (class_blocks all k)) t) (code_list b.statements) (both_left _ _ h))
-    (own_blocks all bs (both_right (all_blocks (λ k. is_of b.class (class_in (bodies_of all) k)) (code_list b.statements)) _ h))
+    and_from _ _ (all_mono (λ k. is_of b.class (class_in (bodies_of all) k)) (has_class all b.class) (λ k t. subst (λ q. IsTrue (is_of b.class q)) (sym (class_blocks all k)) t) (code_list b.statements) (first_holds _ _ h))
+    (own_blocks all bs (second_holds (all_blocks (λ k. is_of b.class (class_in (bodies_of all) k)) (code_list b.statements)) _ h))
 
 -- ---- frames
 
 deepen_more : (before xs : List Body) (class : ℕ) (codes : List Code) (d : ℕ) → d ≡ all_depth codes (before ++ xs) + 1 → Deepen before xs → Deepen before (xs ++ record { class = class; codes = codes; deep = d } ∷ [])
-deepen_more before [] class codes d e h = (e ∙ ap (λ q. all_depth codes q + 1) (append_none before), tt)
+deepen_more before [] class codes d e h = (e ∙ ap (λ q. all_depth codes q + 1) (append-nil before), tt)
 deepen_more before (b ∷ bs) class codes d e h =
     (h.0, deepen_more (before ++ b ∷ []) bs class codes d (e ∙ ap (λ q. all_depth codes q + 1) (sym (append_assoc before (b ∷ []) bs))) h.1)
 
@@ -172,9 +172,9 @@ module _ (before more : List Block) where
       let deep = deep_front before more block (below_less (length before) block h) in
       le_test (1 + deep_at (before ++ more) block) most (omega (arith, deep, k))
   branch_room (Test line test block rest) most h k =
-      let deep = deep_front before more block (below_less (length before) block (both_left _ _ h)) in
-      both _ _ (le_test (1 + deep_at (before ++ more) block) most (omega (arith, deep, k)))
-      (branch_room rest most (both_right (below (length before) block) _ h) (omega (arith, k)))
+      let deep = deep_front before more block (below_less (length before) block (first_holds _ _ h)) in
+      and_from _ _ (le_test (1 + deep_at (before ++ more) block) most (omega (arith, deep, k)))
+      (branch_room rest most (second_holds (below (length before) block) _ h) (omega (arith, k)))
 
   code_room : (c : Code) (most : ℕ) → IsTrue (code_blocks (below (length before)) c) → code_depth c (bodies_of before) + 1 ≤ most → IsTrue (code_fits (before ++ more) 1 most c)
   code_room Empty most h k = refl
@@ -191,7 +191,7 @@ module _ (before more : List Block) where
 
   all_room : (all : List Code) (most : ℕ) → IsTrue (all_blocks (below (length before)) all) → all_depth all (bodies_of before) + 1 ≤ most → IsTrue (all_fit (before ++ more) 1 most all)
   all_room [] most h k = refl
-  all_room (c ∷ cs) most h k = both _ _ (code_room c most (both_left _ _ h) (omega (arith, k))) (all_room cs most (both_right (code_blocks (below (length before)) c) _ h) (omega (arith, k)))
+  all_room (c ∷ cs) most h k = and_from _ _ (code_room c most (first_holds _ _ h) (omega (arith, k))) (all_room cs most (second_holds (code_blocks (below (length before)) c) _ h) (omega (arith, k)))
 
 deep_rest : (before rest : List Block) → Deepen (bodies_of before) (bodies_of rest) → IsTrue (are_in_order (length before) (codes_of rest)) → IsTrue (are_deep (before ++ rest) rest)
 deep_rest before [] h o = refl
@@ -199,10 +199,10 @@ deep_rest before (b ∷ bs) h o =
     let same : (before ++ b ∷ []) ++ bs ≡ before ++ (b ∷ bs) = append_assoc before (b ∷ []) bs in
     let longer : length (before ++ b ∷ []) ≡ suc (length before) = omega (arith, length-append before (b ∷ [])) in
     let next : Deepen (bodies_of (before ++ b ∷ [])) (bodies_of bs) = subst (λ q. Deepen q (bodies_of bs)) (sym (bodies_grown before b)) h.1 in
-    let ordered : IsTrue (are_in_order (length (before ++ b ∷ [])) (codes_of bs)) = subst (λ q. IsTrue (are_in_order q (codes_of bs))) (sym longer) (both_right (all_blocks (below (length before)) (code_list b.statements)) _ o) in
-    both _ _
-    (both (nat_lt 0 b.deep) (all_fit (before ++ (b ∷ bs)) 1 b.deep (code_list b.statements)) (lt_test 0 b.deep (omega (arith, h.0)))
-    (all_room before (b ∷ bs) (code_list b.statements) b.deep (both_left _ _ o) (omega (arith, h.0))))
+    let ordered : IsTrue (are_in_order (length (before ++ b ∷ [])) (codes_of bs)) = subst (λ q. IsTrue (are_in_order q (codes_of bs))) (sym longer) (second_holds (all_blocks (below (length before)) (code_list b.statements)) _ o) in
+    and_from _ _
+    (and_from (nat_lt 0 b.deep) (all_fit (before ++ (b ∷ bs)) 1 b.deep (code_list b.statements)) (lt_test 0 b.deep (omega (arith, h.0)))
+    (all_room before (b ∷ bs) (code_list b.statements) b.deep (first_holds _ _ o) (omega (arith, h.0))))
     (subst (λ q. IsTrue (are_deep q bs)) same (deep_rest (before ++ b ∷ []) bs next ordered))
 
 pub deep_blocks : (blocks : List Block) → Deepen [] (bodies_of blocks) → IsTrue (are_in_order 0 (codes_of blocks)) → IsTrue (are_deep blocks blocks)

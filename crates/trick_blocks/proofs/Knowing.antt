@@ -1,9 +1,12 @@
 -- Bodies keep the rules on local variables.
 use Rattle.std.proofs.Common.{◌≡◌, ℕ, ◌+◌, ◌≤◌, ◌<◌, ◌++◌, ◌&&◌, ◌||◌, ◌==◌, not, nat_lt, nat_le, IsTrue, List, [], ◌∷◌, length, Option, Some, None, is_some, Bool, true, false, if◌then◌else◌, refl, ap, sym, ◌∙◌, subst, arith}
 use Rattle.std.proofs.Math.ListN.{length-append}
+use Rattle.std.proofs.lemmas.Bool.{and_from, or_left, or_right}
 use Rattle.std.proofs.lemmas.Bool.Decides.{nat_tests}
 use Rattle.std.specs.Str.{bytes_eq}
-use Rattle.trick_blocks.proofs.Passing.{Pass, both, change_pass, goal_passes, path_pass, term_pass, value_pass}
+use Rattle.trick_base.proofs.Numbers.{equal_to_itself, other_than_greater, other_than_less}
+use Rattle.trick_base.proofs.Truths.{first_holds, second_holds}
+use Rattle.trick_blocks.proofs.Passing.{Pass, change_pass, goal_passes, path_pass, term_pass, value_pass}
 use Rattle.trick_blocks.proofs.Running.{all_inner_count, inner_count, one_count}
 use Rattle.trick_blocks.proofs.Sitting.{Sits, all_under, code_under, each_under, sits_left, sits_one, sits_right, under_left, under_right}
 use Rattle.trick_blocks.specs.Codes as Codes
@@ -17,7 +20,6 @@ use Rattle.trick_blocks.specs.declared.start.Meaning.TheVariants as means
 use Rattle.trick_blocks.specs.declared.spot.Spot.{Spot}
 use Rattle.trick_blocks.specs.declared.world.World.{World}
 use Rattle.trick_lang.proofs.Alike.{knows_is}
-use Rattle.trick_lang.proofs.Tests.{both_left, both_right, either_left, either_right}
 use Rattle.trick_lang.specs.Blocks.{block_at}
 use Rattle.trick_lang.specs.Locals.{Known, after, all_know, block_knows, bound_number, branch_knows, code_knows, is_free, is_known, is_known_as, is_type, locals_test, type_number}
 use Rattle.trick_lang.specs.Passes.{change_passes, first_passes, place_passes, term_passes}
@@ -33,15 +35,6 @@ use Rattle.trick_layout.specs.declared.layout.Field.{Field}
 use Rattle.trick_layout.specs.declared.layout.Site.{Site}
 use Rattle.trick_layout.specs.declared.layout.Site.TheVariants.{Item, Object}
 use Rattle.trick_names.specs.Names.{Names, meaning_of, with_name}
-
-eq_self : (n : ℕ) → IsTrue (n == n)
-eq_self n = grind (arith, nat_tests)
-
-eq_less : (m n : ℕ) → m < n → (m == n) ≡ false
-eq_less m n h = grind (arith, nat_tests)
-
-eq_more : (m n : ℕ) → n < m → (m == n) ≡ false
-eq_more m n h = grind (arith, nat_tests)
 
 lt_test : (m n : ℕ) → m < n → IsTrue (nat_lt m n)
 lt_test m n h = grind (arith, nat_tests)
@@ -89,20 +82,20 @@ knows_more : (w : World) (top : ℕ) (locals : Names Local) (known : List Known)
 knows_more w top locals known name scalar is_loop type typed k = record {
   sees = λ q l is.
       grown_case q name new l locals (IsTrue (is_known (fresh ∷ known) l.slot)) is
-      (λ old. either_right (fresh.slot == l.slot) (is_known known l.slot) (k.sees q l old))
-      (λ same. subst (λ (x : Local). IsTrue (is_known (fresh ∷ known) x.slot)) same (either_left (fresh.slot == fresh.slot) (is_known known fresh.slot) (eq_self fresh.slot)));
+      (λ old. or_right (fresh.slot == l.slot) (is_known known l.slot) (k.sees q l old))
+      (λ same. subst (λ (x : Local). IsTrue (is_known (fresh ∷ known) x.slot)) same (or_left (fresh.slot == fresh.slot) (is_known known fresh.slot) (equal_to_itself fresh.slot)));
   types = λ q l is loop.
       grown_case q name new l locals (IsTrue (is_known_as (fresh ∷ known) l.slot l.scalar)) is
-      (λ old. either_right ((fresh.slot == l.slot) && is_type type l.scalar) (is_known_as known l.slot l.scalar) (k.types q l old loop))
+      (λ old. or_right ((fresh.slot == l.slot) && is_type type l.scalar) (is_known_as known l.slot l.scalar) (k.types q l old loop))
       (λ same. subst (λ (x : Local). IsTrue (is_known_as (fresh ∷ known) x.slot x.scalar)) same
-      (either_left ((fresh.slot == fresh.slot) && is_type type scalar) (is_known_as known fresh.slot scalar)
-      (both (fresh.slot == fresh.slot) (is_type type scalar) (eq_self fresh.slot) (typed_here (ap (λ (x : Local). x.is_loop) same ∙ loop)))));
+      (or_left ((fresh.slot == fresh.slot) && is_type type scalar) (is_known_as known fresh.slot scalar)
+      (and_from (fresh.slot == fresh.slot) (is_type type scalar) (equal_to_itself fresh.slot) (typed_here (ap (λ (x : Local). x.is_loop) same ∙ loop)))));
   free = λ slot low high.
       let behind : slot_behind w locals < slot = omega (arith, low, length-append locals ((name, new) ∷ [])) in
-      ap (λ q. q || is_known known slot) (eq_less (slot_behind w locals) slot behind) ∙ k.free slot (omega (arith, behind)) high;
+      ap (λ q. q || is_known known slot) (other_than_greater (slot_behind w locals) slot behind) ∙ k.free slot (omega (arith, behind)) high;
   above = λ slot less.
       let before : slot < slot_behind w locals = omega (arith, less) in
-      ap (λ q. q || is_known known slot) (eq_more (slot_behind w locals) slot before) ∙ k.above slot less;
+      ap (λ q. q || is_known known slot) (other_than_less (slot_behind w locals) slot before) ∙ k.above slot less;
 } where
   new : Local
   new = fresh_local w locals scalar is_loop
@@ -111,7 +104,7 @@ knows_more w top locals known name scalar is_loop type typed k = record {
   fresh = fresh_known w locals type
 
   typed_here : is_loop ≡ false → IsTrue (is_type type scalar)
-  typed_here e = subst (λ q. IsTrue (is_type q scalar)) (sym (typed e)) (eq_self (type_number scalar))
+  typed_here e = subst (λ q. IsTrue (is_type q scalar)) (sym (typed e)) (equal_to_itself (type_number scalar))
 
 knows_new : (w : World) (top : ℕ) (locals : Names Local) (known : List Known) (name : Name) (scalar : Scalar) (is_loop : Bool) (type : Option Scalar) → meaning_of name locals ≡ None → (is_loop ≡ false → type ≡ Some scalar) → Knows w top locals known → Knows w top (with_name name (fresh_local w locals scalar is_loop) locals) (fresh_known w locals type ∷ known)
 knows_new w top locals known name scalar is_loop type none typed k =
@@ -198,12 +191,12 @@ path_assigned (path line name parts) w top locals known k = meaning_assigned w t
 
 local_assigned : (more : ℕ) (blocks : ℕ → List Known → Bool) (known : List Known) (l : Local) (line : ℕ) (change : Tree.Change) (b : Bool) → IsTrue (if b then true else is_known_as known l.slot l.scalar) → IsTrue (change_passes (locals_test known) change) → IsTrue (code_knows more (if b then Tree.Empty else Tree.SetLocal line l.slot l.scalar change) blocks known)
 local_assigned more blocks known l line change true h k = refl
-local_assigned more blocks known l line change false h k = both (is_known_as known l.slot l.scalar) (change_passes (locals_test known) change) h k
+local_assigned more blocks known l line change false h k = and_from (is_known_as known l.slot l.scalar) (change_passes (locals_test known) change) h k
 
 goal_know : (more : ℕ) (blocks : ℕ → List Known → Bool) (known : List Known) (g : Goal) (line : ℕ) (change : Tree.Change) → IsTrue (assigned_as known g) → IsTrue (goal_passes (locals_test known) g) → IsTrue (change_passes (locals_test known) change) → IsTrue (code_knows more (goal_code g line change) blocks known)
 goal_know more blocks known (OfLocal l) line change h p k = local_assigned more blocks known l line change l.is_loop h k
 goal_know more blocks known (OfNumber value) line change h p k = refl
-goal_know more blocks known (OfPlace place) line change h p k = both (place_passes (locals_test known) place) (change_passes (locals_test known) change) p k
+goal_know more blocks known (OfPlace place) line change h p k = and_from (place_passes (locals_test known) place) (change_passes (locals_test known) change) p k
 goal_know more blocks known OfNothing line change h p k = refl
 
 -- ---- statements
@@ -218,22 +211,22 @@ slot_free : (w : World) (top more : ℕ) (locals : Names Local) (known : List Kn
 slot_free w top more locals known enough k h =
     let slot = slot_behind w locals in
     let less : slot < top = lt_is slot top h in
-    both (nat_lt slot more) (not (is_known known slot)) (lt_test slot more (omega (arith, less, enough))) (ap not (k.free slot (omega arith) less))
+    and_from (nat_lt slot more) (not (is_known known slot)) (lt_test slot more (omega (arith, less, enough))) (ap not (k.free slot (omega arith) less))
 
 declare_know : (w : World) (top more : ℕ) (blocks : ℕ → List Known → Bool) (locals : Names Local) (known : List Known) (line : ℕ) (name : Name) (scalar : Scalar) (value : Option Expression) (o : Option Local) → meaning_of name locals ≡ o → top ≤ more → Knows w top locals known → IsTrue (code_under top (declared_code line (free_slot o (slot_behind w locals)) scalar (value_term value w (with_name name (fresh_local w locals scalar false) locals)))) → IsTrue (code_knows more (declared_code line (free_slot o (slot_behind w locals)) scalar (value_term value w (with_name name (fresh_local w locals scalar false) locals))) blocks known)
 declare_know w top more blocks locals known line name scalar value (Some l) is enough k under = refl
 declare_know w top more blocks locals known line name scalar value None is enough k under =
     let inside = with_name name (fresh_local w locals scalar false) locals in
     let there = fresh_known w locals (Some scalar) ∷ known in
-    both (is_free more known (slot_behind w locals)) (first_passes (locals_test there) (value_term value w inside)) (slot_free w top more locals known enough k under)
+    and_from (is_free more known (slot_behind w locals)) (first_passes (locals_test there) (value_term value w inside)) (slot_free w top more locals known enough k under)
     (value_pass value (locals_test there) w inside (knows_pass w top inside there (knows_new w top locals known name scalar false (Some scalar) is (λ e. refl) k)))
 
 loop_know : (w : World) (top more : ℕ) (blocks : ℕ → List Known → Bool) (locals : Names Local) (known : List Known) (from : ℕ) (bound : Bound) (block : ℕ) (b : Bool) (o : Option Local) → nat_le (bound_number bound) 1000000 ≡ b → top ≤ more → Knows w top locals known → IsTrue (code_under top (loop_code (if b then free_slot o (slot_behind w locals) else None) from bound block)) → (o ≡ None → IsTrue (blocks block (fresh_known w locals None ∷ known))) → IsTrue (code_knows more (loop_code (if b then free_slot o (slot_behind w locals) else None) from bound block) blocks known)
 loop_know w top more blocks locals known from bound block false o is enough k under body = refl
 loop_know w top more blocks locals known from bound block true (Some l) is enough k under body = refl
 loop_know w top more blocks locals known from bound block true None is enough k under body =
-    both (is_free more known (slot_behind w locals)) (nat_le (bound_number bound) 1000000 && blocks block (fresh_known w locals None ∷ known)) (slot_free w top more locals known enough k under)
-    (both (nat_le (bound_number bound) 1000000) (blocks block (fresh_known w locals None ∷ known)) is (body refl))
+    and_from (is_free more known (slot_behind w locals)) (nat_le (bound_number bound) 1000000 && blocks block (fresh_known w locals None ∷ known)) (slot_free w top more locals known enough k under)
+    (and_from (nat_le (bound_number bound) 1000000) (blocks block (fresh_known w locals None ∷ known)) is (body refl))
 
 call_know : (more : ℕ) (blocks : ℕ → List Known → Bool) (known : List Known) (o : Option ℕ) → ((block : ℕ) → o ≡ Some block → IsTrue (blocks block known)) → IsTrue (code_knows more (call_code o) blocks known)
 call_know more blocks known None h = refl
@@ -244,7 +237,7 @@ body_know : (s : Statement) (w : World) (locals : Names Local) (n top more : ℕ
 body_know s w locals n top more bs known g sits h =
     let last : block_at bs (n + count s) ≡ code s w locals n ∷ [] = sits_one bs (n + count s) (code s w locals n ∷ []) (sits_right bs n (n + count s) (inner s w locals n) ((code s w locals n ∷ []) ∷ []) (omega (arith, inner_count s w locals n)) sits) in
     subst (λ q. IsTrue q) (sym (knows_is more bs g.order (n + count s) known ∙ ap (λ (q : List Code). all_know more q (block_knows more bs) known) last))
-    (both (code_knows more (code s w locals n) (block_knows more bs) known) true h refl)
+    (and_from (code_knows more (code s w locals n) (block_knows more bs) known) true h refl)
 
 block_know : (all : Statements) (w : World) (locals : Names Local) (n top more : ℕ) (bs : List (List Code)) (known : List Known) → Ground w top more bs → Sits bs n (all_inner all w locals n ++ all_codes all w locals n ∷ []) → IsTrue (all_know more (all_codes all w locals n) (block_knows more bs) known) → IsTrue (block_knows more bs (n + all_count all) known)
 block_know all w locals n top more bs known g sits h =
@@ -255,10 +248,10 @@ block_know all w locals n top more bs known g sits h =
 one_under : (top : ℕ) (s : Statement) (w : World) (locals : Names Local) (n : ℕ) → IsTrue (each_under top (inner s w locals n ++ (code s w locals n ∷ []) ∷ [])) → IsTrue (code_under top (code s w locals n))
 one_under top s w locals n h =
     let last : IsTrue (each_under top ((code s w locals n ∷ []) ∷ [])) = under_right top (inner s w locals n) ((code s w locals n ∷ []) ∷ []) h in
-    both_left (code_under top (code s w locals n)) true (both_left (all_under top (code s w locals n ∷ [])) true last)
+    first_holds (code_under top (code s w locals n)) true (first_holds (all_under top (code s w locals n ∷ [])) true last)
 
 all_of : (top : ℕ) (all : Statements) (w : World) (locals : Names Local) (n : ℕ) → IsTrue (each_under top (all_inner all w locals n ++ all_codes all w locals n ∷ [])) → IsTrue (all_under top (all_codes all w locals n))
-all_of top all w locals n h = both_left (all_under top (all_codes all w locals n)) true (under_right top (all_inner all w locals n) (all_codes all w locals n ∷ []) h)
+all_of top all w locals n h = first_holds (all_under top (all_codes all w locals n)) true (under_right top (all_inner all w locals n) (all_codes all w locals n ∷ []) h)
 
 mutual
   code_know : (s : Statement) (w : World) (locals : Names Local) (n top more : ℕ) (bs : List (List Code)) (known : List Known) → Ground w top more bs → Sits bs n (inner s w locals n) → IsTrue (each_under top (inner s w locals n)) → IsTrue (code_under top (code s w locals n)) → Knows w top locals known → IsTrue (code_knows more (code s w locals n) (block_knows more bs) known)
@@ -292,9 +285,9 @@ mutual
       let first = inner body w locals n ++ (code body w locals n ∷ []) ∷ [] in
       let here = sits_left bs n first (branch_inner rest w locals m) sits in
       let below = under_left top first (branch_inner rest w locals m) under in
-      both (term_passes (locals_test known) (term test w locals)) (block_knows more bs (n + count body) known && branch_knows (branch_codes rest w locals m) (block_knows more bs) known)
+      and_from (term_passes (locals_test known) (term test w locals)) (block_knows more bs (n + count body) known && branch_knows (branch_codes rest w locals m) (block_knows more bs) known)
       (term_pass test (locals_test known) w locals (knows_pass w top locals known k))
-      (both (block_knows more bs (n + count body) known) (branch_knows (branch_codes rest w locals m) (block_knows more bs) known)
+      (and_from (block_knows more bs (n + count body) known) (branch_knows (branch_codes rest w locals m) (block_knows more bs) known)
       (body_know body w locals n top more bs known g here
       (code_know body w locals n top more bs known g (sits_left bs n (inner body w locals n) ((code body w locals n ∷ []) ∷ []) here) (under_left top (inner body w locals n) ((code body w locals n ∷ []) ∷ []) below) (one_under top body w locals n below) k))
       (branches_know rest w locals m top more bs known g (sits_right bs n m first (branch_inner rest w locals m) (omega (arith, one_count body w locals n)) sits) (under_right top first (branch_inner rest w locals m) under) k))
@@ -305,9 +298,9 @@ mutual
       let m = n + count s in
       let behind = Codes.after s w locals in
       let there = after (code s w locals n) known in
-      both (code_knows more (code s w locals n) (block_knows more bs) known) (all_know more (all_codes rest w behind m) (block_knows more bs) there)
-      (code_know s w locals n top more bs known g (sits_left bs n (inner s w locals n) (all_inner rest w behind m) sits) (under_left top (inner s w locals n) (all_inner rest w behind m) under) (both_left (code_under top (code s w locals n)) (all_under top (all_codes rest w behind m)) slots) k)
-      (all_knows rest w behind m top more bs there g (sits_right bs n m (inner s w locals n) (all_inner rest w behind m) (omega (arith, inner_count s w locals n)) sits) (under_right top (inner s w locals n) (all_inner rest w behind m) under) (both_right (code_under top (code s w locals n)) (all_under top (all_codes rest w behind m)) slots) (after_knows s w locals n top known k))
+      and_from (code_knows more (code s w locals n) (block_knows more bs) known) (all_know more (all_codes rest w behind m) (block_knows more bs) there)
+      (code_know s w locals n top more bs known g (sits_left bs n (inner s w locals n) (all_inner rest w behind m) sits) (under_left top (inner s w locals n) (all_inner rest w behind m) under) (first_holds (code_under top (code s w locals n)) (all_under top (all_codes rest w behind m)) slots) k)
+      (all_knows rest w behind m top more bs there g (sits_right bs n m (inner s w locals n) (all_inner rest w behind m) (omega (arith, inner_count s w locals n)) sits) (under_right top (inner s w locals n) (all_inner rest w behind m) under) (second_holds (code_under top (code s w locals n)) (all_under top (all_codes rest w behind m)) slots) (after_knows s w locals n top known k))
 
 -- ---- methods
 

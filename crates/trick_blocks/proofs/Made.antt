@@ -1,11 +1,11 @@
 -- What is kept of blocks while the methods of a class are made.
-use Rattle.std.proofs.Common.{◌≡◌, ℕ, ◌+◌, ◌≤◌, ◌<◌, ◌++◌, ◌==◌, IsTrue, List, [], ◌∷◌, length, slice_get, Option, Some, None, is_some, Bool, true, false, if◌then◌else◌, refl, ap, sym, ◌∙◌, subst, arith}
+use Rattle.std.proofs.Common.{◌≡◌, ℕ, ◌+◌, ◌≤◌, ◌<◌, ◌++◌, IsTrue, List, [], ◌∷◌, length, slice_get, Option, Some, None, is_some, Bool, true, false, if◌then◌else◌, refl, ap, sym, ◌∙◌, subst, arith}
 use Rattle.std.proofs.Math.ListN.{length-append}
-use Rattle.std.proofs.lemmas.Bool.Decides.{nat_tests}
+use Rattle.std.proofs.lemmas.List.{append-nil}
 use Rattle.std.specs.Str.{bytes_eq}
+use Rattle.trick_base.proofs.Numbers.{equal_to_itself}
 use Rattle.trick_blocks.proofs.Keeping.{class_blocks, class_made, class_stays, deep_blocks, deepen_with, lie_blocks, lie_with, own_blocks, own_made, spans_are, with_behind}
 use Rattle.trick_blocks.proofs.Knowing.{Ground, method_knows}
-use Rattle.trick_blocks.proofs.Lists.{append_none}
 use Rattle.trick_blocks.proofs.Passing.{PassAny, all_inner_pass, codes_pass, each_both, each_more, each_passes}
 use Rattle.trick_blocks.proofs.Reaching.{cells_pass, span_passes}
 use Rattle.trick_blocks.proofs.Rows.{codes_are, codes_with, laid_part}
@@ -28,9 +28,6 @@ use Rattle.trick_lang.specs.Valid.{are_in_order, cells_test, is_of, span_test, s
 use Rattle.trick_lang.specs.declared.tree.Block.{Block}
 use Rattle.trick_layout.specs.Laid.{size_at}
 use Rattle.trick_names.specs.Names.{Names, meaning_of, with_name}
-
-eq_self : (n : ℕ) → IsTrue (n == n)
-eq_self n = grind (arith, nat_tests)
 
 codes_count : (bodies : List Body) → length (codes_in bodies) ≡ length bodies
 codes_count [] = refl
@@ -129,9 +126,9 @@ module _ (m : tree.Method) (p : Progress) (laid : IsLaid p.world) (k : Keeps p) 
   runs_own : Runs (λ j. is_of p.world.class (class_in grown j)) (length p.bodies) (length p.bodies + (all_count m.body + 1)) p.world
   runs_own = record {
     inside = λ j low high.
-        subst (λ q. IsTrue (is_of p.world.class q)) (sym (class_made p.world.class made p.bodies j low (omega (arith, high, made_count)))) (eq_self p.world.class);
+        subst (λ q. IsTrue (is_of p.world.class q)) (sym (class_made p.world.class made p.bodies j low (omega (arith, high, made_count)))) (equal_to_itself p.world.class);
     methods = λ name block is.
-        subst (λ q. IsTrue (is_of p.world.class q)) (sym (class_stays p.world.class made p.bodies block p.world.class (k.methods name block is).class_is)) (eq_self p.world.class);
+        subst (λ q. IsTrue (is_of p.world.class q)) (sym (class_stays p.world.class made p.bodies block p.world.class (k.methods name block is).class_is)) (equal_to_itself p.world.class);
   }
 
   abbrev top : ℕ
@@ -155,7 +152,7 @@ module _ (m : tree.Method) (p : Progress) (laid : IsLaid p.world) (k : Keeps p) 
   sits = record {
     front = codes_in p.bodies;
     back = [];
-    is = codes ∙ ap (λ q. codes_in p.bodies ++ q) (sym (append_none made));
+    is = codes ∙ ap (λ q. codes_in p.bodies ++ q) (sym (append-nil made));
     at = codes_count p.bodies;
   }
 
@@ -230,6 +227,6 @@ holds w blocks k =
 
 pub method_holds : (w : World) (blocks : List Block) (class block : ℕ) → MethodKept class w.slots (bodies_of blocks) block → MethodHolds w.slots blocks class block
 method_holds w blocks class block k = record {
-  stands = subst (λ q. IsTrue (is_of class q)) (sym (class_blocks blocks block ∙ k.class_is)) (eq_self class);
+  stands = subst (λ q. IsTrue (is_of class q)) (sym (class_blocks blocks block ∙ k.class_is)) (equal_to_itself class);
   knows = subst (λ (q : List (List Code)). IsTrue (block_knows w.slots q block [])) (codes_are blocks) (k.knows w.slots [] (omega arith) (λ slot less. refl));
 }

@@ -1,5 +1,6 @@
 -- Tests that each leaf of what a tree becomes passes.
 use Rattle.std.proofs.Common.{◌≡◌, ℕ, ◌+◌, ◌++◌, ◌&&◌, Bool, true, false, if◌then◌else◌, IsTrue, List, [], ◌∷◌, Option, Some, None, refl}
+use Rattle.std.proofs.lemmas.Bool.{and_from}
 use Rattle.trick_blocks.specs.Codes.{after, all_codes, all_inner, branch_codes, branch_inner, call_code, change_term, code, count, declared, declared_code, goal_code, inner, loop_code, loop_in, loop_slot, new_slot, scalar_of, value_term}
 use Rattle.trick_blocks.specs.Places.{element_at, field_meaning, followed, literal_count, literal_of, local_meaning, named, scalar_there, site_meaning, start_of, to_index, to_member}
 use Rattle.trick_blocks.specs.Terms.{Goal, OfLocal, OfNumber, OfPlace, OfNothing, choice_terms, computed, goal_of, goal_term, link_terms, path_goal, place_goal, spot_with, stepped, steps, term}
@@ -20,10 +21,6 @@ use Rattle.trick_layout.specs.declared.layout.Field.{Field}
 use Rattle.trick_layout.specs.declared.layout.Site.{Site}
 use Rattle.trick_layout.specs.declared.layout.Site.TheVariants.{Item, Object}
 use Rattle.trick_names.specs.Names.{Names, meaning_of}
-
-pub both : (x y : Bool) → IsTrue x → IsTrue y → IsTrue (x && y)
-both true y h k = k
-both false y h k = h
 
 -- each local and each place that a body can name passes a test, where these locals are known
 pub record Pass (p : Leaves) (w : World) (locals : Names Local) : Type 0 where
@@ -60,7 +57,7 @@ local_named (Some k) f o l h = cc h
 
 at_pass : (p : Leaves) (w : World) (locals : Names Local) → Pass p w locals → (name : Name) (parts : Parts) (from : Spot) → named name w locals ≡ means.Stands from → (at : Option Spot) → scalar_there (followed parts w (Some from)) ≡ at → IsTrue (step_passes p (steps parts w locals (Some from))) → IsTrue (goal_passes p (place_goal at (literal_count parts) (steps parts w locals (Some from))))
 at_pass p w locals h name parts from is None there k = refl
-at_pass p w locals h name parts from is (Some at) there k = both _ _ (h.place name parts from at is there) k
+at_pass p w locals h name parts from is (Some at) there k = and_from _ _ (h.place name parts from at is there) k
 
 meaning_pass : (p : Leaves) (w : World) (locals : Names Local) → Pass p w locals → (name : Name) (parts : Parts) (m : Meaning) → named name w locals ≡ m → IsTrue (step_passes p (steps parts w locals (start_of m))) → IsTrue (goal_passes p (goal_of m (scalar_there (followed parts w (start_of m))) (literal_count parts) (steps parts w locals (start_of m))))
 meaning_pass p w locals h name parts (means.Local l) is k = h.local name l (local_named (meaning_of name locals) (meaning_of name (fields_at w.layout.groups w.class)) (meaning_of name w.layout.sites) l is)
@@ -70,7 +67,7 @@ meaning_pass p w locals h name parts means.Nothing is k = refl
 
 stepped_pass : (p : Leaves) (el : Option Element) (x : Term) (rest : Steps) → IsTrue (term_passes p x) → IsTrue (step_passes p rest) → IsTrue (step_passes p (stepped el x rest))
 stepped_pass p None x rest h k = k
-stepped_pass p (Some el) x rest h k = both _ _ h k
+stepped_pass p (Some el) x rest h k = and_from _ _ h k
 
 mutual
   pub term_pass : (e : Expression) (p : Leaves) (w : World) (locals : Names Local) → Pass p w locals → IsTrue (term_passes p (term e w locals))
@@ -79,19 +76,19 @@ mutual
   term_pass (Named q) p w locals h = term_goal p (path_goal q w locals) (path_pass q p w locals h)
   term_pass (Prefixed o e) p w locals h = term_pass e p w locals h
   term_pass (Chain e links) p w locals h =
-      both (term_passes p (term e w locals)) (link_passes p (link_terms links w locals)) (term_pass e p w locals h) (link_pass links p w locals h)
+      and_from (term_passes p (term e w locals)) (link_passes p (link_terms links w locals)) (term_pass e p w locals h) (link_pass links p w locals h)
   term_pass (Choose choices) p w locals h = choice_pass choices p w locals h
 
   link_pass : (links : Links) (p : Leaves) (w : World) (locals : Names Local) → Pass p w locals → IsTrue (link_passes p (link_terms links w locals))
   link_pass NoLink p w locals h = refl
   link_pass (Link o e rest) p w locals h =
-      both (term_passes p (term e w locals)) (link_passes p (link_terms rest w locals)) (term_pass e p w locals h) (link_pass rest p w locals h)
+      and_from (term_passes p (term e w locals)) (link_passes p (link_terms rest w locals)) (term_pass e p w locals h) (link_pass rest p w locals h)
 
   choice_pass : (choices : Choices) (p : Leaves) (w : World) (locals : Names Local) → Pass p w locals → IsTrue (choice_passes p (choice_terms choices w locals))
   choice_pass (Last e) p w locals h = term_pass e p w locals h
   choice_pass (Choice test e rest) p w locals h =
-      both (term_passes p (term test w locals)) (term_passes p (term e w locals) && choice_passes p (choice_terms rest w locals)) (term_pass test p w locals h)
-      (both (term_passes p (term e w locals)) (choice_passes p (choice_terms rest w locals)) (term_pass e p w locals h) (choice_pass rest p w locals h))
+      and_from (term_passes p (term test w locals)) (term_passes p (term e w locals) && choice_passes p (choice_terms rest w locals)) (term_pass test p w locals h)
+      (and_from (term_passes p (term e w locals)) (choice_passes p (choice_terms rest w locals)) (term_pass e p w locals h) (choice_pass rest p w locals h))
 
   pub path_pass : (q : Path) (p : Leaves) (w : World) (locals : Names Local) → Pass p w locals → IsTrue (goal_passes p (path_goal q w locals))
   path_pass (path line name parts) p w locals h =
@@ -122,7 +119,7 @@ local_pass p l line change false h = h
 goal_pass : (p : Leaves) (g : Goal) (line : ℕ) (change : Tree.Change) → IsTrue (goal_passes p g) → IsTrue (change_passes p change) → IsTrue (code_passes p (goal_code g line change))
 goal_pass p (OfLocal l) line change h k = local_pass p l line change l.is_loop k
 goal_pass p (OfNumber value) line change h k = refl
-goal_pass p (OfPlace place) line change h k = both (place_passes p place) (change_passes p change) h k
+goal_pass p (OfPlace place) line change h k = and_from (place_passes p place) (change_passes p change) h k
 goal_pass p OfNothing line change h k = refl
 
 declared_pass : (p : Leaves) (line : ℕ) (slot : Option ℕ) (scalar : Scalar) (value : Option Term) → IsTrue (first_passes p value) → IsTrue (code_passes p (declared_code line slot scalar value))
@@ -144,7 +141,7 @@ PassAny p w = (locals : Names Local) → Pass p w locals
 branch_pass : (bs : Branches) (p : Leaves) (w : World) (locals : Names Local) (n : ℕ) → PassAny p w → IsTrue (branch_passes p (branch_codes bs w locals n))
 branch_pass NoElse p w locals n h = refl
 branch_pass (Else body) p w locals n h = refl
-branch_pass (Test line test body rest) p w locals n h = both _ _ (term_pass test p w locals (h locals)) (branch_pass rest p w locals (n + (count body + 1)) h)
+branch_pass (Test line test body rest) p w locals n h = and_from _ _ (term_pass test p w locals (h locals)) (branch_pass rest p w locals (n + (count body + 1)) h)
 
 pub code_pass : (s : Statement) (p : Leaves) (w : World) (locals : Names Local) (n : ℕ) → PassAny p w → IsTrue (code_passes p (code s w locals n))
 code_pass Empty p w locals n h = refl
@@ -159,7 +156,7 @@ code_pass (Call line name) p w locals n h = call_pass p (meaning_of name w.metho
 
 pub codes_pass : (all : Statements) (p : Leaves) (w : World) (locals : Names Local) (n : ℕ) → PassAny p w → IsTrue (all_pass p (all_codes all w locals n))
 codes_pass NoStatement p w locals n h = refl
-codes_pass (Then s rest) p w locals n h = both _ _ (code_pass s p w locals n h) (codes_pass rest p w (after s w locals) (n + count s) h)
+codes_pass (Then s rest) p w locals n h = and_from _ _ (code_pass s p w locals n h) (codes_pass rest p w (after s w locals) (n + count s) h)
 
 -- ---- blocks
 
@@ -177,10 +174,10 @@ each_both p (x ∷ xs) ys h k = each_case (all_pass p x) (each_passes p xs) (eac
 
 -- blocks, and then one more
 pub each_more : (p : Leaves) (xs : List (List Code)) (x : List Code) → IsTrue (each_passes p xs) → IsTrue (all_pass p x) → IsTrue (each_passes p (xs ++ x ∷ []))
-each_more p xs x h k = each_both p xs (x ∷ []) h (both (all_pass p x) true k refl)
+each_more p xs x h k = each_both p xs (x ∷ []) h (and_from (all_pass p x) true k refl)
 
 body_pass : (s : Statement) (p : Leaves) (w : World) (locals : Names Local) (n : ℕ) → PassAny p w → IsTrue (each_passes p (inner s w locals n)) → IsTrue (each_passes p (inner s w locals n ++ (code s w locals n ∷ []) ∷ []))
-body_pass s p w locals n h k = each_more p (inner s w locals n) (code s w locals n ∷ []) k (both (code_passes p (code s w locals n)) true (code_pass s p w locals n h) refl)
+body_pass s p w locals n h k = each_more p (inner s w locals n) (code s w locals n ∷ []) k (and_from (code_passes p (code s w locals n)) true (code_pass s p w locals n h) refl)
 
 mutual
   inner_pass : (s : Statement) (p : Leaves) (w : World) (locals : Names Local) (n : ℕ) → PassAny p w → IsTrue (each_passes p (inner s w locals n))

@@ -1,10 +1,10 @@
 -- What is kept of all methods of a program, class by class.
 use Rattle.std.proofs.Common.{rules, ◌≡◌, ℕ, ◌++◌, ◌||◌, ◌==◌, IsTrue, List, [], ◌∷◌, slice_get, Option, Some, None, is_some, Bool, true, false, if◌then◌else◌, refl, ap, sym, ◌∙◌, subst, arith}
+use Rattle.std.proofs.lemmas.Bool.{and_from}
 use Rattle.std.proofs.lemmas.Bool.Decides.{nat_tests}
 use Rattle.std.proofs.lemmas.Slice.Eq.{bytes_eq-Decides}
 use Rattle.std.specs.Str.{bytes_eq}
 use Rattle.trick_blocks.proofs.Made.{method_holds}
-use Rattle.trick_blocks.proofs.Passing.{both}
 use Rattle.trick_blocks.specs.Held.{bodies_of}
 use Rattle.trick_blocks.specs.Kept.{AreKept, Grows, MethodsHold, is_one_of}
 use Rattle.trick_blocks.specs.Methods.{Progress, progress, with_part, with_parts}
@@ -28,12 +28,12 @@ kept_grows p q (m ∷ ms) grows h = (grows m.class m.block h.0, kept_grows p q m
 
 stand : (w : World) (blocks : List Block) (ms : List Method) → AreKept (progress w (bodies_of blocks)) ms → IsTrue (methods_stand blocks ms)
 stand w blocks [] h = refl
-stand w blocks (m ∷ ms) h = both (method_stands blocks m) (methods_stand blocks ms) (method_holds w blocks m.class m.block h.0).stands (stand w blocks ms h.1)
+stand w blocks (m ∷ ms) h = and_from (method_stands blocks m) (methods_stand blocks ms) (method_holds w blocks m.class m.block h.0).stands (stand w blocks ms h.1)
 
 know : (w : World) (blocks : List Block) (ms : List Method) → AreKept (progress w (bodies_of blocks)) ms → IsTrue (methods_know w.slots blocks ms)
 know w blocks [] h = refl
 know w blocks (m ∷ ms) h =
-    both (block_knows w.slots (codes_of blocks) m.block []) (methods_know w.slots blocks ms) (method_holds w blocks m.class m.block h.0).knows (know w blocks ms h.1)
+    and_from (block_knows w.slots (codes_of blocks) m.block []) (methods_know w.slots blocks ms) (method_holds w blocks m.class m.block h.0).knows (know w blocks ms h.1)
 
 pub methods_hold : (w : World) (blocks : List Block) (ms : List Method) → AreKept (progress w (bodies_of blocks)) ms → MethodsHold w.slots blocks ms
 methods_hold w blocks ms h = record { method_blocks = stand w blocks ms h; locals_known = know w blocks ms h }

@@ -1,7 +1,6 @@
 -- Blocks with their classes and frames, one list after another.
 use Rattle.std.proofs.Common.{◌≡◌, ℕ, zero, suc, ◌+◌, ◌-◌, ◌<◌, ◌≤◌, get_or, List, [], ◌∷◌, ◌++◌, length, take, drop, Option, Some, None, slice_get, refl, ap, sym, ◌∙◌, arith}
-use Rattle.std.proofs.lemmas.List.{append_assoc}
-use Rattle.trick_blocks.proofs.Lists.{append_none}
+use Rattle.std.proofs.lemmas.List.{append-nil, append_assoc}
 use Rattle.trick_blocks.specs.Bodies.{Body, with_body, with_bodies}
 use Rattle.trick_blocks.specs.Held.{bodies_of}
 use Rattle.trick_blocks.specs.Kept.{codes_in}
@@ -28,7 +27,7 @@ codes_one (x ∷ bodies) b = ap (λ q. x.codes ∷ q) (codes_one bodies b)
 
 -- what is made are those blocks
 pub codes_with : (class : ℕ) (bs : List (List Code)) (bodies : List Body) → codes_in (with_bodies class bs bodies) ≡ codes_in bodies ++ bs
-codes_with class [] bodies = sym (append_none (codes_in bodies))
+codes_with class [] bodies = sym (append-nil (codes_in bodies))
 codes_with class (b ∷ bs) bodies = codes_with class bs (with_body class b bodies) ∙ (ap (λ q. q ++ bs) (codes_one bodies _) ∙ append_assoc (codes_in bodies) (b ∷ []) bs)
 
 drop_front : {A : Type 0} (xs ys : List A) → drop (length xs) (xs ++ ys) ≡ ys

@@ -1,8 +1,8 @@
 -- What blocks run: those in their own method, and those of methods that are made.
 use Rattle.std.proofs.Common.{◌≡◌, ℕ, suc, ◌+◌, ◌≤◌, ◌<◌, ◌++◌, ◌&&◌, nat_lt, IsTrue, List, [], ◌∷◌, length, Option, Some, None, Bool, true, false, if◌then◌else◌, refl, subst, arith}
 use Rattle.std.proofs.Math.ListN.{length-append}
+use Rattle.std.proofs.lemmas.Bool.{and_from}
 use Rattle.std.proofs.lemmas.Bool.Decides.{nat_tests}
-use Rattle.trick_blocks.proofs.Passing.{both}
 use Rattle.trick_blocks.specs.Codes.{after, all_codes, all_count, all_inner, branch_codes, branch_count, branch_inner, call_code, change_term, code, count, declared, declared_code, goal_code, inner, loop_code, loop_in, loop_slot, new_slot, scalar_of, value_term}
 use Rattle.trick_blocks.specs.Methods.{body_blocks}
 use Rattle.trick_blocks.specs.Terms.{Goal, OfLocal, OfNumber, OfPlace, OfNothing, path_goal}
@@ -80,7 +80,7 @@ branch_runs : (bs : Branches) (w : World) (locals : Names Local) (n : ℕ) (p : 
 branch_runs NoElse w locals n p lo hi r low high = refl
 branch_runs (Else body) w locals n p lo hi r low high = r.inside (n + count body) (omega (arith, low)) (omega (arith, high))
 branch_runs (Test line test body rest) w locals n p lo hi r low high =
-    both _ _ (r.inside (n + count body) (omega (arith, low)) (omega (arith, high))) (branch_runs rest w locals (n + (count body + 1)) p lo hi r (omega (arith, low)) (omega (arith, high)))
+    and_from _ _ (r.inside (n + count body) (omega (arith, low)) (omega (arith, high))) (branch_runs rest w locals (n + (count body + 1)) p lo hi r (omega (arith, low)) (omega (arith, high)))
 
 pub code_runs : (s : Statement) (w : World) (locals : Names Local) (n : ℕ) (p : ℕ → Bool) (lo hi : ℕ) → Runs p lo hi w → lo ≤ n → n + count s ≤ hi → IsTrue (code_blocks p (code s w locals n))
 code_runs Empty w locals n p lo hi r low high = refl
@@ -95,7 +95,7 @@ code_runs (Call line name) w locals n p lo hi r low high = call_runs p (meaning_
 pub all_run : (all : Statements) (w : World) (locals : Names Local) (n : ℕ) (p : ℕ → Bool) (lo hi : ℕ) → Runs p lo hi w → lo ≤ n → n + all_count all ≤ hi → IsTrue (all_blocks p (all_codes all w locals n))
 all_run NoStatement w locals n p lo hi r low high = refl
 all_run (Then s rest) w locals n p lo hi r low high =
-    both _ _ (code_runs s w locals n p lo hi r low (omega (arith, high))) (all_run rest w (after s w locals) (n + count s) p lo hi r (omega (arith, low)) (omega (arith, high)))
+    and_from _ _ (code_runs s w locals n p lo hi r low (omega (arith, high))) (all_run rest w (after s w locals) (n + count s) p lo hi r (omega (arith, low)) (omega (arith, high)))
 
 -- ---- what blocks run
 
@@ -112,11 +112,11 @@ runs_both p [] ys h k = k
 runs_both p (x ∷ xs) ys h k = runs_case (all_blocks p x) (each_runs p xs) (each_runs p (xs ++ ys)) (λ t. runs_both p xs ys t k) h
 
 runs_more : (p : ℕ → Bool) (xs : List (List Code)) (x : List Code) → IsTrue (each_runs p xs) → IsTrue (all_blocks p x) → IsTrue (each_runs p (xs ++ x ∷ []))
-runs_more p xs x h k = runs_both p xs (x ∷ []) h (both (all_blocks p x) true k refl)
+runs_more p xs x h k = runs_both p xs (x ∷ []) h (and_from (all_blocks p x) true k refl)
 
 body_runs : (s : Statement) (w : World) (locals : Names Local) (n : ℕ) (p : ℕ → Bool) (lo hi : ℕ) → Runs p lo hi w → lo ≤ n → n + (count s + 1) ≤ hi → IsTrue (each_runs p (inner s w locals n)) → IsTrue (each_runs p (inner s w locals n ++ (code s w locals n ∷ []) ∷ []))
 body_runs s w locals n p lo hi r low high h =
-    runs_more p (inner s w locals n) (code s w locals n ∷ []) h (both (code_blocks p (code s w locals n)) true (code_runs s w locals n p lo hi r low (omega (arith, high))) refl)
+    runs_more p (inner s w locals n) (code s w locals n ∷ []) h (and_from (code_blocks p (code s w locals n)) true (code_runs s w locals n p lo hi r low (omega (arith, high))) refl)
 
 mutual
   inner_runs : (s : Statement) (w : World) (locals : Names Local) (n : ℕ) (p : ℕ → Bool) (lo hi : ℕ) → Runs p lo hi w → lo ≤ n → n + count s ≤ hi → IsTrue (each_runs p (inner s w locals n))
@@ -176,7 +176,7 @@ order_both [] ys k m e h j = let same : m ≡ k = omega (arith, e) in subst (λ 
 order_both (x ∷ xs) ys k m e h j = order_case (all_blocks (below k) x) (are_in_order (suc k) xs) (are_in_order (suc k) (xs ++ ys)) (λ t. order_both xs ys (suc k) m (omega (arith, e)) t j) h
 
 one_more : (xs : List (List Code)) (x : List Code) (n m : ℕ) → m ≡ n + length xs → IsTrue (are_in_order n xs) → IsTrue (all_blocks (below m) x) → IsTrue (are_in_order n (xs ++ x ∷ []))
-one_more xs x n m e h j = order_both xs (x ∷ []) n m e h (both (all_blocks (below m) x) true j refl)
+one_more xs x n m e h j = order_both xs (x ∷ []) n m e h (and_from (all_blocks (below m) x) true j refl)
 
 made_more : (n m : ℕ) (w : World) → n ≤ m → AreMade n w → AreMade m w
 made_more n m w le made name b e = let less = made name b e in omega (arith, less, le)
@@ -185,7 +185,7 @@ body_ordered : (s : Statement) (w : World) (locals : Names Local) (n : ℕ) → 
 body_ordered s w locals n made h =
     let m = n + count s in
     one_more (inner s w locals n) (code s w locals n ∷ []) n m (omega (arith, inner_count s w locals n)) h
-    (both (code_blocks (below m) (code s w locals n)) true (code_runs s w locals n (below m) 0 m (runs_below n m w (omega arith) made) (omega arith) (omega arith)) refl)
+    (and_from (code_blocks (below m) (code s w locals n)) true (code_runs s w locals n (below m) 0 m (runs_below n m w (omega arith) made) (omega arith) (omega arith)) refl)
 
 block_ordered : (all : Statements) (w : World) (locals : Names Local) (n : ℕ) → AreMade n w → IsTrue (are_in_order n (all_inner all w locals n)) → IsTrue (are_in_order n (all_inner all w locals n ++ all_codes all w locals n ∷ []))
 block_ordered all w locals n made h =

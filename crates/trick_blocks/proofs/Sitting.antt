@@ -1,12 +1,12 @@
 -- Blocks that stand in a list of blocks, and slots that are enough for them.
 use Rattle.std.proofs.Common.{◌≡◌, ℕ, ◌+◌, ◌≤◌, ◌<◌, ◌++◌, ◌&&◌, max, nat_lt, IsTrue, List, [], ◌∷◌, length, Bool, true, refl, ap, sym, ◌∙◌, subst, arith}
 use Rattle.std.proofs.Math.ListN.{length-append}
+use Rattle.std.proofs.lemmas.Bool.{and_from}
 use Rattle.std.proofs.lemmas.Bool.Decides.{nat_tests}
 use Rattle.std.proofs.lemmas.List.{append_assoc, get_or_append_left}
 use Rattle.std.specs.List.{slice_index_or}
-use Rattle.trick_blocks.proofs.Passing.{both}
+use Rattle.trick_base.proofs.Truths.{first_holds, second_holds}
 use Rattle.trick_blocks.specs.Methods.{all_slots, block_slots, code_slots}
-use Rattle.trick_lang.proofs.Tests.{both_left, both_right}
 use Rattle.trick_lang.specs.Blocks.{block_at, each_block, table}
 use Rattle.trick_lang.specs.Tree.{Code, Empty, Declare, SetLocal, Assign, If, For, Run}
 
@@ -118,18 +118,18 @@ code_fits (Run block) so_far top h = refl
 all_fit_in : (cs : List Code) (so_far top : ℕ) → all_slots cs so_far ≤ top → IsTrue (all_under top cs)
 all_fit_in [] so_far top h = refl
 all_fit_in (c ∷ cs) so_far top h =
-    both _ _ (code_fits c so_far top (omega (arith, h, all_grow cs (code_slots c so_far)))) (all_fit_in cs (code_slots c so_far) top h)
+    and_from _ _ (code_fits c so_far top (omega (arith, h, all_grow cs (code_slots c so_far)))) (all_fit_in cs (code_slots c so_far) top h)
 
 -- the slots of blocks are enough for each of them
 pub slots_under : (bs : List (List Code)) (so_far top : ℕ) → block_slots bs so_far ≤ top → IsTrue (each_under top bs)
 slots_under [] so_far top h = refl
 slots_under (b ∷ bs) so_far top h =
-    both _ _ (all_fit_in b so_far top (omega (arith, h, slots_grow bs (all_slots b so_far)))) (slots_under bs (all_slots b so_far) top h)
+    and_from _ _ (all_fit_in b so_far top (omega (arith, h, slots_grow bs (all_slots b so_far)))) (slots_under bs (all_slots b so_far) top h)
 
 pub under_left : (top : ℕ) (xs ys : List (List Code)) → IsTrue (each_under top (xs ++ ys)) → IsTrue (each_under top xs)
 under_left top [] ys h = refl
-under_left top (x ∷ xs) ys h = both _ _ (both_left _ _ h) (under_left top xs ys (both_right (all_under top x) _ h))
+under_left top (x ∷ xs) ys h = and_from _ _ (first_holds _ _ h) (under_left top xs ys (second_holds (all_under top x) _ h))
 
 pub under_right : (top : ℕ) (xs ys : List (List Code)) → IsTrue (each_under top (xs ++ ys)) → IsTrue (each_under top ys)
 under_right top [] ys h = h
-under_right top (x ∷ xs) ys h = under_right top xs ys (both_right (all_under top x) _ h)
+under_right top (x ∷ xs) ys h = under_right top xs ys (second_holds (all_under top x) _ h)

@@ -1,5 +1,6 @@
 -- What is known of the tokens of a text as the grammar sees them, by their symbols.
 use Rattle.std.proofs.Common.{◌≡◌, ℕ, ◌-◌, Bool, true, false, not, ◌&&◌, List, [], ◌∷◌, map, drop, Result, Ok, Err, refl, sym, ◌∙◌, subst, arith, if◌then◌else◌}
+use Rattle.std.proofs.lemmas.Bool.{and_parts}
 use Rattle.std.proofs.lemmas.Slice.Eq.{bytes_eq-Decides}
 use Rattle.std.specs.List.{list_all, list_any}
 use Rattle.std.specs.Str.{bytes_eq}
@@ -68,32 +69,28 @@ whole_symbols = the.Zero ∷ the.One ∷ the.LongZero ∷ the.Small ∷ the.Larg
 abbrev decimal_symbols : List Symbol
 decimal_symbols = the.BadDecimal ∷ the.DecimalZero ∷ the.Decimal ∷ []
 
-and_both : (a b : Bool) → (a && b) ≡ true → (a ≡ true) × (b ≡ true)
-and_both true b h = (refl, h)
-and_both false b h = absurd cc
-
 pub numbered_passes : (p : Symbol → Bool) (limit : ℕ) (within beyond : Symbol) (digits : List ℕ)
     → p within ≡ true → p beyond ≡ true → p the.Name ≡ true → p (numbered limit within beyond digits) ≡ true
 numbered_passes p limit within beyond digits pi po pn = if_both p _ _ _ (if_both p _ _ _ pi po) pn
 
 pub plain_passes : (p : Symbol → Bool) (bytes : List ℕ) → list_all p number_names ≡ true → p (plain_name bytes) ≡ true
-plain_passes p bytes all = by bytes (and_both _ _ all)
+plain_passes p bytes all = by bytes (and_parts _ _ all)
   where
     by : (bytes : List ℕ)
         → (p the.Thread ≡ true) × (list_all p (the.OtherThread ∷ the.Phase ∷ the.OtherPhase ∷ the.Name ∷ []) ≡ true)
         → p (plain_name bytes) ≡ true
-    by bytes h = rest bytes h.0 (and_both _ _ h.1)
+    by bytes h = rest bytes h.0 (and_parts _ _ h.1)
       where
         rest : (bytes : List ℕ) → p the.Thread ≡ true
             → (p the.OtherThread ≡ true) × (list_all p (the.Phase ∷ the.OtherPhase ∷ the.Name ∷ []) ≡ true)
             → p (plain_name bytes) ≡ true
         rest [] thread g =
-            let f = and_both _ _ g.1 in
-            let e = and_both _ _ f.1 in (and_both _ _ e.1).0
+            let f = and_parts _ _ g.1 in
+            let e = and_parts _ _ f.1 in (and_parts _ _ e.1).0
         rest (b ∷ bs) thread g =
-            let f = and_both _ _ g.1 in
-            let e = and_both _ _ f.1 in
-            let name = (and_both _ _ e.1).0 in
+            let f = and_parts _ _ g.1 in
+            let e = and_parts _ _ f.1 in
+            let name = (and_parts _ _ e.1).0 in
             if_both p _ _ _ (numbered_passes p 15 the.Thread the.OtherThread bs thread g.0 name)
             (if_both p _ _ _ (numbered_passes p 65534 the.Phase the.OtherPhase bs f.0 e.0 name) name)
 
@@ -134,7 +131,7 @@ pub no_word : (cs : List Symbol) (words : List (List ℕ)) → list_all (λ word
     → list_any (λ word. bytes_eq bytes word) words ≡ false
 no_word cs [] all bytes h = refl
 no_word cs (word ∷ words) all bytes h =
-    let both = and_both _ _ all in
+    let both = and_parts _ _ all in
     by (bytes_eq bytes word) refl both.0 (no_word cs words both.1 bytes h)
   where
     by : (b : Bool) → bytes_eq bytes word ≡ b → is_none_of cs (name_symbol word) ≡ true

@@ -1,7 +1,7 @@
 -- In the tables of a file each struct and class has members of structs before it alone.
-use Rattle.std.proofs.Common.{◌≡◌, ℕ, suc, ◌+◌, ◌<◌, ℤ, pos, ◌+ℤ◌, Bool, true, false, ◌&&◌, if◌then◌else◌, nat_lt, List, [], ◌∷◌, ◌++◌, length, is_some, Option, Some, None, refl, sym, subst, arith}
+use Rattle.std.proofs.Common.{◌≡◌, ℕ, suc, ◌+◌, ◌<◌, ℤ, pos, ◌+ℤ◌, Bool, true, false, if◌then◌else◌, List, [], ◌∷◌, ◌++◌, length, is_some, Option, Some, None, refl, sym, subst, arith}
 use Rattle.std.proofs.Math.ListN.{length-append}
-use Rattle.std.proofs.lemmas.Bool.{lt-ltb}
+use Rattle.std.proofs.lemmas.Bool.{and_from, and_parts, lt-ltb}
 use Rattle.trick_cells.proofs.Laid.{with_one}
 use Rattle.trick_cells.specs.Unfolding.{are_declared_first, is_below, member_is_below, members_are_below}
 use Rattle.trick_lang.specs.SyntaxTree as tree
@@ -37,11 +37,8 @@ later n (Some (the.Item value)) h = tt
 later n (Some (the.Object base)) h = tt
 later n None h = tt
 
-lt_true : (a b : ℕ) → a < b → nat_lt a b ≡ true
-lt_true a b h = lt-ltb a b h
-
 type_below : (n : ℕ) (o : Option Global) → Before n o → is_below n (base_of_type o) ≡ true
-type_below n (Some (the.Struct k)) h = lt_true k n h
+type_below n (Some (the.Struct k)) h = lt-ltb k n h
 type_below n (Some the.Enum) h = refl
 type_below n (Some (the.Class k)) h = refl
 type_below n (Some (the.Item value)) h = refl
@@ -54,19 +51,11 @@ base_below n (Custom line name) names h = type_below n (meaning_of name names) (
 
 -- ---- members
 
-and_both : (x y : Bool) → x ≡ true → y ≡ true → (x && y) ≡ true
-and_both true y a b = b
-and_both false y a b = absurd (cc a)
-
-one_and : (x y : Bool) → (x && y) ≡ true → (x ≡ true) × (y ≡ true)
-one_and true y h = (refl, h)
-one_and false y h = absurd (cc h)
-
 below_more : (n : ℕ) (ms : Names Member) (name : Name) (m : Member) → members_are_below n ms ≡ true → member_is_below n m ≡ true → members_are_below n (ms ++ (name, m) ∷ []) ≡ true
-below_more n [] name m all one = and_both (member_is_below n m) true one refl
+below_more n [] name m all one = and_from (member_is_below n m) true one refl
 below_more n (e ∷ es) name m all one =
-    let both = one_and (member_is_below n e.1) (members_are_below n es) all in
-    and_both (member_is_below n e.1) (members_are_below n (es ++ (name, m) ∷ [])) both.0 (below_more n es name m both.1 one)
+    let both = and_parts (member_is_below n e.1) (members_are_below n es) all in
+    and_from (member_is_below n e.1) (members_are_below n (es ++ (name, m) ∷ [])) both.0 (below_more n es name m both.1 one)
 
 below_with : (n : ℕ) (ms : Names Member) (name : Name) (m : Member) → members_are_below n ms ≡ true → member_is_below n m ≡ true → members_are_below n (with_name name m ms) ≡ true
 below_with n ms name m all one = by (is_some (meaning_of name ms)) where
@@ -131,11 +120,11 @@ before_next n d names all = by d (λ q. later n (meaning_of q names) (all q)) wh
 first_more : (k : ℕ) (gs : List (Names Member)) (g : Names Member) → are_declared_first k gs ≡ true → members_are_below (k + length gs) g ≡ true → are_declared_first k (gs ++ g ∷ []) ≡ true
 first_more k [] g all one =
     let at : k + 0 ≡ k = omega arith in
-    and_both (members_are_below k g) true (subst (λ j. members_are_below j g ≡ true) at one) refl
+    and_from (members_are_below k g) true (subst (λ j. members_are_below j g ≡ true) at one) refl
 first_more k (h ∷ hs) g all one =
-    let both = one_and (members_are_below k h) (are_declared_first (suc k) hs) all in
+    let both = and_parts (members_are_below k h) (are_declared_first (suc k) hs) all in
     let at : k + suc (length hs) ≡ suc k + length hs = omega arith in
-    and_both (members_are_below k h) (are_declared_first (suc k) (hs ++ g ∷ [])) both.0
+    and_from (members_are_below k h) (are_declared_first (suc k) (hs ++ g ∷ [])) both.0
     (first_more (suc k) hs g both.1 (subst (λ j. members_are_below j g ≡ true) at one))
 
 file_first : (ds : SDefine) (t : Tables) → AllBefore (length t.groups) t.names → are_declared_first 0 t.groups ≡ true → are_declared_first 0 (behind_definitions ds t).groups ≡ true

@@ -1,6 +1,6 @@
 -- The tables keep what those who read them rest on.
-use Rattle.std.proofs.Common.{◌≡◌, ℕ, zero, suc, ◌+◌, ◌*◌, ◌≤◌, Bool, true, false, ◌&&◌, if◌then◌else◌, nat_le, List, [], ◌∷◌, ◌++◌, length, slice_index_or, is_some, Option, Some, None, refl, ap, sym, subst, ◌∙◌, arith}
-use Rattle.std.proofs.lemmas.Bool.{le-leb, leb-true}
+use Rattle.std.proofs.Common.{◌≡◌, ℕ, zero, suc, ◌+◌, ◌*◌, ◌≤◌, Bool, true, false, if◌then◌else◌, nat_le, List, [], ◌∷◌, ◌++◌, length, slice_index_or, is_some, Option, Some, None, refl, ap, sym, subst, ◌∙◌, arith}
+use Rattle.std.proofs.lemmas.Bool.{and_parts, le-leb, leb-true}
 use Rattle.std.proofs.lemmas.Nat.{mul-le}
 use Rattle.std.specs.Str.{bytes_eq}
 use Rattle.trick_base.specs.Capped.{capped}
@@ -50,12 +50,9 @@ if_true : {T : Type 0} (b : Bool) (x y : T) → b ≡ true → (if b then x else
 if_true true x y h = refl
 if_true false x y h = absurd (cc h)
 
-le_true : (a b : ℕ) → a ≤ b → nat_le a b ≡ true
-le_true a b h = le-leb a b h
-
 pub taken_is : (sizes : List ℕ) (k : ℕ) → slice_index_or sizes k 0 ≤ 65536 → size_at (taken sizes) k ≡ slice_index_or sizes k 0
 taken_is [] k h = refl
-taken_is (n ∷ ns) zero h = if_true (nat_le n 65536) n 0 (le_true n 65536 h)
+taken_is (n ∷ ns) zero h = if_true (nat_le n 65536) n 0 (le-leb n 65536 h)
 taken_is (n ∷ ns) (suc k) h = taken_is ns k h
 
 base_is : (sizes : List ℕ) (b : Base) → base_count sizes b ≤ 65536 → base_size (taken sizes) b ≡ base_count sizes b
@@ -77,10 +74,6 @@ element_small n b some small =
     let low : 1 * b ≤ n * b = mul-le 1 b n b some (omega arith) in
     omega (arith, low, small)
 
-one_and : (x y : Bool) → (x && y) ≡ true → (x ≡ true) × (y ≡ true)
-one_and true y h = (refl, h)
-one_and false y h = absurd (cc h)
-
 narrow_small : (n : ℕ) → n ≤ 65536 → narrow n ≡ n
 narrow_small n h = omega (arith, h)
 
@@ -98,7 +91,7 @@ right_at sizes (One n) base b is some small =
     let size : b ≡ base_size (taken sizes) base = is ∙ sym (base_is sizes base (subst (λ k. k ≤ 65536) is (element_small n b at low))) in
     (d.1 ∙ ap (λ k. n * k) is, subst (IsDim (dim n b)) size d.0)
 right_at sizes (Two m n) base b is some small =
-    let both = one_and (nat_le 1 m) (nat_le 1 n) some in
+    let both = and_parts (nat_le 1 m) (nat_le 1 n) some in
     let outer : 1 ≤ m = leb-true 1 m both.0 in
     let inner : 1 ≤ n = leb-true 1 n both.1 in
     let all : m * (n * b) ≤ 65536 = subst (λ k. m * (n * k) ≤ 65536) (sym is) small in
@@ -112,7 +105,7 @@ base_small : (sizes : List ℕ) (ls : Lengths) (base : Base) → has_elements ls
 base_small sizes Plain base some small = small
 base_small sizes (One n) base some small = element_small n (base_count sizes base) (leb-true 1 n some) small
 base_small sizes (Two m n) base some small =
-    let both = one_and (nat_le 1 m) (nat_le 1 n) some in
+    let both = and_parts (nat_le 1 m) (nat_le 1 n) some in
     element_small n (base_count sizes base) (leb-true 1 n both.1) (element_small m (n * base_count sizes base) (leb-true 1 m both.0) small)
 
 is_right : (sizes : List ℕ) (ls : Lengths) (base : Base) → has_elements ls ≡ true → place_count sizes ls base ≤ 65536 → IsRight sizes ls base (narrow (base_count sizes base))

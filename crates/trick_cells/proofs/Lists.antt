@@ -1,5 +1,5 @@
 -- Lists of cells.
-use Rattle.std.proofs.Common.{◌≡◌, ℕ, zero, suc, ◌+◌, ◌*◌, ◌<◌, drop, drop-cons, add-one, get_or, slice_get, Some, List, [], ◌∷◌, ◌++◌, length, refl, ap, sym, subst, ◌∙◌, arith}
+use Rattle.std.proofs.Common.{◌≡◌, ℕ, zero, suc, ◌+◌, ◌*◌, drop, slice_get, Some, List, [], ◌∷◌, ◌++◌, length, refl, ap, sym, subst, ◌∙◌, arith}
 use Rattle.std.proofs.lemmas.List.{append_assoc}
 use Rattle.std.proofs.Math.ListN.{length-append}
 use Rattle.trick_cells.specs.Cells.{under, each, bracket}
@@ -28,10 +28,6 @@ length_each from (suc n) cs =
     ∙ (ap (λ k. length cs + k) (length_each (suc from) n cs) ∙ sym (mul_next n (length cs)))) where
       mul_next : (n k : ℕ) → suc n * k ≡ k + n * k
       mul_next n k = omega arith
-
--- the items from one on are that one and the rest
-pub from_here : {A : Type 0} (xs : List A) (i : ℕ) (item : A) → i < length xs → item ≡ get_or xs i item → drop i xs ≡ item ∷ drop (i + 1) xs
-from_here xs i item h is = rw (add-one, drop-cons xs i item) (ap (λ x. x ∷ drop (suc i) xs) (sym is))
 
 -- the same where the item was looked up
 pub from_entry : {A : Type 0} (xs : List A) (i : ℕ) (item : A) → slice_get xs i ≡ Some item → drop i xs ≡ item ∷ drop (i + 1) xs

@@ -1,7 +1,7 @@
 -- Each struct has the cells of its members, where types are declared before they are used.
-use Rattle.std.proofs.Common.{◌≡◌, ℕ, zero, suc, ◌+◌, ◌<◌, ◌≤◌, Bool, true, false, ◌&&◌, List, [], ◌∷◌, ◌++◌, length, refl, ap, sym, subst, ◌∙◌, arith}
+use Rattle.std.proofs.Common.{◌≡◌, ℕ, zero, suc, ◌+◌, ◌<◌, ◌≤◌, true, List, [], ◌∷◌, ◌++◌, length, refl, ap, sym, subst, ◌∙◌, arith}
 use Rattle.std.proofs.Math.ListN.{length-append}
-use Rattle.std.proofs.lemmas.Bool.{ltb-true}
+use Rattle.std.proofs.lemmas.Bool.{and_parts, ltb-true}
 use Rattle.std.proofs.lemmas.List.{append_assoc, append-nil}
 use Rattle.trick_cells.specs.Cells.{under, dotted, array_cells, base_cells, cells_at, group_cells, member_cells, members_cells}
 use Rattle.trick_cells.specs.Unfolding.{Unfolds, are_declared_first, is_below, member_is_below, members_are_below, members_at}
@@ -11,10 +11,6 @@ use Rattle.trick_names.specs.declared.tables.Base.TheVariants.{Single, Group}
 use Rattle.trick_names.specs.declared.tables.Member.{Member}
 use Rattle.trick_names.specs.declared.tables.Member.TheVariants.{Variable as Holds, Method}
 use Rattle.trick_lang.specs.declared.variable.Variable.{Variable}
-
-both : (x y : Bool) → (x && y) ≡ true → (x ≡ true) × (y ≡ true)
-both true y h = (refl, h)
-both false y h = absurd (cc h)
 
 at_front : (xs ys : List (List Variable)) (j : ℕ) → j < length xs → cells_at (xs ++ ys) j ≡ cells_at xs j
 at_front [] ys j h = absurd (omega arith)
@@ -41,7 +37,7 @@ member_stable xs ys (Method number) h = refl
 members_stable : (xs ys : List (List Variable)) (ms : Names Member) → members_are_below (length xs) ms ≡ true → members_cells (xs ++ ys) ms ≡ members_cells xs ms
 members_stable xs ys [] h = refl
 members_stable xs ys (m ∷ ms) h =
-    let p = both _ _ h in
+    let p = and_parts _ _ h in
     ap (λ b. under (dotted m.0) b ++ members_cells (xs ++ ys) ms) (member_stable xs ys m.1 p.0)
     ∙ ap (λ r. under (dotted m.0) (member_cells xs m.1) ++ r) (members_stable xs ys ms p.1)
 
@@ -57,12 +53,12 @@ unfolds_from (g ∷ gs) done h zero =
     let whole : group_cells gs (done ++ c ∷ []) ≡ done ++ c ∷ b.0 = b.1 ∙ append_assoc done (c ∷ []) b.0 in
     let n : length done + 0 ≡ length done = omega arith in
     ap (cells_at (group_cells gs (done ++ c ∷ []))) n ∙ (ap (λ xs. cells_at xs (length done)) whole ∙ (at_seam done c b.0
-    ∙ (sym (members_stable done (c ∷ b.0) g (both _ _ h).0) ∙ ap (λ xs. members_cells xs g) (sym whole))))
+    ∙ (sym (members_stable done (c ∷ b.0) g (and_parts _ _ h).0) ∙ ap (λ xs. members_cells xs g) (sym whole))))
 unfolds_from (g ∷ gs) done h (suc k) =
     let next = done ++ members_cells done g ∷ [] in
     let n : length next ≡ suc (length done) = omega (arith, length-append done (members_cells done g ∷ [])) in
     let i : length done + suc k ≡ length next + k = omega (arith, n) in
-    ap (cells_at (group_cells gs next)) i ∙ unfolds_from gs next (subst (λ m. are_declared_first m gs ≡ true) (sym n) (both _ _ h).1) k
+    ap (cells_at (group_cells gs next)) i ∙ unfolds_from gs next (subst (λ m. are_declared_first m gs ≡ true) (sym n) (and_parts _ _ h).1) k
 
 pub unfolds : (gs : List (Names Member)) → are_declared_first 0 gs ≡ true → Unfolds gs (group_cells gs [])
 unfolds gs h k =

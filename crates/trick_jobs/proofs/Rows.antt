@@ -1,6 +1,7 @@
 -- Lists of the file, one item after another.
-use Rattle.std.proofs.Common.{◌≡◌, ℕ, zero, suc, ◌+◌, ◌<◌, ◌≤◌, Bool, true, false, if◌then◌else◌, List, [], ◌∷◌, ◌++◌, length, get_or, take, drop, drop-cons, add-one, refl, ap, sym, ◌∙◌, arith, Result, Ok, Err, OnOk}
+use Rattle.std.proofs.Common.{◌≡◌, ℕ, zero, suc, ◌+◌, ◌<◌, ◌≤◌, Bool, true, false, if◌then◌else◌, List, [], ◌∷◌, ◌++◌, length, get_or, take, drop, refl, ap, sym, ◌∙◌, arith, Result, Ok, Err, OnOk}
 use Rattle.std.proofs.lemmas.List.{append_assoc, take_more}
+use Rattle.trick_base.proofs.ListLemmas.{next_item}
 use Rattle.trick_jobs.specs.Jobs.{calls_in, definition_lines, lines_at, method_number, numbers_at, object_jobs}
 use Rattle.trick_lang.specs.SyntaxTree as tree
 use Rattle.trick_lang.specs.Syntax.{class_part_of, class_parts_of, definition_of, definitions_of, jobs_of}
@@ -10,12 +11,8 @@ use Rattle.trick_lang.specs.declared.syntax.definition.JobLine.{JobLine}
 use Rattle.trick_lang.specs.declared.job.Job.{Job}
 use Rattle.trick_names.specs.Names.{Names}
 
--- the items from one on are that one and the rest
-pub from_here : {A : Type 0} (xs : List A) (i : ℕ) (item : A) → i < length xs → item ≡ get_or xs i item → drop i xs ≡ item ∷ drop (i + 1) xs
-from_here xs i item h is = rw (add-one, drop-cons xs i item) (ap (λ x. x ∷ drop (suc i) xs) (sym is))
-
 pub parts_next : (xs : List ClassPart) (i : ℕ) (item : ClassPart) → i < length xs → item ≡ get_or xs i item → class_parts_of (drop i xs) ≡ class_part_of item ∷ class_parts_of (drop (i + 1) xs)
-parts_next xs i item h is = ap class_parts_of (from_here xs i item h is)
+parts_next xs i item h is = ap class_parts_of (next_item xs i item h is)
 
 -- a part after what is there, and then the rest
 pub appended : {A : Type 0} (before part rest all made : List A) → before ++ (part ++ rest) ≡ all → made ≡ before ++ part → made ++ rest ≡ all
@@ -78,7 +75,7 @@ object_next object numbers xs i line job low at is =
     let grown : jobs_of (take (i + 1) xs) ≡ before ++ line_of line ∷ [] = ap jobs_of more ∙ jobs_append (take i xs) line in
     ap (λ q. (job ∷ []) ++ object_jobs object numbers q rest) grown
     ∙ (ap (λ js. js ++ object_jobs object numbers (before ++ line_of line ∷ []) rest) is
-    ∙ sym (ap (λ q. object_jobs object numbers before (jobs_of q)) (from_here xs i line low at)))
+    ∙ sym (ap (λ q. object_jobs object numbers before (jobs_of q)) (next_item xs i line low at)))
 
 pub on_ok : {T E P Q : Type 0} (r : Result T E) → (P → Q) → OnOk r P → OnOk r Q
 on_ok (Ok x) f h = f h

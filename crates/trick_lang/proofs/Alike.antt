@@ -2,8 +2,9 @@
 use Rattle.std.proofs.Common.{◌≡◌, ℕ, zero, suc, ◌+◌, ◌*◌, ◌<◌, ℤ, pos, Bool, true, ◌&&◌, nat_le, IsTrue, List, [], ◌∷◌, ◌++◌, None, Result, Ok, refl, ap, ap₂}
 use Rattle.std.specs.Prelude.{max}
 use Rattle.std.proofs.lemmas.Bool.{ltb-true}
+use Rattle.trick_base.proofs.Truths.{first_holds, second_holds}
 use Rattle.trick_lang.proofs.Blocks.{below, each_is, IsLocal}
-use Rattle.trick_lang.proofs.Tests.{both_left, both_right, and_then-same, at_line-same, if-same}
+use Rattle.trick_lang.proofs.Tests.{and_then-same, at_line-same, if-same}
 use Rattle.trick_lang.specs.Access.{term_reads, code_reads, branch_reads, all_reads, block_reads, code_writes, branch_writes, all_writes, block_writes}
 use Rattle.trick_lang.specs.Blocks.{block_at}
 use Rattle.trick_lang.specs.Count.{term_steps, branch_steps, code_steps, all_steps, block_steps}
@@ -36,7 +37,7 @@ module _ (scalars : List Scalar) (base : ℕ) (memory : ℕ → ℤ) (f g : ℕ 
   branch_alike (Else k) s h = same k (ltb-true k n h) s
   branch_alike (Test line test k rest) s h =
       let r = value test (sight (setting scalars base memory f) s) in
-      at_line-same line r r _ _ refl (λ v _. if-same (is_true v) _ _ _ _ (same k (ltb-true k n (both_left _ _ h)) s) (branch_alike rest s (both_right (below n k) _ h)))
+      at_line-same line r r _ _ refl (λ v _. if-same (is_true v) _ _ _ _ (same k (ltb-true k n (first_holds _ _ h)) s) (branch_alike rest s (second_holds (below n k) _ h)))
 
   code_alike : (b : Code) (s : State) → IsTrue (code_blocks (below n) b) → run b (setting scalars base memory f) s ≡ run b (setting scalars base memory g) s
   code_alike Empty s h = refl
@@ -50,7 +51,7 @@ module _ (scalars : List Scalar) (base : ℕ) (memory : ℕ → ℤ) (f g : ℕ 
   all_alike : (all : List Code) (s : State) → IsTrue (all_blocks (below n) all) → run_all all (setting scalars base memory f) s ≡ run_all all (setting scalars base memory g) s
   all_alike [] s h = refl
   all_alike (first ∷ rest) s h =
-      and_then-same _ _ _ _ (code_alike first s (both_left _ _ h)) (λ t _. all_alike rest t (both_right (code_blocks (below n) first) _ h))
+      and_then-same _ _ _ _ (code_alike first s (first_holds _ _ h)) (λ t _. all_alike rest t (second_holds (code_blocks (below n) first) _ h))
 
 abbrev runs_rule : List Scalar → ℕ → (ℕ → ℤ) → List Code → (ℕ → State → Result State Stop) → State → Result State Stop
 runs_rule scalars base memory b f s = run_all b (setting scalars base memory f) s
@@ -72,7 +73,7 @@ module _ (base n : ℕ) (f g : ℕ → List CellRange) (same : (j : ℕ) → j <
   branch_reads_alike NoElse h = refl
   branch_reads_alike (Else k) h = same k (ltb-true k n h)
   branch_reads_alike (Test line test k rest) h =
-      ap (λ rs. term_reads test base ++ rs) (ap₂ (λ rs qs. rs ++ qs) (same k (ltb-true k n (both_left _ _ h))) (branch_reads_alike rest (both_right (below n k) _ h)))
+      ap (λ rs. term_reads test base ++ rs) (ap₂ (λ rs qs. rs ++ qs) (same k (ltb-true k n (first_holds _ _ h))) (branch_reads_alike rest (second_holds (below n k) _ h)))
 
   code_reads_alike : (b : Code) → IsTrue (code_blocks (below n) b) → code_reads b base f ≡ code_reads b base g
   code_reads_alike Empty h = refl
@@ -85,13 +86,13 @@ module _ (base n : ℕ) (f g : ℕ → List CellRange) (same : (j : ℕ) → j <
 
   all_reads_alike : (all : List Code) → IsTrue (all_blocks (below n) all) → all_reads all base f ≡ all_reads all base g
   all_reads_alike [] h = refl
-  all_reads_alike (first ∷ rest) h = ap₂ (λ rs qs. rs ++ qs) (code_reads_alike first (both_left _ _ h)) (all_reads_alike rest (both_right (code_blocks (below n) first) _ h))
+  all_reads_alike (first ∷ rest) h = ap₂ (λ rs qs. rs ++ qs) (code_reads_alike first (first_holds _ _ h)) (all_reads_alike rest (second_holds (code_blocks (below n) first) _ h))
 
   branch_writes_alike : (b : Branches) → IsTrue (branch_blocks (below n) b) → branch_writes b f ≡ branch_writes b g
   branch_writes_alike NoElse h = refl
   branch_writes_alike (Else k) h = same k (ltb-true k n h)
   branch_writes_alike (Test line test k rest) h =
-      ap₂ (λ rs qs. rs ++ qs) (same k (ltb-true k n (both_left _ _ h))) (branch_writes_alike rest (both_right (below n k) _ h))
+      ap₂ (λ rs qs. rs ++ qs) (same k (ltb-true k n (first_holds _ _ h))) (branch_writes_alike rest (second_holds (below n k) _ h))
 
   code_writes_alike : (b : Code) → IsTrue (code_blocks (below n) b) → code_writes b base f ≡ code_writes b base g
   code_writes_alike Empty h = refl
@@ -104,7 +105,7 @@ module _ (base n : ℕ) (f g : ℕ → List CellRange) (same : (j : ℕ) → j <
 
   all_writes_alike : (all : List Code) → IsTrue (all_blocks (below n) all) → all_writes all base f ≡ all_writes all base g
   all_writes_alike [] h = refl
-  all_writes_alike (first ∷ rest) h = ap₂ (λ rs qs. rs ++ qs) (code_writes_alike first (both_left _ _ h)) (all_writes_alike rest (both_right (code_blocks (below n) first) _ h))
+  all_writes_alike (first ∷ rest) h = ap₂ (λ rs qs. rs ++ qs) (code_writes_alike first (first_holds _ _ h)) (all_writes_alike rest (second_holds (code_blocks (below n) first) _ h))
 
 reads_local : (base : ℕ) → IsLocal (λ statements blocks. all_reads statements base blocks) []
 reads_local base = record { alike = λ b n f g h same. all_reads_alike base n f g same b h; nil = λ f. refl }
@@ -126,7 +127,7 @@ module _ (n : ℕ) (f g : ℕ → ℕ) (same : (j : ℕ) → j < n → f j ≡ g
   branch_steps_alike NoElse h = refl
   branch_steps_alike (Else k) h = same k (ltb-true k n h)
   branch_steps_alike (Test line test k rest) h =
-      ap₂ (λ i j. 1 + term_steps test + max i j) (same k (ltb-true k n (both_left _ _ h))) (branch_steps_alike rest (both_right (below n k) _ h))
+      ap₂ (λ i j. 1 + term_steps test + max i j) (same k (ltb-true k n (first_holds _ _ h))) (branch_steps_alike rest (second_holds (below n k) _ h))
 
   code_steps_alike : (b : Code) → IsTrue (code_blocks (below n) b) → code_steps b f ≡ code_steps b g
   code_steps_alike Empty h = refl
@@ -139,7 +140,7 @@ module _ (n : ℕ) (f g : ℕ → ℕ) (same : (j : ℕ) → j < n → f j ≡ g
 
   all_steps_alike : (all : List Code) → IsTrue (all_blocks (below n) all) → all_steps all f ≡ all_steps all g
   all_steps_alike [] h = refl
-  all_steps_alike (first ∷ rest) h = ap₂ (λ i j. i + j) (code_steps_alike first (both_left _ _ h)) (all_steps_alike rest (both_right (code_blocks (below n) first) _ h))
+  all_steps_alike (first ∷ rest) h = ap₂ (λ i j. i + j) (code_steps_alike first (first_holds _ _ h)) (all_steps_alike rest (second_holds (code_blocks (below n) first) _ h))
 
 -- the steps of a block are those of its statements
 pub steps_is : (bs : List (List Code)) → IsTrue (are_in_order 0 bs) → (k : ℕ) → block_steps bs k ≡ all_steps (block_at bs k) (block_steps bs)
@@ -150,7 +151,7 @@ module _ (slots n : ℕ) (f g : ℕ → List Known → Bool) (same : (j : ℕ) �
   branch_knows_alike NoElse known h = refl
   branch_knows_alike (Else k) known h = same k (ltb-true k n h) known
   branch_knows_alike (Test line test k rest) known h =
-      ap₂ (λ i j. term_passes (locals_test known) test && (i && j)) (same k (ltb-true k n (both_left _ _ h)) known) (branch_knows_alike rest known (both_right (below n k) _ h))
+      ap₂ (λ i j. term_passes (locals_test known) test && (i && j)) (same k (ltb-true k n (first_holds _ _ h)) known) (branch_knows_alike rest known (second_holds (below n k) _ h))
 
   code_knows_alike : (b : Code) (known : List Known) → IsTrue (code_blocks (below n) b) → code_knows slots b f known ≡ code_knows slots b g known
   code_knows_alike Empty known h = refl
@@ -165,7 +166,7 @@ module _ (slots n : ℕ) (f g : ℕ → List Known → Bool) (same : (j : ℕ) �
   all_know_alike : (all : List Code) (known : List Known) → IsTrue (all_blocks (below n) all) → all_know slots all f known ≡ all_know slots all g known
   all_know_alike [] known h = refl
   all_know_alike (first ∷ rest) known h =
-      ap₂ (λ i j. i && j) (code_knows_alike first known (both_left _ _ h)) (all_know_alike rest (after first known) (both_right (code_blocks (below n) first) _ h))
+      ap₂ (λ i j. i && j) (code_knows_alike first known (first_holds _ _ h)) (all_know_alike rest (after first known) (second_holds (code_blocks (below n) first) _ h))
 
 knows_local : (slots : ℕ) → IsLocal (all_know slots) (λ known. true)
 knows_local slots = record {

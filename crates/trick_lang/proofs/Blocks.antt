@@ -1,8 +1,9 @@
 -- What a table gives each block is what the rule makes of it and of what the table gives.
-use Rattle.std.proofs.Common.{◌≡◌, ℕ, zero, suc, ◌+◌, ◌<◌, Bool, true, false, ◌&&◌, nat_lt, IsTrue, List, [], ◌∷◌, ◌++◌, length, refl, sym, subst, ◌∙◌, arith}
+use Rattle.std.proofs.Common.{◌≡◌, ℕ, zero, suc, ◌+◌, ◌<◌, Bool, ◌&&◌, nat_lt, IsTrue, List, [], ◌∷◌, ◌++◌, length, refl, sym, subst, ◌∙◌, arith}
+use Rattle.std.proofs.lemmas.Bool.{and_from}
 use Rattle.std.proofs.lemmas.List.{get_or_append_left, get_or_past, get_or_push, length_push}
 use Rattle.std.specs.List.{slice_index_or}
-use Rattle.trick_lang.proofs.Tests.{both_left, both_right}
+use Rattle.trick_base.proofs.Truths.{first_holds, second_holds}
 use Rattle.trick_lang.specs.Blocks.{block_at, table, each_block}
 use Rattle.trick_lang.specs.Tree.{Code, Empty, Declare, SetLocal, Assign, If, For, Run, Branches, NoElse, Else, Test}
 use Rattle.trick_lang.specs.Passes.{branch_blocks, code_blocks, all_blocks}
@@ -37,7 +38,7 @@ module _ {X : Type 0} (rule : List Code → (ℕ → X) → X) (d : X) where
       let here : n + 0 ≡ n = omega arith in
       let stay : at (table rule d bs grown) n ≡ x = stays bs grown n (omega arith) ∙ get_or_push done x d n e in
       let same : rule b (at done) ≡ rule b (at (table rule d bs grown)) =
-      l.alike b n (at done) (at (table rule d bs grown)) (both_left _ _ h)
+      l.alike b n (at done) (at (table rule d bs grown)) (first_holds _ _ h)
       (λ j lt. sym (stays bs grown j (omega arith) ∙ get_or_append_left done (x ∷ []) d j (omega arith))) in
       subst (λ q. at (table rule d bs grown) q ≡ rule b (at (table rule d bs grown))) (sym here) (stay ∙ same)
   fixed l (b ∷ bs) done n (suc k) e h =
@@ -46,7 +47,7 @@ module _ {X : Type 0} (rule : List Code → (ℕ → X) → X) (d : X) where
       let longer : length grown ≡ suc n = omega (arith, length_push done x) in
       let there : suc n + k ≡ n + suc k = omega arith in
       subst (λ q. at (table rule d bs grown) q ≡ rule (block_at bs k) (at (table rule d bs grown))) there
-      (fixed l bs grown (suc n) k longer (both_right (all_blocks (below n) b) _ h))
+      (fixed l bs grown (suc n) k longer (second_holds (all_blocks (below n) b) _ h))
 
 -- the blocks of a program are given what the rule makes of them
 pub each_is : {X : Type 0} (rule : List Code → (ℕ → X) → X) (d : X) → IsLocal rule d → (bs : List (List Code)) → IsTrue (are_in_order 0 bs) → (k : ℕ) → each_block rule d bs k ≡ rule (block_at bs k) (each_block rule d bs)
@@ -56,10 +57,10 @@ each_is rule d l bs h k =
 
 runs_before : (bs : List (List Code)) (n k : ℕ) → IsTrue (are_in_order n bs) → IsTrue (all_blocks (below (n + k)) (block_at bs k))
 runs_before [] n k h = refl
-runs_before (b ∷ bs) n zero h = let e : n ≡ n + 0 = omega arith in subst (λ q. IsTrue (all_blocks (below q) b)) e (both_left _ _ h)
+runs_before (b ∷ bs) n zero h = let e : n ≡ n + 0 = omega arith in subst (λ q. IsTrue (all_blocks (below q) b)) e (first_holds _ _ h)
 runs_before (b ∷ bs) n (suc k) h =
     let e : suc n + k ≡ n + suc k = omega arith in
-    subst (λ q. IsTrue (all_blocks (below q) (block_at bs k))) e (runs_before bs (suc n) k (both_right (all_blocks (below n) b) _ h))
+    subst (λ q. IsTrue (all_blocks (below q) (block_at bs k))) e (runs_before bs (suc n) k (second_holds (all_blocks (below n) b) _ h))
 
 -- a block runs only blocks before it
 pub block_before : (bs : List (List Code)) (k : ℕ) → IsTrue (are_in_order 0 bs) → IsTrue (all_blocks (below k) (block_at bs k))
@@ -75,16 +76,12 @@ from_earlier P step k = up_to (suc k) k (omega arith)
 
 -- ---- two tests of the blocks that are run
 
-both : (a b : Bool) → IsTrue a → IsTrue b → IsTrue (a && b)
-both true b h k = k
-both false b h k = h
-
 module _ (p q : ℕ → Bool) where
   branch_both : (b : Branches) → IsTrue (branch_blocks p b) → IsTrue (branch_blocks q b) → IsTrue (branch_blocks (λ k. p k && q k) b)
   branch_both NoElse h i = refl
-  branch_both (Else k) h i = both (p k) (q k) h i
+  branch_both (Else k) h i = and_from (p k) (q k) h i
   branch_both (Test line test k rest) h i =
-      both (p k && q k) _ (both (p k) (q k) (both_left _ _ h) (both_left _ _ i)) (branch_both rest (both_right (p k) _ h) (both_right (q k) _ i))
+      and_from (p k && q k) _ (and_from (p k) (q k) (first_holds _ _ h) (first_holds _ _ i)) (branch_both rest (second_holds (p k) _ h) (second_holds (q k) _ i))
 
   code_both : (b : Code) → IsTrue (code_blocks p b) → IsTrue (code_blocks q b) → IsTrue (code_blocks (λ k. p k && q k) b)
   code_both Empty h i = refl
@@ -92,10 +89,10 @@ module _ (p q : ℕ → Bool) where
   code_both (SetLocal line slot scalar change) h i = refl
   code_both (Assign line place change) h i = refl
   code_both (If branches) h i = branch_both branches h i
-  code_both (For slot from bound k) h i = both (p k) (q k) h i
-  code_both (Run k) h i = both (p k) (q k) h i
+  code_both (For slot from bound k) h i = and_from (p k) (q k) h i
+  code_both (Run k) h i = and_from (p k) (q k) h i
 
   pub all_both : (all : List Code) → IsTrue (all_blocks p all) → IsTrue (all_blocks q all) → IsTrue (all_blocks (λ k. p k && q k) all)
   all_both [] h i = refl
   all_both (first ∷ rest) h i =
-      both (code_blocks (λ k. p k && q k) first) _ (code_both first (both_left _ _ h) (both_left _ _ i)) (all_both rest (both_right (code_blocks p first) _ h) (both_right (code_blocks q first) _ i))
+      and_from (code_blocks (λ k. p k && q k) first) _ (code_both first (first_holds _ _ h) (first_holds _ _ i)) (all_both rest (second_holds (code_blocks p first) _ h) (second_holds (code_blocks q first) _ i))

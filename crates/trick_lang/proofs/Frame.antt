@@ -1,8 +1,9 @@
 -- Memories that agree on what a body may read give it the same meaning.
 use Rattle.std.proofs.Common.{◌≡◌, ℕ, zero, suc, ◌+◌, ◌<◌, ℤ, pos, ◌&&◌, IsTrue, List, [], ◌∷◌, ◌++◌, Option, Some, None, Result, Ok, unwrap_or, refl, ap, sym, subst, ◌∙◌}
 use Rattle.std.specs.List.{slice_index_or}
+use Rattle.trick_base.proofs.Truths.{first_holds, second_holds}
 use Rattle.trick_lang.proofs.Places.{cell_is}
-use Rattle.trick_lang.proofs.Tests.{both_left, both_right, in_left, in_right, and_then-same, at_line-same, if-same}
+use Rattle.trick_lang.proofs.Tests.{in_left, in_right, and_then-same, at_line-same, if-same}
 use Rattle.trick_lang.specs.Access.{is_in, term_reads, link_reads, choice_reads, range_of, index_reads, step_reads, change_reads, target_reads, first_reads, code_reads, branch_reads, all_reads, block_reads}
 use Rattle.trick_lang.proofs.Alike.{setting, turns_same, runs_is, reads_is}
 use Rattle.trick_lang.proofs.Blocks.{below, block_before, from_earlier}
@@ -47,33 +48,33 @@ module _ (base : ℕ) (local f g : ℕ → ℤ) where
         (λ c is. ap Ok (h c (cell_is p (seeing base local f) (index_reads p base) c fit is)))
     value_same (Prefixed o e) fit h = and_then-same _ _ _ _ (value_same e fit h) (λ x is. refl)
     value_same (Chain e links) fit h =
-        and_then-same _ _ _ _ (value_same e (both_left _ _ fit) (alike_left (term_reads e base) _ f g h))
-        (λ x is. linked_same links x (both_right (term_passes span_test e) _ fit) (alike_right (term_reads e base) _ f g h))
+        and_then-same _ _ _ _ (value_same e (first_holds _ _ fit) (alike_left (term_reads e base) _ f g h))
+        (λ x is. linked_same links x (second_holds (term_passes span_test e) _ fit) (alike_right (term_reads e base) _ f g h))
     value_same (Choose choices) fit h = chosen_same choices fit h
 
     linked_same : (links : Links) (x : ℤ) → IsTrue (link_passes span_test links) → Alike (link_reads links base) f g → linked links x (seeing base local f) ≡ linked links x (seeing base local g)
     linked_same NoLink x fit h = refl
     linked_same (Link o e rest) x fit h =
-        and_then-same _ _ _ _ (ap (joined o x) (value_same e (both_left _ _ fit) (alike_left (term_reads e base) _ f g h)))
-        (λ y is. linked_same rest y (both_right (term_passes span_test e) _ fit) (alike_right (term_reads e base) _ f g h))
+        and_then-same _ _ _ _ (ap (joined o x) (value_same e (first_holds _ _ fit) (alike_left (term_reads e base) _ f g h)))
+        (λ y is. linked_same rest y (second_holds (term_passes span_test e) _ fit) (alike_right (term_reads e base) _ f g h))
 
     chosen_same : (choices : Choices) → IsTrue (choice_passes span_test choices) → Alike (choice_reads choices base) f g → chosen choices (seeing base local f) ≡ chosen choices (seeing base local g)
     chosen_same (Last e) fit h = value_same e fit h
     chosen_same (Choice test e rest) fit h =
-        and_then-same _ _ _ _ (value_same test (both_left _ _ fit) (alike_left (term_reads test base) _ f g h))
+        and_then-same _ _ _ _ (value_same test (first_holds _ _ fit) (alike_left (term_reads test base) _ f g h))
         (λ x is. if-same (is_true x) _ _ _ _
-        (value_same e (both_left _ _ (both_right (term_passes span_test test) _ fit)) (alike_left (term_reads e base) _ f g (alike_right (term_reads test base) _ f g h)))
-        (chosen_same rest (both_right (term_passes span_test e) _ (both_right (term_passes span_test test) _ fit)) (alike_right (term_reads e base) _ f g (alike_right (term_reads test base) _ f g h))))
+        (value_same e (first_holds _ _ (second_holds (term_passes span_test test) _ fit)) (alike_left (term_reads e base) _ f g (alike_right (term_reads test base) _ f g h)))
+        (chosen_same rest (second_holds (term_passes span_test e) _ (second_holds (term_passes span_test test) _ fit)) (alike_right (term_reads e base) _ f g (alike_right (term_reads test base) _ f g h))))
 
     cell_same : (p : Spot) → IsTrue (place_passes span_test p) → Alike (index_reads p base) f g → cell_of p (seeing base local f) ≡ cell_of p (seeing base local g)
     cell_same (spot own first span offset literals steps) fit h =
-        led_same steps (origin own base + first + offset) (both_right (is_in_span (spot own first span offset literals steps)) _ fit) h
+        led_same steps (origin own base + first + offset) (second_holds (is_in_span (spot own first span offset literals steps)) _ fit) h
 
     led_same : (steps : Steps) (at : ℕ) → IsTrue (step_passes span_test steps) → Alike (step_reads steps base) f g → led steps (seeing base local f) at ≡ led steps (seeing base local g) at
     led_same NoStep at fit h = refl
     led_same (Step len stride e rest) at fit h =
-        and_then-same _ _ _ _ (value_same e (both_left _ _ fit) (alike_left (term_reads e base) _ f g h))
-        (λ n is. and_then-same _ _ _ _ refl (λ next is. led_same rest next (both_right (term_passes span_test e) _ fit) (alike_right (term_reads e base) _ f g h)))
+        and_then-same _ _ _ _ (value_same e (first_holds _ _ fit) (alike_left (term_reads e base) _ f g h))
+        (λ n is. and_then-same _ _ _ _ refl (λ next is. led_same rest next (second_holds (term_passes span_test e) _ fit) (alike_right (term_reads e base) _ f g h)))
 
 -- ---- statements
 
@@ -106,17 +107,17 @@ module _ (scalars : List Scalar) (base : ℕ) (m n : ℕ → ℤ) (before after 
 
   assigned_same : (p : Spot) (change : Change) (s : State) → IsTrue (place_passes span_test p && change_passes span_test change) → Alike (index_reads p base ++ (target_reads p change base ++ change_reads change base)) m n → assigned p change (sight (setting scalars base m before) s) ≡ assigned p change (sight (setting scalars base n after) s)
   assigned_same p change s fit h =
-      and_then-same _ _ _ _ (cell_same base _ _ _ p (both_left _ _ fit) (seen_same (index_reads p base) s (alike_left (index_reads p base) _ m n h)))
-      (λ c is. and_then-same _ _ _ _ (target_same p change s c (both_left _ _ fit) (both_right (place_passes span_test p) _ fit) (alike_right (index_reads p base) _ m n h) is) (λ v _. refl))
+      and_then-same _ _ _ _ (cell_same base _ _ _ p (first_holds _ _ fit) (seen_same (index_reads p base) s (alike_left (index_reads p base) _ m n h)))
+      (λ c is. and_then-same _ _ _ _ (target_same p change s c (first_holds _ _ fit) (second_holds (place_passes span_test p) _ fit) (alike_right (index_reads p base) _ m n h) is) (λ v _. refl))
 
   run_branch_same : (b : Branches) (s : State) → IsTrue (branch_passes span_test b) → IsTrue (branch_blocks (below top) b) → Alike (branch_reads b base blocks) m n → run_branch b (setting scalars base m before) s ≡ run_branch b (setting scalars base n after) s
   run_branch_same NoElse s fit ok h = refl
   run_branch_same (Else k) s fit ok h = blocks_same k (ltb-true k top ok) h s
   run_branch_same (Test line test k rest) s fit ok h =
-      at_line-same line _ _ _ _ (sees_same test s (both_left _ _ fit) (alike_left (term_reads test base) _ m n h))
+      at_line-same line _ _ _ _ (sees_same test s (first_holds _ _ fit) (alike_left (term_reads test base) _ m n h))
       (λ v _. if-same (is_true v) _ _ _ _
-      (blocks_same k (ltb-true k top (both_left _ _ ok)) (alike_left (blocks k) _ m n (alike_right (term_reads test base) _ m n h)) s)
-      (run_branch_same rest s (both_right (term_passes span_test test) _ fit) (both_right (below top k) _ ok) (alike_right (blocks k) _ m n (alike_right (term_reads test base) _ m n h))))
+      (blocks_same k (ltb-true k top (first_holds _ _ ok)) (alike_left (blocks k) _ m n (alike_right (term_reads test base) _ m n h)) s)
+      (run_branch_same rest s (second_holds (term_passes span_test test) _ fit) (second_holds (below top k) _ ok) (alike_right (blocks k) _ m n (alike_right (term_reads test base) _ m n h))))
 
   run_same : (b : Code) (s : State) → IsTrue (code_passes span_test b) → IsTrue (code_blocks (below top) b) → Alike (code_reads b base blocks) m n → run b (setting scalars base m before) s ≡ run b (setting scalars base n after) s
   run_same Empty s fit ok h = refl
@@ -130,15 +131,15 @@ module _ (scalars : List Scalar) (base : ℕ) (m n : ℕ → ℤ) (before after 
   run_all_same : (all : List Code) (s : State) → IsTrue (all_pass span_test all) → IsTrue (all_blocks (below top) all) → Alike (all_reads all base blocks) m n → run_all all (setting scalars base m before) s ≡ run_all all (setting scalars base n after) s
   run_all_same [] s fit ok h = refl
   run_all_same (first ∷ rest) s fit ok h =
-      and_then-same _ _ _ _ (run_same first s (both_left _ _ fit) (both_left _ _ ok) (alike_left (code_reads first base blocks) _ m n h))
-      (λ t _. run_all_same rest t (both_right (code_passes span_test first) _ fit) (both_right (code_blocks (below top) first) _ ok) (alike_right (code_reads first base blocks) _ m n h))
+      and_then-same _ _ _ _ (run_same first s (first_holds _ _ fit) (first_holds _ _ ok) (alike_left (code_reads first base blocks) _ m n h))
+      (λ t _. run_all_same rest t (second_holds (code_passes span_test first) _ fit) (second_holds (code_blocks (below top) first) _ ok) (alike_right (code_reads first base blocks) _ m n h))
 
 -- ---- blocks and jobs
 
 pub body_stays : (bs : List (List Code)) (k : ℕ) → IsTrue (stay_in_span bs) → IsTrue (all_pass span_test (block_at bs k))
 body_stays [] k h = refl
-body_stays (b ∷ bs) zero h = both_left _ _ h
-body_stays (b ∷ bs) (suc k) h = body_stays bs k (both_right (all_pass span_test b) _ h)
+body_stays (b ∷ bs) zero h = first_holds _ _ h
+body_stays (b ∷ bs) (suc k) h = body_stays bs k (second_holds (all_pass span_test b) _ h)
 
 runs_same : (scalars : List Scalar) (bs : List (List Code)) (base : ℕ) (m n : ℕ → ℤ) → IsTrue (stay_in_span bs) → IsTrue (are_in_order 0 bs) → (k : ℕ) → Alike (block_reads base bs k) m n → (s : State) → block_runs scalars base m bs k s ≡ block_runs scalars base n bs k s
 runs_same scalars bs base m n fit ok =

@@ -4,9 +4,10 @@ use Rattle.std.proofs.lemmas.Bool.Decides.{nat_tests}
 use Rattle.std.proofs.lemmas.Bool.{ltb-true}
 use Rattle.std.proofs.lemmas.List.{get_or_past, length-set, length-replicate}
 use Rattle.std.specs.List.{slice_index_or}
+use Rattle.trick_base.proofs.Truths.{first_holds, second_holds}
 use Rattle.trick_lang.proofs.Frame.{body_stays}
 use Rattle.trick_lang.proofs.Places.{cell_is}
-use Rattle.trick_lang.proofs.Tests.{both_left, both_right, in_left, in_right, went, went_line, ok_same}
+use Rattle.trick_lang.proofs.Tests.{in_left, in_right, went, went_line, ok_same}
 use Rattle.trick_lang.proofs.WrapLaw.{wrap_twice}
 use Rattle.trick_lang.specs.Access.{is_in, range_of, code_writes, branch_writes, all_writes, block_writes}
 use Rattle.trick_lang.proofs.Alike.{setting, runs_is, writes_is}
@@ -67,8 +68,8 @@ module _ (K : List (Option ℤ) → Type 0) (ws : List CellRange) (x : Setting) 
   run_branch_keeps (Test line test k rest) s t ok in_ws h old =
       let w = went_line line (value test (sight x s)) (λ n. if is_true n then x.blocks k s else run_branch rest x s) t h in
       if_keeps K (is_true w.0) (x.blocks k s) (run_branch rest x s) t w.2
-      (λ is. blocks_keep k (ltb-true k top (both_left _ _ ok)) s t (λ c i. in_ws c (in_left (blocks k) _ c i)) is old)
-      (λ is. run_branch_keeps rest s t (both_right (below top k) _ ok) (λ c i. in_ws c (in_right (blocks k) _ c i)) is old)
+      (λ is. blocks_keep k (ltb-true k top (first_holds _ _ ok)) s t (λ c i. in_ws c (in_left (blocks k) _ c i)) is old)
+      (λ is. run_branch_keeps rest s t (second_holds (below top k) _ ok) (λ c i. in_ws c (in_right (blocks k) _ c i)) is old)
 
   run_keeps : (b : Code) (s t : State) → IsTrue (code_passes span_test b) → IsTrue (code_blocks (below top) b) → Covers ws (code_writes b x.base blocks) → run b x s ≡ Ok t → K s.stored → K t.stored
   run_keeps Empty s t fit ok in_ws h old = subst (λ (u : State). K u.stored) (ok_same s t h) old
@@ -77,7 +78,7 @@ module _ (K : List (Option ℤ) → Type 0) (ws : List CellRange) (x : Setting) 
   run_keeps (Assign line place change) s t fit ok in_ws h old =
       let w = went_line line (assigned place change (sight x s)) (λ w. (let r : Result State Stop = Ok (with_stored s w.0 (wrap (scalar_at x.scalars w.0) w.1)) in r)) t h in
       subst (λ (u : State). K u.stored) (ok_same (with_stored s (w.0).0 (wrap (scalar_at x.scalars (w.0).0) (w.0).1)) t w.2)
-      (stores s.stored (w.0).0 (w.0).1 (in_ws (w.0).0 (assigned_in place change s w.0 (both_left _ _ fit) w.1)) old)
+      (stores s.stored (w.0).0 (w.0).1 (in_ws (w.0).0 (assigned_in place change s w.0 (first_holds _ _ fit) w.1)) old)
   run_keeps (If branches) s t fit ok in_ws h old = run_branch_keeps branches s t ok in_ws h old
   run_keeps (For slot from bound k) s t fit ok in_ws h old =
       turns_keep K (turn x slot k) from (turn_count from bound) s t (λ j u v is kept. blocks_keep k (ltb-true k top ok) (with_local u slot (pos j)) v in_ws is kept) h old
@@ -87,8 +88,8 @@ module _ (K : List (Option ℤ) → Type 0) (ws : List CellRange) (x : Setting) 
   run_all_keeps [] s t fit ok in_ws h old = subst (λ (u : State). K u.stored) (ok_same s t h) old
   run_all_keeps (first ∷ rest) s t fit ok in_ws h old =
       let w = went (run first x s) (λ u. run_all rest x u) t h in
-      run_all_keeps rest w.0 t (both_right (code_passes span_test first) _ fit) (both_right (code_blocks (below top) first) _ ok) (λ c i. in_ws c (in_right (code_writes first x.base blocks) _ c i)) w.2
-      (run_keeps first s w.0 (both_left _ _ fit) (both_left _ _ ok) (λ c i. in_ws c (in_left (code_writes first x.base blocks) _ c i)) w.1 old)
+      run_all_keeps rest w.0 t (second_holds (code_passes span_test first) _ fit) (second_holds (code_blocks (below top) first) _ ok) (λ c i. in_ws c (in_right (code_writes first x.base blocks) _ c i)) w.2
+      (run_keeps first s w.0 (first_holds _ _ fit) (first_holds _ _ ok) (λ c i. in_ws c (in_left (code_writes first x.base blocks) _ c i)) w.1 old)
 
 runs_keep : (K : List (Option ℤ) → Type 0) (scalars : List Scalar) (bs : List (List Code)) (ws : List CellRange) → KeptByStores K ws scalars → (base : ℕ) (m : ℕ → ℤ) → IsTrue (stay_in_span bs) → IsTrue (are_in_order 0 bs) → (k : ℕ) (s t : State) → Covers ws (block_writes base bs k) → block_runs scalars base m bs k s ≡ Ok t → K s.stored → K t.stored
 runs_keep K scalars bs ws stores base m fit ok =

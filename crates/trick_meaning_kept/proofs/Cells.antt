@@ -1,7 +1,7 @@
 -- Cells and their full names: no two cells have one name, and the cell that a path means has the type of the
 -- variable there.
-use Rattle.std.proofs.Common.{rules, ◌≡◌, ℕ, zero, suc, ◌+◌, ◌<◌, ℤ, pos, negsuc, Bool, true, false, not, ◌&&◌, if◌then◌else◌, nat_lt, List, [], ◌∷◌, ◌++◌, length, Option, Some, None, Result, Ok, Err, refl, ap, sym, ◌∙◌, subst, arith}
-use Rattle.std.proofs.lemmas.Bool.{ltb-true}
+use Rattle.std.proofs.Common.{rules, ◌≡◌, ℕ, zero, suc, ◌+◌, ◌<◌, ℤ, pos, negsuc, Bool, true, false, not, if◌then◌else◌, nat_lt, List, [], ◌∷◌, ◌++◌, length, Option, Some, None, Result, Ok, Err, refl, ap, sym, ◌∙◌, subst, arith}
+use Rattle.std.proofs.lemmas.Bool.{and_parts, ltb-true}
 use Rattle.std.proofs.lemmas.List.{append_assoc}
 use Rattle.std.proofs.lemmas.Slice.Eq.{bytes_eq-Decides}
 use Rattle.std.specs.List.{list_all}
@@ -72,14 +72,10 @@ one_name p q h = subst (λ r. bytes_eq p r ≡ true) h (same p) where
   same : (r : Name) → bytes_eq r r ≡ true
   same r = search (rules, bytes_eq-Decides)
 
-both : (x y : Bool) → (x && y) ≡ true → (x ≡ true) × (y ≡ true)
-both true y h = (refl, h)
-both false y h = absurd (cc h)
-
 passes_at : (p : Variable → Bool) (all : List Variable) (c : ℕ) (v : Variable) → list_all p all ≡ true → IsAt all c v → p v ≡ true
 passes_at p [] c v h at = absurd at
-passes_at p (u ∷ us) zero v h at = subst (λ q. p q ≡ true) at (both (p u) (list_all p us) h).0
-passes_at p (u ∷ us) (suc c) v h at = passes_at p us c v (both (p u) (list_all p us) h).1 at
+passes_at p (u ∷ us) zero v h at = subst (λ q. p q ≡ true) at (and_parts (p u) (list_all p us) h).0
+passes_at p (u ∷ us) (suc c) v h at = passes_at p us c v (and_parts (p u) (list_all p us) h).1 at
 
 not_alike : (u v : Variable) → not (of_one_name u v) ≡ true → u.name ≡ v.name → ⊥
 not_alike u v h same = let no : not true ≡ true = subst (λ b. not b ≡ true) (one_name u.name v.name same) h in cc no
@@ -88,11 +84,11 @@ pub one_cell : (all : List Variable) → are_apart of_one_name all ≡ true → 
 one_cell [] apart c d u v at there same = absurd at
 one_cell (z ∷ zs) apart zero zero u v at there same = (refl, sym at ∙ there)
 one_cell (z ∷ zs) apart zero (suc d) u v at there same =
-    absurd (not_alike z v (passes_at (λ y. not (of_one_name z y)) zs d v (both _ _ apart).0 there) (ap (λ (q : Variable). q.name) at ∙ same))
+    absurd (not_alike z v (passes_at (λ y. not (of_one_name z y)) zs d v (and_parts _ _ apart).0 there) (ap (λ (q : Variable). q.name) at ∙ same))
 one_cell (z ∷ zs) apart (suc c) zero u v at there same =
-    absurd (not_alike z u (passes_at (λ y. not (of_one_name z y)) zs c u (both _ _ apart).0 at) (ap (λ (q : Variable). q.name) there ∙ sym same))
+    absurd (not_alike z u (passes_at (λ y. not (of_one_name z y)) zs c u (and_parts _ _ apart).0 at) (ap (λ (q : Variable). q.name) there ∙ sym same))
 one_cell (z ∷ zs) apart (suc c) (suc d) u v at there same =
-    let rest = one_cell zs (both _ _ apart).1 c d u v at there same in
+    let rest = one_cell zs (and_parts _ _ apart).1 c d u v at there same in
     (ap suc rest.0, rest.1)
 
 -- ---- what is among these cells

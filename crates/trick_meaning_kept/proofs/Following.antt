@@ -1,8 +1,8 @@
 -- What paths become: a path that reaches a number by names reaches one by cells, through arrays of the
 -- same lengths.
-use Rattle.std.proofs.Common.{◌≡◌, ℕ, zero, suc, ◌+◌, ◌*◌, ◌≤◌, Bool, true, false, if◌then◌else◌, nat_lt, nat_le, ◌&&◌, List, [], ◌∷◌, length, Option, Some, None, refl, ap, sym, ◌∙◌, subst, arith}
+use Rattle.std.proofs.Common.{◌≡◌, ℕ, zero, suc, ◌+◌, ◌*◌, ◌≤◌, Bool, true, false, if◌then◌else◌, nat_lt, nat_le, List, [], ◌∷◌, length, Option, Some, None, refl, ap, sym, ◌∙◌, subst, arith}
 use Rattle.std.proofs.Math.ListN.{length-append}
-use Rattle.std.proofs.lemmas.Bool.{leb-true}
+use Rattle.std.proofs.lemmas.Bool.{and_parts, leb-true}
 use Rattle.std.proofs.lemmas.Nat.{mul-le}
 use Rattle.std.specs.Str.{bytes_eq}
 use Rattle.trick_blocks.specs.Places as by_cell
@@ -57,10 +57,6 @@ pub groups_same : (gs : List (Names InGroup)) (k : ℕ) → unfolding_of.members
 groups_same [] k = refl
 groups_same (g ∷ gs) zero = refl
 groups_same (g ∷ gs) (suc k) = groups_same gs k
-
-both : (x y : Bool) → (x && y) ≡ true → (x ≡ true) × (y ≡ true)
-both true y h = (refl, h)
-both false y h = absurd (cc h)
 
 -- the whole array has the cells of so many elements
 array_low : (n b : ℕ) → 1 ≤ n → 1 ≤ b → 1 ≤ n * b
@@ -166,7 +162,7 @@ module _ (w : World) (x : ByName) (done : List (List Variable)) (same : AreSameT
       let inner = has_cell rest Plain base scalar refl (inside_of (by_name.literal_of e) n (Stands (record { lengths = Plain; base = base })) rest scalar h).0 in
       subst (λ k. 1 ≤ k) (sym (length_each 0 n (base_cells done base))) (array_low n (length (base_cells done base)) (leb-true 1 n some) inner)
   has_cell (Index e rest) (Two m n) base scalar some h =
-      let some_two = both (nat_le 1 m) (nat_le 1 n) some in
+      let some_two = and_parts (nat_le 1 m) (nat_le 1 n) some in
       let inner = has_cell rest (One n) base scalar some_two.1 (inside_of (by_name.literal_of e) m (Stands (record { lengths = One n; base = base })) rest scalar h).0 in
       subst (λ k. 1 ≤ k) (sym (length_each 0 m (each 0 n (base_cells done base)))) (array_low m (length (each 0 n (base_cells done base))) (leb-true 1 m some_two.0) inner)
 
@@ -247,7 +243,7 @@ module _ (w : World) (x : ByName) (done : List (List Variable)) (same : AreSameT
   element_step (Two m n) base (dims.One d) b literal rest scalar lengths is some small h = absurd lengths
   element_step (Two m n) base (dims.Two d e) b literal rest scalar lengths is some small h =
       let inner : Shape = record { lengths = One n; base = base } in
-      let some_two = both (nat_le 1 m) (nat_le 1 n) some in
+      let some_two = and_parts (nat_le 1 m) (nat_le 1 n) some in
       let inside = inside_of literal m (Stands inner) rest scalar h in
       let cell = has_cell rest (One n) base scalar some_two.1 inside.0 in
       let row = each 0 n (base_cells done base) in

@@ -2,7 +2,7 @@
 use Rattle.std.proofs.Common.{rules, ◌≡◌, ◌≢◌, ℕ, zero, suc, ◌+◌, ◌<◌, ◌≤◌, ℤ, pos, Bool, true, false, if◌then◌else◌, nat_lt, is_some, List, [], ◌∷◌, ◌++◌, length, take, slice_set, Option, Some, None, unwrap_or, Result, Ok, Err, refl, ap, sym, ◌∙◌, subst, arith, get_or-set_other, get_or-set_same}
 use Rattle.std.proofs.Math.Seq.{take-append_seam}
 use Rattle.std.proofs.lemmas.Bool.{ltb-true}
-use Rattle.std.proofs.lemmas.List.{append_assoc, length-append, length-set}
+use Rattle.std.proofs.lemmas.List.{append-nil, append_assoc, length-append, length-set, length_push}
 use Rattle.std.proofs.lemmas.Slice.Eq.{bytes_eq-Decides}
 use Rattle.std.specs.List.{slice_index_or}
 use Rattle.std.specs.Str.{bytes_eq}
@@ -51,12 +51,8 @@ use Rattle.trick_places.specs.Named.{IsNamed, LeadToTheirNames, ObjectsHoldNames
 abbrev More : {T : Type 0} → Names T → Names T → Type 0
 More {T} known all = (more : Names T) × (all ≡ known ++ more)
 
-append_none : {T : Type 0} (known : List T) → known ++ [] ≡ known
-append_none [] = refl
-append_none (e ∷ es) = ap (λ q. e ∷ q) (append_none es)
-
 none_more : {T : Type 0} (known : Names T) → More known known
-none_more known = ([], sym (append_none known))
+none_more known = ([], sym (append-nil known))
 
 one_more : {T : Type 0} (name : Name) (l : T) (known : Names T) → More known (with_name name l known)
 one_more {T} name l known = by (is_some (meaning_of name known)) where
@@ -110,25 +106,22 @@ no_slot number (Some a) None c same none = absurd same
 
 -- ---- counting blocks
 
-one_behind : {T : Type 0} (xs : List T) (z : T) → length (xs ++ z ∷ []) ≡ length xs + 1
-one_behind xs z = length-append xs (z ∷ [])
-
 mutual
   inner_count : (b : Statement) (w : World) (slots : Names InSlot) (n : ℕ) → length (inner b w slots n) ≡ count b
   inner_count Empty w slots n = refl
-  inner_count (Block all) w slots n = one_behind (all_inner all w slots n) (all_codes all w slots n) ∙ ap (λ k. k + 1) (all_inner_count all w slots n)
+  inner_count (Block all) w slots n = length_push (all_inner all w slots n) (all_codes all w slots n) ∙ ap (λ k. k + 1) (all_inner_count all w slots n)
   inner_count (Declare line written name e) w slots n = refl
   inner_count (Assign line p change) w slots n = refl
   inner_count (If branches) w slots n = branch_inner_count branches w slots n
-  inner_count (For name from bound body) w slots n = one_behind (inner body w (loop_in name w slots) n) (code body w (loop_in name w slots) n ∷ []) ∙ ap (λ k. k + 1) (inner_count body w (loop_in name w slots) n)
+  inner_count (For name from bound body) w slots n = length_push (inner body w (loop_in name w slots) n) (code body w (loop_in name w slots) n ∷ []) ∙ ap (λ k. k + 1) (inner_count body w (loop_in name w slots) n)
   inner_count (Call line name) w slots n = refl
 
   branch_inner_count : (b : Branches) (w : World) (slots : Names InSlot) (n : ℕ) → length (branch_inner b w slots n) ≡ branch_count b
   branch_inner_count NoElse w slots n = refl
-  branch_inner_count (Else body) w slots n = one_behind (inner body w slots n) (code body w slots n ∷ []) ∙ ap (λ k. k + 1) (inner_count body w slots n)
+  branch_inner_count (Else body) w slots n = length_push (inner body w slots n) (code body w slots n ∷ []) ∙ ap (λ k. k + 1) (inner_count body w slots n)
   branch_inner_count (Test line test body rest) w slots n =
       let first : List (List Code) = inner body w slots n ++ (code body w slots n ∷ []) ∷ [] in
-      let here : length first ≡ count body + 1 = one_behind (inner body w slots n) (code body w slots n ∷ []) ∙ ap (λ k. k + 1) (inner_count body w slots n) in
+      let here : length first ≡ count body + 1 = length_push (inner body w slots n) (code body w slots n ∷ []) ∙ ap (λ k. k + 1) (inner_count body w slots n) in
       let behind = branch_inner_count rest w slots (n + (count body + 1)) in
       let total = length-append first (branch_inner rest w slots (n + (count body + 1))) in
       omega (arith, here, behind, total)
@@ -270,7 +263,7 @@ module _ (w : World) (done : List (List Variable)) (memory : List Variable) (siz
         cells = h.cells;
         stored = h.stored;
         room = room_set a l.slot v h.room;
-        fits = omega (arith, at, less, one_behind slots (name, l));
+        fits = omega (arith, at, less, length_push slots (name, l));
         rows = rows_new w.slots (local_of (resolved.with_local a l.slot v)) slots declared b.locals name l d (record { scalar = l.scalar; number = v }) at refl loop (slot_set a l.slot v (omega (arith, less, room, whole)))
             (rows_kept w.slots (local_of a) (local_of (resolved.with_local a l.slot v)) slots declared b.locals (λ j low high. slot_other a l.slot j v (λ e. absurd (omega (arith, e, high, at)))) h.rows);
       }
@@ -526,7 +519,7 @@ module _ (w : World) (done : List (List Variable)) (memory : List Variable) (siz
     branch_ends (Else body) n slots declared a b none can has below h = body_ends body n slots declared a b (run_ends body) none can has below h
     branch_ends (Test line test body rest) n slots declared a b none can has below h =
         let first : List (List Code) = inner body w slots n ++ (code body w slots n ∷ []) ∷ [] in
-        let many : length first ≡ count body + 1 = one_behind (inner body w slots n) (code body w slots n ∷ []) ∙ ap (λ k. k + 1) (inner_count body w slots n) in
+        let many : length first ≡ count body + 1 = length_push (inner body w slots n) (code body w slots n ∷ []) ∙ ap (λ k. k + 1) (inner_count body w slots n) in
         let right = none_right (expression_mistakes test y.world declared) _ none in
         let chosen = body_ends body n slots declared a b (run_ends body) (none_left (statement_mistakes body y.world declared) _ right) can.0 (has_front blocks first (branch_inner rest w slots (n + (count body + 1))) n has) (below_front top first (branch_inner rest w slots (n + (count body + 1))) below) h in
         let rest_has = subst (λ k. HasBlocks blocks (n + k) (branch_inner rest w slots (n + (count body + 1)))) many (has_behind blocks first (branch_inner rest w slots (n + (count body + 1))) n has) in

@@ -3,7 +3,7 @@
 use Rattle.std.proofs.Common.{◌≡◌, ℕ, ◌+◌, ◌*◌, ◌≤◌, ◌<◌, ℤ, pos, negsuc, Bool, true, false, if◌then◌else◌, nat_lt, List, [], ◌∷◌, ◌++◌, length, Option, Some, None, Result, Ok, Err, refl, ap, sym, ◌∙◌, subst, arith}
 use Rattle.std.proofs.lemmas.Bool.{ltb-true}
 use Rattle.std.proofs.lemmas.Int.{ints}
-use Rattle.std.proofs.lemmas.List.{append_assoc}
+use Rattle.std.proofs.lemmas.List.{append-nil, append_assoc}
 use Rattle.trick_blocks.specs.Places as by_cell
 use Rattle.trick_blocks.specs.Terms as terms
 use Rattle.trick_blocks.specs.Terms.{OfPlace, computed, goal_of, goal_term, link_terms, choice_terms, offset_of, path_goal, place_goal, span_of, steps, term}
@@ -63,10 +63,6 @@ none_left (z ∷ xs) ys h = absurd (cc h)
 pub none_right : {A : Type 0} (xs ys : List A) → xs ++ ys ≡ [] → ys ≡ []
 none_right [] ys h = h
 none_right (z ∷ xs) ys h = absurd (cc h)
-
-append_none : {A : Type 0} (xs : List A) → xs ++ [] ≡ xs
-append_none [] = refl
-append_none (z ∷ xs) = ap (λ ys. z ∷ ys) (append_none xs)
 
 pub then_same : {A B E : Type 0} (r q : Result A E) (f g : A → Result B E) → r ≡ q → ((a : A) → f a ≡ g a) → and_then r f ≡ and_then q g
 then_same {A} {B} {E} r q f g is each = ap (λ z. and_then z f) is ∙ by q where
@@ -218,7 +214,7 @@ module _ (w : World) (done : List (List Variable)) (memory : List Variable) (slo
 
   end_leads : LeadsAll NoPart
   end_leads shape at scalar end walks none = λ from full.
-      ([], 0, refl, omega arith, sym (append_none full), ap Stands walks.0)
+      ([], 0, refl, omega arith, sym (append-nil full), ap Stands walks.0)
 
   -- ---- what is read
 

@@ -1,8 +1,8 @@
 -- Distinct numbers below a bound are no more than the bound.
 use Rattle.std.proofs.Common.{◌≡◌, ℕ, zero, suc, ◌+◌, ◌<◌, ◌≤◌, ◌==◌, Bool, true, false, not, List, [], ◌∷◌, ◌++◌, length, inl, inr, eq-eqb, refl, ap, subst, arith}
-use Rattle.std.proofs.lemmas.Bool.{cases_eq, eqb-true, ne_eqb}
-use Rattle.trick_order.proofs.Has.{and_true, both, has_kept, has_push, or_cases, or_left, or_right}
-use Rattle.trick_order.proofs.Steps.{absent, not_false, true_false}
+use Rattle.std.proofs.lemmas.Bool.{and_from, and_parts, cases_eq, eqb-true, false_from_ne_true, ne_eqb, not-true, or_cases, or_left, or_right}
+use Rattle.trick_order.proofs.Has.{has_kept, has_push}
+use Rattle.trick_order.proofs.Steps.{true_false}
 use Rattle.trick_order.specs.Calls.{are_distinct, has, stand_after}
 use Rattle.trick_order.specs.Searching.{total}
 
@@ -42,12 +42,12 @@ total_times (x ∷ xs) n low =
 times_none : (xs : List ℕ) (k : ℕ) → has xs k ≡ false → times xs k ≡ 0
 times_none [] k h = refl
 times_none (x ∷ xs) k h =
-    let other : one (x == k) ≡ 0 = ap one (absent _ (λ e. true_false _ (or_left _ (has xs k) e) h)) in
-    omega (arith, other, times_none xs k (absent _ (λ e. true_false _ (or_right (x == k) _ e) h)))
+    let other : one (x == k) ≡ 0 = ap one (false_from_ne_true _ (λ e. true_false _ (or_left _ (has xs k) e) h)) in
+    omega (arith, other, times_none xs k (false_from_ne_true _ (λ e. true_false _ (or_right (x == k) _ e) h)))
 
 times_low : (xs : List ℕ) (k : ℕ) → are_distinct xs ≡ true → times xs k ≤ 1
 times_low [] k h = omega arith
-times_low (x ∷ xs) k h = elim (cases_eq x k) [ inl e ↦ (let here : one (x == k) ≡ 1 = ap one (eq-eqb x k e) in omega (arith, here, times_none xs k (subst (λ j. has xs j ≡ false) e (not_false _ (both _ _ h).0)))) | inr e ↦ (let other : one (x == k) ≡ 0 = ap one (ne_eqb x k e) in omega (arith, other, times_low xs k (both _ _ h).1)) ]
+times_low (x ∷ xs) k h = elim (cases_eq x k) [ inl e ↦ (let here : one (x == k) ≡ 1 = ap one (eq-eqb x k e) in omega (arith, here, times_none xs k (subst (λ j. has xs j ≡ false) e (not-true _ (and_parts _ _ h).0)))) | inr e ↦ (let other : one (x == k) ≡ 0 = ap one (ne_eqb x k e) in omega (arith, other, times_low xs k (and_parts _ _ h).1)) ]
 
 total_low : (n : ℕ) (xs : List ℕ) → are_distinct xs ≡ true → total n (times xs) ≤ n
 total_low zero xs h = omega arith
@@ -60,8 +60,8 @@ distinct_short xs n apart low = omega (arith, total_times xs n low, total_low n 
 
 stand_apart : (g : List (List ℕ)) (seen ms : List ℕ) (k : ℕ) → stand_after g seen ms ≡ true → has ms k ≡ true → has seen k ≡ false
 stand_apart g seen [] k s h = absurd (cc h)
-stand_apart g seen (m ∷ ms) k s h = elim (or_cases (m == k) _ h) [ inl p ↦ subst (λ j. has seen j ≡ false) (eqb-true m k p) (not_false _ (both _ _ (both _ _ s).0).0) | inr p ↦ absent _ (λ q. true_false _ (has_kept seen (m ∷ []) k q) (stand_apart g (seen ++ m ∷ []) ms k (both _ _ s).1 p)) ]
+stand_apart g seen (m ∷ ms) k s h = elim (or_cases (m == k) _ h) [ inl p ↦ subst (λ j. has seen j ≡ false) (eqb-true m k p) (not-true _ (and_parts _ _ (and_parts _ _ s).0).0) | inr p ↦ false_from_ne_true _ (λ q. true_false _ (has_kept seen (m ∷ []) k q) (stand_apart g (seen ++ m ∷ []) ms k (and_parts _ _ s).1 p)) ]
 
 pub stand_distinct : (g : List (List ℕ)) (seen ms : List ℕ) → stand_after g seen ms ≡ true → are_distinct ms ≡ true
 stand_distinct g seen [] s = refl
-stand_distinct g seen (m ∷ ms) s = and_true _ _ (ap not (absent _ (λ h. true_false _ (has_push seen m) (stand_apart g (seen ++ m ∷ []) ms m (both _ _ s).1 h)))) (stand_distinct g (seen ++ m ∷ []) ms (both _ _ s).1)
+stand_distinct g seen (m ∷ ms) s = and_from _ _ (ap not (false_from_ne_true _ (λ h. true_false _ (has_push seen m) (stand_apart g (seen ++ m ∷ []) ms m (and_parts _ _ s).1 h)))) (stand_distinct g (seen ++ m ∷ []) ms (and_parts _ _ s).1)

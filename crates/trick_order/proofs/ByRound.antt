@@ -2,16 +2,16 @@
 use Rattle.std.proofs.Common.{◌≡◌, ◌≢◌, ℕ, zero, suc, ◌+◌, ◌<◌, ◌≤◌, ◌==◌, Bool, true, false, cond, nat_lt, not, List, [], ◌∷◌, ◌++◌, ◌⊎◌, All, add-one, drop, filter, get_or, length, max, replicate, set, take, inl, inr, eq-eqb, refl, ap, sym, ◌∙◌, subst, arith}
 use Rattle.std.proofs.Math.ListN.{length-append, length-set}
 use Rattle.std.proofs.Math.Nat.{le-max_left, le-max_right, max-eq_left, max-eq_right, max-le, max-zero}
-use Rattle.std.proofs.lemmas.Bool.{cases_eq, cases_lt, eqb-true, ltb-false, ltb-true, ne_eqb}
+use Rattle.std.proofs.lemmas.Bool.{and_from, and_parts, cases_eq, cases_lt, eqb-true, false_from_ne_true, ltb-false, ltb-true, ne_eqb, not-true, or_cases, or_left, or_right}
 use Rattle.std.proofs.lemmas.List.Elements.{filter-append}
 use Rattle.std.proofs.lemmas.List.{append-nil, at_drop_all, at_drop_more, drop_more, get_or_read, length-take-le, get_or-set_other, get_or-set_same, take-append-drop, take_all, take_more}
 use Rattle.std.specs.List.{range_with_len}
 use Rattle.std.specs.Ordering.{is_lt, nat_cmp, ord_max}
 use Rattle.std.specs.declared.cmp.Ordering.TheVariants.{Less, Equal, Greater}
 use Rattle.trick_order.proofs.Apart.{distinct_short, stand_distinct}
-use Rattle.trick_order.proofs.Has.{all_has, all_in_has, and_true, both, has_at, has_kept, has_split, or_cases, or_left, or_right}
+use Rattle.trick_order.proofs.Has.{all_has, all_in_has, has_at, has_kept, has_split}
 use Rattle.trick_order.proofs.Placed.{filter_has, filter_same, has_all_in, has_either, has_filter, has_later, has_range, range_has, rounds_below, rounds_stand, stand_split}
-use Rattle.trick_order.proofs.Steps.{absent, closed_push, not_false, true_false}
+use Rattle.trick_order.proofs.Steps.{closed_push, true_false}
 use Rattle.trick_order.specs.Calls.{AreCallees, IsOrderOf, all_in, callees, first_rounds, has, is_next, order_of, stand_after}
 use Rattle.trick_order.specs.Rounds.{AreRounds, AreRoundsOf, in_round, round_behind}
 
@@ -96,9 +96,9 @@ one_more g front rounds m r low fresh all = record {
 pub next_stands : (g : List (List ℕ)) (order : List ℕ) (i m : ℕ) → IsOrderOf g order → i < length order → m ≡ get_or order i 0 → (m < length g) × (has (take i order) m ≡ false) × (all_in (callees g m) (take i order) ≡ true)
 next_stands g order i m o low is =
     let s = stand_split g [] (take i order) (get_or order i 0 ∷ drop (i + 1) order) (subst (λ q. stand_after g [] q ≡ true) (sym (take-append-drop i order) ∙ ap (λ q. take i order ++ q) (drop_more order i 0 low)) o.0) in
-    let first = both _ _ (both _ _ s).0 in (
+    let first = and_parts _ _ (and_parts _ _ s).0 in (
       subst (λ j. j < length g) (sym is) (o.2 _ (has_at order i low)),
-      subst (λ j. has (take i order) j ≡ false) (sym is) (not_false _ first.0),
+      subst (λ j. has (take i order) j ≡ false) (sym is) (not-true _ first.0),
       subst (λ j. all_in (callees g j) (take i order) ≡ true) (sym is) first.1,
     )
 
@@ -173,12 +173,12 @@ placed_low g rounds r (suc n) k h = elim (has_either (first_rounds g n) _ k h) [
   next f p =
       let q = filter_has (is_next g (first_rounds g n)) (range_with_len 0 (length g)) k p in
       let low : k < length g = omega (arith, (range_has (length g) 0 k q.0).1) in
-      let all = (both (not (has (first_rounds g n) k)) (all_in (callees g k) (first_rounds g n)) q.1).1 in
+      let all = (and_parts (not (has (first_rounds g n) k)) (all_in (callees g k) (first_rounds g n)) q.1).1 in
       omega (arith, r.behind k low, behind_least rounds (callees g k) n (λ c call. f c (all_in_has (callees g k) (first_rounds g n) c all call)))
 
 follows : (g : List (List ℕ)) (rounds : List ℕ) → AreCallees g → AreRounds g rounds → (n k : ℕ) → ((c : ℕ) → c < length g → get_or rounds c 0 < n → has (first_rounds g n) c ≡ true) → k < length g → get_or rounds k 0 ≡ n → is_next g (first_rounds g n) k ≡ true
 follows g rounds are r n k f low e =
-    and_true _ _ (ap not (absent _ (λ (h : has (first_rounds g n) k ≡ true). omega (arith, placed_low g rounds r n k h, e)))) (has_all_in (callees g k) (first_rounds g n) (λ c call. f c (are k c call) (omega (arith, behind_each rounds (callees g k) c call, r.behind k low, e))))
+    and_from _ _ (ap not (false_from_ne_true _ (λ (h : has (first_rounds g n) k ≡ true). omega (arith, placed_low g rounds r n k h, e)))) (has_all_in (callees g k) (first_rounds g n) (λ c call. f c (are k c call) (omega (arith, behind_each rounds (callees g k) c call, r.behind k low, e))))
 
 pub low_placed : (g : List (List ℕ)) (rounds : List ℕ) → AreCallees g → AreRounds g rounds → (n k : ℕ) → k < length g → get_or rounds k 0 < n → has (first_rounds g n) k ≡ true
 low_placed g rounds are r zero k low h = absurd (omega arith)
@@ -194,8 +194,8 @@ pub next_round : (g : List (List ℕ)) (rounds : List ℕ) → AreCallees g → 
 next_round g rounds are r n = ap (λ q. first_rounds g n ++ q) (sym (filter_same _ _ (range_with_len 0 (length g)) (λ k h. same k (omega (arith, (range_has (length g) 0 k h).1))))) ∙ ap (first_rounds g) (sym (add-one n)) where
   there : (k : ℕ) → k < length g → is_next g (first_rounds g n) k ≡ true → get_or rounds k 0 ≡ n
   there k low t =
-      let parts = both (not (has (first_rounds g n) k)) (all_in (callees g k) (first_rounds g n)) t in
-      let out = not_false (has (first_rounds g n) k) parts.0 in
+      let parts = and_parts (not (has (first_rounds g n) k)) (all_in (callees g k) (first_rounds g n)) t in
+      let out = not-true (has (first_rounds g n) k) parts.0 in
       let high = r.behind k low in
       let least = behind_least rounds (callees g k) n (λ c call. placed_low g rounds r n c (all_in_has (callees g k) (first_rounds g n) c parts.1 call)) in
       elim (cases_lt (get_or rounds k 0) n) [ inl p ↦ true_false (has (first_rounds g n) k) (low_placed g rounds are r n k low p) out | inr p ↦ omega (arith, p, high, least) ]

@@ -1,7 +1,6 @@
 -- Ranks that calls do not raise.
 use Rattle.std.proofs.Common.{◌≡◌, ℕ, zero, suc, ◌<◌, ◌≤◌, true, List, [], ◌∷◌, length, get_or, inl, inr, subst, arith}
-use Rattle.std.proofs.lemmas.Bool.{eqb-true, ltb-true}
-use Rattle.trick_order.proofs.Has.{both, or_cases}
+use Rattle.std.proofs.lemmas.Bool.{and_parts, eqb-true, ltb-true, or_cases}
 use Rattle.trick_order.specs.Calls.{Reaches, ReachesItself, callees, has}
 use Rattle.trick_order.specs.Ranked.{FallsBefore, NeverRises, are_lower}
 
@@ -11,10 +10,10 @@ lower_has :
     → get_or ranks c 0 < limit
 lower_has ranks limit [] c all h = absurd (cc h)
 lower_has ranks limit (x ∷ cs) c all h =
-    let now = ltb-true _ limit (both _ _ all).0 in
+    let now = ltb-true _ limit (and_parts _ _ all).0 in
     elim (or_cases _ (has cs c) h) [
       | inl p ↦ subst (λ y. get_or ranks y 0 < limit) (eqb-true x c p) now
-      | inr p ↦ lower_has ranks limit cs c (both _ _ all).1 p
+      | inr p ↦ lower_has ranks limit cs c (and_parts _ _ all).1 p
     ]
 
 -- what calls is there

@@ -1,27 +1,8 @@
 -- What lists of numbers have.
-use Rattle.std.proofs.Common.{◌≡◌, ◌≢◌, ℕ, zero, suc, ◌<◌, ◌==◌, Bool, true, false, ◌&&◌, ◌||◌, List, [], ◌∷◌, ◌++◌, All, length, get_or, ◌⊎◌, inl, inr, eq-eqb, refl, ap, subst, arith}
-use Rattle.std.proofs.lemmas.Bool.{eqb-true}
+use Rattle.std.proofs.Common.{◌≡◌, ◌≢◌, ℕ, zero, suc, ◌<◌, ◌==◌, Bool, true, false, ◌||◌, List, [], ◌∷◌, ◌++◌, All, length, get_or, ◌⊎◌, inl, inr, eq-eqb, refl, ap, subst, arith}
+use Rattle.std.proofs.lemmas.Bool.{and_from, and_parts, eqb-true, or_cases, or_left, or_right}
 use Rattle.std.proofs.lemmas.List.{get_or_default}
 use Rattle.trick_order.specs.Calls.{has, all_in, callees}
-
-pub both : (x y : Bool) → (x && y) ≡ true → (x ≡ true) × (y ≡ true)
-both true y h = (refl, h)
-both false y h = absurd (cc h)
-
-pub and_true : (x y : Bool) → x ≡ true → y ≡ true → (x && y) ≡ true
-and_true x y h k = rw (h, k) refl
-
-pub or_left : (x y : Bool) → x ≡ true → (x || y) ≡ true
-or_left true y h = refl
-or_left false y h = absurd (cc h)
-
-pub or_right : (x y : Bool) → y ≡ true → (x || y) ≡ true
-or_right true y h = refl
-or_right false y h = h
-
-pub or_cases : (x y : Bool) → (x || y) ≡ true → (x ≡ true) ⊎ (y ≡ true)
-or_cases true y h = inl refl
-or_cases false y h = inr h
 
 pub has_push : (xs : List ℕ) (c : ℕ) → has (xs ++ c ∷ []) c ≡ true
 has_push [] c = or_left (c == c) false (eq-eqb c c refl)
@@ -62,15 +43,15 @@ place_of (x ∷ xs) k h = elim (or_cases (x == k) _ h) [ inl p ↦ (0, omega ari
 
 pub all_in_has : (cs q : List ℕ) (c : ℕ) → all_in cs q ≡ true → has cs c ≡ true → has q c ≡ true
 all_in_has [] q c a h = absurd (cc h)
-all_in_has (x ∷ cs) q c a h = elim (or_cases (x == c) _ h) [ inl p ↦ subst (λ y. has q y ≡ true) (eqb-true x c p) (both _ _ a).0 | inr p ↦ all_in_has cs q c (both _ _ a).1 p ]
+all_in_has (x ∷ cs) q c a h = elim (or_cases (x == c) _ h) [ inl p ↦ subst (λ y. has q y ≡ true) (eqb-true x c p) (and_parts _ _ a).0 | inr p ↦ all_in_has cs q c (and_parts _ _ a).1 p ]
 
 pub all_in_more : (cs q q' : List ℕ) → ((k : ℕ) → has q k ≡ true → has q' k ≡ true) → all_in cs q ≡ true → all_in cs q' ≡ true
 all_in_more [] q q' f a = refl
-all_in_more (x ∷ cs) q q' f a = and_true _ _ (f x (both _ _ a).0) (all_in_more cs q q' f (both _ _ a).1)
+all_in_more (x ∷ cs) q q' f a = and_from _ _ (f x (and_parts _ _ a).0) (all_in_more cs q q' f (and_parts _ _ a).1)
 
 pub all_in_push : (cs : List ℕ) (c : ℕ) (q : List ℕ) → all_in cs q ≡ true → has q c ≡ true → all_in (cs ++ c ∷ []) q ≡ true
-all_in_push [] c q a h = and_true _ _ h refl
-all_in_push (x ∷ cs) c q a h = and_true _ _ (both _ _ a).0 (all_in_push cs c q (both _ _ a).1 h)
+all_in_push [] c q a h = and_from _ _ h refl
+all_in_push (x ∷ cs) c q a h = and_from _ _ (and_parts _ _ a).0 (all_in_push cs c q (and_parts _ _ a).1 h)
 
 pub get_front : (xs ys : List ℕ) (i : ℕ) → i < length xs → get_or (xs ++ ys) i 0 ≡ get_or xs i 0
 get_front [] ys i h = absurd (omega arith)

@@ -1,10 +1,10 @@
 -- What filters, numbers in a row and lists in order have.
 use Rattle.std.proofs.Common.{◌≡◌, ℕ, zero, suc, ◌+◌, ◌<◌, ◌≤◌, ◌==◌, Bool, true, false, cond, not, List, [], ◌∷◌, ◌++◌, filter, length, ◌⊎◌, inl, inr, eq-eqb, refl, ap, sym, ◌∙◌, subst, arith}
-use Rattle.std.proofs.lemmas.Bool.{cases_eq, eqb-true}
+use Rattle.std.proofs.lemmas.Bool.{and_from, and_parts, cases_eq, eqb-true, false_from_ne_true, not-true, or_cases, or_left, or_right}
 use Rattle.std.proofs.lemmas.List.{append-nil, append_assoc}
 use Rattle.std.specs.List.{range_with_len}
-use Rattle.trick_order.proofs.Has.{all_in_more, and_true, both, has_kept, has_split, or_cases, or_left, or_right}
-use Rattle.trick_order.proofs.Steps.{absent, not_false, true_false}
+use Rattle.trick_order.proofs.Has.{all_in_more, has_kept, has_split}
+use Rattle.trick_order.proofs.Steps.{true_false}
 use Rattle.trick_order.specs.Calls.{all_in, callees, first_rounds, has, is_next, stand_after}
 
 pub has_later : (xs ys : List ℕ) (k : ℕ) → has ys k ≡ true → has (xs ++ ys) k ≡ true
@@ -20,7 +20,7 @@ has_either (x ∷ xs) ys k h = elim (or_cases (x == k) _ h) [ inl p ↦ inl (or_
 
 pub has_all_in : (cs q : List ℕ) → ((c : ℕ) → has cs c ≡ true → has q c ≡ true) → all_in cs q ≡ true
 has_all_in [] q f = refl
-has_all_in (x ∷ cs) q f = and_true _ _ (f x (or_left _ _ (eq-eqb x x refl))) (has_all_in cs q (λ c h. f c (or_right _ _ h)))
+has_all_in (x ∷ cs) q f = and_from _ _ (f x (or_left _ _ (eq-eqb x x refl))) (has_all_in cs q (λ c h. f c (or_right _ _ h)))
 
 pub filter_has : (p : ℕ → Bool) (xs : List ℕ) (k : ℕ) → has (filter p xs) k ≡ true → (has xs k ≡ true) × (p k ≡ true)
 filter_has p [] k h = absurd (cc h)
@@ -56,11 +56,11 @@ has_range (suc n) a k low high = elim (cases_eq a k) [ inl e ↦ or_left _ _ (eq
 
 pub stand_append : (g : List (List ℕ)) (seen xs ys : List ℕ) → stand_after g seen xs ≡ true → stand_after g (seen ++ xs) ys ≡ true → stand_after g seen (xs ++ ys) ≡ true
 stand_append g seen [] ys a b = subst (λ s. stand_after g s ys ≡ true) (append-nil seen) b
-stand_append g seen (x ∷ xs) ys a b = and_true _ _ (both _ _ a).0 (stand_append g (seen ++ x ∷ []) xs ys (both _ _ a).1 (subst (λ s. stand_after g s ys ≡ true) (sym (append_assoc seen (x ∷ []) xs)) b))
+stand_append g seen (x ∷ xs) ys a b = and_from _ _ (and_parts _ _ a).0 (stand_append g (seen ++ x ∷ []) xs ys (and_parts _ _ a).1 (subst (λ s. stand_after g s ys ≡ true) (sym (append_assoc seen (x ∷ []) xs)) b))
 
 pub stand_split : (g : List (List ℕ)) (seen xs ys : List ℕ) → stand_after g seen (xs ++ ys) ≡ true → stand_after g (seen ++ xs) ys ≡ true
 stand_split g seen [] ys s = subst (λ q. stand_after g q ys ≡ true) (sym (append-nil seen)) s
-stand_split g seen (x ∷ xs) ys s = subst (λ q. stand_after g q ys ≡ true) (append_assoc seen (x ∷ []) xs) (stand_split g (seen ++ x ∷ []) xs ys (both _ _ s).1)
+stand_split g seen (x ∷ xs) ys s = subst (λ q. stand_after g q ys ≡ true) (append_assoc seen (x ∷ []) xs) (stand_split g (seen ++ x ∷ []) xs ys (and_parts _ _ s).1)
 
 -- those of a round, after the rounds before and those of this round that are before them in the text
 stand_round : (g : List (List ℕ)) (p done : List ℕ) (n a : ℕ) → ((k : ℕ) → has done k ≡ true → k < a) → stand_after g (p ++ done) (filter (is_next g p) (range_with_len a n)) ≡ true
@@ -73,11 +73,11 @@ stand_round g p done (suc n) a low = by (is_next g p a) refl (stand_round g p (d
   low_push k h = elim (has_split done a k h) [ inl q ↦ omega (arith, low k q) | inr q ↦ omega (arith, q) ]
 
   fresh : has p a ≡ false → has (p ++ done) a ≡ false
-  fresh f = absent _ (λ h. elim (has_either p done a h) [ inl q ↦ true_false (has p a) q f | inr q ↦ absurd (omega (arith, low a q)) ])
+  fresh f = false_from_ne_true _ (λ h. elim (has_either p done a h) [ inl q ↦ true_false (has p a) q f | inr q ↦ absurd (omega (arith, low a q)) ])
 
   by : (b : Bool) → is_next g p a ≡ b → stand_after g (p ++ (done ++ a ∷ [])) rest ≡ true → stand_after g (p ++ done) rest ≡ true → stand_after g (p ++ done) (cond b (a ∷ rest) rest) ≡ true
   by true e more same =
-      and_true _ _ (and_true _ _ (ap not (fresh (not_false _ (both _ _ e).0))) (all_in_more (callees g a) p (p ++ done) (λ k h. has_kept p done k h) (both _ _ e).1))
+      and_from _ _ (and_from _ _ (ap not (fresh (not-true _ (and_parts _ _ e).0))) (all_in_more (callees g a) p (p ++ done) (λ k h. has_kept p done k h) (and_parts _ _ e).1))
       (subst (λ s. stand_after g s rest ≡ true) (sym (append_assoc p done (a ∷ []))) more)
   by false e more same = same
 

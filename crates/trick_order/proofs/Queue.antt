@@ -1,15 +1,11 @@
 -- The steps of a search from one method.
 use Rattle.std.proofs.Common.{◌≡◌, ℕ, zero, suc, ◌+◌, ◌<◌, ◌≤◌, Bool, true, false, List, [], ◌∷◌, ◌++◌, length, get_or, set, ◌⊎◌, inl, inr, refl, ap, sym, ◌∙◌, subst, arith}
 use Rattle.std.proofs.Math.ListN.{length-append, length-set}
-use Rattle.std.proofs.lemmas.Bool.{cases_eq, cases_lt}
-use Rattle.std.proofs.lemmas.List.{get_or-set_same, get_or-set_other, append_assoc}
-use Rattle.trick_order.proofs.Has.{has_push, has_kept, has_other, has_split, all_in_has, all_in_more, get_front, place_of, both, and_true}
+use Rattle.std.proofs.lemmas.Bool.{and_from, and_parts, cases_eq, cases_lt}
+use Rattle.std.proofs.lemmas.List.{get_or-set_same, get_or-set_other, append_assoc, append-nil}
+use Rattle.trick_order.proofs.Has.{has_push, has_kept, has_other, has_split, all_in_has, all_in_more, get_front, place_of}
 use Rattle.trick_order.specs.Calls.{AreCallees, has, all_in, callees, Reaches}
 use Rattle.trick_order.specs.Reached.{unseen, Adds, Reached}
-
-append_none : {A : Type 0} (xs : List A) → xs ++ [] ≡ xs
-append_none [] = refl
-append_none (x ∷ xs) = ap (λ ys. x ∷ ys) (append_none xs)
 
 seen_less : (seen : List Bool) (c : ℕ) → c < length seen → get_or seen c false ≡ false → suc (unseen (set seen c true)) ≡ unseen seen
 seen_less [] c h e = absurd (omega arith)
@@ -22,7 +18,7 @@ pub adds_none : (seen : List Bool) (queue : List ℕ) → ((k : ℕ) → get_or 
 adds_none seen queue is = record {
   size = refl;
   seen_is = is;
-  behind = ([], sym (append_none queue));
+  behind = ([], sym (append-nil queue));
   all = refl;
   only = λ k h. inl h;
   weighs = refl;
@@ -32,8 +28,8 @@ pub adds_seen : (c : ℕ) (seen : List Bool) (queue : List ℕ) → ((k : ℕ) �
 adds_seen c seen queue is e = record {
   size = refl;
   seen_is = is;
-  behind = ([], sym (append_none queue));
-  all = and_true _ _ (sym (is c) ∙ e) refl;
+  behind = ([], sym (append-nil queue));
+  all = and_from _ _ (sym (is c) ∙ e) refl;
   only = λ k h. inl h;
   weighs = refl;
 }
@@ -43,7 +39,7 @@ adds_new c seen queue h is e = record {
   size = length-set seen c true;
   seen_is = λ k. elim (cases_eq c k) [ inl p ↦ subst (λ j. get_or (set seen c true) j false ≡ has (queue ++ c ∷ []) j) p (get_or-set_same seen c true false h ∙ sym (has_push queue c)) | inr p ↦ get_or-set_other seen c k true false (λ q. p (sym q)) ∙ (is k ∙ sym (has_other queue c k p)) ];
   behind = (c ∷ [], refl);
-  all = and_true _ _ (has_push queue c) refl;
+  all = and_from _ _ (has_push queue c) refl;
   only = λ k q. was k (has_split queue c k q);
   weighs = omega (arith, seen_less seen c h e, length-append queue (c ∷ []));
 } where
@@ -57,7 +53,7 @@ adds_then cs c s t u p q r a b = record {
   size = b.size ∙ a.size;
   seen_is = b.seen_is;
   behind = (a.behind.0 ++ b.behind.0, b.behind.1 ∙ (ap (λ xs. xs ++ b.behind.0) a.behind.1 ∙ append_assoc p a.behind.0 b.behind.0));
-  all = all_push cs c r (all_in_more cs q r (kept q r b.behind.0 b.behind.1) a.all) (both _ _ b.all).0;
+  all = all_push cs c r (all_in_more cs q r (kept q r b.behind.0 b.behind.1) a.all) (and_parts _ _ b.all).0;
   only = λ k h. join k (b.only k h);
   weighs = b.weighs ∙ a.weighs;
 } where
@@ -65,8 +61,8 @@ adds_then cs c s t u p q r a b = record {
   kept q r more e k h = subst (λ xs. has xs k ≡ true) (sym e) (has_kept q more k h)
 
   all_push : (cs : List ℕ) (c : ℕ) (r : List ℕ) → all_in cs r ≡ true → has r c ≡ true → all_in (cs ++ c ∷ []) r ≡ true
-  all_push [] c r a h = and_true _ _ h refl
-  all_push (x ∷ cs) c r a h = and_true _ _ (both _ _ a).0 (all_push cs c r (both _ _ a).1 h)
+  all_push [] c r a h = and_from _ _ h refl
+  all_push (x ∷ cs) c r a h = and_from _ _ (and_parts _ _ a).0 (all_push cs c r (and_parts _ _ a).1 h)
 
   last : (k : ℕ) → has (c ∷ []) k ≡ true → has (cs ++ c ∷ []) k ≡ true
   last k h = elim (has_split [] c k h) [ inl x ↦ absurd (cc x) | inr x ↦ subst (λ j. has (cs ++ c ∷ []) j ≡ true) x (has_push cs c) ]

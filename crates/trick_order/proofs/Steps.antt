@@ -1,9 +1,9 @@
 -- The steps of a search for an order.
 use Rattle.std.proofs.Common.{◌≡◌, ◌≢◌, ℕ, zero, suc, ◌+◌, ◌<◌, ◌≤◌, ◌-◌, Bool, true, false, ◌&&◌, ◌||◌, not, List, [], ◌∷◌, ◌++◌, length, take, get_or, set, replicate, ◌⊎◌, inl, inr, refl, ap, sym, ◌∙◌, subst, arith}
 use Rattle.std.proofs.Math.ListN.{length-set, length-replicate}
-use Rattle.std.proofs.lemmas.Bool.{cases_eq, cases_lt}
+use Rattle.std.proofs.lemmas.Bool.{and_from, and_parts, cases_eq, cases_lt, false_from_ne_true, not-true, or_cases, or_left, or_right}
 use Rattle.std.proofs.lemmas.List.{get_or-set_same, get_or-set_other, append_assoc, take_more}
-use Rattle.trick_order.proofs.Has.{has_push, has_kept, has_other, has_split, all_in_has, all_in_more, all_in_push, both, and_true, or_left, or_right, or_cases}
+use Rattle.trick_order.proofs.Has.{has_push, has_kept, has_other, has_split, all_in_has, all_in_more, all_in_push}
 use Rattle.trick_order.specs.Calls.{has, all_in, callees, are_distinct, is_linked, stand_after, Reaches, ReachesItself, IsOrderOf}
 use Rattle.trick_order.specs.Searching.{Searching, left_in, left_at, left_of, total}
 
@@ -22,46 +22,38 @@ total_falls (suc n) f h k low same less = elim (cases_eq n k) [ inl e ↦ omega 
 pub true_false : {A : Type 0} (b : Bool) → b ≡ true → b ≡ false → A
 true_false b p q = absurd (cc (p, q))
 
-pub not_false : (b : Bool) → not b ≡ true → b ≡ false
-not_false true h = absurd (cc h)
-not_false false h = refl
-
 no_such : (xs : List ℕ) (k c : ℕ) → has xs c ≡ false → has xs k ≡ true → c ≢ k
 no_such xs k c out inside e = true_false (has xs k) inside (subst (λ j. has xs j ≡ false) e out)
-
-pub absent : (b : Bool) → (b ≡ true → ⊥) → b ≡ false
-absent true h = absurd (h refl)
-absent false h = refl
 
 -- the last of a list whose items are distinct is not in front of it
 distinct_front : (xs : List ℕ) (c : ℕ) → are_distinct (xs ++ c ∷ []) ≡ true → (are_distinct xs ≡ true) × (has xs c ≡ false)
 distinct_front [] c h = (refl, refl)
 distinct_front (x ∷ xs) c h =
-    let p = both _ _ h in
+    let p = and_parts _ _ h in
     let q = distinct_front xs c p.1 in
-    let away : has (xs ++ c ∷ []) x ≡ false = not_false _ p.0 in
-    (and_true _ _ (ap not (absent _ (has_back xs c x away))) q.0, other (x ≢ c) (λ e. true_false (has (xs ++ c ∷ []) x) (subst (λ j. has (xs ++ c ∷ []) j ≡ true) (sym e) (has_push xs c)) away) q.1) where
+    let away : has (xs ++ c ∷ []) x ≡ false = not-true _ p.0 in
+    (and_from _ _ (ap not (false_from_ne_true _ (has_back xs c x away))) q.0, other (x ≢ c) (λ e. true_false (has (xs ++ c ∷ []) x) (subst (λ j. has (xs ++ c ∷ []) j ≡ true) (sym e) (has_push xs c)) away) q.1) where
       has_back : (xs : List ℕ) (c x : ℕ) → has (xs ++ c ∷ []) x ≡ false → has xs x ≡ true → ⊥
       has_back xs c x away h = true_false _ (has_kept xs (c ∷ []) x h) away
 
       other : (T : Type 0) → (x ≡ c → ⊥) → has xs c ≡ false → has (x ∷ xs) c ≡ false
-      other T n h = absent _ (λ e. elim (or_cases _ (has xs c) e) [ inl p ↦ n (Rattle.std.proofs.lemmas.Bool.eqb-true x c p) | inr p ↦ true_false (has xs c) p h ])
+      other T n h = false_from_ne_true _ (λ e. elim (or_cases _ (has xs c) e) [ inl p ↦ n (Rattle.std.proofs.lemmas.Bool.eqb-true x c p) | inr p ↦ true_false (has xs c) p h ])
 
 distinct_push : (xs : List ℕ) (c : ℕ) → are_distinct xs ≡ true → has xs c ≡ false → are_distinct (xs ++ c ∷ []) ≡ true
 distinct_push [] c h out = refl
 distinct_push (x ∷ xs) c h out =
-    let p = both _ _ h in
-    and_true _ _ (ap not (has_other xs c x (λ e. true_false _ (or_left _ (has xs c) (Rattle.std.proofs.Common.eq-eqb x c (sym e))) out)) ∙ p.0) (distinct_push xs c p.1 (absent _ (λ e. true_false _ (or_right _ (has xs c) e) out)))
+    let p = and_parts _ _ h in
+    and_from _ _ (ap not (has_other xs c x (λ e. true_false _ (or_left _ (has xs c) (Rattle.std.proofs.Common.eq-eqb x c (sym e))) out)) ∙ p.0) (distinct_push xs c p.1 (false_from_ne_true _ (λ e. true_false _ (or_right _ (has xs c) e) out)))
 
 linked_front : (g : List (List ℕ)) (xs : List ℕ) (c : ℕ) → is_linked g (xs ++ c ∷ []) ≡ true → is_linked g xs ≡ true
 linked_front g [] c h = refl
 linked_front g (a ∷ []) c h = refl
-linked_front g (a ∷ b ∷ xs) c h = and_true _ _ (both _ _ h).0 (linked_front g (b ∷ xs) c (both _ _ h).1)
+linked_front g (a ∷ b ∷ xs) c h = and_from _ _ (and_parts _ _ h).0 (linked_front g (b ∷ xs) c (and_parts _ _ h).1)
 
 pub linked_push : (g : List (List ℕ)) (xs : List ℕ) (a c : ℕ) → is_linked g (xs ++ a ∷ []) ≡ true → has (callees g a) c ≡ true → is_linked g ((xs ++ a ∷ []) ++ c ∷ []) ≡ true
-linked_push g [] a c h k = and_true _ _ k refl
-linked_push g (x ∷ []) a c h k = and_true _ _ (both _ _ h).0 (and_true _ _ k refl)
-linked_push g (x ∷ y ∷ xs) a c h k = and_true _ _ (both _ _ h).0 (linked_push g (y ∷ xs) a c (both _ _ h).1 k)
+linked_push g [] a c h k = and_from _ _ k refl
+linked_push g (x ∷ []) a c h k = and_from _ _ (and_parts _ _ h).0 (and_from _ _ k refl)
+linked_push g (x ∷ y ∷ xs) a c h k = and_from _ _ (and_parts _ _ h).0 (linked_push g (y ∷ xs) a c (and_parts _ _ h).1 k)
 
 -- each method on the stack reaches what the last one calls
 pub linked_reaches : (g : List (List ℕ)) (xs : List ℕ) (a c k : ℕ) → is_linked g (xs ++ a ∷ []) ≡ true → has (callees g a) c ≡ true → has (xs ++ a ∷ []) k ≡ true → (n : ℕ) × Reaches g n k c
@@ -77,21 +69,21 @@ linked_reaches g (x ∷ xs) a c k h call here = elim (or_cases _ (has (xs ++ a �
 
   tail_linked : (g : List (List ℕ)) (x : ℕ) (ys : List ℕ) (a : ℕ) → is_linked g (x ∷ (ys ++ a ∷ [])) ≡ true → is_linked g (ys ++ a ∷ []) ≡ true
   tail_linked g x [] a h = refl
-  tail_linked g x (y ∷ ys) a h = (both _ _ h).1
+  tail_linked g x (y ∷ ys) a h = (and_parts _ _ h).1
 
   from_first : (g : List (List ℕ)) (x : ℕ) (ys : List ℕ) (a c : ℕ) → is_linked g (x ∷ (ys ++ a ∷ [])) ≡ true → (n : ℕ) × Reaches g n (head_of ys a) c → (n : ℕ) × Reaches g n x c
-  from_first g x [] a c h r = (suc r.0, (a, (both _ _ h).0, r.1))
-  from_first g x (y ∷ ys) a c h r = (suc r.0, (y, (both _ _ h).0, r.1))
+  from_first g x [] a c h r = (suc r.0, (a, (and_parts _ _ h).0, r.1))
+  from_first g x (y ∷ ys) a c h r = (suc r.0, (y, (and_parts _ _ h).0, r.1))
 
 -- an order, and one method more
 stand_push : (g : List (List ℕ)) (seen ms : List ℕ) (m : ℕ) → stand_after g seen ms ≡ true → has (seen ++ ms) m ≡ false → all_in (callees g m) (seen ++ ms) ≡ true → stand_after g seen (ms ++ m ∷ []) ≡ true
-stand_push g seen [] m h out all = and_true _ _ (and_true _ _ (ap not (subst (λ xs. has xs m ≡ false) (append_none seen) out)) (subst (λ xs. all_in (callees g m) xs ≡ true) (append_none seen) all)) refl where
+stand_push g seen [] m h out all = and_from _ _ (and_from _ _ (ap not (subst (λ xs. has xs m ≡ false) (append_none seen) out)) (subst (λ xs. all_in (callees g m) xs ≡ true) (append_none seen) all)) refl where
   append_none : (xs : List ℕ) → xs ++ [] ≡ xs
   append_none [] = refl
   append_none (x ∷ xs) = ap (λ ys. x ∷ ys) (append_none xs)
 stand_push g seen (x ∷ ms) m h out all =
     let e = append_assoc seen (x ∷ []) ms in
-    and_true _ _ (both _ _ h).0 (stand_push g (seen ++ x ∷ []) ms m (both _ _ h).1 (subst (λ xs. has xs m ≡ false) (sym e) out) (subst (λ xs. all_in (callees g m) xs ≡ true) (sym e) all))
+    and_from _ _ (and_parts _ _ h).0 (stand_push g (seen ++ x ∷ []) ms m (and_parts _ _ h).1 (subst (λ xs. has xs m ≡ false) (sym e) out) (subst (λ xs. all_in (callees g m) xs ≡ true) (sym e) all))
 
 -- ---- the steps
 
@@ -292,9 +284,9 @@ begins_in g seen m cl all (suc n) r = closed_reach g seen cl n r.0 m (all_in_has
 none_itself : (g : List (List ℕ)) (seen ms : List ℕ) → stand_after g seen ms ≡ true → Closed g seen → (a : ℕ) → has ms a ≡ true → ReachesItself g a → ⊥
 none_itself g seen [] h cl a here r = absurd (cc here)
 none_itself g seen (m ∷ ms) h cl a here r =
-    let p = both _ _ h in
-    let q = both _ _ p.0 in
-    elim (or_cases _ (has ms a) here) [ inl e ↦ (let same = Rattle.std.proofs.lemmas.Bool.eqb-true m a e in true_false (has seen m) (begins_in g seen m cl q.1 r.0 (subst (λ j. Reaches g r.0 j j) (sym same) r.1)) (not_false _ q.0)) | inr e ↦ none_itself g (seen ++ m ∷ []) ms p.1 (closed_push g seen m cl q.1) a e r ]
+    let p = and_parts _ _ h in
+    let q = and_parts _ _ p.0 in
+    elim (or_cases _ (has ms a) here) [ inl e ↦ (let same = Rattle.std.proofs.lemmas.Bool.eqb-true m a e in true_false (has seen m) (begins_in g seen m cl q.1 r.0 (subst (λ j. Reaches g r.0 j j) (sym same) r.1)) (not-true _ q.0)) | inr e ↦ none_itself g (seen ++ m ∷ []) ms p.1 (closed_push g seen m cl q.1) a e r ]
 
 calls_below : (g : List (List ℕ)) (k c : ℕ) → has (callees g k) c ≡ true → k < length g
 calls_below [] k c h = absurd (cc h)

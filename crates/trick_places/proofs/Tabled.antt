@@ -1,6 +1,6 @@
 -- The tables of a file tell where its cells are.
-use Rattle.std.proofs.Common.{rules, ◌≡◌, ℕ, zero, suc, ◌+◌, ◌*◌, ◌≤◌, Bool, true, false, ◌&&◌, if◌then◌else◌, nat_le, List, [], ◌∷◌, ◌++◌, length, slice_index_or, is_some, Some, None, refl, ap, sym, subst, ◌∙◌, arith}
-use Rattle.std.proofs.lemmas.Bool.{leb-true}
+use Rattle.std.proofs.Common.{rules, ◌≡◌, ℕ, zero, suc, ◌+◌, ◌*◌, ◌≤◌, Bool, true, false, if◌then◌else◌, nat_le, List, [], ◌∷◌, ◌++◌, length, slice_index_or, is_some, Some, None, refl, ap, sym, subst, ◌∙◌, arith}
+use Rattle.std.proofs.lemmas.Bool.{and_parts, leb-true}
 use Rattle.std.proofs.lemmas.Nat.{mul-le}
 use Rattle.std.proofs.lemmas.Slice.Eq.{bytes_eq-Decides}
 use Rattle.std.specs.Str.{bytes_eq}
@@ -73,10 +73,6 @@ count_small n b some small =
     let one : n * 1 ≡ n = omega arith in
     omega (arith, low, one, small)
 
-both : (x y : Bool) → (x && y) ≡ true → (x ≡ true) × (y ≡ true)
-both true y h = (refl, h)
-both false y h = absurd (cc h)
-
 none_each : (from n : ℕ) → each from n [] ≡ []
 none_each from zero = refl
 none_each from (suc n) = none_each (suc from) n
@@ -111,7 +107,7 @@ array_is (One n) cs some small = (row_is n cs (subst (λ k. k ≤ 65536) (length
 array_is (Two m n) cs some small =
     let inner = each 0 n cs in
     let all : m * length inner ≤ 65536 = subst (λ k. k ≤ 65536) (length_each 0 m inner) small in
-    let ones = both (nat_le 1 m) (nat_le 1 n) some in
+    let ones = and_parts (nat_le 1 m) (nat_le 1 n) some in
     let row : n * length cs ≤ 65536 = subst (λ k. k ≤ 65536) (length_each 0 n cs) (element_small m (length inner) (leb-true 1 m ones.0) all) in
     let same : each 0 (narrow n) cs ≡ inner = row_is n cs row in
     (ap (each 0 (narrow m)) same ∙ row_is m inner all, (cells_of_dim n (length cs) row ∙ sym (length_each 0 (narrow n) cs), refl))
@@ -125,7 +121,7 @@ base_exact : (done : List (List Variable)) (ls : Lengths) (base : Base) → has_
 base_exact done Plain base some small = small
 base_exact done (One n) base some small = element_small n (base_count (counts done) base) (leb-true 1 n some) small
 base_exact done (Two m n) base some small =
-    let ones = both (nat_le 1 m) (nat_le 1 n) some in
+    let ones = and_parts (nat_le 1 m) (nat_le 1 n) some in
     element_small n (base_count (counts done) base) (leb-true 1 n ones.1) (element_small m (n * base_count (counts done) base) (leb-true 1 m ones.0) small)
 
 abbrev Held : List (List Variable) → ℕ → Names Field → Type 0

@@ -1,6 +1,6 @@
 -- Each loop of a body of a text ends at 1,000,000 at most.
-use Rattle.std.proofs.Common.{◌≡◌, ℕ, zero, suc, ◌≤◌, Bool, true, ◌&&◌, nat_le, List, [], ◌∷◌, Option, Some, None, refl, ◌∙◌, inl, inr, subst, arith}
-use Rattle.std.proofs.lemmas.Bool.{le-leb}
+use Rattle.std.proofs.Common.{◌≡◌, ℕ, zero, suc, ◌≤◌, true, nat_le, List, [], ◌∷◌, Option, Some, None, refl, ◌∙◌, inl, inr, subst, arith}
+use Rattle.std.proofs.lemmas.Bool.{and_from, le-leb}
 use Rattle.trick_body.specs.Expressions.{Of, expression}
 use Rattle.trick_body.specs.Statements.{AfterName, Branch, Header, block_body, block_with, bound_of, branch_body, branch_with, branches_of, by_name, by_name_body, calls, changes, choice_body, choice_with, counted, counted_body, declaration, declaration_body, declares, else_body, else_with, header, header_body, loop_body, loop_test, loop_test_body, loop_with, named_of, nested, nested_body, otherwise_with, simple, simple_body, statement, statement_body, statement_with, statements_of, test_body, test_with, unblocked_body, unblocked_with, unbranched_body, unbranched_with}
 use Rattle.trick_body.specs.Symbols.{Token}
@@ -20,9 +20,6 @@ use Rattle.trick_lang.specs.Loops.{are_short_loops, branches_have_short_loops, h
 abbrev IsShort : Statement → Type 0
 IsShort s = has_short_loops s ≡ true
 
-both : (a b : Bool) → a ≡ true → b ≡ true → (a && b) ≡ true
-both a b p q = rw p q
-
 -- ---- bounds
 
 within : (n : ℕ) → n ≤ 1000000 → nat_le n 1000000 ≡ true
@@ -37,7 +34,7 @@ bound_short _ n = within _ (omega arith)
 module _ (text : List ℕ) (g : Of Statement) (holds : (s : Statement) → Gives text g s → IsShort s) where
   statements_short : (ss : List Statement) → Each (Gives text g) ss → are_short_loops (statements_of ss) ≡ true
   statements_short [] each = refl
-  statements_short (s ∷ ss) each = both (has_short_loops s) _ (holds s each.0) (statements_short ss each.1)
+  statements_short (s ∷ ss) each = and_from (has_short_loops s) _ (holds s each.0) (statements_short ss each.1)
 
 abbrev IsShortBranch : Branch → Type 0
 IsShortBranch b = IsShort b.2
@@ -47,7 +44,7 @@ branches_short : (bs : List Branch) (end : Option Statement) → Each IsShortBra
 branches_short [] None each last_short = refl
 branches_short [] (Some s) each last_short = last_short
 branches_short (b ∷ bs) end each last_short =
-    both (has_short_loops b.2) _ each.0 (branches_short bs end each.1 last_short)
+    and_from (has_short_loops b.2) _ each.0 (branches_short bs end each.1 last_short)
 
 -- ---- one level
 
@@ -138,7 +135,7 @@ module _ (text : List ℕ) (limit : ℕ) where
       → Gives text (loop_with text limit g) s → IsShort s
   unfolding Yields loop_body
   loop_short g holds s (v, (word, (bracket, (kind, (name, (head, body))))), is) =
-      subst IsShort is (both (nat_le (bound_number v.1.1.1.1.0.1) 1000000) _ (header_short v.1.1.1.1.0 head)
+      subst IsShort is (and_from (nat_le (bound_number v.1.1.1.1.0.1) 1000000) _ (header_short v.1.1.1.1.0 head)
       (holds v.1.1.1.1.1 body))
 
   -- ---- levels

@@ -1,5 +1,6 @@
 -- Each part of a tree passes the tests that hold of names, lists, numbers and jobs of the text.
-use Rattle.std.proofs.Common.{◌≡◌, ℕ, zero, suc, ◌-◌, ◌≤◌, Bool, true, ◌&&◌, List, [], ◌∷◌, length, Option, Some, refl, sym, ◌∙◌, inl, inr, subst, arith}
+use Rattle.std.proofs.Common.{◌≡◌, ℕ, zero, suc, ◌-◌, ◌≤◌, Bool, true, List, [], ◌∷◌, length, Option, Some, refl, sym, ◌∙◌, inl, inr, subst, arith}
+use Rattle.std.proofs.lemmas.Bool.{and_from}
 use Rattle.std.specs.List.{list_all}
 use Rattle.trick_body.specs.Expressions.{Of, names, name_of}
 use Rattle.trick_body.specs.Methods.{int_body, int_inside, int_inside_body, int_rest, void_body, void_inside_body, void_rest}
@@ -45,13 +46,10 @@ pub record AreRight (text : List ℕ) (limit levels : ℕ) (l : PartTests) : Typ
   pub job : (j : JobLine) → Gives text (job text) j → l.job j ≡ true
   pub body : (body : Statements) → IsBody text limit levels body → l.body body ≡ true
 
-both : (a b : Bool) → a ≡ true → b ≡ true → (a && b) ≡ true
-both a b p q = rw p q
-
 all_each : {A : Type 0} (P : A → Type 0) (p : A → Bool) → ((x : A) → P x → p x ≡ true) → (xs : List A) → Each P xs
     → list_all p xs ≡ true
 all_each P p holds [] each = refl
-all_each P p holds (x ∷ xs) each = both (p x) _ (holds x each.0) (all_each P p holds xs each.1)
+all_each P p holds (x ∷ xs) each = and_from (p x) _ (holds x each.0) (all_each P p holds xs each.1)
 
 pub some_of : {A : Type 0} (text : List ℕ) (g : Of A) (o : Option A) → Gives text (optional g) o → OnSome (Gives text g) o
 unfolding Yields
@@ -76,7 +74,7 @@ module _ (text : List ℕ) (limit levels : ℕ) (room : 1 ≤ limit) (l : PartTe
   item_right : (i : EnumItem) → Gives text (item text) i → item_passes l i ≡ true
   unfolding Yields item_body
   item_right i (v, (name, value), is) =
-      subst (λ j. item_passes l j ≡ true) is (both (l.name (name_of text v.0)) _ (r.name v.0 name.0 name.1)
+      subst (λ j. item_passes l j ≡ true) is (and_from (l.name (name_of text v.0)) _ (r.name v.0 name.0 name.1)
       (r.item _ (some_of text item_value v.1 value)))
 
   abbrev Items : ℕ → List EnumItem → Type 0
@@ -105,8 +103,8 @@ module _ (text : List ℕ) (limit levels : ℕ) (room : 1 ≤ limit) (l : PartTe
       let rest = behind_right (limit - 1) v.1 more in
       let few = rest.1 in
       subst (λ ys. items_pass l ys ≡ true) is
-      (both (l.list (length (v.0 ∷ v.1))) _ (r.list _ (omega (arith, few, room)))
-      (both (l.items (v.0 ∷ v.1)) _ (r.items _ (omega arith))
+      (and_from (l.list (length (v.0 ∷ v.1))) _ (r.list _ (omega (arith, few, room)))
+      (and_from (l.items (v.0 ∷ v.1)) _ (r.items _ (omega arith))
       (all_each (Gives text (item text)) (item_passes l) item_right (v.0 ∷ v.1) (one, rest.0))))
 
   enum_right : (d : Definition) → Gives text (enum text limit) d → definition_passes l d ≡ true
@@ -114,8 +112,8 @@ module _ (text : List ℕ) (limit levels : ℕ) (room : 1 ≤ limit) (l : PartTe
   enum_right d (v, (word, (name, (bracket, (its, (close, end))))), is) =
       let free = free_right v.1.0 name in
       subst (λ e. definition_passes l e ≡ true) is
-      (both (l.name (name_of text v.1.0)) _ free.0
-      (both (l.given (name_of text v.1.0)) _ free.1 (items_right v.1.1.1.0 its)))
+      (and_from (l.name (name_of text v.1.0)) _ free.0
+      (and_from (l.given (name_of text v.1.0)) _ free.1 (items_right v.1.1.1.0 its)))
 
   -- ---- members
 
@@ -125,8 +123,8 @@ module _ (text : List ℕ) (limit levels : ℕ) (room : 1 ≤ limit) (l : PartTe
   declarator_right d (v, (inr name, ls), is) =
       let free = free_right v.0 name in
       subst (λ e. declarator_passes l e ≡ true) is
-      (both (l.name (name_of text v.0)) _ free.0
-      (both (l.given (name_of text v.0)) _ free.1 (r.lengths v.1 ls)))
+      (and_from (l.name (name_of text v.0)) _ free.0
+      (and_from (l.given (name_of text v.0)) _ free.1 (r.lengths v.1 ls)))
 
   next_right : (d : Declarator) → Gives text (next_declarator text) d → declarator_passes l d ≡ true
   unfolding Yields
@@ -150,7 +148,7 @@ module _ (text : List ℕ) (limit levels : ℕ) (room : 1 ≤ limit) (l : PartTe
   with_first d ds first rest =
       let few = rest.1 in
       record {
-        pass = both (declarator_passes l d) _ first rest.0;
+        pass = and_from (declarator_passes l d) _ first rest.0;
         some = omega arith;
         few = omega (arith, few, room);
       }
@@ -163,9 +161,9 @@ module _ (text : List ℕ) (limit levels : ℕ) (room : 1 ≤ limit) (l : PartTe
   members_right : (written : TypeName) (ds : List Declarator) → type_passes l written ≡ true → Declared ds
       → members_pass l (record { written = written; declarators = ds }) ≡ true
   members_right written ds typed all =
-      both (type_passes l written) _ typed
-      (both (l.members (record { written = written; declarators = ds })) _ (r.members _ all.some)
-      (both (l.list (length ds)) _ (r.list _ all.few) all.pass))
+      and_from (type_passes l written) _ typed
+      (and_from (l.members (record { written = written; declarators = ds })) _ (r.members _ all.some)
+      (and_from (l.list (length ds)) _ (r.list _ all.few) all.pass))
 
   member_right : (m : Members) → Gives text (member text limit) m → members_pass l m ≡ true
   unfolding Yields member_body
@@ -181,9 +179,9 @@ module _ (text : List ℕ) (limit levels : ℕ) (room : 1 ≤ limit) (l : PartTe
   struct_right d (v, (word, (name, (bracket, (all, (close, end))))), is) =
       let free = free_right v.1.0 name in
       subst (λ e. definition_passes l e ≡ true) is
-      (both (l.name (name_of text v.1.0)) _ free.0
-      (both (l.given (name_of text v.1.0)) _ free.1
-      (both (l.list (length v.1.1.1.0)) _ (r.list _ all.1)
+      (and_from (l.name (name_of text v.1.0)) _ free.0
+      (and_from (l.given (name_of text v.1.0)) _ free.1
+      (and_from (l.list (length v.1.1.1.0)) _ (r.list _ all.1)
       (all_each (Gives text (member text limit)) (members_pass l) member_right v.1.1.1.0 all.0))))
 
   -- ---- constructors
@@ -198,7 +196,7 @@ module _ (text : List ℕ) (limit levels : ℕ) (room : 1 ≤ limit) (l : PartTe
       subst (λ k. l.name k.method ≡ true) is (called_right v.1.1.1.1.1 called)
 
   job_right : (j : JobLine) → Gives text (job text) j → job_passes l j ≡ true
-  job_right j p = both (l.name j.method) _ (job_name_right j p) (r.job j p)
+  job_right j p = and_from (l.name j.method) _ (job_name_right j p) (r.job j p)
 
   constructor_right : (line : ℕ) (t : Token) (jobs : List JobLine) → l.name (name_of text t) ≡ true
       → Gives text (files.constructor_rest text limit) jobs
@@ -206,8 +204,8 @@ module _ (text : List ℕ) (limit levels : ℕ) (room : 1 ≤ limit) (l : PartTe
   unfolding Yields constructor_body
   constructor_right line t jobs name (v, (bracket, (close, (brace, (all, end)))), is) =
       subst (λ js. part_passes l (tree.Constructor line (name_of text t) js) ≡ true) is
-      (both (l.name (name_of text t)) _ name
-      (both (l.list (length v.1.1.1.0)) _ (r.list _ all.1)
+      (and_from (l.name (name_of text t)) _ name
+      (and_from (l.list (length v.1.1.1.0)) _ (r.list _ all.1)
       (all_each (Gives text (job text)) (job_passes l) job_right v.1.1.1.0 all.0)))
 
   -- ---- methods
@@ -217,7 +215,7 @@ module _ (text : List ℕ) (limit levels : ℕ) (room : 1 ≤ limit) (l : PartTe
 
   method_right : (t : Token) (body : Statements) → l.name (name_of text t) ≡ true → IsBody text limit levels body
       → part_passes l (method t body) ≡ true
-  method_right t body name is = both (l.name (name_of text t)) _ name (r.body body is)
+  method_right t body name is = and_from (l.name (name_of text t)) _ name (r.body body is)
 
   void_is_body : (body : Statements) → Gives text (void_rest text limit levels) body → IsBody text limit levels body
   unfolding Yields void_body void_inside_body
@@ -239,7 +237,7 @@ module _ (text : List ℕ) (limit levels : ℕ) (room : 1 ≤ limit) (l : PartTe
   member_part_right t ls ds free some_lengths more =
       members_right (tree.Basic scalar.Int) (declarator_of text t ls ∷ ds) refl
       (with_first (declarator_of text t ls) ds
-      (both (l.name (name_of text t)) _ free.0 (both (l.given (name_of text t)) _ free.1 (r.lengths ls some_lengths)))
+      (and_from (l.name (name_of text t)) _ free.0 (and_from (l.given (name_of text t)) _ free.1 (r.lengths ls some_lengths)))
       (more_right ds more))
 
   after_int_right : (t : Token) (a : AfterInt) → is_one_of number_of t.class free_names ≡ true → IsSeen text t
@@ -297,9 +295,9 @@ module _ (text : List ℕ) (limit levels : ℕ) (room : 1 ≤ limit) (l : PartTe
   class_right d (v, (head, (all, (close, end))), is) =
       let free = class_name_right v.0 head in
       subst (λ e. definition_passes l e ≡ true) is
-      (both (l.name (name_of text v.0)) _ free.0
-      (both (l.given (name_of text v.0)) _ free.1
-      (both (l.list (length v.1.0)) _ (r.list _ all.1)
+      (and_from (l.name (name_of text v.0)) _ free.0
+      (and_from (l.given (name_of text v.0)) _ free.1
+      (and_from (l.list (length v.1.0)) _ (r.list _ all.1)
       (all_each (Gives text (files.part text limit levels)) (part_passes l) part_right v.1.0 all.0))))
 
   -- ---- files
@@ -313,8 +311,8 @@ module _ (text : List ℕ) (limit levels : ℕ) (room : 1 ≤ limit) (l : PartTe
   object_right d (v, (class, (name, end)), is) =
       let free = free_right v.1.0 name in
       subst (λ e. definition_passes l e ≡ true) is
-      (both (l.name (name_of text v.0)) _ (r.name v.0 class.0 class.1)
-      (both (l.name (name_of text v.1.0)) _ free.0 free.1))
+      (and_from (l.name (name_of text v.0)) _ (r.name v.0 class.0 class.1)
+      (and_from (l.name (name_of text v.1.0)) _ free.0 free.1))
 
   definition_right : (d : Definition) → Gives text (files.definition text limit levels) d → definition_passes l d ≡ true
   unfolding Yields definition_body
@@ -327,5 +325,5 @@ module _ (text : List ℕ) (limit levels : ℕ) (room : 1 ≤ limit) (l : PartTe
   pub file_right : (ds : SDefine) → Gives text (files.file text limit levels) ds → file_passes l ds ≡ true
   unfolding Yields file_body
   file_right ds all =
-      both (l.list (length ds)) _ (r.list _ all.1)
+      and_from (l.list (length ds)) _ (r.list _ all.1)
       (all_each (Gives text (files.definition text limit levels)) (definition_passes l) definition_right ds all.0)

@@ -1,5 +1,6 @@
 -- The answers of the reader, from what reading gives.
 use Rattle.std.proofs.Common.{◌≡◌, ◌≢◌, ◌⊎◌, ℕ, ◌-◌, List, [], ◌∷◌, ◌++◌, ◌<◌, ◌≤◌, All, length, take, map, slice_get, Option, Some, None, Result, Ok, Err, refl, sym, ap, ◌∙◌, subst, arith, inl, inr, length-append}
+use Rattle.std.proofs.Math.Seq.{take-append_seam}
 use Rattle.trick_body.specs.Lexemes.{lexemes_of}
 use Rattle.trick_body.specs.Limits.{list_limit, method_levels}
 use Rattle.trick_body.specs.Symbols.{number_of, spelled, Token}
@@ -30,15 +31,11 @@ use Rattle.trick_text.specs.declared.token.Token as cut
 use Rattle.trick_text.specs.declared.token.TokenKind.{TokenKind}
 use Rattle.trick_text.specs.declared.token.TokenKind.TheVariants.{Name, Whole, Decimal, Text, Mark}
 
-take_front : {A : Type 0} (front rest : List A) → take (length front) (front ++ rest) ≡ front
-take_front [] rest = refl
-take_front (x ∷ front) rest = ap (λ (xs : List _). x ∷ xs) (take_front front rest)
-
 -- what stands before the rest
 front_is : {A : Type 0} (ts front rest : List A) → ts ≡ front ++ rest → take (length ts - length rest) ts ≡ front
 front_is ts front rest is =
     let n : length ts - length rest ≡ length front = omega (arith, ap length is, length-append front rest) in
-    ap (λ k. take k ts) n ∙ ap (λ (us : List _). take (length front) us) is ∙ take_front front rest
+    ap (λ k. take k ts) n ∙ ap (λ (us : List _). take (length front) us) is ∙ take-append_seam front rest
 
 module _ (text : List ℕ) (ts : List cut.Token) where
   abbrev lexed : List Token

@@ -1,8 +1,8 @@
 use Rattle.std.proofs.Common.{◌≡◌, ◌+◌, [], ◌∷◌, ◌++◌, length, take, drop, ap, sym, ◌∙◌, subst, arith}
+use Rattle.trick_base.proofs.ListLemmas.{next_item}
 use Rattle.trick_lang.proofs.SyntaxLists.{block_is, if_is}
 use Rattle.trick_lang.specs.Syntax as text
 use Rattle.trick_blocks.proofs.Grow.{branches_after, branches_grown, codes_grown, next_bodies, bodies_both, left_again, all_begins, known_begins}
-use Rattle.trick_blocks.proofs.Lists.{from_here}
 use Rattle.trick_blocks.proofs.Weights.{weight, branch_weight, all_weight}
 use Rattle.trick_blocks.proofs.statement.+walk.Goals as goal
 use Rattle.trick_blocks.specs.Bodies.{with_bodies, with_body}
@@ -37,7 +37,7 @@ resolve_all-loop-s-preserved t c =
     let all = text.statements_of_list xs in
     let first = c.args.locals.now in
     let begin = length c.args.blocks.now.items in
-    let next = ap text.statements_of_list (from_here xs i item c.loop-s-test.true c.s-item.is) in
+    let next = ap text.statements_of_list (next_item xs i item c.loop-s-test.true c.s-item.is) in
     let heavy = ap all_weight next in
     let counts = ap all_count next in
     let done = c.in_ok-one.ensures in
@@ -73,7 +73,7 @@ resolve_if-loop-branch-preserved t c =
     let all = text.branches_of_list xs last in
     let first = c.args.locals.now in
     let begin = length c.args.blocks.now.items in
-    let next = ap (λ bs. text.branches_of_list bs last) (from_here xs i item c.loop-branch-test.true c.branch-item.is) in
+    let next = ap (λ bs. text.branches_of_list bs last) (next_item xs i item c.loop-branch-test.true c.branch-item.is) in
     let heavy = ap branch_weight next in
     let counts = ap branch_count next in
     let done = c.in_ok-block.ensures in

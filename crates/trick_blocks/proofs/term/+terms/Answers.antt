@@ -1,4 +1,5 @@
 use Rattle.std.proofs.Common.{rules, ◌≡◌, ◌+◌, [], ◌∷◌, Some, drop, ap, sym, ◌∙◌, subst, arith}
+use Rattle.trick_base.proofs.ListLemmas.{next_item}
 use Rattle.trick_lang.proofs.SyntaxLists.{chain_is, choose_is, named_is}
 use Rattle.trick_lang.proofs.TreeLists as built
 use Rattle.trick_lang.specs.Syntax as text
@@ -7,7 +8,7 @@ use Rattle.trick_lang.specs.Tree.{NoStep, Step}
 use Rattle.trick_lang.specs.TreeOf as tree
 use Rattle.trick_blocks.proofs.Build.{links_after, links_grown, links_done, choices_after, choices_grown, choices_done, choices_weight, choices_heavy, added_none, added_added, added_one, steps_split, part_weighs, some_part}
 use Rattle.trick_blocks.proofs.Fitting.{step_fits}
-use Rattle.trick_blocks.proofs.Lists.{drop_all, from_here}
+use Rattle.trick_blocks.proofs.Lists.{drop_all}
 use Rattle.trick_blocks.proofs.Weights.{expression_weight, link_weight, part_weight}
 use Rattle.trick_blocks.proofs.term.+terms.Goals as goal
 use Rattle.trick_blocks.specs.Places.{element_at}
@@ -75,7 +76,7 @@ resolve_links-loop-link-preserved t c =
     let i = c.loop-link.link-index in
     let item = c.link-item.result in
     let out = c.loop-link.out.items in
-    let next = ap text.links_of_list (from_here xs i item c.loop-link-test.true c.link-item.is) in
+    let next = ap text.links_of_list (next_item xs i item c.loop-link-test.true c.link-item.is) in
     let heavy = ap link_weight next in
     let more = link_terms (text.links_of_list (drop (i + 1) xs)) w locals in
     record {
@@ -101,7 +102,7 @@ resolve_choices-loop-choice-preserved t c =
     let i = c.loop-choice.choice-index in
     let item = c.choice-item.result in
     let out = c.loop-choice.out.items in
-    let next = from_here xs i item c.loop-choice-test.true c.choice-item.is in
+    let next = next_item xs i item c.loop-choice-test.true c.choice-item.is in
     let heavy = ap choices_weight next in
     record {
       made = λ last.
@@ -150,7 +151,7 @@ resolve_steps-resolve_step-requires t c =
     let xs = c.args.parts.now in
     let i = c.loop-part.part-index in
     let item = c.part-item.result in
-    let heavy = ap part_weight (ap text.parts_of_list (from_here xs i item c.loop-part-test.true c.part-item.is)) in
+    let heavy = ap part_weight (ap text.parts_of_list (next_item xs i item c.loop-part-test.true c.part-item.is)) in
     (omega (arith, c.decreases, c.loop-part.invariant.weighs, heavy, part_weighs item (drop (i + 1) xs), some_part (text.parts_of_list (drop (i + 1) xs))), c.requires.laid)
 
 pub resolve_steps-loop-part-preserved : goal.resolve_steps-loop-part-preserved
@@ -164,7 +165,7 @@ resolve_steps-loop-part-preserved t c =
     let so = tree.steps_of_list c.loop-part.out.items in
     let one = text.parts_of_list (item ∷ []) in
     let rest = text.parts_of_list (drop (i + 1) xs) in
-    let next = ap text.parts_of_list (from_here xs i item c.loop-part-test.true c.part-item.is) in
+    let next = ap text.parts_of_list (next_item xs i item c.loop-part-test.true c.part-item.is) in
     let heavy = ap part_weight next in
     let there = c.step-at.ensures in
     record {

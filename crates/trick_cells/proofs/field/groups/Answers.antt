@@ -1,7 +1,7 @@
 use Rattle.std.proofs.Common.{◌+◌, ◌∷◌, ◌++◌, [], ap, drop, sym, ◌∙◌, arith}
 use Rattle.std.proofs.Math.ListN.{drop_of_length-le}
 use Rattle.std.proofs.lemmas.List.{append-nil, append_assoc}
-use Rattle.trick_cells.proofs.Lists.{from_here}
+use Rattle.trick_base.proofs.ListLemmas.{next_item}
 use Rattle.trick_cells.specs.Tables.{groups_from}
 use Rattle.trick_cells.proofs.field.groups.Goals as goal
 
@@ -11,7 +11,7 @@ loop-number-preserved c =
     let gs = c.args.members.now in
     let k = c.loop-number.number in
     let g = c.index-members-number.result in
-    let here = ap (groups_from sizes k) (from_here gs k g c.loop-number-test.true c.index-members-number.is) in
+    let here = ap (groups_from sizes k) (next_item gs k g c.loop-number-test.true c.index-members-number.is) in
     let rest = groups_from sizes (k + 1) (drop (k + 1) gs) in
     ap (λ os. os ++ rest) c.in_ok-push.ensures.ok
     ∙ (append_assoc c.loop-number.groups (c.in_ok-fields.fields ∷ []) rest

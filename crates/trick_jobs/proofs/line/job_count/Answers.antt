@@ -1,6 +1,7 @@
 use Rattle.std.proofs.Common.{◌≡◌, ◌+◌, ap, drop, length, sym, ◌∙◌, arith}
 use Rattle.std.proofs.Math.ListN.{drop_of_length-le}
-use Rattle.trick_jobs.proofs.Rows.{from_here, jobs_length}
+use Rattle.trick_base.proofs.ListLemmas.{next_item}
+use Rattle.trick_jobs.proofs.Rows.{jobs_length}
 use Rattle.trick_jobs.proofs.line.job_count.Goals as goal
 use Rattle.trick_jobs.specs.Jobs.{job_count, lines_at}
 use Rattle.trick_lang.specs.Syntax.{definitions_of}
@@ -11,7 +12,7 @@ loop-object-preserved c =
     let os = c.args.objects.now in
     let i = c.loop-object.object-index in
     let o = c.object-item.result in
-    let next = ap (job_count ds) (from_here os i o c.loop-object-test.true c.object-item.is) in
+    let next = ap (job_count ds) (next_item os i o c.loop-object-test.true c.object-item.is) in
     let lines : length c.lines_at-lines.result.now ≡ length (lines_at ds o.class) = sym (jobs_length c.lines_at-lines.result.now) ∙ ap length c.lines_at-lines.ensures in
     record {
       told = omega (arith, next, lines, c.saturating_add-count.ensures, c.loop-object.invariant.told, c.loop-object.invariant.small);

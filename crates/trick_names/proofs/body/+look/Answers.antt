@@ -1,7 +1,7 @@
 use Rattle.std.proofs.Common.{◌≡◌, ◌+◌, [], ◌∷◌, ◌++◌, drop, ap, sym, ◌∙◌, subst, arith}
+use Rattle.trick_base.proofs.ListLemmas.{next_item}
 use Rattle.trick_lang.proofs.SyntaxLists.{chain_is, choose_is, named_is}
 use Rattle.trick_lang.specs.Syntax.{choices_of_list, expression_of, links_of_list, parts_of_list}
-use Rattle.trick_names.proofs.Lists.{from_here}
 use Rattle.trick_names.proofs.Noted.{noted_both, noted_next}
 use Rattle.trick_names.proofs.Trees.{links_next, choices_next, part_splits, part_weighs, some_part}
 use Rattle.trick_names.proofs.Weights.{expression_weight, link_weight, choice_weight, part_weight}
@@ -81,7 +81,7 @@ look_parts-look_part-state-requires t c =
     let xs = c.args.parts.now in
     let i = c.loop-part.part-index in
     let item = c.part-item.result in
-    let heavy = ap part_weight (ap parts_of_list (from_here xs i item c.loop-part-test.true c.part-item.is)) in
+    let heavy = ap part_weight (ap parts_of_list (next_item xs i item c.loop-part-test.true c.part-item.is)) in
     (omega (arith, c.decreases, c.loop-part.invariant.weighs, heavy, part_weighs item (drop (i + 1) xs), some_part (parts_of_list (drop (i + 1) xs))), tt)
 
 pub look_parts-loop-part-preserved : goal.look_parts-loop-part-preserved
@@ -94,7 +94,7 @@ look_parts-loop-part-preserved t c =
     let s = c.loop-part.state in
     let rest = parts_of_list (drop (i + 1) xs) in
     let one = parts_of_list (item ∷ []) in
-    let next = ap parts_of_list (from_here xs i item c.loop-part-test.true c.part-item.is) in
+    let next = ap parts_of_list (next_item xs i item c.loop-part-test.true c.part-item.is) in
     let heavy = ap part_weight next in
     let split : part_mistakes (parts_of_list (drop i xs)) w locals s ≡ part_mistakes one w locals s ++ part_mistakes rest w locals (followed one w s) = ap (λ q. part_mistakes q w locals s) next ∙ part_splits item (drop (i + 1) xs) w locals s in
     let told = subst (λ ms. noted ms c.loop-part.found ≡ noted (part_mistakes (parts_of_list xs) w locals c.args.from) c.args.found.now) split c.loop-part.invariant.told in
