@@ -1,7 +1,6 @@
 -- The sessions of a world stay those that its source knows, as a turn's entries are heard.
-use Rattle.std.proofs.Common.{◌≡◌, ◌∙◌, ℕ, ◌<◌, List, [], ◌∷◌, ◌++◌, length, Bool, true, false, not, nat_lt, Option, Some, None, ap, append_assoc, append-nil, arith, refl, subst, sym}
-use Rattle.std.proofs.lemmas.Bool.{ltb-true}
-use Rattle.std.proofs.lemmas.Bool.Decides.{nat_tests}
+use Rattle.std.proofs.Common.{◌≡◌, ◌∙◌, ℕ, ◌<◌, List, [], ◌∷◌, ◌++◌, length, Bool, true, false, not, nat_lt, Option, Some, None, ap, append_assoc, append-nil, refl, subst, sym}
+use Rattle.std.proofs.lemmas.Bool.{eqb-true, ltb-true}
 use Rattle.std.proofs.lemmas.List.Elements.{All-append, All-cons, All-head, All-nil, All-tail}
 use Rattle.std.specs.List.{list_any}
 use Rattle.std.specs.Prelude.{◌==◌, ◌||◌, All, IsTrue, cond, filter, map}
@@ -71,9 +70,6 @@ numbers_cons s ss = by s.leaving
     by true = refl
     by false = refl
 
-same_number : (n m : ℕ) → (n == m) ≡ true → n ≡ m
-same_number n m e = grind (arith, nat_tests)
-
 -- a session that is as much leaving, in place of one
 said_stays : (new : Session) (number : ℕ) (ss : List Session) → new.leaving ≡ (session_of number ss).leaving → new.number ≡ number
     → staying_numbers (changed (λ s. new) number ss) ≡ staying_numbers ss
@@ -85,7 +81,7 @@ said_stays new number (s ∷ ss) same is = by (s.number == number) refl same (λ
         → (let l : List Session = elim b [ true ↦ new ∷ ss | false ↦ s ∷ changed (λ s. new) number ss ] in staying_numbers l ≡ staying_numbers (s ∷ ss))
     by true e same more =
         numbers_cons new ss ∙ ap (λ (b : Bool). cond (not b) (new.number ∷ staying_numbers ss) (staying_numbers ss)) same
-        ∙ ap (λ (n : ℕ). cond (not s.leaving) (n ∷ staying_numbers ss) (staying_numbers ss)) (is ∙ sym (same_number s.number number e))
+        ∙ ap (λ (n : ℕ). cond (not s.leaving) (n ∷ staying_numbers ss) (staying_numbers ss)) (is ∙ sym (eqb-true s.number number e))
         ∙ sym (numbers_cons s ss)
     by false e same more =
         numbers_cons s (changed (λ s. new) number ss)
@@ -114,10 +110,10 @@ leaves_stay number (s ∷ ss) r = by (s.number == number) refl (leaves_stay numb
 
     here : (b : Bool) → (s.number == number) ≡ true
         → filter (λ other. not (other == number)) (cond (not b) (s.number ∷ staying_numbers ss) (staying_numbers ss)) ≡ staying_numbers ss
-    here true e = none number (same_number s.number number e)
+    here true e = none number (eqb-true s.number number e)
     here false e =
         ap (λ (t : Bool). cond (not t) (s.number ∷ filter (λ other. not (other == number)) (staying_numbers ss)) (filter (λ other. not (other == number)) (staying_numbers ss))) e
-        ∙ none number (same_number s.number number e)
+        ∙ none number (eqb-true s.number number e)
 
     there : (b : Bool) → (s.number == number) ≡ false
         → cond (not b) (s.number ∷ filter (λ other. not (other == number)) (staying_numbers ss)) (filter (λ other. not (other == number)) (staying_numbers ss))

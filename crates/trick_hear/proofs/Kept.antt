@@ -1,6 +1,6 @@
 -- What hearing an entry keeps of the sessions.
-use Rattle.std.proofs.Common.{◌≡◌, ◌∙◌, ℕ, ◌<◌, ◌≤◌, List, [], ◌∷◌, ◌++◌, length, nat_lt, Bool, true, false, Option, Some, None, ap, append_assoc, arith, refl, subst, sym}
-use Rattle.std.proofs.lemmas.Bool.Decides.{nat_tests}
+use Rattle.std.proofs.Common.{◌≡◌, ◌∙◌, ℕ, ◌<◌, ◌≤◌, List, [], ◌∷◌, ◌++◌, length, nat_lt, Bool, true, false, Option, Some, None, ap, append_assoc, refl, subst, sym}
+use Rattle.std.proofs.lemmas.Bool.{eqb-true}
 use Rattle.std.proofs.lemmas.List.Elements.{All-cons, All-head, All-push, All-tail}
 use Rattle.std.specs.Prelude.{◌==◌, All, map}
 use Rattle.trick_hear.specs.Sessions.{AreHeard, joining, numbers_of}
@@ -50,16 +50,13 @@ answered_number p (command.Copy mode) s = refl
 answered_number p command.Exit s = refl
 answered_number p command.Bad s = refl
 
-same_test : (n m : ℕ) → (n == m) ≡ true → n ≡ m
-same_test n m e = grind (arith, nat_tests)
-
 pub session_number : (number : ℕ) (ss : List Session) → (session_of number ss).number ≡ number
 session_number number [] = refl
 session_number number (s ∷ ss) = by (s.number == number) refl (session_number number ss)
   where
     by : (b : Bool) → (s.number == number) ≡ b → (session_of number ss).number ≡ number
         → (let x : Session = elim b [ true ↦ s | false ↦ session_of number ss ] in x.number ≡ number)
-    by true e more = same_test s.number number e
+    by true e more = eqb-true s.number number e
     by false e more = more
 
 -- a change that keeps the number keeps all of them
@@ -70,7 +67,7 @@ changed_numbers change number keeps (s ∷ ss) = by (s.number == number) refl (c
   where
     by : (b : Bool) → (s.number == number) ≡ b → numbers_of (changed change number ss) ≡ numbers_of ss
         → (let l : List Session = elim b [ true ↦ change s ∷ ss | false ↦ s ∷ changed change number ss ] in numbers_of l ≡ numbers_of (s ∷ ss))
-    by true e more = ap (λ (n : ℕ). n ∷ numbers_of ss) (keeps s (same_test s.number number e))
+    by true e more = ap (λ (n : ℕ). n ∷ numbers_of ss) (keeps s (eqb-true s.number number e))
     by false e more = ap (λ (ns : List ℕ). s.number ∷ ns) more
 
 pub changed_all : (P : Session → Type 0) (change : Session → Session) (number : ℕ) → ((s : Session) → P s → P (change s))

@@ -1,11 +1,11 @@
 -- Where the session of a number stands.
 use Rattle.std.proofs.Common.{◌≡◌, ℕ, zero, suc, ◌<◌, ◌≤◌, ◌&&◌, List, [], ◌∷◌, ◌++◌, length, get_or, set, nat_lt, Bool, true, false, Some, None, Less, Equal, Greater, ap, arith, refl, sym}
-use Rattle.std.proofs.lemmas.Bool.{and_parts, eq-eqb, ltb-true}
+use Rattle.std.proofs.lemmas.Bool.{and_parts, eq-eqb, ltb-true, ne_eqb}
 use Rattle.std.proofs.lemmas.Bool.Decides.{nat_tests}
 use Rattle.std.proofs.lemmas.Cmp.{ranked}
 use Rattle.std.specs.List.Sorted.{IsNonDecreasingBy, IsPartitionPoint}
 use Rattle.std.specs.Ordering.{nat_cmp, ordering_index}
-use Rattle.std.specs.Prelude.{◌==◌, HoldsAt}
+use Rattle.std.specs.Prelude.{HoldsAt}
 use Rattle.trick_hear.specs.Places.{IsPlaceOf}
 use Rattle.trick_hear.specs.Sessions.{numbers_of}
 use Rattle.trick_model.specs.Session.{joined}
@@ -52,9 +52,6 @@ strict (s ∷ ss) r (suc i) (suc j) d below there = strict ss (rises_tail s.numb
 
 -- ---- a session that is there, and one that is not
 
-is_not : (a b : ℕ) → (a ≡ b → ⊥) → (a == b) ≡ false
-is_not a b e = grind (arith, nat_tests)
-
 -- the sessions before a place have other numbers
 abbrev pub NoneBefore : ℕ → List Session → ℕ → Type 0
 NoneBefore number ss k = (j : ℕ) (e : Session) → j < k → (get_or ss j e).number ≡ number → ⊥
@@ -67,22 +64,22 @@ of_at : (number : ℕ) (ss : List Session) (k : ℕ) (d : Session) → k < lengt
 of_at number [] k d there is none = absurd (omega (arith, there))
 of_at number (s ∷ ss) zero d there is none = rw (eq-eqb s.number number is, session_of) refl
 of_at number (s ∷ ss) (suc k) d there is none =
-    rw (is_not s.number number (none 0 s (omega arith)), session_of) (of_at number ss k d (omega (arith, there)) is (later number s ss k none))
+    rw (ne_eqb s.number number (none 0 s (omega arith)), session_of) (of_at number ss k d (omega (arith, there)) is (later number s ss k none))
 
 set_at : (number : ℕ) (change : Session → Session) (ss : List Session) (k : ℕ) (d : Session) → k < length ss → (get_or ss k d).number ≡ number → NoneBefore number ss k
     → changed change number ss ≡ set ss k (change (get_or ss k d))
 set_at number change [] k d there is none = absurd (omega (arith, there))
 set_at number change (s ∷ ss) zero d there is none = rw (eq-eqb s.number number is, changed) refl
 set_at number change (s ∷ ss) (suc k) d there is none =
-    rw (is_not s.number number (none 0 s (omega arith)), changed) (ap (λ (l : List Session). s ∷ l) (set_at number change ss k d (omega (arith, there)) is (later number s ss k none)))
+    rw (ne_eqb s.number number (none 0 s (omega arith)), changed) (ap (λ (l : List Session). s ∷ l) (set_at number change ss k d (omega (arith, there)) is (later number s ss k none)))
 
 of_none : (number : ℕ) (ss : List Session) → NoneBefore number ss (length ss) → session_of number ss ≡ joined number
 of_none number [] none = refl
-of_none number (s ∷ ss) none = rw (is_not s.number number (none 0 s (omega arith)), session_of) (of_none number ss (later number s ss (length ss) none))
+of_none number (s ∷ ss) none = rw (ne_eqb s.number number (none 0 s (omega arith)), session_of) (of_none number ss (later number s ss (length ss) none))
 
 set_none : (number : ℕ) (change : Session → Session) (ss : List Session) → NoneBefore number ss (length ss) → changed change number ss ≡ ss
 set_none number change [] none = refl
-set_none number change (s ∷ ss) none = rw (is_not s.number number (none 0 s (omega arith)), changed) (ap (λ (l : List Session). s ∷ l) (set_none number change ss (later number s ss (length ss) none)))
+set_none number change (s ∷ ss) none = rw (ne_eqb s.number number (none 0 s (omega arith)), changed) (ap (λ (l : List Session). s ∷ l) (set_none number change ss (later number s ss (length ss) none)))
 
 -- ---- a binary search
 
