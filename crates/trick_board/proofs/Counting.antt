@@ -1,6 +1,6 @@
 -- Counts of what due jobs wait for: made at an open, kept by takes, and lowered by commits.
 use Rattle.std.proofs.Common.{◌≡◌, ◌⊎◌, inl, inr, ℕ, zero, suc, ◌+◌, ◌-◌, ◌<◌, ◌==◌, ◌&&◌, ◌||◌, Bool, true, false, cond, List, [], ◌∷◌, length, Option, Some, None, IsTrue, refl, sym, ◌∙◌, ap, subst, arith}
-use Rattle.std.proofs.lemmas.Bool.{cases_eq, cases_lt, eq-eqb, false≢true}
+use Rattle.std.proofs.lemmas.Bool.{cases_eq, cases_lt, eq-eqb, false≢true, ne_eqb}
 use Rattle.std.proofs.lemmas.List.{get_or-set_other, get_or-set_same, get_or_past, set_past}
 use Rattle.std.specs.List.{slice_index_or}
 use Rattle.std.specs.Option.{IfSome, option_map}
@@ -25,7 +25,7 @@ use Rattle.trick_model.specs.Valid.{ids}
 use Rattle.trick_model.specs.declared.flags.Flags.{Flags}
 use Rattle.trick_model.specs.declared.plan.Plan.{Plan as PlanValue}
 use Rattle.trick_schedule.proofs.Due.{among_filter, due_there}
-use Rattle.trick_schedule.proofs.Keys.{among_cases, among_first, among_rest, before_among, none_among, not_itself, not_test}
+use Rattle.trick_schedule.proofs.Keys.{among_cases, among_first, among_rest, before_among, none_among, not_itself}
 use Rattle.trick_schedule.specs.Play.{is_due, stage_at}
 use Rattle.trick_schedule.specs.Tics.{IsDueIn, tic_of}
 use Rattle.trick_schedule.specs.declared.stage.Stage.{Stage}
@@ -56,7 +56,7 @@ occurs_once jobs (j ∷ ks) k ordered = by_case (cases_eq k j) (occurs_once jobs
         let there : one_if ((j == k) || is_among k ks) ≡ 1 = ap (λ (b : Bool). one_if (b || is_among k ks)) here in
         omega (arith, one, none, there)
     by_case (inr other) rest =
-        let not_here : (j == k) ≡ false = not_test j k (λ same. other (sym same)) in
+        let not_here : (j == k) ≡ false = ne_eqb j k (λ same. other (sym same)) in
         let none : one_if (j == k) ≡ 0 = ap one_if not_here in
         let there : one_if ((j == k) || is_among k ks) ≡ one_if (is_among k ks) =
         ap (λ (b : Bool). one_if (b || is_among k ks)) not_here in
@@ -106,7 +106,7 @@ fewer_at (j ∷ ks) counts k = fewer_at ks (slice_set counts j (count_at counts 
         subst (λ (n : ℕ). count_at (slice_set counts j (count_at counts j - 1)) n ≡ count_at counts n - 1) (sym same) (one_less counts j) in
         omega (arith, here, less)
     by_case (inr other) =
-        let not_here : one_if (j == k) ≡ 0 = ap one_if (not_test j k (λ same. other (sym same))) in
+        let not_here : one_if (j == k) ≡ 0 = ap one_if (ne_eqb j k (λ same. other (sym same))) in
         let kept : count_at (slice_set counts j (count_at counts j - 1)) k ≡ count_at counts k =
         get_or-set_other counts j k (count_at counts j - 1) 0 other in
         omega (arith, not_here, kept)
@@ -174,7 +174,7 @@ closed_one stages j s (job ∷ jobs) opens shut =
     by_case (inr other) =
         let kept : is_open (stage_at (slice_set stages j s) job.0) ≡ is_open (stage_at stages job.0) =
         ap is_open (get_or-set_other stages j job.0 s Idle other) in
-        let not_here : one_if (job.0 == j) ≡ 0 = ap one_if (not_test job.0 j other) in
+        let not_here : one_if (job.0 == j) ≡ 0 = ap one_if (ne_eqb job.0 j other) in
         let same : one_if (is_open (stage_at (slice_set stages j s) job.0)) ≡ one_if (is_open (stage_at stages job.0)) = ap one_if kept in
         omega (arith, not_here, same)
 

@@ -1,6 +1,6 @@
 -- What a thread can do next, by the tables of a plan.
 use Rattle.std.proofs.Common.{◌≡◌, ◌⊎◌, inl, inr, ℕ, ◌==◌, Bool, true, false, cond, List, [], ◌∷◌, Option, Some, None, IsTrue, refl, sym, ◌∙◌, ap, subst}
-use Rattle.std.proofs.lemmas.Bool.{and_from, and_parts, both_ways, eq-eqb}
+use Rattle.std.proofs.lemmas.Bool.{and_from, and_parts, both_ways, eq-eqb, eqb-true}
 use Rattle.std.specs.List.{slice_index_or}
 use Rattle.std.specs.Prelude.{filter, not}
 use Rattle.trick_board.proofs.Own.{before_all, before_first, before_thread, before_within, none_opens, open_some}
@@ -21,7 +21,7 @@ use Rattle.trick_model.specs.Valid.{ids}
 use Rattle.trick_model.specs.declared.flags.Flags.{Flags}
 use Rattle.trick_model.specs.declared.plan.Plan.{Plan as PlanValue}
 use Rattle.trick_schedule.proofs.Due.{due_there}
-use Rattle.trick_schedule.proofs.Keys.{one_first, precedes_all, same_of}
+use Rattle.trick_schedule.proofs.Keys.{one_first, precedes_all}
 use Rattle.trick_schedule.specs.Play.{is_done, is_due, stage_at}
 use Rattle.trick_schedule.specs.Tics.{IsDueIn, Tic, depends_on, due_jobs, tic_of}
 use Rattle.trick_schedule.specs.declared.stage.Stage.{Stage}
@@ -141,7 +141,7 @@ module _ (plan : PlanValue) (on : Flags) (number : ℕ) (tables : Tables) (stage
       among_tested (λ j. thread_of plan.program.jobs j == thread) k (scheduled (plan_of plan)) (eq-eqb _ _ is) (due_scheduled sees.keys plan on number k due)
 
   its_thread : (thread k : ℕ) → IsTrue (is_among k (line_of (plan_of plan) thread)) → thread_of plan.program.jobs k ≡ thread
-  its_thread thread k among = same_of _ _ (tested (λ j. thread_of plan.program.jobs j == thread) k (scheduled (plan_of plan)) among)
+  its_thread thread k among = eqb-true _ _ (tested (λ j. thread_of plan.program.jobs j == thread) k (scheduled (plan_of plan)) among)
 
   found_on : Sees plan on number tables stages → (thread : ℕ) (test : ℕ → Bool) (job : JobId) → find_first test (on_thread tables thread) ≡ Some job
       → Found plan.program.jobs test (line_of (plan_of plan) thread) job.0
@@ -177,7 +177,7 @@ module _ (plan : PlanValue) (on : Flags) (number : ℕ) (tables : Tables) (stage
       → (b : Bool) → (o.0 == job.0) ≡ b → NoneOrLeast (tic_of plan on number) (Before job.0) (cond b None (Some o))
   before_found sees thread job o among opens found true same = λ a before.
       found.least a (due_on_line sees thread a before.0 (before.3 ∙ its_thread thread job.0 among)) (is_open_one sees a before.0 before.1)
-      (subst (λ (n : ℕ). IsTrue (precedes plan.program.jobs a n)) (sym (same_of o.0 job.0 same)) before.2)
+      (subst (λ (n : ℕ). IsTrue (precedes plan.program.jobs a n)) (sym (eqb-true o.0 job.0 same)) before.2)
   before_found sees thread job o among opens found false other = record {
     holds = (
       open_is_due sees o.0 (open_due (stage_at stages o.0) found.passes),
@@ -256,7 +256,7 @@ module _ (plan : PlanValue) (on : Flags) (number : ℕ) (tables : Tables) (stage
     where
       by_place : IsTrue (depends_on plan.depends k a) → (b : Bool) → is_ahead plan.program.jobs k a ≡ b → Before k a ⊎ Depended k a
       by_place depends true ahead =
-          let both = and_parts (precedes plan.program.jobs a k) _ ahead in inl ((h.0).due, h.1, both.0, same_of _ _ both.1)
+          let both = and_parts (precedes plan.program.jobs a k) _ ahead in inl ((h.0).due, h.1, both.0, eqb-true _ _ both.1)
       by_place depends false behind = inr ((h.0).due, h.1, and_from _ _ depends (ap not behind))
 
   to_missing : (k a : ℕ) → Before k a ⊎ Depended k a → IsMissing (tic_of plan on number) stages k a

@@ -1,6 +1,6 @@
 -- The jobs of a list that come before a job on its thread.
 use Rattle.std.proofs.Common.{◌≡◌, ◌⊎◌, inl, inr, ℕ, suc, ◌+◌, ◌≤◌, ◌==◌, Bool, true, false, cond, List, [], ◌∷◌, length, IsTrue, refl, sym, ◌∙◌, ap, subst, arith}
-use Rattle.std.proofs.lemmas.Bool.{both_ways, eq-eqb}
+use Rattle.std.proofs.lemmas.Bool.{both_ways, eq-eqb, eqb-true}
 use Rattle.trick_base.proofs.Numbers.{zero_at_most}
 use Rattle.trick_board.specs.Counts.{before_on, many_on, one_if, open_among, rank_in}
 use Rattle.trick_board.specs.Search.{is_open}
@@ -11,7 +11,7 @@ use Rattle.trick_lang.specs.declared.job.JobId.{JobId}
 use Rattle.trick_model.specs.Laws.{AreInKeyOrder, is_among}
 use Rattle.trick_model.specs.Order.{precedes}
 use Rattle.trick_model.specs.Valid.{ids}
-use Rattle.trick_schedule.proofs.Keys.{among_cases, among_first, among_rest, before_among, none_among, not_both, not_itself, same_of}
+use Rattle.trick_schedule.proofs.Keys.{among_cases, among_first, among_rest, before_among, none_among, not_both, not_itself}
 use Rattle.trick_schedule.specs.Play.{stage_at}
 use Rattle.trick_schedule.specs.declared.stage.Stage.{Stage}
 
@@ -47,7 +47,7 @@ before_thread tables thread k (job ∷ jobs) a among =
         → thread_in tables a ≡ thread
     by_test others true own e among = absurd (none_among a among)
     by_test others false true e among = elim (among_cases a job.0 (ids (before_on tables thread k jobs)) among) [
-      | inl same ↦ subst (λ (n : ℕ). thread_in tables n ≡ thread) same (same_of (thread_in tables job.0) thread e)
+      | inl same ↦ subst (λ (n : ℕ). thread_in tables n ≡ thread) same (eqb-true (thread_in tables job.0) thread e)
       | inr later ↦ others later
     ]
     by_test others false false e among = others among
@@ -85,9 +85,9 @@ before_all all tables thread k (job ∷ jobs) a ordered there own first =
         → (job.0 == k) ≡ here → (thread_in tables job.0 == thread) ≡ on → (job.0 ≡ a) ⊎ IsTrue (is_among a (ids jobs))
         → IsTrue (is_among a (ids (cond here [] (cond on (job ∷ before_on tables thread k jobs) (before_on tables thread k jobs)))))
     by_test others true on e t (inl same) =
-        absurd (not_itself all k (subst (λ (n : ℕ). IsTrue (precedes all n k)) (sym same ∙ same_of job.0 k e) first))
+        absurd (not_itself all k (subst (λ (n : ℕ). IsTrue (precedes all n k)) (sym same ∙ eqb-true job.0 k e) first))
     by_test others true on e t (inr later) =
-        absurd (not_both all k a (subst (λ (n : ℕ). IsTrue (precedes all n a)) (same_of job.0 k e) (before_among all job.0 (ids jobs) a ordered.0 later)) first)
+        absurd (not_both all k a (subst (λ (n : ℕ). IsTrue (precedes all n a)) (eqb-true job.0 k e) (before_among all job.0 (ids jobs) a ordered.0 later)) first)
     by_test others false true e t (inl same) =
         subst (λ (n : ℕ). IsTrue (is_among n (job.0 ∷ ids (before_on tables thread k jobs)))) same
         (among_first job.0 (ids (before_on tables thread k jobs)))
@@ -155,11 +155,11 @@ before_fewer stages tables thread j k (job ∷ jobs) own none =
         ≤ open_among stages (cond that [] (cond on (job ∷ before_on tables thread j jobs) (before_on tables thread j jobs)))
     by_test others true that on e t none = zero_at_most _
     by_test others false true true e t none =
-        absurd (none (subst (λ (n : ℕ). IsTrue (is_among n (job.0 ∷ ids (before_on tables thread k jobs)))) (same_of job.0 j e)
+        absurd (none (subst (λ (n : ℕ). IsTrue (is_among n (job.0 ∷ ids (before_on tables thread k jobs)))) (eqb-true job.0 j e)
         (among_first job.0 (ids (before_on tables thread k jobs)))))
     by_test others false true false e t none =
         absurd (both_ways (thread_in tables job.0 == thread) t
-        (eq-eqb (thread_in tables job.0) thread (ap (thread_in tables) (same_of job.0 j e) ∙ own)))
+        (eq-eqb (thread_in tables job.0) thread (ap (thread_in tables) (eqb-true job.0 j e) ∙ own)))
     by_test others false false true e t none =
         more_less (one_if (is_open (stage_at stages job.0))) _ _
         (others (λ among. none (among_rest j job.0 (ids (before_on tables thread k jobs)) among)))

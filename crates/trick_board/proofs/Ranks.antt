@@ -1,6 +1,6 @@
 -- What is left before a due job on its thread: ranked at an open, kept by takes, and lowered by commits.
 use Rattle.std.proofs.Common.{◌≡◌, ◌⊎◌, inl, inr, ℕ, ◌+◌, ◌-◌, ◌<◌, ◌≤◌, ◌==◌, ◌||◌, Bool, true, false, cond, List, [], ◌∷◌, length, IsTrue, refl, sym, ◌∙◌, ap, subst, arith}
-use Rattle.std.proofs.lemmas.Bool.{cases_Bool, cases_eq, eq-eqb, false≢true}
+use Rattle.std.proofs.lemmas.Bool.{cases_Bool, cases_eq, eq-eqb, eqb-true, false≢true, ne_eqb}
 use Rattle.std.proofs.lemmas.List.{get_or-set_other, get_or-set_same, length-replicate}
 use Rattle.std.specs.Prelude.{replicate, slice_set}
 use Rattle.trick_base.proofs.Numbers.{zero_at_most}
@@ -17,7 +17,7 @@ use Rattle.trick_lang.specs.declared.job.JobId.{JobId}
 use Rattle.trick_model.specs.Laws.{AreInKeyOrder, is_among}
 use Rattle.trick_model.specs.Valid.{ids}
 use Rattle.trick_schedule.proofs.History.{waiting_at}
-use Rattle.trick_schedule.proofs.Keys.{among_cases, none_among, not_test, same_of}
+use Rattle.trick_schedule.proofs.Keys.{among_cases, none_among}
 use Rattle.trick_schedule.specs.Play.{is_due, is_taken, stage_at, with_waiting}
 use Rattle.trick_schedule.specs.declared.stage.Stage.{Stage}
 use Rattle.trick_schedule.specs.declared.stage.Stage.TheVariants.{Idle, InFlight, Waiting}
@@ -129,7 +129,7 @@ left_more tables left job rest n is less many t = by_case (cases_eq t (thread_in
         let was : count_at left (thread_in tables job.0) ≡ many_on tables t rest = ap (count_at left) (sym same) ∙ many t in
         omega (arith, here, now, was, is)
     by_case (inr other) =
-        let not_here : one_if (thread_in tables job.0 == t) ≡ 0 = ap one_if (not_test (thread_in tables job.0) t (λ same. other (sym same))) in
+        let not_here : one_if (thread_in tables job.0 == t) ≡ 0 = ap one_if (ne_eqb (thread_in tables job.0) t (λ same. other (sym same))) in
         let kept : count_at (slice_set left (thread_in tables job.0) n) t ≡ count_at left t =
         get_or-set_other left (thread_in tables job.0) t n 0 other in
         let was = many t in
@@ -170,7 +170,7 @@ rank_more tables ranks job rest n k right less others among = by_test (job.0 == 
     by_test : (b : Bool) → (job.0 == k) ≡ b → count_at (slice_set ranks job.0 n) k
         ≡ cond b (many_on tables (thread_in tables k) (job ∷ rest)) (rank_in tables (thread_in tables k) k rest)
     by_test true e =
-        subst (λ (i : ℕ). count_at (slice_set ranks job.0 n) i ≡ many_on tables (thread_in tables i) (job ∷ rest)) (same_of job.0 k e)
+        subst (λ (i : ℕ). count_at (slice_set ranks job.0 n) i ≡ many_on tables (thread_in tables i) (job ∷ rest)) (eqb-true job.0 k e)
         (get_or-set_same ranks job.0 n 0 less ∙ right)
     by_test false e =
         get_or-set_other ranks job.0 k n 0 (λ same. false≢true (sym e ∙ eq-eqb job.0 k (sym same)))

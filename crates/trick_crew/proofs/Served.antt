@@ -1,6 +1,6 @@
 -- The thread of each due job is thread 0, or a child thread that gets a worker.
 use Rattle.std.proofs.Common.{◌≡◌, ◌∙◌, ℕ, suc, ◌<◌, ◌≤◌, ◌==◌, nat_le, Bool, true, false, ◌&&◌, ◌||◌, IsTrue, List, [], ◌∷◌, length, arith, refl, sym}
-use Rattle.std.proofs.lemmas.Bool.{and_from}
+use Rattle.std.proofs.lemmas.Bool.{and_from, eqb-true, leb-true}
 use Rattle.std.proofs.lemmas.Bool.Decides.{nat_tests}
 use Rattle.std.proofs.lemmas.List.Recursion.{or_at}
 use Rattle.std.proofs.lemmas.List.Sums.{AllPass-from_list_all}
@@ -26,9 +26,6 @@ either_way : (a b c : Bool) → (IsTrue b → IsTrue c) → IsTrue (a || b) → 
 either_way true b c step some = refl
 either_way false b c step some = step some
 
-same_number : (m n : ℕ) → IsTrue (m == n) → m ≡ n
-same_number m n is = grind (arith, nat_tests)
-
 less_of : (b : Bool) (m k n : ℕ) → (IsTrue b → m ≡ k) → m < n → (c : Bool) → (IsTrue c → k < n) → IsTrue (b || c) → k < n
 less_of true m k n same less c later some = let is = same refl in omega (arith, is, less)
 less_of false m k n same less c later some = later some
@@ -36,7 +33,7 @@ less_of false m k n same less c later some = later some
 -- one of some numbers below n is below n
 among_below : (k n : ℕ) (ks : List ℕ) → Below n ks → IsTrue (is_among k ks) → k < n
 among_below k n [] below among = absurd (cc)
-among_below k n (j ∷ ks) below among = less_of (j == k) j k n (same_number j k) below.0 (is_among k ks) (among_below k n ks below.1) among
+among_below k n (j ∷ ks) below among = less_of (j == k) j k n (eqb-true j k) below.0 (is_among k ks) (among_below k n ks below.1) among
 
 -- a job of the list is on its thread
 on_thread : (jobs : List Job) (k : ℕ) → k < length jobs → IsTrue (list_any (λ (job : Job). job.thread == thread_of jobs k) jobs)
@@ -44,11 +41,8 @@ on_thread jobs k there =
     let on = λ (job : Job). job.thread == thread_of jobs k in
     or_at (list_any on) on refl (λ _ _. refl) jobs k no_job there (equal_to_itself (thread_of jobs k))
 
-at_most : (n limit : ℕ) → IsTrue (nat_le n limit) → n ≤ limit
-at_most n limit is = grind (arith, nat_tests)
-
 thread_small : (jobs : List Job) (k : ℕ) → IsTrue (have_right_threads jobs) → k < length jobs → thread_of jobs k ≤ 15
-thread_small jobs k right there = at_most _ _ (AllPass-from_list_all (λ (job : Job). nat_le job.thread 15) jobs right k no_job there)
+thread_small jobs k right there = leb-true _ _ (AllPass-from_list_all (λ (job : Job). nat_le job.thread 15) jobs right k no_job there)
 
 -- the threads that there can be
 numbered : (n : ℕ) → n ≤ 15 → IsTrue (is_among n (0 ∷ child_numbers))

@@ -1,6 +1,6 @@
 -- What a desk knows of what it started, and what it publishes.
-use Rattle.std.proofs.Common.{◌≡◌, ◌∙◌, ℕ, ◌<◌, ◌≤◌, ◌==◌, Bool, true, false, cond, List, [], ◌∷◌, ◌++◌, Some, None, length, refl, sym, ap, subst, arith, append-nil, append_assoc}
-use Rattle.std.proofs.lemmas.Bool.Decides.{nat_tests}
+use Rattle.std.proofs.Common.{◌≡◌, ◌∙◌, ℕ, ◌<◌, ◌≤◌, Bool, cond, List, [], ◌∷◌, ◌++◌, Some, None, length, sym, ap, subst, append-nil, append_assoc}
+use Rattle.std.proofs.lemmas.Bool.{ne_eqb}
 use Rattle.std.proofs.lemmas.List.{get_or-set_same, length-map}
 use Rattle.std.specs.List.{slice_index_or}
 use Rattle.std.specs.Option.{IfSome}
@@ -30,16 +30,6 @@ use Rattle.trick_turn.specs.declared.pass.Pass.{Pass}
 
 -- ---- what was started and not finished
 
-other_than : (k n : ℕ) → (k ≡ n → ⊥) → (k == n) ≡ false
-other_than k n ne = by_test (k == n) refl
-  where
-    same : (k == n) ≡ true → k ≡ n
-    same e = grind (arith, nat_tests)
-
-    by_test : (b : Bool) → (k == n) ≡ b → b ≡ false
-    by_test true e = absurd (ne (same e))
-    by_test false e = refl
-
 pub starts : (old mine : List Event) (seat n : ℕ) (taken : Taken) (work : Job1) → mine ≡ old ++ Start seat n taken work ∷ []
     → started_in mine n ≡ Some (record { taken = taken; work = work })
 starts old mine seat n taken work is =
@@ -50,7 +40,7 @@ pub starts_other : (old mine : List Event) (seat n : ℕ) (taken : Taken) (work 
     → (k ≡ n → ⊥) → started_in mine k ≡ started_in old k
 starts_other old mine seat n taken work k is ne =
     ap (λ (l : List Event). started_in l k) is ∙ started_more k None old (Start seat n taken work)
-    ∙ ap (λ (b : Bool). cond b (Some (record { taken = taken; work = work })) (started_in old k)) (other_than k n ne)
+    ∙ ap (λ (b : Bool). cond b (Some (record { taken = taken; work = work })) (started_in old k)) (ne_eqb k n ne)
 
 pub finishes : (old mine : List Event) (seat n : ℕ) → mine ≡ old ++ Finish seat n ∷ [] → started_in mine n ≡ None
 finishes old mine seat n is =
@@ -60,7 +50,7 @@ finishes old mine seat n is =
 pub finishes_other : (old mine : List Event) (seat n k : ℕ) → mine ≡ old ++ Finish seat n ∷ [] → (k ≡ n → ⊥) → started_in mine k ≡ started_in old k
 finishes_other old mine seat n k is ne =
     ap (λ (l : List Event). started_in l k) is ∙ started_more k None old (Finish seat n)
-    ∙ ap (λ (b : Bool). cond b None (started_in old k)) (other_than k n ne)
+    ∙ ap (λ (b : Bool). cond b None (started_in old k)) (ne_eqb k n ne)
 
 pub still_started : (old mine : List Event) (n : ℕ) → mine ≡ old → IsSome (started_in old n) → IsSome (started_in mine n)
 still_started old mine n is some = subst (λ (l : List Event). IsSome (started_in l n)) (sym is) some

@@ -1,5 +1,6 @@
 -- One entry more, and what a pass knows by its own entries.
 use Rattle.std.proofs.Common.{◌≡◌, ◌∙◌, ℕ, ◌==◌, Bool, true, false, cond, filter, Option, None, List, [], ◌∷◌, ◌++◌, refl, sym, ap, arith}
+use Rattle.std.proofs.lemmas.Bool.{eqb-true}
 use Rattle.std.proofs.lemmas.Bool.Decides.{nat_tests}
 use Rattle.trick_desk.specs.Histories.{Account, IsLegal, May, Ready, Idle, Standing, Waiting, Working, after, after_from, clerk_seat, desk_seat, fresh, has_shut, held_by, picked, put_back, seat_of, stage_of, started_after, started_from, started_in, step, with_standing}
 use Rattle.trick_desk.specs.declared.event.Event.{Event}
@@ -31,9 +32,6 @@ legal_rest plan h (x ∷ xs) more (may, legal) = legal_rest plan (step h x) xs m
 
 -- ---- who works stays at work
 
-same : (n m : ℕ) → (n == m) ≡ true → n ≡ m
-same n m e = grind (arith, nat_tests)
-
 idle_works : stage.Idle ≡ stage.Working → ⊥
 idle_works e = cc
 
@@ -47,7 +45,7 @@ ready_works e = cc
 not_here : (h : Account) (n number : ℕ) (s : Started) (x : Stage) → h.standings n ≡ Working s → stage_of (h.standings number) ≡ x
     → (x ≡ stage.Working → ⊥) → (n == number) ≡ true → ⊥
 not_here h n number s x is at_ not e =
-    not (sym at_ ∙ ap (λ (k : ℕ). stage_of (h.standings k)) (sym (same n number e)) ∙ ap stage_of is)
+    not (sym at_ ∙ ap (λ (k : ℕ). stage_of (h.standings k)) (sym (eqb-true n number e)) ∙ ap stage_of is)
 
 elsewhere : (h : Account) (n number : ℕ) (now : Standing) (s : Started) → h.standings n ≡ Working s → ((n == number) ≡ true → ⊥)
     → (with_standing h number now).standings n ≡ Working s
@@ -100,7 +98,7 @@ held_put h n number now same_held = by_test (n == number) refl
     by_test : (b : Bool) → (n == number) ≡ b → held_by (cond (n == number) now (h.standings n)) ≡ held_by (h.standings n)
     by_test true e =
         ap (λ (b : Bool). held_by (cond b now (h.standings n))) e ∙ same_held
-        ∙ ap (λ (k : ℕ). held_by (h.standings k)) (sym (same n number e))
+        ∙ ap (λ (k : ℕ). held_by (h.standings k)) (sym (eqb-true n number e))
     by_test false e = ap (λ (b : Bool). held_by (cond b now (h.standings n))) e
 
 picked_held : (x : Standing) → held_by (picked x) ≡ held_by x

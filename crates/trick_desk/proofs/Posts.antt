@@ -1,5 +1,6 @@
 -- The post after a turn.
 use Rattle.std.proofs.Common.{◌≡◌, ◌∙◌, ℕ, ◌<◌, ◌≤◌, ◌==◌, Bool, true, false, cond, List, [], ◌∷◌, ◌++◌, length, Option, Some, refl, sym, ap, subst, arith, append-nil}
+use Rattle.std.proofs.lemmas.Bool.{eqb-true}
 use Rattle.std.proofs.lemmas.Bool.Decides.{nat_tests}
 use Rattle.std.proofs.lemmas.List.{get_or-set_other, get_or-set_same, length-set}
 use Rattle.std.proofs.lemmas.Option.{same_Some}
@@ -43,9 +44,6 @@ pub some_place : (places : List Place) → length places ≡ 16 → Place
 some_place [] many = absurd (omega (arith, many))
 some_place (place ∷ places) many = place
 
-test_same : (n m : ℕ) → (n == m) ≡ true → n ≡ m
-test_same n m e = grind (arith, nat_tests)
-
 test_other : (n m : ℕ) → (n == m) ≡ false → n ≡ m → ⊥
 test_other n m e is = grind (arith, nat_tests)
 
@@ -64,7 +62,7 @@ put_place plan h post n now place less at_ here = record {
     by_test k d small true t =
         subst (λ (x : Standing). IsPlaceAt plan k x (slice_index_or (slice_set post.places n place) k d))
         (sym (ap (λ (b : Bool). cond b now (h.standings k)) t))
-        (subst (λ (m : ℕ). IsPlaceAt plan m now (slice_index_or (slice_set post.places n place) m d)) (sym (test_same k n t))
+        (subst (λ (m : ℕ). IsPlaceAt plan m now (slice_index_or (slice_set post.places n place) m d)) (sym (eqb-true k n t))
         (subst (IsPlaceAt plan n now) (sym (get_or-set_same post.places n place d (omega (arith, at_.many)))) here))
     by_test k d small false t =
         subst (λ (x : Standing). IsPlaceAt plan k x (slice_index_or (slice_set post.places n place) k d))
@@ -72,7 +70,7 @@ put_place plan h post n now place less at_ here = record {
         (subst (IsPlaceAt plan k (h.standings k)) (sym (get_or-set_other post.places n k place d (test_other k n t))) (at_.places k d small))
 
     other : (k : ℕ) → 16 ≤ k → (b : Bool) → (k == n) ≡ b → cond (k == n) now (h.standings k) ≡ Idle
-    other k large true t = absurd (let e : k ≡ n = test_same k n t in omega arith)
+    other k large true t = absurd (let e : k ≡ n = eqb-true k n t in omega arith)
     other k large false t = ap (λ (b : Bool). cond b now (h.standings k)) t ∙ at_.others k large
 
 -- a parcel was swapped for the one at the place

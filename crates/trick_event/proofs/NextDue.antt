@@ -1,7 +1,6 @@
 -- The next tic at which something is due.
 use Rattle.std.proofs.Common.{◌≡◌, ◌≢◌, ◌∙◌, ℕ, zero, suc, ◌+◌, ◌<◌, ◌≤◌, List, [], ◌∷◌, Bool, true, false, Some, None, ap, arith, get_or, inl, inr, length, map, refl, subst, sym}
-use Rattle.std.proofs.lemmas.Bool.{eq-eqb}
-use Rattle.std.proofs.lemmas.Bool.Decides.{nat_tests}
+use Rattle.std.proofs.lemmas.Bool.{eq-eqb, eqb-true}
 use Rattle.std.specs.Prelude.{◌%◌, ◌==◌, ◌&&◌, ◌||◌, ◌⊎◌, cond, min, nat_lt, All}
 use Rattle.std.specs.List.{list_any}
 use Rattle.trick_cycle.specs.Least.{FindsLeast}
@@ -41,15 +40,12 @@ join : (a b : Bool) → a ≡ true → b ≡ true → a && b ≡ true
 join true b g h = h
 join false b g h = cc g
 
-equal : (m n : ℕ) → (m == n) ≡ true → m ≡ n
-equal m n h = grind (arith, nat_tests)
-
 -- ---- reads
 
 pub read_there : (reads : List ReadAt) (tic : ℕ) → read_is_due reads tic ≡ true → (k : ℕ) × (k < length reads) × (tic_of reads k ≡ tic)
 read_there [] tic h = cc h
 read_there (read ∷ reads) tic h = elim (or_cases (read.tic == tic) (read_is_due reads tic) h) [
-  | inl here ↦ (0, omega arith, equal read.tic tic here)
+  | inl here ↦ (0, omega arith, eqb-true read.tic tic here)
   | inr later ↦ let found = read_there reads tic later in (suc found.0, omega (arith, found.1), found.2)
 ]
 
@@ -67,7 +63,7 @@ event_there (event ∷ events) s tic from h = elim (or_cases (is_on s.events fro
   | inl here ↦
       let parts = both (is_on s.events from) ((tic % event.cycle) == 0) here in
       let same : from ≡ from + 0 = omega arith in
-      (0, omega arith, ap (is_on s.events) (sym same) ∙ parts.0, equal (tic % event.cycle) 0 parts.1)
+      (0, omega arith, ap (is_on s.events) (sym same) ∙ parts.0, eqb-true (tic % event.cycle) 0 parts.1)
   | inr later ↦
       let found = event_there events s tic (suc from) later in
       let same : from + suc found.0 ≡ suc from + found.0 = omega arith in

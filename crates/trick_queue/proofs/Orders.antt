@@ -1,7 +1,7 @@
 -- The key order of some of the jobs, and which jobs are due.
 use Rattle.std.proofs.Common.{◌≡◌, ℕ, suc, ◌+◌, ◌==◌, ◌<◌, ◌≤◌, List, [], ◌∷◌, length, Bool, true, false, ◌&&◌, ◌||◌, refl, sym, ◌∙◌, ap, arith}
 use Rattle.std.proofs.Math.Bool.{and-false}
-use Rattle.std.proofs.lemmas.Bool.Decides.{nat_tests}
+use Rattle.std.proofs.lemmas.Bool.{eqb-true}
 use Rattle.std.specs.Prelude.{cond, filter}
 use Rattle.trick_base.proofs.Numbers.{other_than_less}
 use Rattle.trick_cycle.specs.Due.{is_due_at}
@@ -17,9 +17,6 @@ use Rattle.trick_model.specs.declared.plan.Plan.{Plan as PlanValue}
 use Rattle.trick_queue.specs.Line.{queue_of, times_at}
 
 -- ---- tests
-
-same_of : (n m : ℕ) → (n == m) ≡ true → n ≡ m
-same_of n m e = grind (arith, nat_tests)
 
 mix_on : (e t a : Bool) → (e ≡ true → t ≡ true) → (e || (t && a)) ≡ (t && (e || a))
 mix_on true true a h = refl
@@ -39,8 +36,8 @@ among_filter test m (x ∷ xs) = by_test (among_filter test m xs) (test x) refl
   where
     by_test : is_among m (filter test xs) ≡ (test m && is_among m xs) → (b : Bool) → test x ≡ b → is_among m (cond b (x ∷ filter test xs) (filter test xs)) ≡ (test m && ((x == m) || is_among m xs))
     by_test others true e = ap (λ (b : Bool). (x == m) || b) others
-        ∙ mix_on (x == m) (test m) (is_among m xs) (λ h. ap test (sym (same_of x m h)) ∙ e)
-    by_test others false e = others ∙ mix_off (x == m) (test m) (is_among m xs) (λ h. ap test (sym (same_of x m h)) ∙ e)
+        ∙ mix_on (x == m) (test m) (is_among m xs) (λ h. ap test (sym (eqb-true x m h)) ∙ e)
+    by_test others false e = others ∙ mix_off (x == m) (test m) (is_among m xs) (λ h. ap test (sym (eqb-true x m h)) ∙ e)
 
 pub filter_both : (p q : ℕ → Bool) (xs : List ℕ) → filter q (filter p xs) ≡ filter (λ k. p k && q k) xs
 filter_both p q [] = refl

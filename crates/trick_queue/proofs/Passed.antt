@@ -1,7 +1,7 @@
 -- A tic that is passed, group after group.
 use Rattle.std.proofs.Common.{◌≡◌, ◌≢◌, ◌∙◌, ℕ, zero, suc, ◌+◌, ◌<◌, ◌≤◌, ◌==◌, Bool, true, false, ◌||◌, All, List, [], ◌∷◌, ◌++◌, length, get_or, set, refl, sym, ap, subst, arith, inl, inr}
 use Rattle.std.proofs.Math.Bool.{or-false}
-use Rattle.std.proofs.lemmas.Bool.{le-leb}
+use Rattle.std.proofs.lemmas.Bool.{le-leb, ne_eqb}
 use Rattle.std.proofs.lemmas.Bool.Decides.{nat_tests}
 use Rattle.std.proofs.lemmas.List.{append-nil, get_or-map, get_or-set_other, get_or-set_same, length-append, length-map, length-set}
 use Rattle.std.specs.Prelude.{cond, nat_le}
@@ -49,13 +49,6 @@ late_one tic tics at there le =
 
 -- ---- what was noted
 
-eq_other : (n m : ℕ) → n ≢ m → (n == m) ≡ false
-eq_other n m ne = by_test (n == m) refl
-  where
-    by_test : (b : Bool) → (n == m) ≡ b → b ≡ false
-    by_test true e = absurd (ne (grind (arith, nat_tests, e)))
-    by_test false e = refl
-
 among_append : (k : ℕ) (xs ys : List ℕ) → is_among k (xs ++ ys) ≡ (is_among k xs || is_among k ys)
 among_append k [] ys = refl
 among_append k (x ∷ xs) ys = by_test (x == k) (among_append k xs ys)
@@ -65,7 +58,7 @@ among_append k (x ∷ xs) ys = by_test (x == k) (among_append k xs ys)
     by_test false others = others
 
 noted_other : (k at : ℕ) (noted : List ℕ) (b : Bool) → at ≢ k → is_among k (noted ++ cond b (at ∷ []) []) ≡ is_among k noted
-noted_other k at noted true ne = among_append k noted (at ∷ []) ∙ ap (λ c. is_among k noted || (c || false)) (eq_other at k ne) ∙ or-false (is_among k noted)
+noted_other k at noted true ne = among_append k noted (at ∷ []) ∙ ap (λ c. is_among k noted || (c || false)) (ne_eqb at k ne) ∙ or-false (is_among k noted)
 noted_other k at noted false ne = ap (is_among k) (append-nil noted)
 
 noted_here : (at : ℕ) (noted : List ℕ) (b : Bool) → is_among at noted ≡ false → is_among at (noted ++ cond b (at ∷ []) []) ≡ b

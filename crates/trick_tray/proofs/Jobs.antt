@@ -1,7 +1,7 @@
 -- The jobs of a thread beside the tics: their order, and which of them work.
 use Rattle.std.proofs.Common.{◌≡◌, ◌≢◌, ◌∙◌, inl, inr, ℕ, zero, suc, ◌<◌, ◌≤◌, ◌==◌, ◌&&◌, ◌||◌, Bool, true, false, IsTrue, List, [], ◌∷◌, length, Some, None, refl, sym, ap, subst, arith}
 use Rattle.std.proofs.Math.Logic.{∥∥₁_elim}
-use Rattle.std.proofs.lemmas.Bool.{and_from, or_left, or_right}
+use Rattle.std.proofs.lemmas.Bool.{and_from, eqb-true, or_left, or_right}
 use Rattle.std.proofs.lemmas.Bool.Decides.{nat_tests}
 use Rattle.std.specs.List.{slice_index_or}
 use Rattle.std.specs.Prelude.{All, Option, cond, filter, flat_map}
@@ -70,9 +70,6 @@ unfolding Finds
 finds_behind first threads number None h = tt
 finds_behind first threads number (Some found) h = later_beside first threads number found.1 h
 
-same_number : (n m : ℕ) → (n == m) ≡ true → n ≡ m
-same_number n m e = grind (arith, nat_tests)
-
 finds : (threads : List Thread) (number : ℕ) → Finds threads number (find_thread number (filter (λ (thread : Thread). is_beside thread.process) threads))
 unfolding Finds
 finds [] number = tt
@@ -80,7 +77,7 @@ finds (first ∷ threads) number = by_kind (finds_behind first threads number (f
   where
     by_number : Finds (first ∷ threads) number (find_thread number (filter (λ (thread : Thread). is_beside thread.process) threads)) → is_beside first.process ≡ true → (b : Bool) → (first.number == number) ≡ b
         → Finds (first ∷ threads) number (elim b [ true ↦ Some (0, first) | false ↦ one_later (find_thread number (filter (λ (thread : Thread). is_beside thread.process) threads)) ])
-    by_number rest beside true e = record { place = 0; there = omega arith; is = λ d. refl; beside = beside; numbered = same_number first.number number e }
+    by_number rest beside true e = record { place = 0; there = omega arith; is = λ d. refl; beside = beside; numbered = eqb-true first.number number e }
     by_number rest beside false e = finds_later (first ∷ threads) number (find_thread number (filter (λ (thread : Thread). is_beside thread.process) threads)) rest
 
     by_kind : Finds (first ∷ threads) number (find_thread number (filter (λ (thread : Thread). is_beside thread.process) threads)) → (b : Bool) → is_beside first.process ≡ b
@@ -127,7 +124,7 @@ scheduled_on plan number thread b accepted k on = by_class (is_of_class plan.pro
         (of_thread (IsNamedRight (plan_of plan)) plan.threads number thread b a.named) (b.numbered ∙ e))
 
     thread_is : thread_of plan.program.jobs k ≡ number
-    thread_is = same_number (thread_of plan.program.jobs k) number on
+    thread_is = eqb-true (thread_of plan.program.jobs k) number on
 
     by_class : (c : Bool) → is_of_class plan.program.jobs class.Scheduled k ≡ c → is_of_class plan.program.jobs class.Scheduled k ≡ true
     by_class true e = e

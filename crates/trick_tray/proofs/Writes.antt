@@ -1,7 +1,7 @@
 -- Cells that are written one after another, and flags that are set.
 use Rattle.std.proofs.Common.{◌≡◌, ◌≢◌, ◌⊎◌, ◌∙◌, inl, inr, ℕ, zero, suc, ◌+◌, ◌<◌, ◌≤◌, ◌==◌, ◌&&◌, ◌||◌, ℤ, pos, Bool, true, false, IsTrue, List, [], ◌∷◌, ◌++◌, length, take, refl, sym, ap, subst, arith}
 use Rattle.std.proofs.Math.Bool.{or-false, or-true}
-use Rattle.std.proofs.lemmas.Bool.{eq-eqb}
+use Rattle.std.proofs.lemmas.Bool.{eq-eqb, ne_eqb}
 use Rattle.std.proofs.lemmas.Bool.Decides.{nat_tests}
 use Rattle.std.proofs.lemmas.List.{get_or-set_other, get_or-set_same, length-replicate, length-set, take_more}
 use Rattle.std.proofs.lemmas.List.Folds.{list_any-append}
@@ -33,16 +33,6 @@ use Rattle.trick_queue.specs.Line.{no_id}
 
 -- ---- cells
 
-test_other : (n m : ℕ) → (n ≡ m → ⊥) → (n == m) ≡ false
-test_other n m ne = by_test (n == m) refl
-  where
-    by_test : (b : Bool) → (n == m) ≡ b → (n == m) ≡ false
-    by_test false e = e
-    by_test true e = absurd (ne (same e))
-      where
-        same : (n == m) ≡ true → n ≡ m
-        same e = grind (arith, nat_tests)
-
 pub none_written : (others old : List ℤ) → IsWritten (λ c. false) others old old
 none_written others old = record { many = refl; at = λ c less. refl }
 
@@ -68,7 +58,7 @@ written_more chosen wanted others old mid cell n written there is more = record 
         ap (λ (i : ℕ). number_at (slice_set mid cell n) i) e ∙ get_or-set_same mid cell n (pos 0) there ∙ is
         ∙ ap (number_at others) (sym e) ∙ sym (ap (λ (b : Bool). cond b (number_at others c) (number_at old c)) is_wanted)
     by_cell c less (inr ne) =
-        let same : wanted c ≡ chosen c = more c ∙ ap (λ (b : Bool). chosen c || b) (test_other cell c (λ e. ne (sym e))) ∙ or-false (chosen c) in
+        let same : wanted c ≡ chosen c = more c ∙ ap (λ (b : Bool). chosen c || b) (ne_eqb cell c (λ e. ne (sym e))) ∙ or-false (chosen c) in
         get_or-set_other mid cell c n (pos 0) ne ∙ written.at c less ∙ sym (ap (λ (b : Bool). cond b (number_at others c) (number_at old c)) same)
 
 both_cond : (a b : Bool) (x y : ℤ) → cond b x (cond a x y) ≡ cond (a || b) x y
@@ -116,7 +106,7 @@ below_more r end c low = elim (same_or end c) [
       ap (λ (a : Bool). a && nat_lt c (end + 1)) from ∙ to ∙ sym (ap (λ (b : Bool). covers_below r end c || b) (eq-eqb end c e) ∙ or-true (covers_below r end c))
   | inr ne ↦
       let same : nat_lt c (end + 1) ≡ nat_lt c end = grind (arith, nat_tests) in
-      ap (λ (b : Bool). nat_le (r.first).0 c && b) same ∙ sym (ap (λ (b : Bool). covers_below r end c || b) (test_other end c ne) ∙ or-false (covers_below r end c))
+      ap (λ (b : Bool). nat_le (r.first).0 c && b) same ∙ sym (ap (λ (b : Bool). covers_below r end c || b) (ne_eqb end c ne) ∙ or-false (covers_below r end c))
 ]
 
 pub below_all : (r : CellRange) (end c : ℕ) → end ≡ (r.last).0 + 1 → covers_below r end c ≡ covers r c
@@ -176,7 +166,7 @@ pub set_more : (j : ℕ) (js : List ℕ) (flag : Bool) (flags : List Bool) (on :
 set_more j js flag flags on there set k among = by_job (same_or k j)
   where
     apart : (k j : ℕ) → (k ≡ j → ⊥) → (j == k) ≡ false
-    apart k j ne = test_other j k (λ e. ne (sym e))
+    apart k j ne = ne_eqb j k (λ e. ne (sym e))
 
     rest : (b : Bool) → b ≡ false → IsTrue (b || is_among k js) → IsTrue (is_among k js)
     rest false e h = h

@@ -1,5 +1,5 @@
 use Rattle.std.proofs.Common.{◌≡◌, ◌<◌, ◌==◌, ℕ, [], List, ◌∙◌, ap, length, subst, sym, Option, Some}
-use Rattle.std.proofs.lemmas.Bool.{and_parts}
+use Rattle.std.proofs.lemmas.Bool.{and_parts, eqb-true}
 use Rattle.std.specs.List.{slice_index_or}
 use Rattle.std.specs.Option.{IfSome}
 use Rattle.trick_board.proofs.Counting.{none_open, waiting_is_due}
@@ -10,7 +10,6 @@ use Rattle.trick_board.specs.Search.{find_wanted}
 use Rattle.trick_board.specs.declared.search.Wanted.TheVariants.{Open, Waiting}
 use Rattle.trick_lang.specs.declared.job.JobId.{JobId}
 use Rattle.trick_model.specs.PlanOf.{plan_of}
-use Rattle.trick_schedule.proofs.Keys.{same_of}
 use Rattle.trick_board.proofs.search.next_of.Goals as goal
 
 pub returns-then-has_none_left : goal.returns-then-has_none_left
@@ -23,8 +22,8 @@ returns-then-has_none_left c =
     sym (c.in-Some.ensures ∙ ap (λ (jobs : List JobId). find_wanted Waiting stages jobs) line) in
     let none = and_parts (count_at c.args.known.now.counts.items job.0 == 0) _ (sym c.has_none_left.ensures ∙ c.if-has_none_left.true) in
     let counted = c.requires.counted job.0 (waiting_is_due stages (slice_index_or tables.lines c.args.thread []) job found) in
-    ready_found (plan_of c.args.plan.now) tables stages c.args.thread job found (c.requires.first job found (same_of _ _ none.1))
-    (none_open stages (slice_index_or tables.depended job.0 []) (sym counted ∙ same_of _ _ none.0))
+    ready_found (plan_of c.args.plan.now) tables stages c.args.thread job found (c.requires.first job found (eqb-true _ _ none.1))
+    (none_open stages (slice_index_or tables.depended job.0 []) (sym counted ∙ eqb-true _ _ none.0))
 
 pub awaited-depended-requires : goal.awaited-depended-requires
 awaited-depended-requires c =
