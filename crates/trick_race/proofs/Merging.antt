@@ -1,17 +1,11 @@
 -- Ranges in order.
 use Rattle.std.proofs.Common.{◌≡◌, ℕ, zero, suc, ◌+◌, ◌<◌, ◌≤◌, ◌&&◌, ◌||◌, nat_le, nat_lt, Bool, true, false, ◌⊎◌, inl, inr, IsTrue, List, [], ◌∷◌, length, get_or, take, max, refl, sym, ap, ◌∙◌, arith}
-use Rattle.std.proofs.lemmas.Bool.{or_left, or_right}
+use Rattle.std.proofs.lemmas.Bool.{le-leb, leb-true, or_left, or_right}
 use Rattle.std.proofs.lemmas.Bool.Decides.{nat_tests}
 use Rattle.trick_access.specs.Ranges.{are_sorted}
 use Rattle.trick_base.proofs.Truths.{first_holds, second_holds}
 use Rattle.trick_lang.specs.Access.{is_in}
 use Rattle.trick_lang.specs.declared.range.CellRange.{CellRange}
-
-pub le_of : (a b : ℕ) → IsTrue (nat_le a b) → a ≤ b
-le_of a b h = grind (arith, nat_tests)
-
-pub of_le : (a b : ℕ) → a ≤ b → IsTrue (nat_le a b)
-of_le a b h = grind (arith, nat_tests)
 
 lt_of : (a b : ℕ) → IsTrue (nat_lt a b) → a < b
 lt_of a b h = grind (arith, nat_tests)
@@ -37,8 +31,8 @@ heads from cells r rs h =
     let here = first_holds (nat_le from (r.first).0 && (nat_le (r.first).0 (r.last).0 && nat_lt (r.last).0 cells)) _ h in
     let inner = second_holds (nat_le from (r.first).0) _ here in
     record {
-      starts = le_of _ _ (first_holds (nat_le from (r.first).0) _ here);
-      long = le_of _ _ (first_holds (nat_le (r.first).0 (r.last).0) _ inner);
+      starts = leb-true _ _ (first_holds (nat_le from (r.first).0) _ here);
+      long = leb-true _ _ (first_holds (nat_le (r.first).0 (r.last).0) _ inner);
       ends = lt_of _ _ (second_holds (nat_le (r.first).0 (r.last).0) _ inner);
       rest = second_holds (nat_le from (r.first).0 && (nat_le (r.first).0 (r.last).0 && nat_lt (r.last).0 cells)) _ h;
     }
@@ -52,15 +46,15 @@ pub within : (r : CellRange) (rs : List CellRange) (c : ℕ) → IsTrue (is_in (
     → Within r c ⊎ IsTrue (is_in rs c)
 within r rs c h = elim (either (nat_le (r.first).0 c && nat_le c (r.last).0) _ h) [
   | inl here ↦ inl (record {
-    from = le_of _ _ (first_holds (nat_le (r.first).0 c) _ here);
-    to = le_of _ _ (second_holds (nat_le (r.first).0 c) _ here);
+    from = leb-true _ _ (first_holds (nat_le (r.first).0 c) _ here);
+    to = leb-true _ _ (second_holds (nat_le (r.first).0 c) _ here);
   })
   | inr rest ↦ inr rest
 ]
 
 pub in_head : (r : CellRange) (rs : List CellRange) (c : ℕ) → Within r c → IsTrue (is_in (r ∷ rs) c)
 in_head r rs c w = or_left (nat_le (r.first).0 c && nat_le c (r.last).0) (is_in rs c)
-    (both _ _ (of_le _ _ w.from) (of_le _ _ w.to))
+    (both _ _ (le-leb _ _ w.from) (le-leb _ _ w.to))
 
 pub in_tail : (r : CellRange) (rs : List CellRange) (c : ℕ) → IsTrue (is_in rs c) → IsTrue (is_in (r ∷ rs) c)
 in_tail r rs c h = or_right (nat_le (r.first).0 c && nat_le c (r.last).0) _ h

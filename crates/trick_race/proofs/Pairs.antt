@@ -1,5 +1,6 @@
 -- Two jobs that may race.
 use Rattle.std.proofs.Common.{◌≡◌, ◌≢◌, ℕ, zero, suc, ◌<◌, Bool, false, ◌==◌, inl, inr, ◌↔◌, IsTrue, List, [], ◌∷◌, length, get_or, nat_le, sym, ap, subst, ◌∙◌, arith}
+use Rattle.std.proofs.lemmas.Bool.{leb-true}
 use Rattle.std.specs.List.{list_all}
 use Rattle.trick_access.specs.declared.cells.Access.{Access}
 use Rattle.trick_base.proofs.Truths.{first_holds, second_holds}
@@ -22,7 +23,7 @@ use Rattle.trick_model.specs.declared.flags.Flags.{Flags}
 use Rattle.trick_model.specs.declared.plan.Plan.{Plan as PlanValue}
 use Rattle.trick_race.proofs.FixedPoint.{of_read, of_write, to_read, to_write}
 use Rattle.trick_race.proofs.Firsts.{read_at}
-use Rattle.trick_race.proofs.Merging.{both, le_of}
+use Rattle.trick_race.proofs.Merging.{both}
 use Rattle.trick_race.specs.Accesses.{AreAccesses, AreSeparate, IsInOrderBoth, no_access}
 use Rattle.trick_race.specs.Racers.{IsRaceAt, IsRacer}
 
@@ -57,10 +58,10 @@ due_in_range plan flags k racer =
     let rest = second_holds (nat_le 1 job.cycle) _ right in
     let times = second_holds (nat_le job.cycle tic_limit) _ rest in
     record {
-      cycle_positive = le_of _ _ (first_holds (nat_le 1 job.cycle) _ right);
-      start_in_range = le_of _ _ (first_holds (nat_le job.start tic_limit) _ times);
-      cycle_in_range = le_of _ _ (first_holds (nat_le job.cycle tic_limit) _ rest);
-      stop_in_range = le_of _ _ (second_holds (nat_le job.start tic_limit) _ times);
+      cycle_positive = leb-true _ _ (first_holds (nat_le 1 job.cycle) _ right);
+      start_in_range = leb-true _ _ (first_holds (nat_le job.start tic_limit) _ times);
+      cycle_in_range = leb-true _ _ (first_holds (nat_le job.cycle tic_limit) _ rest);
+      stop_in_range = leb-true _ _ (second_holds (nat_le job.start tic_limit) _ times);
     }
 
 -- ---- what two jobs may read and write

@@ -1,6 +1,6 @@
 -- Jobs that may race, in key order.
 use Rattle.std.proofs.Common.{◌≡◌, ℕ, zero, suc, ◌+◌, ◌<◌, ◌≤◌, Bool, true, false, ◌||◌, ◌==◌, nat_lt, ◌⊎◌, inl, inr, IsTrue, List, [], ◌∷◌, ◌++◌, length, get_or, cond, take, refl, sym, ap, subst, ◌∙◌, arith}
-use Rattle.std.proofs.lemmas.Bool.{cases_lt, cases_eq, or_left, or_right, eq-eqb}
+use Rattle.std.proofs.lemmas.Bool.{cases_lt, cases_eq, or_left, or_right, eq-eqb, eqb-true}
 use Rattle.std.proofs.lemmas.Bool.Decides.{nat_tests}
 use Rattle.std.specs.List.{filter}
 use Rattle.trick_base.proofs.Truths.{first_holds, second_holds}
@@ -20,9 +20,6 @@ use Rattle.trick_race.specs.Refusals.{HaveNoRace, IsRace}
 
 -- ---- members of lists of numbers
 
-same_of : (a b : ℕ) → IsTrue (a == b) → a ≡ b
-same_of a b h = grind (arith, nat_tests)
-
 among_at : (ks : List ℕ) (i : ℕ) → i < length ks → IsTrue (is_among (get_or ks i 0) ks)
 among_at [] i there = absurd (omega arith)
 among_at (k ∷ ks) zero there = or_left (k == k) _ (eq-eqb k k refl)
@@ -31,7 +28,7 @@ among_at (k ∷ ks) (suc i) there = or_right (k == get_or ks i 0) _ (among_at ks
 at_among : (ks : List ℕ) (k : ℕ) → IsTrue (is_among k ks) → (i : ℕ) × (i < length ks) × (get_or ks i 0 ≡ k)
 at_among [] k h = cc
 at_among (j ∷ js) k h = elim (either (j == k) _ h) [
-  | inl here ↦ (0, omega arith, same_of j k here)
+  | inl here ↦ (0, omega arith, eqb-true j k here)
   | inr rest ↦ let found = at_among js k rest in let low = found.1 in (suc found.0, omega arith, found.2)
 ]
 
@@ -45,7 +42,7 @@ to_filter f (j ∷ js) k passes h = by_test (f j) refl (to_filter f js k passes)
         → IsTrue (is_among k (cond b (j ∷ filter f js) (filter f js)))
     by_test true e rest (inl here) = or_left (j == k) _ here
     by_test true e rest (inr further) = or_right (j == k) _ (rest further)
-    by_test false e rest (inl here) = let no : true ≡ false = sym passes ∙ ap f (sym (same_of j k here)) ∙ e in cc
+    by_test false e rest (inl here) = let no : true ≡ false = sym passes ∙ ap f (sym (eqb-true j k here)) ∙ e in cc
     by_test false e rest (inr further) = rest further
 
 of_filter : (f : ℕ → Bool) (ks : List ℕ) (k : ℕ) → IsTrue (is_among k (filter f ks))
@@ -57,7 +54,7 @@ of_filter f (j ∷ js) k h = by_test (f j) refl (of_filter f js k) h
         → IsTrue (is_among k (cond b (j ∷ filter f js) (filter f js)))
         → IsTrue (f k) × IsTrue ((j == k) || is_among k js)
     by_test true e rest h = elim (either (j == k) _ h) [
-      | inl here ↦ (subst (λ n. IsTrue (f n)) (same_of j k here) e, or_left (j == k) _ here)
+      | inl here ↦ (subst (λ n. IsTrue (f n)) (eqb-true j k here) e, or_left (j == k) _ here)
       | inr further ↦ let found = rest further in (found.0, or_right (j == k) _ found.1)
     ]
     by_test false e rest h = let found = rest h in (found.0, or_right (j == k) _ found.1)
@@ -71,7 +68,7 @@ of_numbers : {A : Type 0} (n : ℕ) (xs : List A) (k : ℕ) → IsTrue (is_among
     → InRow n (length xs) k
 of_numbers n [] k h = cc
 of_numbers n (x ∷ xs) k h = elim (either (n == k) _ h) [
-  | inl here ↦ let same = same_of n k here in record { from = omega arith; below = omega arith }
+  | inl here ↦ let same = eqb-true n k here in record { from = omega arith; below = omega arith }
   | inr rest ↦ let row = of_numbers (suc n) xs k rest in let low = row.from in let high = row.below in
       record { from = omega arith; below = omega arith }
 ]

@@ -1,7 +1,7 @@
 -- What an accepted plan says of the jobs of a tic.
 use Rattle.std.proofs.Common.{◌≡◌, ℕ, ◌<◌, ◌-◌, ◌%◌, ◌&&◌, ◌==◌, nat_le, nat_lt, ◌⊎◌, inl, inr, IsTrue, List, [], ◌∷◌, length, refl, sym, ap, arith}
 use Rattle.std.proofs.Math.Logic.{∥∥₁_map}
-use Rattle.std.proofs.lemmas.Bool.{cases_order, or_left, or_right}
+use Rattle.std.proofs.lemmas.Bool.{cases_order, leb-true, or_left, or_right}
 use Rattle.std.proofs.lemmas.Bool.Decides.{nat_tests}
 use Rattle.trick_base.proofs.Truths.{first_holds, second_holds}
 use Rattle.trick_cycle.specs.Due.{IsDue, is_due_at}
@@ -15,7 +15,7 @@ use Rattle.trick_model.specs.PlanOf.{plan_of}
 use Rattle.trick_model.specs.Time.{due_of}
 use Rattle.trick_model.specs.declared.flags.Flags.{Flags}
 use Rattle.trick_model.specs.declared.plan.Plan.{Plan as PlanValue}
-use Rattle.trick_race.proofs.Merging.{both, le_of}
+use Rattle.trick_race.proofs.Merging.{both}
 use Rattle.trick_race.specs.Laws.{AreDueApart, AreSettled, DueJobsAreSettled}
 
 -- of two keys one is below the other, or they are one
@@ -45,8 +45,8 @@ due_is d t h =
     let times = first_holds (nat_le d.start t && nat_le t d.stop) _ h in
     let step = second_holds (nat_le d.start t && nat_le t d.stop) _ h in
     record {
-      started = le_of _ _ (first_holds (nat_le d.start t) _ times);
-      not_over = le_of _ _ (second_holds (nat_le d.start t) _ times);
+      started = leb-true _ _ (first_holds (nat_le d.start t) _ times);
+      not_over = leb-true _ _ (second_holds (nat_le d.start t) _ times);
       in_step = zero_of ((t - d.start) % d.cycle) step;
     }
   where

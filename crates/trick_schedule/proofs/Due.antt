@@ -2,7 +2,7 @@
 use Rattle.std.proofs.Common.{◌≡◌, ◌≢◌, ◌⊎◌, inl, inr, ℕ, suc, ◌+◌, ◌<◌, ◌≤◌, ◌==◌, nat_le, nat_lt, Bool, true, false, cond, ◌&&◌, ◌||◌, List, [], ◌∷◌, length, IsTrue, refl, sym, ◌∙◌, ap, subst, arith}
 use Rattle.std.proofs.Math.Bool.{and-false}
 use Rattle.std.proofs.Math.Logic.{∥∥₁_elim, ∥∥₁_map}
-use Rattle.std.proofs.lemmas.Bool.{and_from, and_parts, both_ways, cases_Bool, eq-eqb}
+use Rattle.std.proofs.lemmas.Bool.{and_from, and_parts, both_ways, cases_Bool, eq-eqb, eqb-true, le-leb, leb-true}
 use Rattle.std.proofs.lemmas.Bool.Decides.{nat_tests}
 use Rattle.std.proofs.lemmas.List.Elements.{All-contains}
 use Rattle.std.proofs.lemmas.List.Folds.{Any-from_list_any, list_any-from_Any}
@@ -27,7 +27,7 @@ use Rattle.trick_model.specs.declared.depends.Depends.{Depends}
 use Rattle.trick_model.specs.declared.flags.Flags.{Flags}
 use Rattle.trick_model.specs.declared.plan.Plan.{Plan as PlanValue}
 use Rattle.trick_race.specs.Laws.{AreSettled, DueJobsAreSettled}
-use Rattle.trick_schedule.proofs.Keys.{among_cases, among_rest, none_among, not_both, one_first, precedes_all, same_of}
+use Rattle.trick_schedule.proofs.Keys.{among_cases, among_rest, none_among, not_both, one_first, precedes_all}
 use Rattle.trick_schedule.proofs.Right.{AreOrdered, IsRight}
 use Rattle.trick_schedule.specs.Tics.{IsDueIn, Tic, depends_on, due_jobs, tic_of}
 
@@ -50,8 +50,8 @@ among_filter test m (x ∷ xs) = by_test (among_filter test m xs) (test x) refl
     by_test : is_among m (filter test xs) ≡ (test m && is_among m xs) → (b : Bool) → test x ≡ b
         → is_among m (cond b (x ∷ filter test xs) (filter test xs)) ≡ (test m && ((x == m) || is_among m xs))
     by_test others true e = ap (λ (b : Bool). (x == m) || b) others
-        ∙ mix_on (x == m) (test m) (is_among m xs) (λ h. ap test (sym (same_of x m h)) ∙ e)
-    by_test others false e = others ∙ mix_off (x == m) (test m) (is_among m xs) (λ h. ap test (sym (same_of x m h)) ∙ e)
+        ∙ mix_on (x == m) (test m) (is_among m xs) (λ h. ap test (sym (eqb-true x m h)) ∙ e)
+    by_test others false e = others ∙ mix_off (x == m) (test m) (is_among m xs) (λ h. ap test (sym (eqb-true x m h)) ∙ e)
 
 pub jobs_kept : (jobs : List Job) (test : ℕ → Bool) (ks : List ℕ) → AreJobs jobs ks → AreJobs jobs (filter test ks)
 jobs_kept jobs test [] are = tt
@@ -113,26 +113,20 @@ due_there t k due =
 
 -- ---- times
 
-le_of : (a b : ℕ) → IsTrue (nat_le a b) → a ≤ b
-le_of a b h = grind (arith, nat_tests)
-
-of_le : (a b : ℕ) → a ≤ b → IsTrue (nat_le a b)
-of_le a b h = grind (arith, nat_tests)
-
 time_of : (d : Due) (tic : ℕ) → IsTrue (is_due_at d tic) → IsDue d tic
 time_of d tic h =
     let first = and_parts (nat_le d.start tic && nat_le tic d.stop) _ h in
     let times = and_parts (nat_le d.start tic) _ first.0 in
     record {
-      started = le_of _ _ times.0;
-      not_over = le_of _ _ times.1;
-      in_step = same_of _ _ first.1;
+      started = leb-true _ _ times.0;
+      not_over = leb-true _ _ times.1;
+      in_step = eqb-true _ _ first.1;
     }
 
 test_time : (d : Due) (tic : ℕ) → IsDue d tic → IsTrue (is_due_at d tic)
 test_time d tic h =
     and_from (nat_le d.start tic && nat_le tic d.stop) _
-    (and_from (nat_le d.start tic) _ (of_le _ _ h.started) (of_le _ _ h.not_over))
+    (and_from (nat_le d.start tic) _ (le-leb _ _ h.started) (le-leb _ _ h.not_over))
     (eq-eqb _ _ h.in_step)
 
 due_time : KeyOrderIsOne → (t : Tic) (k : ℕ) → IsDueIn t k → IsDue (due_of t.plan t.plan.jobs_on k) t.number
@@ -153,8 +147,8 @@ forward_pair : (plan : PlanValue) (k a : ℕ) → IsAccepted (plan_of plan) → 
 forward_pair plan k a accepted (i, pair, less, is, test) =
     let parts = and_parts ((pair.target).0 == k) _ test in
     let first : IsForward (plan_of plan) pair = All-contains (IsForward (plan_of plan)) plan.depends pair accepted.forward (i, less, is) in
-    subst (λ (n : ℕ). IsTrue (precedes plan.program.jobs n k)) (same_of _ _ parts.1)
-    (subst (λ (n : ℕ). IsTrue (precedes plan.program.jobs (pair.depended).0 n)) (same_of _ _ parts.0) first)
+    subst (λ (n : ℕ). IsTrue (precedes plan.program.jobs n k)) (eqb-true _ _ parts.1)
+    (subst (λ (n : ℕ). IsTrue (precedes plan.program.jobs (pair.depended).0 n)) (eqb-true _ _ parts.0) first)
 
 forward : (plan : PlanValue) → ∥ IsAccepted (plan_of plan) ∥₁ → (k a : ℕ) → IsTrue (depends_on plan.depends k a) → IsTrue (precedes plan.program.jobs a k)
 forward plan accepted k a h = elim (cases_Bool (precedes plan.program.jobs a k)) [

@@ -1,6 +1,6 @@
 -- What holds after each beginning of a schedule, and at its end.
 use Rattle.std.proofs.Common.{◌≡◌, ◌⊎◌, inl, inr, ℕ, zero, suc, ◌+◌, ◌<◌, ◌==◌, ◌||◌, Bool, true, false, cond, List, [], ◌∷◌, ◌++◌, length, Option, None, Result, Ok, Err, IsTrue, refl, sym, ◌∙◌, ap, subst, arith, append_assoc}
-use Rattle.std.proofs.lemmas.Bool.{cases_eq, cond-true, eq-eqb}
+use Rattle.std.proofs.lemmas.Bool.{cases_eq, cond-true, eq-eqb, ne_eqb}
 use Rattle.std.proofs.lemmas.List.{append-nil, get_or-set_other, get_or-set_same, length-replicate, length-set}
 use Rattle.std.specs.Option.{option_to_list}
 use Rattle.std.specs.Prelude.{ℤ, pos, replicate, slice_set}
@@ -14,7 +14,7 @@ use Rattle.trick_model.specs.Plan.{is_on}
 use Rattle.trick_model.specs.Running.{After, after_jobs, outcome}
 use Rattle.trick_model.specs.State.{number_at}
 use Rattle.trick_schedule.proofs.Insert.{HaveTheirFaults, HasItsFault, ended, faults_are_after, folded, folded_is_after, passed, stage_other, stage_set}
-use Rattle.trick_schedule.proofs.Keys.{among_first, among_rest, not_test}
+use Rattle.trick_schedule.proofs.Keys.{among_first, among_rest}
 use Rattle.trick_schedule.proofs.Passing.{made_same, reads_kept, run}
 use Rattle.trick_schedule.proofs.Right.{IsRight}
 use Rattle.trick_schedule.proofs.Steps.{IsKept, commit_kept, flies_taken, flying_apart, inside, take_kept, waits_open}
@@ -72,7 +72,7 @@ waiting_at (j ∷ ks) stages k fits =
         ∙ sym (ap (λ (b : Bool). cond (b || is_among k ks) Waiting (stage_at stages k)) (eq-eqb j k (sym e)))
     by_place (inr ne) =
         ap (λ (s : Stage). cond (is_among k ks) Waiting s) (stage_other stages j k Waiting ne)
-        ∙ sym (ap (λ (b : Bool). cond (b || is_among k ks) Waiting (stage_at stages k)) (not_test j k (λ e. ne (sym e))))
+        ∙ sym (ap (λ (b : Bool). cond (b || is_among k ks) Waiting (stage_at stages k)) (ne_eqb j k (λ e. ne (sym e))))
 
 -- at first each due job waits, and no other one is due
 pub first_stage : (t : Tic) (k : ℕ) → IsRight t → stage_at (first_stages t) k ≡ cond (is_among k (due_jobs t)) Waiting Idle

@@ -1,6 +1,6 @@
 -- Jobs in key order: each job of a list comes before, or after, each other one.
-use Rattle.std.proofs.Common.{◌≡◌, ◌⊎◌, inl, inr, ℕ, ◌==◌, nat_lt, List, [], ◌∷◌, false, IsTrue, refl, subst, arith}
-use Rattle.std.proofs.lemmas.Bool.{and_from, and_parts, eq-eqb, or_cases, or_left, or_right}
+use Rattle.std.proofs.Common.{◌≡◌, ◌⊎◌, inl, inr, ℕ, ◌==◌, nat_lt, List, [], ◌∷◌, IsTrue, refl, subst, arith}
+use Rattle.std.proofs.lemmas.Bool.{and_from, and_parts, eq-eqb, eqb-true, or_cases, or_left, or_right}
 use Rattle.trick_lang.specs.declared.job.Job.{Job}
 use Rattle.trick_model.specs.Laws.{AreInKeyOrder, IsBefore, is_among}
 use Rattle.trick_model.specs.Order.{is_below, key, precedes}
@@ -44,15 +44,9 @@ not_both jobs a b h g = not_itself jobs a (precedes_all jobs a b a h g)
 
 -- ---- lists
 
-pub same_of : (a b : ℕ) → IsTrue (a == b) → a ≡ b
-same_of a b h = grind arith
-
-pub not_test : (a b : ℕ) → (a ≡ b → ⊥) → (a == b) ≡ false
-not_test a b h = grind arith
-
 -- what is among a list is its first entry, or among the others
 pub among_cases : (k j : ℕ) (ks : List ℕ) → IsTrue (is_among k (j ∷ ks)) → (j ≡ k) ⊎ IsTrue (is_among k ks)
-among_cases k j ks h = elim (or_cases (j == k) _ h) [ inl here ↦ inl (same_of j k here) | inr rest ↦ inr rest ]
+among_cases k j ks h = elim (or_cases (j == k) _ h) [ inl here ↦ inl (eqb-true j k here) | inr rest ↦ inr rest ]
 
 pub among_rest : (k j : ℕ) (ks : List ℕ) → IsTrue (is_among k ks) → IsTrue (is_among k (j ∷ ks))
 among_rest k j ks h = or_right (j == k) _ h
