@@ -1,7 +1,7 @@
 -- What is kept of blocks when more are made.
 use Rattle.std.proofs.Common.{◌≡◌, ℕ, zero, suc, ◌+◌, ◌≤◌, ◌<◌, ◌++◌, ◌&&◌, nat_lt, nat_le, IsTrue, List, [], ◌∷◌, length, Option, Some, None, Bool, true, false, refl, ap, sym, ◌∙◌, subst, arith}
 use Rattle.std.proofs.Math.ListN.{length-append}
-use Rattle.std.proofs.lemmas.Bool.{and_from}
+use Rattle.std.proofs.lemmas.Bool.{and_from, le-leb}
 use Rattle.std.proofs.lemmas.Bool.Decides.{nat_tests}
 use Rattle.std.proofs.lemmas.List.{append-nil, append_assoc}
 use Rattle.trick_base.proofs.Truths.{first_holds, second_holds}
@@ -156,9 +156,6 @@ deep_front (b ∷ bs) more (suc k) h = deep_front bs more k (omega (arith, h))
 below_less : (m k : ℕ) → IsTrue (below m k) → k < m
 below_less m k h = grind (arith, nat_tests)
 
-le_test : (m n : ℕ) → m ≤ n → IsTrue (nat_le m n)
-le_test m n h = grind (arith, nat_tests)
-
 lt_test : (m n : ℕ) → m < n → IsTrue (nat_lt m n)
 lt_test m n h = grind (arith, nat_tests)
 
@@ -170,10 +167,10 @@ module _ (before more : List Block) where
   branch_room NoElse most h k = refl
   branch_room (Else block) most h k =
       let deep = deep_front before more block (below_less (length before) block h) in
-      le_test (1 + deep_at (before ++ more) block) most (omega (arith, deep, k))
+      le-leb (1 + deep_at (before ++ more) block) most (omega (arith, deep, k))
   branch_room (Test line test block rest) most h k =
       let deep = deep_front before more block (below_less (length before) block (first_holds _ _ h)) in
-      and_from _ _ (le_test (1 + deep_at (before ++ more) block) most (omega (arith, deep, k)))
+      and_from _ _ (le-leb (1 + deep_at (before ++ more) block) most (omega (arith, deep, k)))
       (branch_room rest most (second_holds (below (length before) block) _ h) (omega (arith, k)))
 
   code_room : (c : Code) (most : ℕ) → IsTrue (code_blocks (below (length before)) c) → code_depth c (bodies_of before) + 1 ≤ most → IsTrue (code_fits (before ++ more) 1 most c)
@@ -187,7 +184,7 @@ module _ (before more : List Block) where
       lt_test (1 + deep_at (before ++ more) block) most (omega (arith, deep, k))
   code_room (Run block) most h k =
       let deep = deep_front before more block (below_less (length before) block h) in
-      le_test (1 + deep_at (before ++ more) block) most (omega (arith, deep, k))
+      le-leb (1 + deep_at (before ++ more) block) most (omega (arith, deep, k))
 
   all_room : (all : List Code) (most : ℕ) → IsTrue (all_blocks (below (length before)) all) → all_depth all (bodies_of before) + 1 ≤ most → IsTrue (all_fit (before ++ more) 1 most all)
   all_room [] most h k = refl

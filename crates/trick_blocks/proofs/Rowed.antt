@@ -1,7 +1,6 @@
 -- What is kept of all methods of a program, class by class.
-use Rattle.std.proofs.Common.{rules, ◌≡◌, ℕ, ◌++◌, ◌||◌, ◌==◌, IsTrue, List, [], ◌∷◌, slice_get, Option, Some, None, is_some, Bool, true, false, if◌then◌else◌, refl, ap, sym, ◌∙◌, subst, arith}
-use Rattle.std.proofs.lemmas.Bool.{and_from}
-use Rattle.std.proofs.lemmas.Bool.Decides.{nat_tests}
+use Rattle.std.proofs.Common.{rules, ◌≡◌, ℕ, ◌++◌, ◌||◌, ◌==◌, IsTrue, List, [], ◌∷◌, slice_get, Option, Some, None, is_some, Bool, true, false, if◌then◌else◌, refl, ap, sym, ◌∙◌, subst}
+use Rattle.std.proofs.lemmas.Bool.{and_from, eqb-true}
 use Rattle.std.proofs.lemmas.Slice.Eq.{bytes_eq-Decides}
 use Rattle.std.specs.Str.{bytes_eq}
 use Rattle.trick_blocks.proofs.Made.{method_holds}
@@ -83,13 +82,10 @@ parts_some (i ∷ is) parts q p h = parts_some is parts q (with_part (slice_get 
 part_here : (o : Option tree.Part) (m : tree.Method) (p : Progress) → o ≡ Some (tree.HasMethod m) → IsTrue (is_some (meaning_of m.name (with_part o p).world.methods))
 part_here o m p is = subst (λ q. IsTrue (is_some (meaning_of m.name (with_part q p).world.methods))) (sym is) (with_here m.name _ p.world.methods)
 
-eq_is : (x k : ℕ) → (x == k) ≡ true → x ≡ k
-eq_is x k h = grind (arith, nat_tests)
-
 -- after an order that has the number of its part, the name of a method stands for a block
 pub named_block : (order : List ℕ) (parts : List tree.Part) (p : Progress) (k : ℕ) (m : tree.Method) → slice_get parts k ≡ Some (tree.HasMethod m) → IsTrue (is_one_of order k) → IsTrue (is_some (meaning_of m.name (with_parts order parts p).world.methods))
 named_block [] parts p k m is h = absurd (cc h)
 named_block (i ∷ is) parts p k m there h = by_test (i == k) refl h (named_block is parts (with_part (slice_get parts i) p) k m there) where
   by_test : (b : Bool) → (i == k) ≡ b → IsTrue (b || is_one_of is k) → (IsTrue (is_one_of is k) → IsTrue (is_some (meaning_of m.name (with_parts is parts (with_part (slice_get parts i) p)).world.methods))) → IsTrue (is_some (meaning_of m.name (with_parts is parts (with_part (slice_get parts i) p)).world.methods))
   by_test false t h later = later h
-  by_test true t h later = parts_some is parts m.name (with_part (slice_get parts i) p) (part_here (slice_get parts i) m p (ap (slice_get parts) (eq_is i k t) ∙ there))
+  by_test true t h later = parts_some is parts m.name (with_part (slice_get parts i) p) (part_here (slice_get parts i) m p (ap (slice_get parts) (eqb-true i k t) ∙ there))

@@ -1,6 +1,6 @@
 -- What lists of numbers have.
-use Rattle.std.proofs.Common.{◌≡◌, ◌≢◌, ℕ, zero, suc, ◌<◌, ◌==◌, Bool, true, false, ◌||◌, List, [], ◌∷◌, ◌++◌, All, length, get_or, ◌⊎◌, inl, inr, eq-eqb, refl, ap, subst, arith}
-use Rattle.std.proofs.lemmas.Bool.{and_from, and_parts, eqb-true, or_cases, or_left, or_right}
+use Rattle.std.proofs.Common.{◌≡◌, ◌≢◌, ℕ, zero, suc, ◌<◌, ◌==◌, true, false, ◌||◌, List, [], ◌∷◌, ◌++◌, All, length, get_or, ◌⊎◌, inl, inr, eq-eqb, refl, ap, subst, arith}
+use Rattle.std.proofs.lemmas.Bool.{and_from, and_parts, eqb-true, ne_eqb, or_cases, or_left, or_right}
 use Rattle.std.proofs.lemmas.List.{get_or_default}
 use Rattle.trick_order.specs.Calls.{has, all_in, callees}
 
@@ -12,14 +12,8 @@ pub has_kept : (xs ys : List ℕ) (k : ℕ) → has xs k ≡ true → has (xs ++
 has_kept [] ys k h = absurd (cc h)
 has_kept (x ∷ xs) ys k h = elim (or_cases (x == k) (has xs k) h) [ inl p ↦ or_left (x == k) _ p | inr p ↦ or_right (x == k) _ (has_kept xs ys k p) ]
 
-not_same : (c k : ℕ) → c ≢ k → (c == k) ≡ false
-not_same c k h = by_test (c == k) refl where
-  by_test : (b : Bool) → (c == k) ≡ b → (c == k) ≡ false
-  by_test true e = absurd (h (eqb-true c k e))
-  by_test false e = e
-
 pub has_other : (xs : List ℕ) (c k : ℕ) → c ≢ k → has (xs ++ c ∷ []) k ≡ has xs k
-has_other [] c k h = ap (λ b. b || false) (not_same c k h)
+has_other [] c k h = ap (λ b. b || false) (ne_eqb c k h)
 has_other (x ∷ xs) c k h = ap (λ b. (x == k) || b) (has_other xs c k h)
 
 pub has_split : (xs : List ℕ) (c k : ℕ) → has (xs ++ c ∷ []) k ≡ true → (has xs k ≡ true) ⊎ (c ≡ k)
