@@ -1,3 +1,4 @@
+pub mod Each
 pub mod Ends
 pub mod Loops
 pub mod Marks

@@ -6,8 +6,10 @@ mod cells;
 mod job_access;
 mod job_body;
 pub mod laws;
+mod program_access;
 mod reach;
 
 pub use cells::Access;
 pub use job_access::access;
 pub use job_body::{base, body};
+pub use program_access::{accesses, ranges_of, reads_of_jobs, writes_of_jobs};

@@ -1,0 +1,85 @@
+ghost use Rattle.std.specs.List.{slice_index_or};
+ghost use Rattle.std.specs.Prelude.{◌≡◌, ◌<◌, [], IfOk, length};
+ghost use Rattle.trick_access.specs.Accesses.{reads_of, writes_of};
+ghost use Rattle.trick_access.specs.Ranges.{AreCellsOf};
+ghost use Rattle.trick_access.specs.Reached.{block_cells};
+ghost use Rattle.trick_lang.specs.Effect.{base_of, body_of, reads, writes};
+ghost use Rattle.trick_lang.specs.TreeOf.{codes_of};
+ghost use Rattle.trick_lang.specs.declared.job.JobId.{JobId};
+
+use crate::cells::Access;
+use crate::job_access::access;
+use crate::reach::cells_of;
+use crate::reach::way::Way;
+use std::alloc::{AllocError, Global};
+use trick_base::Items;
+use trick_lang::{CellRange, JobId, Program};
+
+/// What each job of a program may read and write, by its number, as [`access`] has it and at the cost
+/// of that for each job.
+pub fn accesses(alloc: Global, program: &Program) -> Result<Items<Access>, AllocError>
+    ensures many { IfOk result (λ all. length all ≡ length program.now.jobs) }
+    ensures reads { IfOk result (λ all. (job : JobId) → job.0 < length program.now.jobs →
+        AreCellsOf (length program.now.cells) (reads program.now job) (reads_of all job.0)) }
+    ensures writes { IfOk result (λ all. (job : JobId) → job.0 < length program.now.jobs →
+        AreCellsOf (length program.now.cells) (writes program.now job) (writes_of all job.0)) }
+{
+    let mut all = Items::new(alloc);
+    for number in 0..program.jobs.len() {
+        all.push(access(alloc, program, JobId(number as u32))?)?;
+    }
+    Ok(all)
+}
+
+// The cells of each job, of one way.
+fn ranges_of_jobs(
+    alloc: Global,
+    program: &Program,
+    way: Way,
+) -> Result<Items<Items<CellRange>>, AllocError>
+    ensures many { IfOk result (λ all. length all ≡ length program.now.jobs) }
+    ensures each { IfOk result (λ all. (job : JobId) → job.0 < length program.now.jobs →
+        AreCellsOf (length program.now.cells)
+        (block_cells way (base_of program.now job) (codes_of program.now.blocks) (body_of program.now job))
+        (slice_index_or all job.0 [])) }
+{
+    let mut all = Items::new(alloc);
+    for number in 0..program.jobs.len() {
+        all.push(cells_of(alloc, program, JobId(number as u32), way)?)?;
+    }
+    Ok(all)
+}
+
+/// What each job of a program may read, by its number, as [`access`] has it, for whoever needs no more
+/// than that. It costs half of what [`accesses`] costs.
+pub fn reads_of_jobs(
+    alloc: Global,
+    program: &Program,
+) -> Result<Items<Items<CellRange>>, AllocError>
+    ensures many { IfOk result (λ all. length all ≡ length program.now.jobs) }
+    ensures each { IfOk result (λ all. (job : JobId) → job.0 < length program.now.jobs →
+        AreCellsOf (length program.now.cells) (reads program.now job) (slice_index_or all job.0 [])) }
+{
+    ranges_of_jobs(alloc, program, Way::Reads)
+}
+
+/// What each job of a program may write, by its number, as [`access`] has it, for whoever needs no more
+/// than that. It costs half of what [`accesses`] costs.
+pub fn writes_of_jobs(
+    alloc: Global,
+    program: &Program,
+) -> Result<Items<Items<CellRange>>, AllocError>
+    ensures many { IfOk result (λ all. length all ≡ length program.now.jobs) }
+    ensures each { IfOk result (λ all. (job : JobId) → job.0 < length program.now.jobs →
+        AreCellsOf (length program.now.cells) (writes program.now job) (slice_index_or all job.0 [])) }
+{
+    ranges_of_jobs(alloc, program, Way::Writes)
+}
+
+/// The ranges of a job, of those of each job by its number.
+pub fn ranges_of(all: &[Items<CellRange>], job: JobId) -> &[CellRange]
+    requires { job.0 < length all.now }
+    ensures { result.now ≡ slice_index_or all.now job.0 [] }
+{
+    all[job.0 as usize].as_slice()
+}
