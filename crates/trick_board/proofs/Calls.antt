@@ -94,6 +94,16 @@ once_open numbers scalars tic on due stages None plan k law some open_ = absurd 
 once_open numbers scalars tic on due stages (Some m) plan k law some open_ =
     once plan.program.jobs (ids due) (subst (AreInKeyOrder plan.program.jobs) (sym open_.due) (due_order law plan (record { on = on }) tic)) k
 
+-- the tables know the thread of a job that is in flight
+pub flying_known : {M : Type 0} (numbers : M → List ℤ) (scalars : M → List Scalar) (tic : ℕ) (on : List Bool) (due : List JobId) (stages : List Stage)
+    (memory : Option M) (plan : PlanValue) (tables : Tables) (k : ℕ) → IsFor (plan_of plan) tables
+    → IsSome (option_map (opened_of numbers scalars tic on due stages) memory)
+    → IfSome (option_map (opened_of numbers scalars tic on due stages) memory) (IsOpenOf plan) → stage_at stages k ≡ InFlight → k < length tables.threads
+flying_known numbers scalars tic on due stages None plan tables k for_ some open_ flies = absurd (false≢true some)
+flying_known numbers scalars tic on due stages (Some m) plan tables k for_ some open_ flies =
+    subst (λ (n : ℕ). k < n) (sym for_.many)
+    (due_there (tic_at plan (opened_of numbers scalars tic on due stages m)) k (sym (open_.stages k) ∙ ap is_due flies))
+
 -- a job that is ready is there
 pub ready_there : (opened : Option Opened) (plan : PlanValue) (thread : ℕ) (job : JobId) → IsSome opened → IfSome opened (IsOpenOf plan)
     → IfSome opened (λ o. CanDo (tic_at plan o) o.progress.stages thread (Ready job)) → job.0 < length plan.program.jobs

@@ -44,9 +44,10 @@ ids_at lists place = ids (slice_index_or lists place [])
 abbrev pub thread_in : Tables → ℕ → ℕ
 thread_in tables k = slice_index_or tables.threads k 0
 
--- The tables are those of the plan: the thread of each job, the jobs of each thread, those that each job
--- waits for by pairs alone, and those that wait so for each job.
+-- The tables are those of the plan: as many threads as jobs, the thread of each job, the jobs of each thread,
+-- those that each job waits for by pairs alone, and those that wait so for each job.
 pub record IsFor (p : Plan) (tables : Tables) : Type 0 where
+  pub many : length tables.threads ≡ length p.jobs
   pub threads : (k : ℕ) → thread_in tables k ≡ thread_of p.jobs k
   pub lines : (thread : ℕ) → ids_at tables.lines thread ≡ line_of p thread
   pub depended : (k : ℕ) → k < length p.jobs → ids_at tables.depended k ≡ depended_of p k

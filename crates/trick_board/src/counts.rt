@@ -73,7 +73,8 @@ pub fn count_all(due: &[JobId], tables: &Tables, stages: &[Stage], counts: &mut 
 
 // Ranks one more job, which comes before those that are ranked.
 fn rank_one(job: JobId, tables: &Tables, ranks: &mut Vec<usize>, left: &mut Vec<usize>)
-    requires { count_at left.old.items (thread_in tables.now job.0) + 1 < 2 ^ 64 }
+    requires few { count_at left.old.items (thread_in tables.now job.0) + 1 < 2 ^ 64 }
+    requires known { job.0 < length tables.now.threads }
     ensures ranks { ranks.new.items ≡ slice_set ranks.old.items job.0
         (count_at left.old.items (thread_in tables.now job.0) + 1) }
     ensures left { left.new.items ≡ slice_set left.old.items (thread_in tables.now job.0)
@@ -90,6 +91,7 @@ fn rank_one(job: JobId, tables: &Tables, ranks: &mut Vec<usize>, left: &mut Vec<
 pub fn rank_all(due: &[JobId], tables: &Tables, ranks: &mut Vec<usize>, left: &mut Vec<usize>)
     requires few { length due.now < 65536 }
     requires there { (k : ℕ) → IsTrue (is_among k (ids due.now)) → k < length ranks.old.items }
+    requires known { (k : ℕ) → IsTrue (is_among k (ids due.now)) → k < length tables.now.threads }
     requires threads { (k : ℕ) → IsTrue (is_among k (ids due.now)) → thread_in tables.now k < length left.old.items }
     ensures as_many_ranks { length ranks.new.items ≡ length ranks.old.items }
     ensures as_many_threads { length left.new.items ≡ length left.old.items }
@@ -106,6 +108,7 @@ pub fn rank_all(due: &[JobId], tables: &Tables, ranks: &mut Vec<usize>, left: &m
 
 /// Lowers how many jobs are left of the thread of a job.
 pub fn lower_thread(tables: &Tables, job: JobId, left: &mut Vec<usize>)
+    requires { job.0 < length tables.now.threads }
     ensures { left.new.items ≡ slice_set left.old.items (thread_in tables.now job.0)
         (count_at left.old.items (thread_in tables.now job.0) - 1) }
 {
@@ -115,6 +118,7 @@ pub fn lower_thread(tables: &Tables, job: JobId, left: &mut Vec<usize>)
 
 /// Whether no predecessor of a due job is left, by the counts.
 pub fn has_none_left(tables: &Tables, known: &Known, job: JobId) -> bool
+    requires { job.0 < length tables.now.threads }
     ensures { result ≡ none_is_left tables.now known.now.counts.items known.now.ranks.items known.now.left.items job.0 }
 {
     let awaited = number_at(&known.counts, job.0 as usize);

@@ -48,7 +48,9 @@ fn add(jobs: &mut Items<JobId>, job: JobId, wanted: bool) -> Result<(), AllocErr
 
 // The thread of each job.
 fn threads(alloc: Global, plan: &Plan) -> Result<Items<u8>, AllocError>
-    ensures { IfOk result (λ threads. (k : ℕ) → slice_index_or threads k 0 ≡ thread_of_job plan.now.program.jobs k) }
+    ensures many { IfOk result (λ threads. length threads ≡ length plan.now.program.jobs) }
+    ensures right { IfOk result (λ threads. (k : ℕ)
+        → slice_index_or threads k 0 ≡ thread_of_job plan.now.program.jobs k) }
 {
     let mut threads = Items::new(alloc);
     for number in 0..plan.program.jobs.len() {
@@ -207,14 +209,12 @@ impl Tables {
     }
 }
 
-// The thread of a job, or 0 past the last one.
+// The thread of a job.
 pub(crate) fn thread_at(tables: &Tables, job: JobId) -> usize
+    requires { job.0 < length tables.now.threads }
     ensures { result ≡ thread_in tables.now job.0 }
 {
-    match tables.threads.as_slice().get(job.0 as usize) {
-        Some(thread) => *thread as usize,
-        None => 0,
-    }
+    tables.threads.as_slice()[job.0 as usize] as usize
 }
 
 // A list of many, or none past the last one.

@@ -29,12 +29,20 @@ loop-passed-init c =
       left = λ t. zero_at t ∙ sym (ap (many_on tables t) none);
     }
 
-pub rank_one-requires : goal.rank_one-requires
-rank_one-requires c =
+pub rank_one-requires-clause-few : goal.rank_one-requires-clause-few
+rank_one-requires-clause-few c =
     let few = c.loop-passed.invariant.few (thread_in c.args.tables.now (slice_index_or c.args.due.now (length c.args.due.now - 1 - c.loop-passed.passed) no_id).0) in
     let test = c.loop-passed-test.true in
     let bound = c.requires.few in
     omega (arith, few, test, bound)
+
+pub rank_one-requires-clause-known : goal.rank_one-requires-clause-known
+rank_one-requires-clause-known c =
+    let due = c.args.due.now in
+    let at_ = length due - 1 - c.loop-passed.passed in
+    let test = c.loop-passed-test.true in
+    let inside : at_ < length due = omega (arith, test) in
+    c.requires.known (slice_index_or due at_ no_id).0 (among_at due at_ no_id inside)
 
 pub loop-passed-preserved : goal.loop-passed-preserved
 loop-passed-preserved c =

@@ -12,6 +12,16 @@ use Rattle.trick_lang.specs.declared.job.JobId.{JobId}
 use Rattle.trick_model.specs.PlanOf.{plan_of}
 use Rattle.trick_board.proofs.search.next_of.Goals as goal
 
+pub has_none_left-requires : goal.has_none_left-requires
+has_none_left-requires c =
+    let n = length c.args.plan.now.program.jobs in
+    let stages = c.args.stages.now in
+    let line = c.list_at-line.ensures ∙ ap (λ (lists : List (List JobId)). slice_index_or lists c.args.thread []) c.as_slice.ensures in
+    let there : c.in-Some.job.0 < n = subst (λ (o : Option JobId). IfSome o (λ (j : JobId). j.0 < n))
+    (sym (c.in-Some.ensures ∙ ap (λ (jobs : List JobId). find_wanted Waiting stages jobs) line))
+    (in_line (plan_of c.args.plan.now) c.args.tables.now c.requires.tables Waiting stages c.args.thread) in
+    subst (λ (many : ℕ). c.in-Some.job.0 < many) (sym c.requires.tables.many) there
+
 pub returns-then-has_none_left : goal.returns-then-has_none_left
 returns-then-has_none_left c =
     let stages = c.args.stages.now in

@@ -5,8 +5,8 @@ use Rattle.trick_lang.specs.declared.job.Job.{Job}
 use Rattle.trick_model.specs.Plan.{no_job}
 use Rattle.trick_board.proofs.tables.threads.Goals as goal
 
-pub returns : goal.returns
-returns c k = elim (cases_lt k c.loop-number.number) [
+pub returns-clause-right : goal.returns-clause-right
+returns-clause-right c k = elim (cases_lt k c.loop-number.number) [
   | inl less ↦ c.loop-number.invariant.right k less
   | inr past ↦
       let made = c.loop-number.invariant.made in

@@ -57,6 +57,13 @@ rank_all-requires-clause-there g c = λ k among.
     let ranks = c.self.invariant.0.ranks_are in
     omega (arith, many, there, ranks)
 
+pub rank_all-requires-clause-known : goal.rank_all-requires-clause-known
+rank_all-requires-clause-known g c = λ k among.
+    let tables = (subst (λ (v : BoardView). IsBoardOf c.args.plan.now v) (sym c.self.view_is) c.requires.belongs).tables in
+    let copied = ap ids (c.deref-4.ensures.value ∙ c.copy_jobs.ensures.items) ∙ c.requires.due in
+    let there = due_there (tic_of c.args.plan.now c.args.on.now c.args.tic) k (sym (ap (is_among k) copied) ∙ among) in
+    subst (λ (n : ℕ). k < n) (sym tables.many) there
+
 pub rank_all-requires-clause-threads : goal.rank_all-requires-clause-threads
 rank_all-requires-clause-threads g c = λ k among.
     let jobs = c.args.plan.now.program.jobs in

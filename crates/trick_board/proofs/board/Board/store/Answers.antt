@@ -1,21 +1,37 @@
 use Rattle.std.proofs.Common.{rules, [], List, ap, length, refl, subst, sym, ◌∙◌}
 use Rattle.std.specs.List.{slice_index_or}
 use Rattle.std.specs.Option.{IfSome}
-use Rattle.std.specs.Prelude.{IsSome, vec_capacity, ◌≡◌}
+use Rattle.std.specs.Prelude.{IsSome, vec_capacity, ◌≡◌, ◌<◌}
 use Rattle.trick_board.proofs.Among.{stage_open, stepped_among}
-use Rattle.trick_board.proofs.Calls.{once_open}
+use Rattle.trick_board.proofs.Calls.{flying_known, once_open}
 use Rattle.trick_board.proofs.Counting.{done_counted, open_sees}
 use Rattle.trick_board.proofs.Passed.{done_passed}
 use Rattle.trick_board.proofs.Ranks.{done_in_turn, done_ranked}
 use Rattle.trick_board.specs.Board.{BoardView, IsBoardOf, IsRoomy}
 use Rattle.trick_board.specs.Counts.{with_fewer}
 use Rattle.trick_board.specs.Search.{is_open}
+use Rattle.trick_board.specs.declared.tables.Tables.{Tables}
 use Rattle.trick_lang.specs.declared.job.JobId.{JobId}
 use Rattle.trick_model.specs.Valid.{ids}
 use Rattle.trick_schedule.specs.Play.{is_due, stage_at}
 use Rattle.trick_schedule.specs.declared.stage.Stage.TheVariants.{InFlight}
 use Rattle.trick_board.proofs.board.Board.store.Goals.{then-is_flagged+in-Some, then-is_flagged+in_default, else-is_flagged}
 use Rattle.trick_board.proofs.board.Board.store.Goals as goal
+
+pub lower_thread-requires : goal.lower_thread-requires
+lower_thread-requires g c =
+    let b = c.self.inside in
+    let belongs = subst (λ (v : BoardView). IsBoardOf c.args.plan.now v) (sym c.self.view_is) c.requires.belongs in
+    let opens = subst (λ (v : BoardView). IsSome v.opened) (sym c.self.view_is) c.requires.open in
+    let flies = stage_open g.M.Cells.numbers g.M.Cells.scalars b.tic b.on.items b.due.items b.stages.items b.memory c.args.job.0 InFlight opens
+    (subst (λ (v : BoardView). IfSome v.opened (λ o. stage_at o.progress.stages c.args.job.0 ≡ InFlight)) (sym c.self.view_is) c.requires.flies) in
+    let known = flying_known g.M.Cells.numbers g.M.Cells.scalars b.tic b.on.items b.due.items b.stages.items b.memory c.args.plan.now b.tables c.args.job.0
+    belongs.tables opens belongs.opened flies in
+    elim c.if-is_flagged.branch [
+      | then-is_flagged+in-Some w ↦ subst (λ (t : Tables). c.args.job.0 < length t.threads) (sym (ap (λ b. b.tables) w.self-inside-is)) known
+      | then-is_flagged+in_default w ↦ subst (λ (t : Tables). c.args.job.0 < length t.threads) (sym (ap (λ b. b.tables) w.self-inside-is)) known
+      | else-is_flagged w ↦ subst (λ (t : Tables). c.args.job.0 < length t.threads) (sym (ap (λ b. b.tables) w.self-inside-is)) known
+    ]
 
 pub invariant_of-self : goal.invariant_of-self
 invariant_of-self g c =
