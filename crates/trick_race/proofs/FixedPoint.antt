@@ -11,7 +11,8 @@ use Rattle.trick_model.specs.Access.{IsReached, Source, Passed, reads_cell, writ
 use Rattle.trick_model.specs.Plan.{Plan, is_on_async}
 use Rattle.trick_race.proofs.Firsts.{read_at}
 use Rattle.trick_race.proofs.Sets.{has_there}
-use Rattle.trick_race.specs.Accesses.{AreAccesses, Feeds, IsWrittenBy, has, no_access, reads_of, writes_of}
+use Rattle.trick_race.specs.Accesses.{AreAccesses, Feeds, IsWrittenBy, has}
+use Rattle.trick_access.specs.Accesses.{no_access, reads_of, writes_of}
 use Rattle.trick_race.specs.Reached.{AddsFed, AreReaching, AreTaken, IsWaiting, IsWrittenIn}
 
 pub none_has : (n k : ℕ) → has (replicate n false) k ≡ false

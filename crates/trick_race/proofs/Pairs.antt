@@ -23,8 +23,9 @@ use Rattle.trick_model.specs.declared.flags.Flags.{Flags}
 use Rattle.trick_model.specs.declared.plan.Plan.{Plan as PlanValue}
 use Rattle.trick_race.proofs.FixedPoint.{of_read, of_write, to_read, to_write}
 use Rattle.trick_race.proofs.Firsts.{read_at}
+use Rattle.trick_access.specs.Accesses.{no_access}
 use Rattle.trick_race.proofs.Merging.{both}
-use Rattle.trick_race.specs.Accesses.{AreAccesses, AreSeparate, IsInOrderBoth, no_access}
+use Rattle.trick_race.specs.Accesses.{AreAccesses, AreSeparate, IsInOrderBoth}
 use Rattle.trick_race.specs.Racers.{IsRaceAt, IsRacer}
 
 -- ---- when a scheduled job is due

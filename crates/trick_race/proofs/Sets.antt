@@ -1,27 +1,18 @@
 -- Sets of cells and of jobs.
-use Rattle.std.proofs.Common.{◌≡◌, ℕ, zero, suc, ◌+◌, ◌<◌, Bool, true, false, ◌||◌, inl, inr, ◌↔◌, IsTrue, List, [], ◌∷◌, ◌++◌, length, get_or, sym, ap, subst, ◌∙◌, arith}
+use Rattle.std.proofs.Common.{◌≡◌, ℕ, zero, suc, ◌+◌, ◌<◌, Bool, true, false, ◌||◌, inl, inr, ◌↔◌, IsTrue, List, [], ◌∷◌, length, get_or, sym, ap, subst, ◌∙◌, arith}
 use Rattle.std.proofs.lemmas.Bool.{cases_lt, or_left, or_right}
 use Rattle.trick_access.specs.declared.cells.Access.{Access}
 use Rattle.trick_lang.specs.Access.{is_in}
 use Rattle.trick_race.proofs.Firsts.{read_at}
 use Rattle.trick_race.proofs.Merging.{either}
-use Rattle.trick_race.specs.Accesses.{IsWrittenBefore, has, no_access, writes_of}
+use Rattle.trick_race.specs.Accesses.{IsWrittenBefore, has}
+use Rattle.trick_access.specs.Accesses.{no_access, writes_of}
 
 -- what is in a set is one of so many
 pub has_there : (set : List Bool) (k : ℕ) → IsTrue (has set k) → k < length set
 has_there [] k h = cc
 has_there (b ∷ set) zero h = omega arith
 has_there (b ∷ set) (suc k) h = let rest = has_there set k h in omega arith
-
--- a fact of each item holds with one item more
-pub push_each : {A : Type 0} (P : ℕ → A → Type 0) (xs : List A) (x d : A) (n : ℕ) → length xs ≡ n
-    → ((k : ℕ) → k < n → P k (get_or xs k d)) → P n x → (k : ℕ) → k < n + 1 → P k (get_or (xs ++ x ∷ []) k d)
-push_each P [] x d n long before here zero below = subst (λ m. P m x) (sym long) here
-push_each P [] x d n long before here (suc k) below = absurd (omega arith)
-push_each P (y ∷ ys) x d n long before here zero below = before 0 (omega arith)
-push_each P (y ∷ ys) x d zero long before here (suc k) below = absurd (omega arith)
-push_each P (y ∷ ys) x d (suc n) long before here (suc k) below =
-    push_each (λ k. P (suc k)) ys x d n (omega arith) (λ k less. before (suc k) (omega arith)) here k (omega arith)
 
 writes_item : (accesses : List Access) (k : ℕ) (item : Access) → k < length accesses → item ≡ get_or accesses k item
     → writes_of accesses k ≡ item.writes

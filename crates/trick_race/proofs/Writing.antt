@@ -18,7 +18,8 @@ use Rattle.trick_model.specs.declared.thread.Thread.{Thread}
 use Rattle.trick_race.proofs.FixedPoint.{of_write, to_write}
 use Rattle.trick_race.proofs.Merging.{both, either, inside}
 use Rattle.trick_race.proofs.Sets.{has_there}
-use Rattle.trick_race.specs.Accesses.{AreAccesses, IsWrittenBy, has, writes_of}
+use Rattle.trick_race.specs.Accesses.{AreAccesses, IsWrittenBy, has}
+use Rattle.trick_access.specs.Accesses.{writes_of}
 use Rattle.trick_race.specs.Refusals.{HasOneWriter, HaveOneWriter, IsSharedWriter}
 use Rattle.trick_race.specs.Writers.{AreFirstWriters}
 

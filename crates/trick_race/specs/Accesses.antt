@@ -1,6 +1,7 @@
 -- What all jobs may read and write, by their ranges, and sets of cells and of jobs.
 use Rattle.std.specs.List.{slice_index_or}
 use Rattle.std.specs.Prelude.{◌≡◌, ℕ, ◌+◌, ◌-◌, zero, suc, ◌<◌, Bool, false, ◌||◌, IsTrue, List, [], ◌∷◌, length}
+use Rattle.trick_access.specs.Accesses.{reads_of, writes_of}
 use Rattle.trick_access.specs.Ranges.{AreCellsOf, are_sorted}
 use Rattle.trick_access.specs.declared.cells.Access.{Access}
 use Rattle.trick_lang.specs.Access.{is_in}
@@ -9,17 +10,6 @@ use Rattle.trick_model.specs.Acceptance.{AreApart}
 use Rattle.trick_model.specs.Plan.{Plan}
 
 -- ---- the access of each job
-
-abbrev pub no_access : Access
-no_access = record { reads = []; writes = [] }
-
--- the ranges of what a job may read
-abbrev pub reads_of : List Access → ℕ → List CellRange
-reads_of accesses k = (slice_index_or accesses k no_access).reads
-
--- the ranges of what a job may write
-abbrev pub writes_of : List Access → ℕ → List CellRange
-writes_of accesses k = (slice_index_or accesses k no_access).writes
 
 -- the accesses of the jobs of a plan, over so many cells
 pub record AreAccesses (cells : ℕ) (p : Plan) (accesses : List Access) : Type 0 where

@@ -1,25 +1,12 @@
-// What all jobs of a program may read and write.
+// What several jobs of a program may write.
 
 ghost use Rattle.std.specs.Prelude.{◌≡◌, ℕ, ◌↔◌, ◌<◌, IfOk, IsTrue, length};
-ghost use Rattle.trick_model.specs.PlanOf.{plan_of};
-ghost use Rattle.trick_race.specs.Accesses.{AreAccesses, IsInOrder, IsWrittenBy, has, writes_of};
+ghost use Rattle.trick_access.specs.Accesses.{writes_of};
+ghost use Rattle.trick_race.specs.Accesses.{IsInOrder, IsWrittenBy, has};
 
 use crate::cell_set::CellSet;
 use std::alloc::{AllocError, Global};
-use trick_access::{Access, access};
-use trick_lang::JobId;
-use trick_model::Plan;
-
-// What each job may read and write, by its number.
-pub(crate) fn accesses(alloc: Global, plan: &Plan) -> Result<Vec<Access>, AllocError>
-    ensures { IfOk result (λ all. AreAccesses (length plan.now.program.cells) (plan_of plan.now) all.items) }
-{
-    let mut all = Vec::new(alloc);
-    for job in 0..plan.program.jobs.len() {
-        all.push(access(alloc, &plan.program, JobId(job as u32))?)?;
-    }
-    Ok(all)
-}
+use trick_access::Access;
 
 // The cells that the jobs of a set may write.
 pub(crate) fn written_by(

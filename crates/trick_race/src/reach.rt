@@ -4,7 +4,8 @@ ghost use Rattle.std.specs.Prelude.{◌≡◌, ◌↔◌, ◌<◌, ℕ, IfOk, Is
 ghost use Rattle.trick_model.specs.Access.{IsReached};
 ghost use Rattle.trick_model.specs.Plan.{is_async as is_async_of, is_on_async, process_in};
 ghost use Rattle.trick_model.specs.PlanOf.{plan_of};
-ghost use Rattle.trick_race.specs.Accesses.{AreAccesses, Feeds, IsInOrderBoth, has, no_access};
+ghost use Rattle.trick_access.specs.Accesses.{no_access};
+ghost use Rattle.trick_race.specs.Accesses.{AreAccesses, Feeds, IsInOrderBoth, has};
 ghost use Rattle.trick_race.specs.Reached.{AddsFed, AreReaching, IsWaiting};
 
 use crate::accesses::written_by;

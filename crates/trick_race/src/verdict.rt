@@ -4,13 +4,13 @@ ghost use Rattle.trick_model.specs.PlanOf.{plan_of};
 ghost use Rattle.trick_race.specs.Refusals.{AreForward, AreNamedRight, AreOnMain, HoldsBefore, NamesFirst};
 
 use crate::PlanFault;
-use crate::accesses::accesses;
 use crate::race::first_race;
 use crate::reach::reach;
 use crate::recorded::{async_event, async_recorded};
 use crate::threads::{backwards, class_on_child, no_thread};
 use crate::writers::shared_writer;
 use std::alloc::Global;
+use trick_access::accesses;
 use trick_model::{Accepted, Plan};
 
 /// Judges a plan: it is accepted, or the first case is named of the first condition that does not hold.
@@ -47,22 +47,23 @@ fn judge_cells(alloc: Global, plan: &Plan) -> Result<(), PlanFault>
     ensures before { IfErr result (HoldsBefore (plan_of plan.now)) }
     ensures first { IfErr result (NamesFirst (plan_of plan.now)) }
 {
-    let accesses = accesses(alloc, plan)?;
-    if let Some((cell, one, other)) = shared_writer(alloc, plan, &accesses)? {
+    let all = accesses(alloc, &plan.program)?;
+    let accesses = all.as_slice();
+    if let Some((cell, one, other)) = shared_writer(alloc, plan, accesses)? {
         return Err(PlanFault::SharedWriter {
             cell,
             thread: one.number,
             other: other.number,
         });
     }
-    let reach = reach(alloc, plan, &accesses)?;
+    let reach = reach(alloc, plan, accesses)?;
     if let Some((group, cell)) = async_recorded(plan, &reach) {
         return Err(PlanFault::AsyncRecorded { group, cell });
     }
     if let Some(event) = async_event(plan, &reach) {
         return Err(PlanFault::AsyncEvent { event });
     }
-    match first_race(alloc, plan, &accesses)? {
+    match first_race(alloc, plan, accesses)? {
         None => Ok(()),
         Some((job, other, tic)) => Err(PlanFault::Race { job, other, tic }),
     }

@@ -4,7 +4,7 @@ use Rattle.trick_model.specs.Acceptance.{may_write_on}
 use Rattle.trick_model.specs.PlanOf.{plan_of}
 use Rattle.trick_model.specs.declared.thread.Thread.{Thread}
 use Rattle.trick_race.proofs.Firsts.{read_at}
-use Rattle.trick_race.proofs.Sets.{push_each}
+use Rattle.trick_access.proofs.Each.{push_each}
 use Rattle.trick_race.proofs.Writing.{is_writer, thread_set}
 use Rattle.trick_race.specs.Accesses.{IsWrittenBy, has}
 use Rattle.trick_race.proofs.writers.thread_writes.Goals as goal
