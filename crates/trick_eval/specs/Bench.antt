@@ -36,6 +36,7 @@ pub record IsFor (p : Program) (parts : Parts) : Type 0 where
   pub slots : parts.slots ≡ p.slots
   pub room : (job : JobId) → job.0 < length p.jobs → deep_at p.blocks (body_of p job) ≤ parts.room
   pub some : 0 < parts.room
+  pub many : length parts.reads ≡ length p.jobs
   pub reads : (job : JobId) → job.0 < length p.jobs
       → AreCellsOf (length p.cells) (reads p job) (slice_index_or parts.reads job.0 [])
 

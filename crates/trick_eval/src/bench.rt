@@ -1,11 +1,8 @@
-ghost use Rattle.std.specs.List.{slice_index_or};
-ghost use Rattle.std.specs.Prelude.{◌≡◌, ◌<◌, ◌≤◌, [], IfOk, MatchOption, None, Some, false, length, pos, replicate, true, ℕ};
+ghost use Rattle.std.specs.Prelude.{◌≡◌, ◌<◌, ◌≤◌, IfOk, MatchOption, None, Some, false, length, pos, replicate, true, ℕ};
 ghost use Rattle.trick_eval.specs.Bench.{IsEvaluated, IsFilled, IsFirstDifference, IsFor, fault_of, the_job};
-ghost use Rattle.trick_access.specs.Ranges.{AreCellsOf};
 ghost use Rattle.trick_lang.specs.Effect.{after_effect, effect, reads, scalars_of};
 ghost use Rattle.trick_lang.specs.Laws.{AgreeOn};
 ghost use Rattle.trick_lang.specs.Valid.{deep_at};
-ghost use Rattle.trick_lang.specs.declared.job.JobId.{JobId};
 
 use crate::machine::run;
 use crate::stack::Stack;
@@ -13,7 +10,7 @@ use crate::store::{copy, difference, overwrite};
 use crate::working::Working;
 use std::alloc::{AllocError, Global};
 use std::marker::Model;
-use trick_access::{Access, access, base, body};
+use trick_access::{base, body, ranges_of, reads_of_jobs};
 use trick_base::Items;
 use trick_lang::laws::{length_law, range_law};
 use trick_lang::{Block, Cell, CellRange, Cells, JobFault, JobId, Program, Stop};
@@ -72,19 +69,6 @@ fn deepest(blocks: &[Block]) -> u64
         most = larger(most, block.deep);
     }
     most
-}
-
-// The cells that each job may read.
-fn reads_of_jobs(alloc: Global, program: &Program) -> Result<Items<Items<CellRange>>, AllocError>
-    ensures { IfOk result (λ all. (job : JobId) → job.0 < length program.now.jobs →
-        AreCellsOf (length program.now.cells) (reads program.now job) (slice_index_or all job.0 [])) }
-{
-    let mut all = Items::new(alloc);
-    for number in 0..program.jobs.len() {
-        let Access { reads, .. } = access(alloc, program, JobId(number as u32))?;
-        all.push(reads)?;
-    }
-    Ok(all)
 }
 
 impl Bench {
@@ -223,16 +207,6 @@ impl Bench {
         let job = job_of(self.job);
         let ranges = ranges_of(self.reads.as_slice(), job);
         difference(ranges, from, self.inputs.as_slice())
-    }
-}
-
-// The ranges of a job.
-fn ranges_of(all: &[Items<CellRange>], job: JobId) -> &[CellRange]
-    ensures { result.now ≡ slice_index_or all.now job.0 [] }
-{
-    match all.get(job.0 as usize) {
-        Some(ranges) => ranges.as_slice(),
-        None => &[],
     }
 }
 

@@ -1,4 +1,4 @@
-use Rattle.std.proofs.Common.{◌≡◌, ◌∙◌, [], ap, length, subst, sym}
+use Rattle.std.proofs.Common.{◌≡◌, ◌∙◌, ◌<◌, ℕ, [], ap, length, subst, sym}
 use Rattle.std.specs.List.{slice_index_or}
 use Rattle.trick_eval.proofs.ReadRanges.{difference_is}
 use Rattle.trick_eval.proofs.bench.Bench.differs.Goals as goal
@@ -8,6 +8,14 @@ use Rattle.trick_access.specs.Ranges.{AreCellsOf}
 use Rattle.trick_lang.specs.Effect.{reads}
 use Rattle.trick_lang.specs.Laws.{AgreeOn}
 use Rattle.trick_lang.specs.declared.job.JobId.{JobId}
+
+pub ranges_of-ranges-requires : goal.ranges_of-ranges-requires
+ranges_of-ranges-requires g c =
+    let jobs = c.args.program.now.jobs in
+    let is : c.job_of-job.result ≡ the_job c.args.self.now.job = c.job_of-job.ensures ∙ ap (λ (v : BenchView). the_job v.job) c.self.view_is in
+    let many : length c.as_slice.result.now ≡ length jobs =
+    ap length c.as_slice.ensures ∙ ap (λ (v : BenchView). length v.parts.reads) c.self.view_is ∙ c.requires.bench.many in
+    subst (λ (n : ℕ). c.job_of-job.result.0 < n) (sym many) (subst (λ (j : JobId). j.0 < length jobs) (sym is) c.requires.filled.1)
 
 pub returns : goal.returns
 returns g c =

@@ -1,10 +1,16 @@
-use Rattle.std.proofs.Common.{◌≡◌, ◌∙◌, [], ap, length, subst, sym}
+use Rattle.std.proofs.Common.{◌≡◌, ◌∙◌, ◌<◌, ℕ, [], ap, length, subst, sym}
 use Rattle.std.specs.List.{slice_index_or}
 use Rattle.trick_eval.proofs.ReadRanges.{agree}
 use Rattle.trick_eval.proofs.bench.Bench.fill.Goals as goal
 use Rattle.trick_eval.specs.Bench.{BenchView}
 use Rattle.trick_access.specs.Ranges.{AreCellsOf}
 use Rattle.trick_lang.specs.Effect.{reads}
+
+pub ranges_of-ranges-requires : goal.ranges_of-ranges-requires
+ranges_of-ranges-requires g c =
+    let many : length c.as_slice.result.now ≡ length c.args.program.now.jobs =
+    ap length c.as_slice.ensures ∙ ap (λ (v : BenchView). length v.parts.reads) c.self.view_is ∙ c.requires.bench.many in
+    subst (λ (n : ℕ). c.args.job.0 < n) (sym many) c.requires.job
 
 pub returns-clause-inputs : goal.returns-clause-inputs
 returns-clause-inputs g c =
