@@ -74,7 +74,13 @@ fn run_frame<M: Cells + Drop, F: Shelf, H: Phases<M>, P: Posts, L: Ledger>(
         &mut current.state,
         &mut equipment.bench,
     );
-    let mut current = frame(accepted, current, &mut equipment.course, shelf, workers)?;
+    frame(
+        accepted,
+        &mut current,
+        &mut equipment.course,
+        shelf,
+        workers,
+    )?;
     run_class(
         plan,
         Class::EndOfFrame,

@@ -28,8 +28,8 @@ frame-requires-clause-under_way g c =
     (g.M.Cells.scalars start.memory) (g.M.Cells.scalars shown.memory) c.requires.posts c.publish_all.ensures.asks.plan c.publish_all.ensures.state
     c.publish_all.ensures.goes c.requires.equipped.under_way)
 
-pub returns-in_err-current-clause-asks : goal.returns-in_err-current-clause-asks
-returns-in_err-current-clause-asks g c = asks_then g.met.P.Posts.asked_join c.publish_all.ensures.asks c.frame.ensures.asks
+pub returns-in_err-frame-clause-asks : goal.returns-in_err-frame-clause-asks
+returns-in_err-frame-clause-asks g c = asks_then g.met.P.Posts.asked_join c.publish_all.ensures.asks c.frame.ensures.asks
 
 pub returns-clause-asks : goal.returns-clause-asks
 returns-clause-asks g c = asks_then g.met.P.Posts.asked_join c.publish_all.ensures.asks c.frame.ensures.asks
@@ -39,7 +39,7 @@ returns-clause-equipped g c =
     let plan = c.args.accepted.now.plan in
     let course = c.frame.new.course in
     let posts = g.P.Posts.in_flight c.frame.new.workers.posts in
-    let ran = c.in_ok-current.current in
+    let ran = c.frame.new.current in
     let bottom = c.run_class-2.new.state in
     let last = c.freeze_if_asked.new.state in
     let sound = c.plans_are_sound.ensures plan in
@@ -52,7 +52,7 @@ returns-clause-equipped g c =
           (g.M.Cells.scalars ran.state.memory) (g.M.Cells.scalars bottom.memory) sound
           (c.run_class-2.ensures.ran ∙ ap (λ (x : Plan). run_class (plan_of x) class.EndOfFrame (seen g.M.Cells.numbers ran.state)) c.plan-plan.ensures.plan)
           (subst (λ (x : Plan). IsMemoryOf x.program (g.M.Cells.numbers bottom.memory) (g.M.Cells.scalars bottom.memory)) c.plan-plan.ensures.plan c.run_class-2.ensures.memory)
-          c.in_ok-current.ensures.under_way);
+          c.in_ok-frame.ensures.under_way);
       bench = subst (λ (parts : Parts). IsFor plan.program parts)
           (sym (c.freeze_if_asked.ensures.bench ∙ c.run_class-2.ensures.bench ∙ c.run_class.ensures.bench)) c.requires.equipped.bench;
     }
