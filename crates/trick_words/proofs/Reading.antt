@@ -41,11 +41,7 @@ kind_named t = if bytes_eq t (codes "serial") then Some kind.Serial else (if byt
 named_is : (k : Kind) → kind_named (name_of k) ≡ Some k
 unfolding kind_named
 named_is kind.Serial = refl
-named_is kind.Run = refl
-named_is kind.Replay = refl
-named_is kind.Check = refl
-named_is kind.List = refl
-named_is kind.Gen = refl
+named_is k = refl
 
 some_same : (a b : Kind) → Some a ≡ Some b → a ≡ b
 some_same a b e = cc e
@@ -139,9 +135,7 @@ option_named kind.Run o (inr (inl e)) = inr e
 option_named kind.Run o (inr (inr never)) = absurd never
 option_named kind.Replay o (inl e) = inl e
 option_named kind.Replay o (inr never) = absurd never
-option_named kind.Check o never = absurd never
-option_named kind.List o never = absurd never
-option_named kind.Gen o never = absurd never
+option_named k o never = absurd never
 
 abbrev Spelled : Text → Text → Type 0
 Spelled o w = (w ≡ codes "--" ++ o) ⊎ ((v : Text) × (v ≢ []) × (w ≡ codes "--" ++ (o ++ (codes "=" ++ v))))
@@ -167,11 +161,7 @@ all_plain k (w ∷ words) h = and_from (is_plain w) (list_all is_plain words) (p
 
 name_plain : (k : Kind) → is_plain (name_of k) ≡ true
 name_plain kind.Serial = refl
-name_plain kind.Run = refl
-name_plain kind.Replay = refl
-name_plain kind.Check = refl
-name_plain kind.List = refl
-name_plain kind.Gen = refl
+name_plain k = refl
 
 pub not_plain : (words : List Text) → list_all is_plain words ≡ false → IsUsage words
 not_plain words h k given (rest, is, (items, spells, fills, once)) =

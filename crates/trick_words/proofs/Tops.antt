@@ -81,11 +81,7 @@ fault_by w f = or_else f (or_else (entered_fault whole w.stopped)
 below_is : (k : Kind) (rest : List Text) → fault_by (stopped_at nothing_held (name_of k) rest) [] ≡ total (shape_for k) (stand [] nothing 1) rest
 unfolding clap_on_literals
 below_is kind.Serial rest = or_else_nil _
-below_is kind.Run rest = or_else_nil _
-below_is kind.Replay rest = or_else_nil _
-below_is kind.Check rest = or_else_nil _
-below_is kind.List rest = or_else_nil _
-below_is kind.Gen rest = or_else_nil _
+below_is k rest = or_else_nil _
 
 pub fault_is : (k : Kind) (rest : List Text) → fault_of all_app (name_of k ∷ rest) ≡ total (shape_for k) (stand [] nothing 1) rest
 fault_is k rest = ap₂ fault_by (walk_is k rest) (walk_free k rest) ∙ below_is k rest
@@ -94,11 +90,7 @@ entered_is : (k : Kind) (rest : List Text) → entered whole (Some (name_of k, r
     ≡ Some (name_of k, finished (shape_for k).rules (fold (walked (shape_for k).rules []) (stand [] nothing 1) rest).held)
 unfolding clap_on_literals
 entered_is kind.Serial rest = refl
-entered_is kind.Run rest = refl
-entered_is kind.Replay rest = refl
-entered_is kind.Check rest = refl
-entered_is kind.List rest = refl
-entered_is kind.Gen rest = refl
+entered_is k rest = refl
 
 pub subcommand_is : (k : Kind) (rest : List Text) → subcommand_of all_app (name_of k ∷ rest)
     ≡ Some (name_of k, finished (shape_for k).rules (fold (walked (shape_for k).rules []) (stand [] nothing 1) rest).held)
@@ -222,27 +214,19 @@ fits kind.Replay = record {
   plain = (refl, (refl, (refl, (refl, tt))));
   asks = λ rs. refl;
 }
-fits kind.Check = record {
-  again = refl;
-  ahead = (refl, refl, refl, (refl, tt), (refl, refl, refl, tt, refl));
-  known = tt;
-  apart = tt;
-  plain = (refl, (refl, tt));
-  asks = λ rs. refl;
-}
-fits kind.List = record {
-  again = refl;
-  ahead = (refl, refl, refl, (refl, tt), (refl, refl, refl, tt, refl));
-  known = tt;
-  apart = tt;
-  plain = (refl, (refl, tt));
-  asks = λ rs. refl;
-}
 fits kind.Gen = record {
   again = refl;
   ahead = (refl, refl, refl, tt, refl);
   known = tt;
   apart = tt;
   plain = (refl, tt);
+  asks = λ rs. refl;
+}
+fits k = record {
+  again = refl;
+  ahead = (refl, refl, refl, (refl, tt), (refl, refl, refl, tt, refl));
+  known = tt;
+  apart = tt;
+  plain = (refl, (refl, tt));
   asks = λ rs. refl;
 }

@@ -79,12 +79,9 @@ whole words m reads = record {
   where
     places : (k : Kind) → AllByRecursion (λ place. is_some (value_of place reads.given) ≡ true) (places_of k)
         → HasPlaces k (values_in reads.given)
-    places kind.Serial all = (all.0, all.1.0)
-    places kind.Run all = (all.0, all.1.0)
     places kind.Replay all = ((all.0, all.1.0), all.1.1.0)
-    places kind.Check all = (all.0, all.1.0)
-    places kind.List all = (all.0, all.1.0)
     places kind.Gen all = all.0
+    places k all = (all.0, all.1.0)
 
 -- what is asked for with the values of matches is found in them
 pub found_as : {E : Type 0} (m : ArgMatches) (k : Kind) (v : Values) (result : Result (Option Command) E) → IsRead m k v
