@@ -1,18 +1,20 @@
 //! The tokens of a text as a grammar sees them: each with its symbol and its number.
 
-ghost use Rattle.std.specs.Prelude.{◌≡◌, ◌≤◌, All, IfOk, map};
+ghost use Rattle.std.specs.Prelude.{◌≡◌, ◌≤◌, All, IfOk, drop, length, map};
 ghost use Rattle.trick_body.specs.Lexemes.{lexeme_of, lexemes_of, symbol_as};
-ghost use Rattle.trick_body.specs.Symbols.{decimal_of, looked_up, mark_symbols, name_symbol, named_symbols, numbered, plain_name, text_symbols, whole_of, whole_symbol};
+ghost use Rattle.trick_body.specs.Symbols.{decimal_of, decimal_symbol, looked_up, mark_symbols, name_symbol, named_symbols, numbered, plain_name, text_symbols, whole_of, whole_symbol};
 ghost use Rattle.trick_body.specs.declared.symbol.Symbol.TheVariants as the;
-ghost use Rattle.trick_text.specs.Numbers.{whole_value};
+ghost use Rattle.trick_text.specs.Numbers.{plain_number, whole_value};
 ghost use Rattle.trick_text.specs.Tokens.{ReadsAsToken, spelling};
+ghost use Rattle.trick_text.specs.Values.{number_of as number_as};
+ghost use Rattle.trick_text.specs.declared.token.TokenKind.TheVariants as kind;
 
 use crate::body::PHASE_LIMIT;
 use crate::symbol::{Symbol, Token};
 use std::alloc::{AllocError, Global};
 use trick_grammar::Lexeme;
 use trick_lang::BOUND_LIMIT;
-use trick_text::{TimeFault, TokenKind, is_plain_number, number_of, plain_number, seconds, whole};
+use trick_text::{TimeFault, TokenKind, is_plain_number, plain_number, seconds, whole};
 
 // Bytes and the symbol of a token that has them.
 type Row = (&'static [u8], Symbol);
@@ -140,34 +142,65 @@ fn looked_up(bytes: &[u8], rows: &[Row], other: Symbol) -> Symbol
     other
 }
 
-// `C` or `P` with these digits: whether they are a number from 1 to the limit, or another one.
-fn numbered(limit: u64, inside: Symbol, outside: Symbol, digits: &[u8]) -> Symbol
-    requires { limit ≤ 65534 }
+// `C` or `P` with digits of this number: whether it is from 1 to the limit, or another one.
+fn numbered(
+    limit: u64,
+    inside: Symbol,
+    outside: Symbol,
+    digits: &[u8],
+    number: Option<u64>,
+) -> Symbol
+    requires limit { limit ≤ 65534 }
+    requires number { number ≡ plain_number digits.now }
     ensures { result ≡ numbered limit inside outside digits.now }
 {
     if !is_plain_number(digits) {
         return Symbol::Name;
     }
-    match plain_number(digits) {
+    match number {
         Some(number) if number >= 1 && number <= limit => inside,
         _ => outside,
     }
 }
 
-fn plain_name(bytes: &[u8]) -> Symbol
+// A name, after whose first letter this number stands.
+fn plain_name(bytes: &[u8], number: Option<u64>) -> Symbol
+    requires { number ≡ plain_number (drop 1 bytes.now) }
     ensures { result ≡ plain_name bytes.now }
 {
     match bytes {
-        [b'C', digits @ ..] => numbered(15, Symbol::Thread, Symbol::OtherThread, digits),
-        [b'P', digits @ ..] => numbered(PHASE_LIMIT, Symbol::Phase, Symbol::OtherPhase, digits),
+        [b'C', digits @ ..] => numbered(15, Symbol::Thread, Symbol::OtherThread, digits, number),
+        [b'P', digits @ ..] => {
+            numbered(
+                PHASE_LIMIT,
+                Symbol::Phase,
+                Symbol::OtherPhase,
+                digits,
+                number,
+            )
+        }
         _ => Symbol::Name,
     }
 }
 
-fn name_symbol(bytes: &[u8]) -> Symbol
-    ensures { result ≡ name_symbol bytes.now }
+// What a token means to a grammar: its symbol, and the number that it stands for.
+#[derive(Clone, Copy)]
+struct Meaning {
+    symbol: Symbol,
+    number: u64,
+}
+
+// A name, whose number stands after its first letter.
+fn name_meaning(bytes: &[u8]) -> Meaning
+    requires { 1 ≤ length bytes.now }
+    ensures symbol { result.symbol ≡ name_symbol bytes.now }
+    ensures number { result.number ≡ number_as kind.Name bytes.now }
 {
-    looked_up(bytes, &NAMED, plain_name(bytes))
+    let number = plain_number(&bytes[1..]);
+    Meaning {
+        symbol: looked_up(bytes, &NAMED, plain_name(bytes, number)),
+        number: number.unwrap_or(0),
+    }
 }
 
 fn whole_of(value: u64) -> Symbol
@@ -221,18 +254,53 @@ fn mark_symbol(bytes: &[u8]) -> Symbol
     looked_up(bytes, &MARKS, Symbol::OtherMark)
 }
 
-/// The symbol of a token of this text.
-fn symbol_of(text: &[u8], token: &trick_text::Token) -> Symbol
+// A whole number.
+fn whole_meaning(text: &[u8], token: &trick_text::Token) -> Meaning
+    requires token { ReadsAsToken text.now token.now }
+    requires kind { token.now.kind ≡ kind.Whole }
+    ensures symbol { result.symbol ≡ whole_symbol (spelling text.now token.now) }
+    ensures number { result.number ≡ number_as kind.Whole (spelling text.now token.now) }
+{
+    let number = whole(token, text);
+    Meaning {
+        symbol: whole_symbol(token.spelling(text), number),
+        number,
+    }
+}
+
+// A decimal number of seconds, in tics.
+fn decimal_meaning(text: &[u8], token: &trick_text::Token) -> Meaning
+    requires token { ReadsAsToken text.now token.now }
+    requires kind { token.now.kind ≡ kind.Decimal }
+    ensures symbol { result.symbol ≡ decimal_symbol (spelling text.now token.now) }
+    ensures number { result.number ≡ number_as kind.Decimal (spelling text.now token.now) }
+{
+    let tics = seconds(token, text);
+    Meaning {
+        symbol: decimal_of(tics),
+        number: tics.unwrap_or(0),
+    }
+}
+
+// What a token of this text means.
+fn meaning_of(text: &[u8], token: &trick_text::Token) -> Meaning
     requires { ReadsAsToken text.now token.now }
-    ensures { result ≡ symbol_as token.now.kind (spelling text.now token.now) }
+    ensures symbol { result.symbol ≡ symbol_as token.now.kind (spelling text.now token.now) }
+    ensures number { result.number ≡ number_as token.now.kind (spelling text.now token.now) }
 {
     let bytes = token.spelling(text);
     match token.kind {
-        TokenKind::Name => name_symbol(bytes),
-        TokenKind::Whole => whole_symbol(bytes, whole(token, text)),
-        TokenKind::Decimal => decimal_of(seconds(token, text)),
-        TokenKind::Text => text_symbol(bytes),
-        TokenKind::Mark => mark_symbol(bytes),
+        TokenKind::Name => name_meaning(bytes),
+        TokenKind::Whole => whole_meaning(text, token),
+        TokenKind::Decimal => decimal_meaning(text, token),
+        TokenKind::Text => Meaning {
+            symbol: text_symbol(bytes),
+            number: 0,
+        },
+        TokenKind::Mark => Meaning {
+            symbol: mark_symbol(bytes),
+            number: 0,
+        },
     }
 }
 
@@ -240,11 +308,12 @@ fn lexeme_of(text: &[u8], token: &trick_text::Token) -> Token
     requires { ReadsAsToken text.now token.now }
     ensures { result ≡ lexeme_of text.now token.now }
 {
+    let Meaning { symbol, number } = meaning_of(text, token);
     Lexeme {
-        class: symbol_of(text, token),
+        class: symbol,
         start: token.start,
         end: token.end,
-        number: number_of(token, text),
+        number,
         line: token.line,
     }
 }
