@@ -19,11 +19,8 @@ use Rattle.trick_lang.specs.declared.method.Method.{Method}
 use Rattle.trick_lang.specs.declared.object.Object.{Object}
 use Rattle.trick_lang.specs.declared.program.Program.{Program}
 use Rattle.std.specs.Prelude.{Result, Ok, Err}
-use Rattle.trick_declare.specs.Cells.{Adds, DeclaresIn, KeepsRest, added}
-use Rattle.trick_declare.specs.Grammar.{Declares}
-use Rattle.trick_declare.specs.declared.declaration.Declaration.{Declaration}
+use Rattle.trick_declare.specs.Cells.{Adds, KeepsRest}
 use Rattle.trick_declare.specs.declared.fault.DeclareFault.{DeclareFault}
-use Rattle.trick_declare.specs.declared.fault.DeclareFault.TheVariants as fault
 use Rattle.trick_model.specs.Valid.{AreDeedsAmong, IsAssignment, IsCell, IsDeedAmong, cell_names, names_in}
 use Rattle.trick_model.specs.declared.event.Event.{Event}
 use Rattle.trick_model.specs.declared.group.Group.{Group}
@@ -190,15 +187,6 @@ pub some_more : (expected : Result (List Variable) DeclareFault) (result : Resul
     → (more : List Variable) × (new ≡ old ++ more)
 some_more expected (Ok done) old new h = (h.0, h.2)
 some_more expected (Err refused) old new h = ([], h.1 ∙ sym (append-nil old))
-
--- what a text declares, from what was read of it
-pub declares_in : (text : List ℕ) (declared : Option Declaration) (result : Result (Unit {0}) DeclareFault) (old new : Program) → Declares text declared
-    → Adds (added old.objects old.cells declared) result old.cells new.cells → DeclaresIn text result old new
-declares_in text declared (Ok done) old new says adds = (declared, says, adds)
-declares_in text declared (Err fault.BadDeclaration) old new says adds = (declared, says, adds)
-declares_in text declared (Err fault.Taken) old new says adds = (declared, says, adds)
-declares_in text declared (Err (fault.TooManyCells count)) old new says adds = (declared, says, adds)
-declares_in text declared (Err fault.OutOfMemory) old new says adds = adds.1
 
 -- what is kept of a program is kept of one with the same parts
 pub rest_of : (same old new : Program) → KeepsRest same new → same.items ≡ old.items → same.sizes ≡ old.sizes → same.objects ≡ old.objects → same.blocks ≡ old.blocks
