@@ -62,11 +62,7 @@ module _ (d : Draft) (declared : Declaration) (free : is_taken_in d.cells declar
   says_refused fault.OutOfMemory old new end same is = tt
   says_refused (fault.TooMany limit) old new end same is =
       says_too_many (many_is old same is.1) ∙ ap (λ (n : ℕ). Err (fault.TooMany n)) (sym is.0)
-  says_refused fault.UnknownName old new end same is = absurd is
-  says_refused fault.UnknownJob old new end same is = absurd is
-  says_refused fault.OutOfRange old new end same is = absurd is
-  says_refused fault.TwiceNamed old new end same is = absurd is
-  says_refused fault.BadAction old new end same is = absurd is
+  says_refused refused old new end same is = absurd is
 
 -- ---- cells
 

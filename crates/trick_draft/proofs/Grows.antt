@@ -9,7 +9,7 @@ use Rattle.trick_lang.specs.Tree.{Term}
 use Rattle.trick_model.specs.Names.{Names}
 use Rattle.trick_model.specs.Valid.{IsDeedAmong}
 use Rattle.trick_model.specs.declared.deed.Deed.{Deed}
-use Rattle.trick_model.specs.declared.deed.Deed.TheVariants.{SetCell, SetJob, Freeze, Stop, Checkpoint, SetGroup, SetEvent}
+use Rattle.trick_model.specs.declared.deed.Deed.TheVariants.{SetGroup, SetEvent}
 use Rattle.trick_model.specs.declared.read_at.ReadAt.{ReadAt}
 
 -- ---- groups and events
@@ -25,13 +25,9 @@ longer k names more lt = let size = length-append names more in omega (arith, lt
 
 added : (old : Names) (groups events : List (List ℕ)) (deed : Deed) → IsDeedAmong old deed
     → IsDeedAmong (record old { groups = old.groups ++ groups; events = old.events ++ events }) deed
-added old groups events (SetCell cell number) h = h
-added old groups events (SetJob job on) h = h
-added old groups events Freeze h = h
-added old groups events (Stop at) h = h
-added old groups events Checkpoint h = h
 added old groups events (SetGroup group on) h = longer group old.groups groups h
 added old groups events (SetEvent event on) h = longer event old.events events h
+added old groups events deed h = h
 
 pub among_added : (old new : Names) → HasAdded old new → (deed : Deed) → IsDeedAmong old deed → IsDeedAmong new deed
 among_added old new more deed h =

@@ -46,16 +46,13 @@ on_more make (Some k) p deed more h = ap (λ (q : Option ℕ). on_found make q) 
 added : (old : Names) (groups events : List (List ℕ)) (a : Action) (deed : Deed) → deed_of old a ≡ Some deed
     → deed_of (record old { groups = old.groups ++ groups; events = old.events ++ events }) a ≡ Some deed
 added old groups events (action.SetCell name number) deed h = h
-added old groups events (action.SetJob name instance on) deed h = h
-added old groups events action.Freeze deed h = h
-added old groups events (action.Stop at) deed h = h
-added old groups events action.Checkpoint deed h = h
 added old groups events (action.SetGroup name on) deed h =
     on_more (λ k. SetGroup k on) (find_name name old.groups) (find_name name (old.groups ++ groups)) deed
     (found_more name old.groups groups) h
 added old groups events (action.SetEvent name on) deed h =
     on_more (λ k. SetEvent k on) (find_name name old.events) (find_name name (old.events ++ events)) deed
     (found_more name old.events events) h
+added old groups events a deed h = h
 
 pub stays_added : (old new : Names) → HasAdded old new → (a : Action) (deed : Deed) → deed_of old a ≡ Some deed
     → deed_of new a ≡ Some deed
