@@ -80,11 +80,8 @@ module _ (exact : ConditionsAreExact) (one : OneCut) (text : List ℕ) where
   unread : (ts : List cut.Token) (f : Option FirstFault) (fault : BodyFault) → IsCut Command text ts f
       → fault ≢ faults.OutOfMemory → IsRead text (lexemes_of text ts) f (Err fault) → IsConditionOf text None
   unread ts f (faults.Text fault) is not read = fault_as ts f read.0 is read.1
-  unread ts f (faults.Expected line) is not read = refused_as ts f is read.0 read.2
-  unread ts f (faults.NotInProfile line) is not read = refused_as ts f is read.0 read.2
-  unread ts f (faults.LoopBound line) is not read = refused_as ts f is read.0 read.2
-  unread ts f (faults.LongList line limit) is not read = refused_as ts f is read.0 read.2
   unread ts f faults.OutOfMemory is not read = absurd (not refl)
+  unread ts f fault is not read = refused_as ts f is read.0 read.2
 
   abbrev failed : BodyFault → Result Expr BodyFault
   failed fault = Err fault
