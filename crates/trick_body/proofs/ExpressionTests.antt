@@ -34,9 +34,6 @@ module _ (text : List ℕ) (limit : ℕ) where
   nested_test Indexed (suc n) = rw (expression_from n (λ k. nested_test k n)) refl
   nested_test Chosen (suc n) = rw (expression_from n (λ k. nested_test k n)) refl
 
-  pub operand_test : (n : ℕ) → is_predictive number_of (operand text limit n) ≡ true
-  operand_test n = operand_from n (λ k. nested_test k n)
-
   pub or_test : (n : ℕ) → is_predictive number_of (or (operand text limit n)) ≡ true
   or_test n = or_from n (λ k. nested_test k n)
 

@@ -16,7 +16,7 @@ use Rattle.trick_grammar.specs.Larger.{Leaves}
 use Rattle.trick_grammar.specs.Reading.{Refused, read}
 use Rattle.trick_grammar.specs.Text.{IsExact, IsExactFront, read_all}
 use Rattle.trick_grammar.specs.declared.refusal.Refusal.{Refusal}
-use Rattle.trick_grammar.specs.declared.refusal.Refusal.TheVariants.{Expected, NotInProfile, TooLong, TooDeep, BadHeader, BadLoop, BadName, BadTime}
+use Rattle.trick_grammar.specs.declared.refusal.Refusal.TheVariants.{Expected}
 use Rattle.trick_lang.specs.Syntax.{expression_of, method_of}
 use Rattle.trick_lang.specs.declared.syntax.definition.Method.{Method}
 use Rattle.trick_lang.specs.declared.syntax.expression.Expr.{Expr}
@@ -42,13 +42,7 @@ Refusing text ts fault = (z : Refused Token) × IsExactFront number_of class_of 
 
 of_reason : (text : List ℕ) (ts : List Token) (from : ℕ) (k : Refusal) (line : ℕ) → Refusing text ts (fault_of k line) → IsBody text ts from (Err (fault_of k line))
 of_reason text ts from Expected line r = r
-of_reason text ts from NotInProfile line r = r
-of_reason text ts from TooLong line r = r
-of_reason text ts from TooDeep line r = r
-of_reason text ts from BadHeader line r = r
-of_reason text ts from BadLoop line r = r
-of_reason text ts from BadName line r = r
-of_reason text ts from BadTime line r = r
+of_reason text ts from k line r = r
 
 exact_method : (text : List ℕ) (ts : List Token) → IsExactFront number_of class_of spelled (method text) ts (read number_of class_of [] (method text) ts)
 exact_method text ts = exact_front number_of class_of spelled (λ symbol. refl) (method text) (method_test text list_limit method_levels) refl refl ts
@@ -70,13 +64,7 @@ NotRead text ts f fault = (z : Refused Token) × IsExact number_of class_of spel
 
 for_reason : (text : List ℕ) (ts : List Token) (f : Option FirstFault) (k : Refusal) (line : ℕ) → NotRead text ts f (fault_of k line) → IsRead text ts f (Err (fault_of k line))
 for_reason text ts f Expected line r = r
-for_reason text ts f NotInProfile line r = r
-for_reason text ts f TooLong line r = r
-for_reason text ts f TooDeep line r = r
-for_reason text ts f BadHeader line r = r
-for_reason text ts f BadLoop line r = r
-for_reason text ts f BadName line r = r
-for_reason text ts f BadTime line r = r
+for_reason text ts f k line r = r
 
 exact_condition : (text : List ℕ) (ts : List Token) → IsExact number_of class_of spelled (condition text) ts (read_all number_of class_of (condition text) ts)
 exact_condition text ts = exact number_of class_of spelled (λ symbol. refl) (condition text) (expression_test text list_limit nesting_limit) refl ts

@@ -1,5 +1,5 @@
 -- What is known of the tokens of a text as the grammar sees them, by their symbols.
-use Rattle.std.proofs.Common.{◌≡◌, ℕ, ◌-◌, Bool, true, false, not, ◌&&◌, List, [], ◌∷◌, map, drop, Result, Ok, Err, refl, sym, ◌∙◌, subst, arith, if◌then◌else◌}
+use Rattle.std.proofs.Common.{◌≡◌, ℕ, ◌-◌, Bool, true, false, not, ◌&&◌, List, [], ◌∷◌, drop, Result, Ok, Err, refl, sym, ◌∙◌, subst, arith, if◌then◌else◌}
 use Rattle.std.proofs.lemmas.Bool.{and_parts}
 use Rattle.std.proofs.lemmas.Slice.Eq.{bytes_eq-Decides}
 use Rattle.std.specs.List.{list_all, list_any}
@@ -56,18 +56,9 @@ pub if_both : (p : Symbol → Bool) (b : Bool) (x y : Symbol) → p x ≡ true �
 if_both p true x y px py = px
 if_both p false x y px py = py
 
--- the symbols of each kind
+-- the symbols of a name with a number
 abbrev number_names : List Symbol
 number_names = the.Thread ∷ the.OtherThread ∷ the.Phase ∷ the.OtherPhase ∷ the.Name ∷ []
-
-abbrev row_symbols : List (List ℕ × Symbol) → List Symbol
-row_symbols rows = map (λ row. row.1) rows
-
-abbrev whole_symbols : List Symbol
-whole_symbols = the.Zero ∷ the.One ∷ the.LongZero ∷ the.Small ∷ the.Large ∷ the.Huge ∷ []
-
-abbrev decimal_symbols : List Symbol
-decimal_symbols = the.BadDecimal ∷ the.DecimalZero ∷ the.Decimal ∷ []
 
 pub numbered_passes : (p : Symbol → Bool) (limit : ℕ) (within beyond : Symbol) (digits : List ℕ)
     → p within ≡ true → p beyond ≡ true → p the.Name ≡ true → p (numbered limit within beyond digits) ≡ true
