@@ -216,12 +216,8 @@ objects_are done [] = refl
 objects_are done (g ∷ gs) = ap (λ cs. under g.0 (global_cells done g.1) ++ cs) (objects_are done gs)
 
 global_good : (done : List (List Variable)) (g : Global) → AreAllGood done → AreGood (global_cells done g)
-global_good done the.Enum all = (refl, refl)
-global_good done (the.Struct k) all = (refl, refl)
-global_good done (the.Class k) all = (refl, refl)
-global_good done (the.Item value) all = (refl, refl)
-global_good done (the.Object (Single scalar)) all = (refl, refl)
 global_good done (the.Object (Group k)) all = all k
+global_good done g all = (refl, refl)
 
 -- names of the file may stand for anything
 abbrev pub for_all : Global → Bool

@@ -20,7 +20,7 @@ use Rattle.trick_names.specs.FileMistakes.{mistakes}
 use Rattle.trick_names.specs.Mistakes.{fault_of}
 use Rattle.trick_names.specs.Names.{Names}
 use Rattle.trick_names.specs.Tables.{tables_of}
-use Rattle.trick_names.specs.declared.tables.Base.TheVariants.{Single, Group}
+use Rattle.trick_names.specs.declared.tables.Base.TheVariants.{Group}
 use Rattle.trick_names.specs.declared.tables.Global.{Global}
 use Rattle.trick_names.specs.declared.tables.Global.TheVariants as the
 use Rattle.trick_check.proofs.Unlike.{apart_append, are_unlike, is_plain, unlike}
@@ -186,12 +186,8 @@ module _ (objects : List Object) (methods : List Method) where
 row_apart : (first : ℕ) (name : Name) (g : Global) (os : List Object) → are_apart of_one_object_name os ≡ true
     → list_all (λ p. not (bytes_eq name p.name)) os ≡ true
     → are_apart of_one_object_name (object_row first name g ++ os) ≡ true
-row_apart first name the.Enum os apart others = apart
-row_apart first name (the.Struct k) os apart others = apart
-row_apart first name (the.Class k) os apart others = apart
-row_apart first name (the.Item value) os apart others = apart
-row_apart first name (the.Object (Single scalar)) os apart others = apart
 row_apart first name (the.Object (Group k)) os apart others = rw (others, apart) refl
+row_apart first name g os apart others = apart
 
 objects_apart : (sizes : List ℕ) (first : ℕ) (names : Names Global) → are_apart of_same_name names ≡ true
     → are_apart of_one_object_name (object_rows sizes first names) ≡ true

@@ -7,7 +7,7 @@ use Rattle.trick_lang.specs.SyntaxTree as tree
 use Rattle.trick_lang.specs.SyntaxTree.{Definition, JobLine, Part, SDefine}
 use Rattle.trick_lang.specs.Valid as valid
 use Rattle.trick_lang.specs.declared.class.Class.{Class}
-use Rattle.trick_lang.specs.declared.class.Class.TheVariants.{DefaultData, Initialization, Scheduled, TopOfFrame, EndOfFrame, Freeze, Unfreeze, Checkpoint, Restart, Shutdown}
+use Rattle.trick_lang.specs.declared.class.Class.TheVariants.{Scheduled}
 use Rattle.trick_lang.specs.declared.job.Job.{Job}
 use Rattle.trick_lang.specs.declared.object.Object.{Object}
 use Rattle.trick_names.specs.Names.{Names}
@@ -80,15 +80,7 @@ module _ (q : JobLine → Bool) where
 same_times : (class : Class) (object : ℕ) (numbers : Names ℕ) (before : List JobLine) (line : JobLine)
     → has_right_times class line ≡ true → valid.has_right_times class (job_of object numbers before line) ≡ true
 same_times Scheduled object numbers before line h = h
-same_times DefaultData object numbers before line h = h
-same_times Initialization object numbers before line h = h
-same_times TopOfFrame object numbers before line h = h
-same_times EndOfFrame object numbers before line h = h
-same_times Freeze object numbers before line h = h
-same_times Unfreeze object numbers before line h = h
-same_times Checkpoint object numbers before line h = h
-same_times Restart object numbers before line h = h
-same_times Shutdown object numbers before line h = h
+same_times class object numbers before line h = h
 
 pub line_times : (object : ℕ) (numbers : Names ℕ) (before : List JobLine) (line : JobLine)
     → has_right_times line.class line ≡ true

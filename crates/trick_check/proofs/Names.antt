@@ -17,7 +17,7 @@ use Rattle.trick_lang.specs.declared.method.Method.{Method}
 use Rattle.trick_lang.specs.declared.object.Object.{Object}
 use Rattle.trick_names.specs.Names.{Names}
 use Rattle.trick_names.specs.Tables.{tables_of}
-use Rattle.trick_names.specs.declared.tables.Base.TheVariants.{Single, Group}
+use Rattle.trick_names.specs.declared.tables.Base.TheVariants.{Group}
 use Rattle.trick_names.specs.declared.tables.Global.{Global}
 use Rattle.trick_names.specs.declared.tables.Global.TheVariants as the
 
@@ -26,12 +26,8 @@ use Rattle.trick_names.specs.declared.tables.Global.TheVariants as the
 module _ (p : Name → Bool) where
   row_passes : (first : ℕ) (name : Name) (g : Global) → p name ≡ true
       → list_all (λ object. p object.name) (object_row first name g) ≡ true
-  row_passes first name the.Enum h = refl
-  row_passes first name (the.Struct k) h = refl
-  row_passes first name (the.Class k) h = refl
-  row_passes first name (the.Item value) h = refl
-  row_passes first name (the.Object (Single scalar)) h = refl
   row_passes first name (the.Object (Group k)) h = rw h refl
+  row_passes first name g h = refl
 
   -- what each name passes, the name of each object passes
   pub objects_pass : (sizes : List ℕ) (first : ℕ) (names : Names Global) → list_all (λ known. p known.0) names ≡ true

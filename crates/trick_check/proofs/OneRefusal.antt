@@ -40,14 +40,11 @@ Passes ds (suc (suc (suc zero))) = CellsAreRight ds
 Passes ds (suc (suc (suc (suc n)))) = JobsAreRight ds
 
 passes_before : (ds : SDefine) (a : CheckFault) → IsRefused ds a → Passes ds (kind a)
-passes_before ds (Twice name) h = tt
-passes_before ds (Unknown line) h = tt
-passes_before ds (NotScalar line) h = tt
 passes_before ds (Recursive method) h = h.0
 passes_before ds (TooManyCells count) h = h.0
 passes_before ds (TooManyJobs count) h = h.0
 passes_before ds (TooManySteps job instance) h = h.0
-passes_before ds OutOfMemory h = tt
+passes_before ds a h = tt
 
 one_less : (ds : SDefine) (n : ℕ) → Passes ds (suc n) → Passes ds n
 one_less ds zero p = tt
@@ -62,24 +59,16 @@ fewer ds n (suc more) p = let e : suc more + n ≡ suc (more + n) = omega arith 
 
 -- but it has one of the kind of its refusal
 fails_then : (ds : SDefine) (a : CheckFault) → a ≢ OutOfMemory → IsRefused ds a → kind a < 4 → Passes ds (suc (kind a)) → ⊥
-fails_then ds (Twice name) some h low p = cc (h, p)
-fails_then ds (Unknown line) some h low p = cc (h, p)
-fails_then ds (NotScalar line) some h low p = cc (h, p)
 fails_then ds (Recursive method) some h low p = not_recursive ds method p.1 h.1
 fails_then ds (TooManyCells count) some h low p = omega (arith, h.1, p.1)
 fails_then ds (TooManyJobs count) some h low p = omega (arith, h.1, p.1)
 fails_then ds (TooManySteps job instance) some h low p = omega (arith, low)
 fails_then ds OutOfMemory some h low p = some refl
+fails_then ds a some h low p = cc (h, p)
 
 kind_low : (a : CheckFault) → kind a ≤ 4
 kind_low (Twice name) = omega arith
-kind_low (Unknown line) = omega arith
-kind_low (NotScalar line) = omega arith
-kind_low (Recursive method) = omega arith
-kind_low (TooManyCells count) = omega arith
-kind_low (TooManyJobs count) = omega arith
-kind_low (TooManySteps job instance) = omega arith
-kind_low OutOfMemory = omega arith
+kind_low a = omega arith
 
 not_before : (ds : SDefine) (a b : CheckFault) → a ≢ OutOfMemory → IsRefused ds a → IsRefused ds b → kind a < kind b → ⊥
 not_before ds a b some h k less =
@@ -125,13 +114,7 @@ refusal (suc (suc (suc (suc n)))) mistake name number = TooManySteps name number
 
 is_refusal : (a : CheckFault) → a ≡ refusal (kind a) (mistake_in a) (name_in a) (number_in a)
 is_refusal (Twice name) = refl
-is_refusal (Unknown line) = refl
-is_refusal (NotScalar line) = refl
-is_refusal (Recursive method) = refl
-is_refusal (TooManyCells count) = refl
-is_refusal (TooManyJobs count) = refl
-is_refusal (TooManySteps job instance) = refl
-is_refusal OutOfMemory = refl
+is_refusal a = refl
 
 abbrev Tells : SDefine → ℕ → Option NameFault → Name → ℕ → Type 0
 Tells ds zero mistake name number = fault_of (mistakes ds) ≡ mistake
@@ -141,14 +124,12 @@ Tells ds (suc (suc (suc zero))) mistake name number = number ≡ capped (jobs_in
 Tells ds (suc (suc (suc (suc n)))) mistake name number = HasLongJob ds name number
 
 tells : (ds : SDefine) (a : CheckFault) → a ≢ OutOfMemory → IsRefused ds a → Tells ds (kind a) (mistake_in a) (name_in a) (number_in a)
-tells ds (Twice name) some h = h
-tells ds (Unknown line) some h = h
-tells ds (NotScalar line) some h = h
 tells ds (Recursive method) some h = h.1
 tells ds (TooManyCells count) some h = h.2
 tells ds (TooManyJobs count) some h = h.2
 tells ds (TooManySteps job instance) some h = h.1
 tells ds OutOfMemory some h = absurd (some refl)
+tells ds a some h = h
 
 -- ---- that is one
 

@@ -16,7 +16,7 @@ use Rattle.trick_lang.specs.Valid.{object_stands, objects_stand}
 use Rattle.trick_lang.specs.declared.job.Job.{Job}
 use Rattle.trick_lang.specs.declared.object.Object.{Object}
 use Rattle.trick_names.specs.Names.{Names}
-use Rattle.trick_names.specs.declared.tables.Base.TheVariants.{Single, Group}
+use Rattle.trick_names.specs.declared.tables.Base.TheVariants.{Group}
 use Rattle.trick_names.specs.declared.tables.Global.{Global}
 use Rattle.trick_names.specs.declared.tables.Global.TheVariants as the
 
@@ -32,12 +32,9 @@ taken_less (n ∷ ns) (suc k) = taken_less ns k
 
 one_fits : (sizes : List ℕ) (first : ℕ) (name : Name) (g : Global) (cells : ℕ) → first + global_count sizes g ≤ cells → list_all (object_stands cells (taken sizes)) (object_row first name g) ≡ true
 one_fits sizes first name the.Enum cells h = refl
-one_fits sizes first name (the.Struct k) cells h = refl
-one_fits sizes first name (the.Class k) cells h = refl
-one_fits sizes first name (the.Item value) cells h = refl
-one_fits sizes first name (the.Object (Single scalar)) cells h = refl
 one_fits sizes first name (the.Object (Group k)) cells h =
     and_from (nat_le (first + get_or (taken sizes) k 0) cells) true (le-leb (first + get_or (taken sizes) k 0) cells (omega (arith, h, taken_less sizes k))) refl
+one_fits sizes first name g cells h = refl
 
 all_fit : (sizes : List ℕ) (first : ℕ) (gs : Names Global) (cells : ℕ) → first + names_count sizes gs ≤ cells → cells ≤ 65536 → list_all (object_stands cells (taken sizes)) (object_rows sizes first gs) ≡ true
 all_fit sizes first [] cells h low = refl

@@ -81,12 +81,8 @@ groups_plain (g ∷ gs) done all h =
     groups_plain gs (done ++ members_cells done g ∷ []) (last_plain done (members_cells done g) all (members_plain done g all both.0)) both.1
 
 global_plain : (done : List (List Variable)) (g : Global) → AllPlain done → are_plain_cells (global_cells done g) ≡ true
-global_plain done the.Enum all = refl
-global_plain done (the.Struct k) all = refl
-global_plain done (the.Class k) all = refl
-global_plain done (the.Item value) all = refl
-global_plain done (the.Object (Single scalar)) all = refl
 global_plain done (the.Object (Group k)) all = all k
+global_plain done g all = refl
 
 objects_plain : (done : List (List Variable)) (names : Names Global) → AllPlain done → all_pass is_plain names ≡ true
     → are_plain_cells (objects_cells done names) ≡ true

@@ -4,7 +4,7 @@ use Rattle.trick_bodies.specs.Classes.{Made}
 use Rattle.trick_check.specs.Refused.{HasLongJob, IsLongJob, IsRefused, IsStepFault, JobsAreRight, check_fault}
 use Rattle.trick_check.specs.Walk.{all_made, jobs_named, objects_of}
 use Rattle.trick_check.specs.declared.fault.CheckFault.{CheckFault}
-use Rattle.trick_check.specs.declared.fault.CheckFault.TheVariants.{Twice, Unknown, NotScalar, Recursive, TooManyCells, TooManyJobs, TooManySteps, OutOfMemory}
+use Rattle.trick_check.specs.declared.fault.CheckFault.TheVariants.{TooManySteps, OutOfMemory}
 use Rattle.trick_lang.specs.SyntaxTree.{Name, SDefine}
 use Rattle.trick_lang.specs.declared.job.Job.{Job}
 use Rattle.trick_lang.specs.declared.object.Object.{Object}
@@ -29,9 +29,4 @@ pub long_refused : (ds : SDefine) (m : Made) (objects : List Object) (jobs : Lis
 long_refused ds m objects jobs (TooManySteps job instance) right is_made are_objects are_jobs h =
     (right, long_job ds m objects jobs job instance is_made are_objects are_jobs h)
 long_refused ds m objects jobs OutOfMemory right is_made are_objects are_jobs h = tt
-long_refused ds m objects jobs (Twice name) right is_made are_objects are_jobs h = absurd h
-long_refused ds m objects jobs (Unknown line) right is_made are_objects are_jobs h = absurd h
-long_refused ds m objects jobs (NotScalar line) right is_made are_objects are_jobs h = absurd h
-long_refused ds m objects jobs (Recursive method) right is_made are_objects are_jobs h = absurd h
-long_refused ds m objects jobs (TooManyCells count) right is_made are_objects are_jobs h = absurd h
-long_refused ds m objects jobs (TooManyJobs count) right is_made are_objects are_jobs h = absurd h
+long_refused ds m objects jobs fault right is_made are_objects are_jobs h = absurd h

@@ -151,11 +151,8 @@ module _ (p : Name → Bool) where
       (class_named class blocks rest both.1)
 
   parts_right : (d : Definition) → definition_passes named d ≡ true → list_all (part_passes named) (parts_in d) ≡ true
-  parts_right tree.Include h = refl
-  parts_right (tree.Enum name items) h = refl
-  parts_right (tree.Struct name members) h = refl
   parts_right (tree.ClassOf name parts) h = (and_parts (p name) _ h).1
-  parts_right (tree.Object line class name) h = refl
+  parts_right d h = refl
 
   parts_at_right : (ds : SDefine) (class : ℕ) → list_all (definition_passes named) ds ≡ true
       → list_all (part_passes named) (parts_at ds class) ≡ true

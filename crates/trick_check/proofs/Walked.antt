@@ -1,8 +1,8 @@
 -- Classes that are made keep where the variables lie.
-use Rattle.std.proofs.Common.{◌≡◌, ℕ, zero, suc, ◌≤◌, Bool, true, false, nat_le, if◌then◌else◌, List, [], ◌∷◌, Option, Some, None, slice_get, refl, ap, ◌∙◌, arith}
+use Rattle.std.proofs.Common.{◌≡◌, ℕ, zero, suc, ◌≤◌, Bool, true, false, nat_le, if◌then◌else◌, List, [], ◌∷◌, Option, Some, slice_get, refl, ap, ◌∙◌, arith}
 use Rattle.std.proofs.lemmas.Bool.{leb-true}
 use Rattle.trick_blocks.specs.Methods.{Progress, progress, with_part, with_parts}
-use Rattle.trick_bodies.specs.Classes.{AreWhole, Made, with_class}
+use Rattle.trick_bodies.specs.Classes.{Made, with_class}
 use Rattle.trick_cells.specs.Tables.{taken}
 use Rattle.trick_check.specs.Parts.{order_at, parts_at}
 use Rattle.trick_check.specs.Walk.{SizesFit, file_layout, has_object, made_of_first, with_class_if}
@@ -12,11 +12,8 @@ use Rattle.trick_lang.specs.declared.object.Object.{Object}
 use Rattle.trick_layout.specs.Laid.{size_at}
 
 part_layout : (o : Option tree.Part) (p : Progress) → (with_part o p).world.layout ≡ p.world.layout
-part_layout None p = refl
 part_layout (Some tree.Public) p = refl
-part_layout (Some (tree.HasMembers m)) p = refl
-part_layout (Some (tree.HasMethod m)) p = refl
-part_layout (Some (tree.Constructor line name jobs)) p = refl
+part_layout o p = refl
 
 parts_layout : (order : List ℕ) (parts : List tree.Part) (p : Progress) → (with_parts order parts p).world.layout ≡ p.world.layout
 parts_layout [] parts p = refl
@@ -41,10 +38,6 @@ taken_small (n ∷ ns) (suc k) = taken_small ns k
 
 pub sizes_fit : (ds : SDefine) → SizesFit (file_layout ds)
 sizes_fit ds class = taken_small _ class
-
--- a definition of which nothing is made
-pub passed_whole : (class : ℕ) (order : List ℕ) (parts : List tree.Part) (m : Made) → AreWhole m → AreWhole (with_class_if false class order parts m)
-passed_whole class order parts m w = record { keeps = w.keeps; kept = w.kept }
 
 pub class_made : (number class : ℕ) (order order' : List ℕ) (parts parts' : List tree.Part) (m n : Made) → number ≡ class → order ≡ order' → parts ≡ parts' → n ≡ with_class number order parts m → n ≡ with_class_if true class order' parts' m
 class_made number class order order' parts parts' m n k o p h =
