@@ -74,11 +74,8 @@ both text us a b n p q h =
 
 -- what is refused by a fault is so elsewhere too, where the one refusal is the other
 pub carried : {A B : Type 0} (r : Result A InputFault) (s : Result B InputFault) (f : InputFault) → Refuses r f → ((g : InputFault) → r ≡ Err g → s ≡ Err g) → Refuses s f
-carried r s (faults.Text f) h go = go _ h
-carried r s (faults.Expected n) h go = go _ h
-carried r s (faults.NotInProfile n) h go = go _ h
-carried r s (faults.BadLiteral n) h go = go _ h
 carried r s faults.OutOfMemory h go = tt
+carried r s f h go = go _ h
 
 module _ (text : List ℕ) (cut : Option FirstFault) where
   pub refused_here : (found : List Call) (us l more : List Token) (total : Calls) (f : InputFault) → lines us ≡ l ∷ lines more
@@ -106,11 +103,8 @@ all_read text ts (Some fault) is = all_are style.Input text 0 fault.start ts is.
 -- ---- one line
 
 pub refuses : {A : Type 0} (r : Result A InputFault) (f : InputFault) → r ≡ Err f → Refuses r f
-refuses r (faults.Text f) h = h
-refuses r (faults.Expected n) h = h
-refuses r (faults.NotInProfile n) h = h
-refuses r (faults.BadLiteral n) h = h
 refuses r faults.OutOfMemory h = tt
+refuses r f h = h
 
 pub call_is : (text : List ℕ) (ts : List Token) (ls : List Lexeme) (r : Row) (f : Form) (n : ℕ) → ls ≡ line_of_words text false ts → outcome_of (classes ls) ≡ Ok r → f ≡ form_of r ls → n ≡ line_of ts
     → call_of text ts ≡ Ok (record { form = f; line = n })

@@ -85,15 +85,7 @@ sample Recording = the.Always
 
 sample_fits : (s : Sort) → fits s (sample s) ≡ true
 sample_fits (Is v) = equal_to_itself (number_of v)
-sample_fits Head = refl
-sample_fits Variable = refl
-sample_fits Name = refl
-sample_fits Number = refl
-sample_fits Time = refl
-sample_fits Literal = refl
-sample_fits Quoted = refl
-sample_fits Process = refl
-sample_fits Recording = refl
+sample_fits s = refl
 
 -- each form has a line
 pub some_line : (f : List Piece) → (ws : List Class) × HasForm f ws

@@ -19,10 +19,6 @@ pub record Furthest (rs : List Row) (ws : List Class) (p q : Place) : Type 0 whe
   some : (q.left ≡ p.left) ⊎ ((r : Row) × (d : Bool) × IsRow rs r × (walk (pieces r) ws ≡ stands q.left d))
   due : q.due ≡ true → ((q.left ≡ p.left) × (p.due ≡ true)) ⊎ ((r : Row) × IsRow rs r × (walk (pieces r) ws ≡ stands q.left true))
 
-abbrev pub Summary : List Row → List Class → Place → Result Row Place → Type 0
-Summary rs ws p (Ok r) = IsRow rs r × (walk (pieces r) ws ≡ arrived)
-Summary rs ws p (Err q) = Furthest rs ws p q
-
 -- one step: the nearer of two places is no matter
 record Nearer (p : Place) (l : ℕ) (d : Bool) (m : Place) : Type 0 where
   before : m.left ≤ p.left
