@@ -8,10 +8,6 @@ pub noted_both : (ms ns : List Mistake) (f : Found) → noted (ms ++ ns) f ≡ n
 noted_both [] ns f = refl
 noted_both (m ∷ ms) ns f = noted_both ms ns (note m f)
 
--- what is noted first, and then what is noted of the rest
-pub noted_then : (ms ns : List Mistake) (f g h : Found) → g ≡ noted ms f → h ≡ noted ns g → h ≡ noted (ms ++ ns) f
-noted_then ms ns f g h first next = next ∙ ap (noted ns) first ∙ sym (noted_both ms ns f)
-
 -- what was to be noted of a list and its rest is what is to be noted of the rest
 pub noted_next : (ms ns : List Mistake) (g h all : Found) → noted (ms ++ ns) g ≡ all → h ≡ noted ms g → noted ns h ≡ all
 noted_next ms ns g h all told here = ap (noted ns) here ∙ sym (noted_both ms ns g) ∙ told

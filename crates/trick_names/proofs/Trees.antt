@@ -4,7 +4,7 @@ use Rattle.std.proofs.lemmas.List.{append-nil, append_assoc}
 use Rattle.trick_base.proofs.ListLemmas.{next_item}
 use Rattle.trick_lang.specs.Syntax.{branches_of_list, choices_of_list, expression_of, links_of_list, parts_of_list, statement_of, statements_of_list}
 use Rattle.trick_lang.specs.SyntaxTree
-use Rattle.trick_lang.specs.SyntaxTree.{Expression, Branches, Parts, Statement, Statements, NoStatement, Then, Empty, Block, Declare, Assign, If, For, Call, NoPart, Name}
+use Rattle.trick_lang.specs.SyntaxTree.{Expression, Branches, Parts, Statement, Statements, NoStatement, Then, Declare, NoPart, Name}
 use Rattle.trick_lang.specs.declared.syntax.expression.Choice.{Choice}
 use Rattle.trick_lang.specs.declared.syntax.expression.Link.{Link}
 use Rattle.trick_lang.specs.declared.syntax.expression.Part.{Part, Member, Index}
@@ -67,13 +67,8 @@ pub declared_begins : (name : Name) (x : Local) (locals : Names Local) → Begin
 declared_begins name x locals = by_test (is_some (meaning_of name locals)) locals ((name, x) ∷ [])
 
 pub after_begins : (s : Statement) (locals : Names Local) → Begins locals (after s locals)
-after_begins Empty locals = ([], sym (append-nil locals))
-after_begins (Block all) locals = ([], sym (append-nil locals))
 after_begins (Declare line written name value) locals = declared_begins name _ locals
-after_begins (Assign line p change) locals = ([], sym (append-nil locals))
-after_begins (If branches) locals = ([], sym (append-nil locals))
-after_begins (For name from bound body) locals = ([], sym (append-nil locals))
-after_begins (Call line name) locals = ([], sym (append-nil locals))
+after_begins s locals = ([], sym (append-nil locals))
 
 pub begins_then : (a b c : Names Local) → Begins a b → Begins b c → Begins a c
 begins_then a b c p q = (p.0 ++ q.0, q.1 ∙ (ap (λ xs. xs ++ q.0) p.1 ∙ append_assoc a p.0 q.0))
