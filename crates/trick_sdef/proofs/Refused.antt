@@ -1,5 +1,5 @@
 -- The answers of the reader, from what reading gives.
-use Rattle.std.proofs.Common.{◌≡◌, ◌≢◌, ◌⊎◌, ℕ, ◌-◌, List, [], ◌∷◌, ◌++◌, ◌<◌, ◌≤◌, All, length, take, map, slice_get, Option, Some, None, Result, Ok, Err, refl, sym, ap, ◌∙◌, subst, arith, inl, inr, length-append}
+use Rattle.std.proofs.Common.{◌≡◌, ◌≢◌, ◌⊎◌, ℕ, ◌-◌, List, [], ◌∷◌, ◌++◌, ◌<◌, ◌≤◌, All, length, take, map, slice_get, Option, Some, None, Result, Ok, Err, refl, sym, ap, ◌∙◌, subst, arith, length-append}
 use Rattle.std.proofs.Math.Seq.{take-append_seam}
 use Rattle.trick_body.specs.Lexemes.{lexemes_of}
 use Rattle.trick_body.specs.Limits.{list_limit, method_levels}
@@ -10,9 +10,9 @@ use Rattle.trick_grammar.proofs.Exact.{exact}
 use Rattle.trick_grammar.specs.Cut.{at_token, IsFirst}
 use Rattle.trick_grammar.specs.Gives.{class_of}
 use Rattle.trick_grammar.specs.Reading.{Refused}
-use Rattle.trick_grammar.specs.Text.{IsExact, read_all}
+use Rattle.trick_grammar.specs.Text.{read_all}
 use Rattle.trick_grammar.specs.declared.refusal.Refusal.{Refusal}
-use Rattle.trick_grammar.specs.declared.refusal.Refusal.TheVariants.{Expected, NotInProfile, TooLong, TooDeep, BadHeader, BadLoop, BadName, BadTime}
+use Rattle.trick_grammar.specs.declared.refusal.Refusal.TheVariants.{BadTime}
 use Rattle.trick_lang.specs.SDefineOf.{sdefine_of}
 use Rattle.trick_lang.specs.Syntax.{definition_of, definitions_of}
 use Rattle.trick_lang.specs.declared.syntax.definition.Definition.{Definition}
@@ -29,7 +29,7 @@ use Rattle.trick_text.specs.declared.fault.FirstFault.{FirstFault}
 use Rattle.trick_text.specs.declared.fault.TimeFault.{TimeFault}
 use Rattle.trick_text.specs.declared.token.Token as cut
 use Rattle.trick_text.specs.declared.token.TokenKind.{TokenKind}
-use Rattle.trick_text.specs.declared.token.TokenKind.TheVariants.{Name, Whole, Decimal, Text, Mark}
+use Rattle.trick_text.specs.declared.token.TokenKind.TheVariants.{Whole, Decimal}
 
 -- what stands before the rest
 front_is : {A : Type 0} (ts front rest : List A) → ts ≡ front ++ rest → take (length ts - length rest) ts ≡ front
@@ -73,25 +73,17 @@ module _ (text : List ℕ) (ts : List cut.Token) where
     time_reason line (Err fault) r = r
 
     number_reason : (kind : TokenKind) (line : ℕ) (q : List ℕ) → NotRead (number_told kind line q) → IsRead text ts f (Err (number_told kind line q))
-    number_reason Name line q r = r
     number_reason Whole line q r = time_reason line _ r
     number_reason Decimal line q r = time_reason line _ r
-    number_reason Text line q r = r
-    number_reason Mark line q r = r
+    number_reason kind line q r = r
 
     bad_reason : (t : Option cut.Token) → NotRead (bad_time text t) → IsRead text ts f (Err (bad_time text t))
     bad_reason None r = r
     bad_reason (Some t) r = number_reason t.kind t.line (spelling text t) r
 
     for_reason : (k : Refusal) (line : ℕ) (t : Option cut.Token) → NotRead (fault_of k line (bad_time text t)) → IsRead text ts f (Err (fault_of k line (bad_time text t)))
-    for_reason Expected line t r = r
-    for_reason NotInProfile line t r = r
-    for_reason TooLong line t r = r
-    for_reason TooDeep line t r = r
-    for_reason BadHeader line t r = r
-    for_reason BadLoop line t r = r
-    for_reason BadName line t r = r
     for_reason BadTime line t r = bad_reason t r
+    for_reason k line t r = r
 
     pub file_refused : (z : Refused Token) (fault : SdefFault) → read_all number_of class_of (file text) lexed ≡ Err z → ((f ≡ None) ⊎ (z.rest ≢ [])) → fault ≡ told_behind text ts (take (length lexed - length z.rest) lexed) z → IsRead text ts f (Err fault)
     file_refused z fault e at is =
