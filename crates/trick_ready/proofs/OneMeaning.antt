@@ -41,13 +41,7 @@ use Rattle.trick_settings.specs.Settings.{settings_in}
 said : (p : Program) (calls : List Call) (fault : JoinFault) → IsPlan p calls (Err fault)
     → (fault ≡ join.OutOfMemory → ⊥) → AreAnswered p calls (Err fault)
 said p calls join.OutOfMemory is other = absurd (other refl)
-said p calls (join.Time time) is other = is
-said p calls (join.UnknownName line) is other = is
-said p calls (join.UnknownJob line) is other = is
-said p calls (join.OutOfRange line) is other = is
-said p calls (join.TwiceNamed line) is other = is
-said p calls (join.BadAction line) is other = is
-said p calls (join.TooMany line limit) is other = is
+said p calls fault is other = is
 
 ok_or_err : (d : Draft) (fault : JoinFault) (a b : Result Draft JoinFault) → a ≡ Ok d → b ≡ Err fault → a ≡ b → ⊥
 ok_or_err d fault a b x y z = cc (x, y, z)

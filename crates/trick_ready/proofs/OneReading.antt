@@ -20,22 +20,16 @@ use Rattle.trick_text.specs.declared.token.Token.{Token}
 -- a refusal but a want of memory
 refuses_by : (reading : Calls) (fault : InputFault) → (fault ≡ faults.OutOfMemory → ⊥) → Refuses reading fault
     → reading ≡ Err fault
-refuses_by reading (faults.Text f) known refuses = refuses
-refuses_by reading (faults.Expected n) known refuses = refuses
-refuses_by reading (faults.NotInProfile n) known refuses = refuses
-refuses_by reading (faults.BadLiteral n) known refuses = refuses
 refuses_by reading faults.OutOfMemory known refuses = absurd (known refl)
+refuses_by reading fault known refuses = refuses
 
 not_both : (reading : Calls) (calls : List Call) (fault : InputFault) → reading ≡ Ok calls → reading ≡ Err fault → ⊥
 not_both reading calls fault a b = cc (a, b)
 
 read_or_refused : (reading : Calls) (calls : List Call) (fault : InputFault) → reading ≡ Ok calls
     → Refuses reading fault → fault ≡ faults.OutOfMemory
-read_or_refused reading calls (faults.Text f) read refuses = absurd (not_both reading calls _ read refuses)
-read_or_refused reading calls (faults.Expected n) read refuses = absurd (not_both reading calls _ read refuses)
-read_or_refused reading calls (faults.NotInProfile n) read refuses = absurd (not_both reading calls _ read refuses)
-read_or_refused reading calls (faults.BadLiteral n) read refuses = absurd (not_both reading calls _ read refuses)
 read_or_refused reading calls faults.OutOfMemory read refuses = refl
+read_or_refused reading calls fault read refuses = absurd (not_both reading calls _ read refuses)
 
 same_lines : (reading : Calls) (calls other : List Call) → reading ≡ Ok calls → reading ≡ Ok other → calls ≡ other
 same_lines reading calls other a b = cc (a, b)
@@ -58,11 +52,6 @@ of_memory fault is = subst (λ f. fault_of_text f ≡ faults.OutOfMemory) (sym i
 known_text : (fault : TextFault) (told : InputFault) → told ≡ fault_of_text fault → (told ≡ faults.OutOfMemory → ⊥)
     → fault ≡ texts.OutOfMemory → ⊥
 known_text fault told same known is = let e = of_memory fault is in known (cc (same, e))
-
--- How a text is answered: by its lines, or by a fault of the whole.
-abbrev ByLines : List ℕ → Result (Vec Call Global) InputFault → Type 0
-ByLines text answer = (ts : List Token) × (f : Option FirstFault) × IsCut style.Input text ts f
-    × Answers (calls_of text f (lines ts)) answer
 
 module _ (text : List ℕ) where
   -- two answers by lines are of one reading

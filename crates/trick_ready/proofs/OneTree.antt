@@ -43,12 +43,8 @@ module _ (text : List ℕ) (ts : List cut.Token) (f : Option FirstFault) where
   unfolding AtToken AtFault
   kind_of (faults.Text fault) known is =
       let e = is.2 in inr (is.0, is.1, cc e, is.3)
-  kind_of (faults.Expected line) known is = inl is
-  kind_of (faults.NotInProfile line) known is = inl is
-  kind_of (faults.LoopBound line) known is = inl is
-  kind_of (faults.LongList line limit) known is = inl is
-  kind_of (faults.Time fault) known is = inl is
   kind_of faults.OutOfMemory known is = absurd (known refl)
+  kind_of fault known is = inl is
 
   no_fault : (first : FirstFault) → f ≡ None → f ≡ Some first → ⊥
   no_fault first none some = cc (none, some)
@@ -137,13 +133,8 @@ known_text : (fault : TextFault) (told : SdefFault) → told ≡ fault_of_text f
 known_text fault told same known is = let e = of_memory fault is in known (cc (same, e))
 
 or_memory : (fault : SdefFault) → (fault ≡ faults.OutOfMemory) ⊎ (fault ≡ faults.OutOfMemory → ⊥)
-or_memory (faults.Text fault) = inr (λ e. cc e)
-or_memory (faults.Expected line) = inr (λ e. cc e)
-or_memory (faults.NotInProfile line) = inr (λ e. cc e)
-or_memory (faults.LoopBound line) = inr (λ e. cc e)
-or_memory (faults.LongList line limit) = inr (λ e. cc e)
-or_memory (faults.Time fault) = inr (λ e. cc e)
 or_memory faults.OutOfMemory = inl refl
+or_memory fault = inr (λ e. cc e)
 
 module _ (text : List ℕ) where
   other_cut : (answer : Result SDefine SdefFault) (ts us : List cut.Token) (f g : Option FirstFault)
