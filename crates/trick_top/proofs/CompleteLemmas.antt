@@ -22,7 +22,6 @@ use Rattle.trick_top.specs.Outcome.{not_read, not_understood, plan_refused, text
 use Rattle.trick_top.specs.Runs.{IsFitting, IsJournalFor, IsWholeRun, IsWholeUnder}
 use Rattle.trick_top.specs.Sources.{Sources, generated_sources}
 use Rattle.trick_top.specs.Status.{AreAccepted, AreRefusedTexts, IsFittingIn, IsMisfitIn, for_checkpoint, for_journal, for_text}
-use Rattle.trick_top.specs.Verdict.{Accepted, Ended, Generated as GeneratedBy, JournalLength, Listed, NoFile, OutOfMemory, PlanRefused, Served, ShelfFault, TextRefused}
 use Rattle.trick_top.specs.Verdict.{Usage, Verdict, ended_status, status_of, with_objects}
 use Rattle.trick_top.specs.Words.{AreRefused, Asked, Asks, IsWanted, Nothing, Unknown, Wanted, Words, names_of}
 use Rattle.trick_words.specs.declared.command.Texts.{Texts}
@@ -231,17 +230,7 @@ module _ (one : (s_define input : List ℕ) → HaveOneMeaning s_define input) {
 -- the run of a generated simulation has the status of that of its texts
 same_status : (objects : ℕ) (verdict : Verdict) → status_of (with_objects objects verdict) ≡ status_of verdict
 same_status objects Usage = refl
-same_status objects (NoFile name) = refl
-same_status objects (TextRefused line) = refl
-same_status objects (PlanRefused line) = refl
-same_status objects (Accepted cells jobs threads) = refl
-same_status objects (Listed line) = refl
-same_status objects (Ended ended sessions) = refl
-same_status objects (GeneratedBy others ended sessions) = refl
-same_status objects (Served ended sessions door_failed) = refl
-same_status objects (JournalLength kept given) = refl
-same_status objects ShelfFault = refl
-same_status objects OutOfMemory = refl
+same_status objects verdict = refl
 
 -- What was done with the texts, by the status that it ended with.
 pub record Done (t : Aim) (given : Sources) (status : ℕ) : Type 0 where

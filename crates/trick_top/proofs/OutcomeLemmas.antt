@@ -13,7 +13,7 @@ use Rattle.trick_top.specs.Outcome.{Generates, Outcome, Performed, Unread, acted
 use Rattle.trick_top.specs.Generated.{text_steps, text_writes}
 use Rattle.trick_top.specs.Runs.{short_steps, short_writes}
 use Rattle.trick_top.specs.Sources.{Sources}
-use Rattle.trick_top.specs.Verdict.{Accepted, Ended, Generated, JournalLength, Listed, NoFile, OutOfMemory, PlanRefused, Served, ShelfFault, TextRefused, Usage, Verdict, with_objects}
+use Rattle.trick_top.specs.Verdict.{OutOfMemory, ShelfFault, Usage, Verdict, with_objects}
 use Rattle.trick_top.specs.Words.{Asked, Nothing, Unknown, Wanted}
 use Rattle.trick_words.specs.declared.command.Command.TheVariants as commands
 use Rattle.trick_top.specs.Aims.{Aim}
@@ -84,18 +84,8 @@ unread_faults (no_memory_to_read files name others named) = later (reads files) 
 
 -- the run of a generated simulation failed where that of its texts did
 same_fault : (objects : ℕ) (verdict : Verdict) → with_objects objects verdict ≡ ShelfFault → verdict ≡ ShelfFault
-same_fault objects Usage is = cc
-same_fault objects (NoFile name) is = cc
-same_fault objects (TextRefused line) is = cc
-same_fault objects (PlanRefused line) is = cc
-same_fault objects (Accepted cells jobs threads) is = cc
-same_fault objects (Listed line) is = cc
-same_fault objects (Ended ended sessions) is = cc
-same_fault objects (Generated others ended sessions) is = cc
-same_fault objects (Served ended sessions door_failed) is = cc
-same_fault objects (JournalLength kept given) is = cc
 same_fault objects ShelfFault is = refl
-same_fault objects OutOfMemory is = cc
+same_fault objects verdict is = cc
 
 generated_faults : (objects : ℕ) {calls : List Call} {verdict : Verdict} → Generates objects calls verdict → Faults calls verdict
 generated_faults objects (texts_not_written part fault) = record {

@@ -6,7 +6,7 @@ use Rattle.trick_outside.specs.Puts.{ArePiecesOf}
 use Rattle.trick_outside.specs.declared.sink.Sink.{Ghosts}
 use Rattle.trick_top.specs.Printed.{Prints, cut_off, no_line, not_printed, printed}
 use Rattle.trick_top.specs.Status.{EndsWith, TookLine}
-use Rattle.trick_top.specs.Verdict.{Accepted, Ended, Generated, JournalLength, Listed, NoFile, OutOfMemory, PlanRefused, Served, ShelfFault, TextRefused, Usage, Verdict, ended_status, is_made, line_of, status_of}
+use Rattle.trick_top.specs.Verdict.{Ended, Generated, Served, ShelfFault, Verdict, ended_status, is_made, line_of, status_of}
 
 -- a run that came to its end has status 0 or 4
 pub not_ended : (faults due : ℕ) → due ≢ 0 → due ≢ 4 → ended_status faults ≡ due → ⊥
@@ -15,18 +15,10 @@ not_ended (suc faults) due none four e = four (sym e)
 
 -- no verdict has status 8
 no_eight : (verdict : Verdict) → status_of verdict ≡ 8 → ⊥
-no_eight Usage e = omega arith
-no_eight (NoFile name) e = omega arith
-no_eight (TextRefused line) e = omega arith
-no_eight (PlanRefused line) e = omega arith
-no_eight (Accepted cells jobs threads) e = omega arith
-no_eight (Listed line) e = omega arith
 no_eight (Ended ended sessions) e = not_ended ended.faults 8 (λ e. omega (arith, e)) (λ e. omega (arith, e)) e
 no_eight (Generated objects ended sessions) e = not_ended ended.faults 8 (λ e. omega (arith, e)) (λ e. omega (arith, e)) e
 no_eight (Served ended sessions door_failed) e = not_ended ended.faults 8 (λ e. omega (arith, e)) (λ e. omega (arith, e)) e
-no_eight (JournalLength kept given) e = omega arith
-no_eight ShelfFault e = omega arith
-no_eight OutOfMemory e = omega arith
+no_eight verdict e = omega arith
 
 -- what was given to the sink, and what the status is
 pub record Given {O : Type 0} (sink : Ghosts O) (old new : O) (verdict : Verdict) (status : ℕ) : Type 0 where

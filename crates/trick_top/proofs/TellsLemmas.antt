@@ -18,10 +18,7 @@ use Rattle.trick_words.specs.declared.command.Texts.{Texts}
 -- a call with `run` has each task
 each_task : (t : Task) → has_task true t ≡ true
 each_task task.Serial = refl
-each_task (task.Run port) = refl
-each_task (task.Replay journal) = refl
-each_task task.Check = refl
-each_task task.List = refl
+each_task t = refl
 
 -- and each command
 pub each_command : (command : Command) → has_command true command ≡ true
@@ -30,11 +27,8 @@ each_command (commands.Gen objects) = refl
 
 -- a task is a run by threads, or one that each call has
 run_or_known : (t : Task) → ((port : Option ℕ) × (t ≡ task.Run port)) ⊎ (has_task false t ≡ true)
-run_or_known task.Serial = inr refl
 run_or_known (task.Run port) = inl (port, refl)
-run_or_known (task.Replay journal) = inr refl
-run_or_known task.Check = inr refl
-run_or_known task.List = inr refl
+run_or_known t = inr refl
 
 -- words that ask to run nothing by threads ask for what each call has
 known_still : (words : List (List ℕ)) (command : Command) → AsksNoRun words → Asks (with_run words) command

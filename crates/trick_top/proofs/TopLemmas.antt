@@ -36,87 +36,45 @@ use Rattle.trick_top.specs.Aims.{Aim}
 -- which verdict a status is of
 is_usage : (verdict : Verdict) → status_of verdict ≡ 1 → verdict ≡ Usage
 is_usage Usage e = refl
-is_usage (NoFile name) e = absurd (omega (arith, e))
-is_usage (TextRefused line) e = absurd (omega (arith, e))
-is_usage (PlanRefused line) e = absurd (omega (arith, e))
-is_usage (Accepted cells jobs threads) e = absurd (omega (arith, e))
-is_usage (Listed line) e = absurd (omega (arith, e))
 is_usage (Ended ended sessions) e = absurd (not_ended ended.faults 1 (λ e. omega (arith, e)) (λ e. omega (arith, e)) e)
 is_usage (Generated objects ended sessions) e = absurd (not_ended ended.faults 1 (λ e. omega (arith, e)) (λ e. omega (arith, e)) e)
 is_usage (Served ended sessions door_failed) e = absurd (not_ended ended.faults 1 (λ e. omega (arith, e)) (λ e. omega (arith, e)) e)
-is_usage (JournalLength kept given) e = absurd (omega (arith, e))
-is_usage ShelfFault e = absurd (omega (arith, e))
-is_usage OutOfMemory e = absurd (omega (arith, e))
+is_usage verdict e = absurd (omega (arith, e))
 
 is_no_file : (verdict : Verdict) → status_of verdict ≡ 9 → (name : List ℕ) × (verdict ≡ NoFile name)
-is_no_file Usage e = absurd (omega (arith, e))
 is_no_file (NoFile name) e = (name, refl)
-is_no_file (TextRefused line) e = absurd (omega (arith, e))
-is_no_file (PlanRefused line) e = absurd (omega (arith, e))
-is_no_file (Accepted cells jobs threads) e = absurd (omega (arith, e))
-is_no_file (Listed line) e = absurd (omega (arith, e))
 is_no_file (Ended ended sessions) e = absurd (not_ended ended.faults 9 (λ e. omega (arith, e)) (λ e. omega (arith, e)) e)
 is_no_file (Generated objects ended sessions) e = absurd (not_ended ended.faults 9 (λ e. omega (arith, e)) (λ e. omega (arith, e)) e)
 is_no_file (Served ended sessions door_failed) e = absurd (not_ended ended.faults 9 (λ e. omega (arith, e)) (λ e. omega (arith, e)) e)
-is_no_file (JournalLength kept given) e = absurd (omega (arith, e))
-is_no_file ShelfFault e = absurd (omega (arith, e))
-is_no_file OutOfMemory e = absurd (omega (arith, e))
+is_no_file verdict e = absurd (omega (arith, e))
 
 is_text_refused : (verdict : Verdict) → status_of verdict ≡ 2 → (line : List ℕ) × (verdict ≡ TextRefused line)
-is_text_refused Usage e = absurd (omega (arith, e))
-is_text_refused (NoFile name) e = absurd (omega (arith, e))
 is_text_refused (TextRefused line) e = (line, refl)
-is_text_refused (PlanRefused line) e = absurd (omega (arith, e))
-is_text_refused (Accepted cells jobs threads) e = absurd (omega (arith, e))
-is_text_refused (Listed line) e = absurd (omega (arith, e))
 is_text_refused (Ended ended sessions) e = absurd (not_ended ended.faults 2 (λ e. omega (arith, e)) (λ e. omega (arith, e)) e)
 is_text_refused (Generated objects ended sessions) e = absurd (not_ended ended.faults 2 (λ e. omega (arith, e)) (λ e. omega (arith, e)) e)
 is_text_refused (Served ended sessions door_failed) e = absurd (not_ended ended.faults 2 (λ e. omega (arith, e)) (λ e. omega (arith, e)) e)
-is_text_refused (JournalLength kept given) e = absurd (omega (arith, e))
-is_text_refused ShelfFault e = absurd (omega (arith, e))
-is_text_refused OutOfMemory e = absurd (omega (arith, e))
+is_text_refused verdict e = absurd (omega (arith, e))
 
 is_plan_refused : (verdict : Verdict) → status_of verdict ≡ 3 → (line : List ℕ) × (verdict ≡ PlanRefused line)
-is_plan_refused Usage e = absurd (omega (arith, e))
-is_plan_refused (NoFile name) e = absurd (omega (arith, e))
-is_plan_refused (TextRefused line) e = absurd (omega (arith, e))
 is_plan_refused (PlanRefused line) e = (line, refl)
-is_plan_refused (Accepted cells jobs threads) e = absurd (omega (arith, e))
-is_plan_refused (Listed line) e = absurd (omega (arith, e))
 is_plan_refused (Ended ended sessions) e = absurd (not_ended ended.faults 3 (λ e. omega (arith, e)) (λ e. omega (arith, e)) e)
 is_plan_refused (Generated objects ended sessions) e = absurd (not_ended ended.faults 3 (λ e. omega (arith, e)) (λ e. omega (arith, e)) e)
 is_plan_refused (Served ended sessions door_failed) e = absurd (not_ended ended.faults 3 (λ e. omega (arith, e)) (λ e. omega (arith, e)) e)
-is_plan_refused (JournalLength kept given) e = absurd (omega (arith, e))
-is_plan_refused ShelfFault e = absurd (omega (arith, e))
-is_plan_refused OutOfMemory e = absurd (omega (arith, e))
+is_plan_refused verdict e = absurd (omega (arith, e))
 
 is_shelf_fault : (verdict : Verdict) → status_of verdict ≡ 5 → verdict ≡ ShelfFault
-is_shelf_fault Usage e = absurd (omega (arith, e))
-is_shelf_fault (NoFile name) e = absurd (omega (arith, e))
-is_shelf_fault (TextRefused line) e = absurd (omega (arith, e))
-is_shelf_fault (PlanRefused line) e = absurd (omega (arith, e))
-is_shelf_fault (Accepted cells jobs threads) e = absurd (omega (arith, e))
-is_shelf_fault (Listed line) e = absurd (omega (arith, e))
 is_shelf_fault (Ended ended sessions) e = absurd (not_ended ended.faults 5 (λ e. omega (arith, e)) (λ e. omega (arith, e)) e)
 is_shelf_fault (Generated objects ended sessions) e = absurd (not_ended ended.faults 5 (λ e. omega (arith, e)) (λ e. omega (arith, e)) e)
 is_shelf_fault (Served ended sessions door_failed) e = absurd (not_ended ended.faults 5 (λ e. omega (arith, e)) (λ e. omega (arith, e)) e)
-is_shelf_fault (JournalLength kept given) e = absurd (omega (arith, e))
 is_shelf_fault ShelfFault e = refl
-is_shelf_fault OutOfMemory e = absurd (omega (arith, e))
+is_shelf_fault verdict e = absurd (omega (arith, e))
 
 is_journal_length : (verdict : Verdict) → status_of verdict ≡ 7 → (kept : ℕ) × (given : ℕ) × (verdict ≡ JournalLength kept given)
-is_journal_length Usage e = absurd (omega (arith, e))
-is_journal_length (NoFile name) e = absurd (omega (arith, e))
-is_journal_length (TextRefused line) e = absurd (omega (arith, e))
-is_journal_length (PlanRefused line) e = absurd (omega (arith, e))
-is_journal_length (Accepted cells jobs threads) e = absurd (omega (arith, e))
-is_journal_length (Listed line) e = absurd (omega (arith, e))
 is_journal_length (Ended ended sessions) e = absurd (not_ended ended.faults 7 (λ e. omega (arith, e)) (λ e. omega (arith, e)) e)
 is_journal_length (Generated objects ended sessions) e = absurd (not_ended ended.faults 7 (λ e. omega (arith, e)) (λ e. omega (arith, e)) e)
 is_journal_length (Served ended sessions door_failed) e = absurd (not_ended ended.faults 7 (λ e. omega (arith, e)) (λ e. omega (arith, e)) e)
 is_journal_length (JournalLength kept given) e = (kept, given, refl)
-is_journal_length ShelfFault e = absurd (omega (arith, e))
-is_journal_length OutOfMemory e = absurd (omega (arith, e))
+is_journal_length verdict e = absurd (omega (arith, e))
 
 -- the same options are the same lists
 same_option : (one other : Option (List ℕ)) → option_to_list one ≡ option_to_list other → one ≡ other
@@ -154,18 +112,10 @@ performed_of about given {calls = calls} {verdict = verdict} named goes =
 
 -- the faults that a verdict tells
 abbrev faults_of : Verdict → ℕ
-faults_of Usage = 0
-faults_of (NoFile name) = 0
-faults_of (TextRefused line) = 0
-faults_of (PlanRefused line) = 0
-faults_of (Accepted cells jobs threads) = 0
-faults_of (Listed line) = 0
 faults_of (Ended ended sessions) = ended.faults
 faults_of (Generated objects ended sessions) = ended.faults
 faults_of (Served ended sessions door_failed) = ended.faults
-faults_of (JournalLength kept given) = 0
-faults_of ShelfFault = 0
-faults_of OutOfMemory = 0
+faults_of verdict = 0
 
 -- what a verdict tells of the faults of a run
 abbrev Tells : {S : Type 0} (shelf : Ghosts S) (old new : S) (words : Words) → Verdict → (ℕ → Type 0) → Type 0
@@ -211,18 +161,10 @@ done_says OutOfMemory e says = absurd (omega (arith, e))
 
 -- a verdict of status 4 says that a run had faults
 faults_say : {S : Type 0} {shelf : Ghosts S} {old new : S} {words : Words} (verdict : Verdict) → status_of verdict ≡ 4 → Says shelf old new words verdict → Tells shelf old new words verdict (λ count. count ≢ 0)
-faults_say Usage e says = absurd (omega (arith, e))
-faults_say (NoFile name) e says = absurd (omega (arith, e))
-faults_say (TextRefused line) e says = absurd (omega (arith, e))
-faults_say (PlanRefused line) e says = absurd (omega (arith, e))
-faults_say (Accepted cells jobs threads) e says = absurd (omega (arith, e))
-faults_say (Listed line) e says = absurd (omega (arith, e))
 faults_say (Ended ended sessions) e says = tells (Ended ended sessions) (λ count. count ≢ 0) says (some_faults ended.faults e)
 faults_say (Generated objects ended sessions) e says = tells (Generated objects ended sessions) (λ count. count ≢ 0) says (some_faults ended.faults e)
 faults_say (Served ended sessions door_failed) e says = absurd says
-faults_say (JournalLength kept given) e says = absurd (omega (arith, e))
-faults_say ShelfFault e says = absurd (omega (arith, e))
-faults_say OutOfMemory e says = absurd (omega (arith, e))
+faults_say verdict e says = absurd (omega (arith, e))
 
 -- it came to its end, unless there was no memory to tell it
 ends : {O : Type 0} {sink : sink.Ghosts O} {before now : O} {verdict : Verdict} {status : ℕ} {t : Aim} → Given sink before now verdict status → IsEnd t (status_of verdict)
