@@ -108,11 +108,7 @@ module _ (w : World) (names : Names Global) where
     local_type : (line : ℕ) (name : Name) (o : Option Global) → meaning_of name w.names ≡ o
         → local_type_mistakes line o ≡ [] → local_type_mistakes line (meaning_of name names) ≡ []
     local_type line name (Some the.Enum) is none = ap (local_type_mistakes line) (grow name the.Enum is)
-    local_type line name (Some (the.Struct k)) is none = absurd (cc none)
-    local_type line name (Some (the.Class k)) is none = absurd (cc none)
-    local_type line name (Some (the.Item value)) is none = absurd (cc none)
-    local_type line name (Some (the.Object base)) is none = absurd (cc none)
-    local_type line name None is none = absurd (cc none)
+    local_type line name o is none = absurd (cc none)
 
     type_none : (written : TypeName) → type_mistakes written w ≡ [] → type_mistakes written whole ≡ []
     type_none (Basic scalar) none = refl

@@ -1,5 +1,5 @@
 -- The blocks and slots of methods stay when more methods are made.
-use Rattle.std.proofs.Common.{◌≡◌, ℕ, suc, ◌+◌, ◌≤◌, max, nat_lt, true, List, [], ◌∷◌, ◌++◌, length, Option, Some, None, slice_get, refl, ap, sym, ◌∙◌, subst, arith}
+use Rattle.std.proofs.Common.{◌≡◌, ℕ, suc, ◌+◌, ◌≤◌, max, nat_lt, true, List, [], ◌∷◌, ◌++◌, length, Option, Some, slice_get, refl, ap, sym, ◌∙◌, subst, arith}
 use Rattle.std.proofs.lemmas.Bool.{lt-ltb}
 use Rattle.std.proofs.lemmas.List.{append-nil, append_assoc}
 use Rattle.trick_blocks.specs.Bodies.{Body, with_bodies, with_body}
@@ -7,7 +7,7 @@ use Rattle.trick_blocks.specs.Kept.{codes_in}
 use Rattle.trick_blocks.specs.Methods.{Progress, all_slots, block_slots, body_blocks, code_slots, with_part, with_parts}
 use Rattle.trick_lang.specs.Blocks.{block_at}
 use Rattle.trick_lang.specs.SyntaxTree as tree
-use Rattle.trick_lang.specs.Tree.{Code, Empty, Declare, SetLocal, Assign, If, For, Run}
+use Rattle.trick_lang.specs.Tree.{Code, Empty, Declare, For}
 use Rattle.trick_meaning_kept.specs.Alike.{AreBelow, BlocksAreBelow, HasBlocks, is_code_below}
 
 -- ---- blocks
@@ -61,15 +61,12 @@ has_made all front bs n many h =
 
 part_codes : (o : Option tree.Part) (p : Progress)
     → (more : List (List Code)) × (codes_in (with_part o p).bodies ≡ codes_in p.bodies ++ more)
-part_codes None p = ([], sym (append-nil (codes_in p.bodies)))
-part_codes (Some tree.Public) p = ([], sym (append-nil (codes_in p.bodies)))
-part_codes (Some (tree.HasMembers m)) p = ([], sym (append-nil (codes_in p.bodies)))
 part_codes (Some (tree.HasMethod m)) p = (
   body_blocks m.body p.world (length p.bodies),
   codes_with p.world.class
       (body_blocks m.body p.world (length p.bodies)) p.bodies,
 )
-part_codes (Some (tree.Constructor line name jobs)) p = ([], sym (append-nil (codes_in p.bodies)))
+part_codes o p = ([], sym (append-nil (codes_in p.bodies)))
 
 begin_part : (all : List (List Code)) (o : Option tree.Part) (p : Progress)
     → Begin all (codes_in (with_part o p).bodies) → Begin all (codes_in p.bodies)
@@ -86,12 +83,7 @@ begin_parts all (i ∷ is) parts p h =
 
 code_grows : (c : Code) (so_far : ℕ) → so_far ≤ code_slots c so_far
 code_grows Empty so_far = omega arith
-code_grows (Declare line slot scalar e) so_far = omega arith
-code_grows (SetLocal line slot scalar change) so_far = omega arith
-code_grows (Assign line place change) so_far = omega arith
-code_grows (If branches) so_far = omega arith
-code_grows (For slot from bound block) so_far = omega arith
-code_grows (Run block) so_far = omega arith
+code_grows c so_far = omega arith
 
 all_grow : (cs : List Code) (so_far : ℕ) → so_far ≤ all_slots cs so_far
 all_grow [] so_far = omega arith
@@ -105,13 +97,9 @@ slot_below : (slot so_far top : ℕ) → max (slot + 1) so_far ≤ top → nat_l
 slot_below slot so_far top h = lt-ltb slot top (omega (arith, h))
 
 code_below : (c : Code) (so_far top : ℕ) → code_slots c so_far ≤ top → is_code_below top c ≡ true
-code_below Empty so_far top h = refl
 code_below (Declare line slot scalar e) so_far top h = slot_below slot so_far top h
-code_below (SetLocal line slot scalar change) so_far top h = refl
-code_below (Assign line place change) so_far top h = refl
-code_below (If branches) so_far top h = refl
 code_below (For slot from bound block) so_far top h = slot_below slot so_far top h
-code_below (Run block) so_far top h = refl
+code_below c so_far top h = refl
 
 all_below : (cs : List Code) (so_far top : ℕ) → all_slots cs so_far ≤ top → AreBelow top cs
 all_below [] so_far top h = tt
@@ -131,11 +119,8 @@ blocks_below (b ∷ bs) so_far top h = (
 )
 
 part_slots : (o : Option tree.Part) (p : Progress) → p.world.slots ≤ (with_part o p).world.slots
-part_slots None p = omega arith
-part_slots (Some tree.Public) p = omega arith
-part_slots (Some (tree.HasMembers m)) p = omega arith
 part_slots (Some (tree.HasMethod m)) p = slots_grow (body_blocks m.body p.world (length p.bodies)) p.world.slots
-part_slots (Some (tree.Constructor line name jobs)) p = omega arith
+part_slots o p = omega arith
 
 pub parts_slots : (order : List ℕ) (parts : List tree.Part) (p : Progress)
     → p.world.slots ≤ (with_parts order parts p).world.slots
