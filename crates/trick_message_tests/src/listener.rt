@@ -9,7 +9,6 @@ ghost use Rattle.trick_model.specs.ValidState.{IsStateOf};
 ghost use Rattle.trick_turns.specs.Turns.{no_sessions};
 
 use std::alloc::{AllocError, Global};
-use std::process::Abort;
 use std::sync::Arc;
 use std::test::Fail;
 use trick_exec::{Ended, Start, run};
@@ -146,29 +145,35 @@ fn ends_on_one_thread<T: Turns<Memory>>(
     starts_and_ends(alloc, accepted, &mut workers, turns)
 }
 
-// What is sent in a run under a journal.
+// What is sent under the journal of a text.
 fn heard_under(
-    rt: &(impl Abort + AllocGlobal),
+    alloc: Global,
     accepted: &Arc<Accepted>,
-    journal: Journal,
+    journal: &str,
 ) -> Result<Vec<(u32, Vec<u8>)>, Fail> {
-    let alloc = rt.alloc();
+    let journal = read(alloc, accepted.plan(), 0, journal.as_bytes())?;
     let mut listener = listen(alloc, journal)?;
-    let ends = ends_on_one_thread(alloc, accepted, &mut listener)?;
-    assert!(rt; ends);
-    Ok(listener.heard)
+    match ends_on_one_thread(alloc, accepted, &mut listener) {
+        Ok(true) => Ok(listener.heard),
+        _ => Err(Fail::from("the run does not come to its end")),
+    }
+}
+
+// The same of a plan that is not shared yet.
+fn heard_of(alloc: Global, accepted: Accepted, journal: &str) -> Result<Vec<(u32, Vec<u8>)>, Fail> {
+    let accepted = Arc::new(alloc, accepted)?;
+    heard_under(alloc, &accepted, journal)
 }
 
 /// What is sent under the journal of a text.
 pub(crate) fn heard(
-    rt: &(impl Abort + AllocGlobal),
+    alloc: Global,
     s_define: &str,
     input: &str,
     journal: &str,
 ) -> Result<Vec<(u32, Vec<u8>)>, Fail> {
-    let alloc = rt.alloc();
-    let accepted = ready(alloc, s_define.as_bytes(), input.as_bytes())?;
-    let accepted = Arc::new(alloc, accepted)?;
-    let journal = read(alloc, accepted.plan(), 0, journal.as_bytes())?;
-    heard_under(rt, &accepted, journal)
+    match ready(alloc, s_define.as_bytes(), input.as_bytes()) {
+        Ok(accepted) => heard_of(alloc, accepted, journal),
+        Err(_) => Err(Fail::from("the plan is refused")),
+    }
 }

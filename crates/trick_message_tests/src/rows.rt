@@ -2,7 +2,6 @@
 
 use crate::listener::heard;
 use std::alloc::{AllocError, Global};
-use std::process::Abort;
 use std::test::Fail;
 
 /// A number that counts the seconds.
@@ -15,6 +14,9 @@ const COUNTER: &str = "class Counter : public Trick::SimObject {
 Counter counter;
 ";
 
+/// Nothing is wrong.
+const RIGHT: &str = "nothing is wrong";
+
 /// What a session was sent.
 fn sent_to(alloc: Global, heard: &[(u32, Vec<u8>)], session: u32) -> Result<Vec<u8>, AllocError> {
     let mut text = Vec::new(alloc);
@@ -26,23 +28,36 @@ fn sent_to(alloc: Global, heard: &[(u32, Vec<u8>)], session: u32) -> Result<Vec<
     Ok(text)
 }
 
-/// Whether just these sessions of a journal are sent messages, and these.
-fn is_sent(
-    rt: &(impl Abort + AllocGlobal),
-    texts: (&str, &str),
+// What is wrong with what was heard, or that nothing is: just these sessions are sent messages, and these.
+fn judged(
+    alloc: Global,
+    heard: &[(u32, Vec<u8>)],
     sessions: &[(u32, &str)],
-) -> Result<(), Fail> {
-    let (input, journal) = texts;
-    let heard = heard(rt, COUNTER, input, journal)?;
+) -> Result<&'static str, AllocError> {
     let mut messages: usize = 0;
     for (session, text) in sessions {
-        let sent = sent_to(rt.alloc(), &heard, *session)?;
-        assert_eq!(rt; str::from_utf8(&sent)?, *text, "session {session}");
+        if sent_to(alloc, heard, *session)?.as_slice() != text.as_bytes() {
+            return Ok("a session is sent something else");
+        }
         messages = messages.wrapping_add(text.lines().count());
     }
     // each message is a line
-    assert_eq!(rt; heard.len(), messages);
-    Ok(())
+    if heard.len() == messages {
+        Ok(RIGHT)
+    } else {
+        Ok("another session is sent something")
+    }
+}
+
+// What is wrong with what sessions are sent under an input and a journal, or that nothing is.
+fn wrong_under(
+    alloc: Global,
+    texts: (&str, &str),
+    sessions: &[(u32, &str)],
+) -> Result<&'static str, Fail> {
+    let (input, journal) = texts;
+    let heard = heard(alloc, COUNTER, input, journal)?;
+    Ok(judged(alloc, &heard, sessions)?)
 }
 
 #[test]
@@ -58,11 +73,10 @@ from 0
 end 4
 ";
     let text = "0\t1\tBAD_REF\n0\t2\tBAD_REF\n0\t3\tBAD_REF\n";
-    is_sent(
-        &rt,
-        ("trick.stop(3.0)\ntrick.freeze()", journal),
-        &[(1, text)],
-    )
+    let texts = ("trick.stop(3.0)\ntrick.freeze()", journal);
+    let wrong = wrong_under(rt.alloc(), texts, &[(1, text)])?;
+    assert!(rt; wrong == RIGHT, "{wrong}");
+    Ok(())
 }
 
 #[test]
@@ -77,11 +91,10 @@ from 0
 end 1
 ";
     let text = "1\t1\n4\tbad command\n0\t0\n";
-    is_sent(
-        &rt,
-        ("trick.stop(3.0)\ntrick.freeze()", journal),
-        &[(1, text)],
-    )
+    let texts = ("trick.stop(3.0)\ntrick.freeze()", journal);
+    let wrong = wrong_under(rt.alloc(), texts, &[(1, text)])?;
+    assert!(rt; wrong == RIGHT, "{wrong}");
+    Ok(())
 }
 
 #[test]
@@ -115,5 +128,7 @@ end 4
         (2, "1\t0\n0\t1\n0\t3\n"),
         (5, "0\t71\n"),
     ];
-    is_sent(&rt, ("trick.stop(3.0)", journal), &texts)
+    let wrong = wrong_under(rt.alloc(), ("trick.stop(3.0)", journal), &texts)?;
+    assert!(rt; wrong == RIGHT, "{wrong}");
+    Ok(())
 }
