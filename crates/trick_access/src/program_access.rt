@@ -1,6 +1,8 @@
+//! What all jobs of a program may read and write, job by job.
+
 ghost use Rattle.std.specs.List.{slice_index_or};
-ghost use Rattle.std.specs.Prelude.{◌≡◌, ◌<◌, [], IfOk, length};
-ghost use Rattle.trick_access.specs.Accesses.{reads_of, writes_of};
+ghost use Rattle.std.specs.Prelude.{◌≡◌, ◌<◌, [], IfOk, length, ℕ};
+ghost use Rattle.trick_access.specs.Accesses.{AreAccessesOf, reads_of};
 ghost use Rattle.trick_access.specs.Ranges.{AreCellsOf};
 ghost use Rattle.trick_access.specs.Reached.{block_cells};
 ghost use Rattle.trick_lang.specs.Effect.{base_of, body_of, reads, writes};
@@ -18,11 +20,7 @@ use trick_lang::{CellRange, JobId, Program};
 /// What each job of a program may read and write, by its number, as [`access`] has it and at the cost
 /// of that for each job.
 pub fn accesses(alloc: Global, program: &Program) -> Result<Items<Access>, AllocError>
-    ensures many { IfOk result (λ all. length all ≡ length program.now.jobs) }
-    ensures reads { IfOk result (λ all. (job : JobId) → job.0 < length program.now.jobs →
-        AreCellsOf (length program.now.cells) (reads program.now job) (reads_of all job.0)) }
-    ensures writes { IfOk result (λ all. (job : JobId) → job.0 < length program.now.jobs →
-        AreCellsOf (length program.now.cells) (writes program.now job) (writes_of all job.0)) }
+    ensures { IfOk result (AreAccessesOf program.now) }
 {
     let mut all = Items::new(alloc);
     for number in 0..program.jobs.len() {
@@ -61,6 +59,19 @@ pub fn reads_of_jobs(
         AreCellsOf (length program.now.cells) (reads program.now job) (slice_index_or all job.0 [])) }
 {
     ranges_of_jobs(alloc, program, Way::Reads)
+}
+
+/// What each job may read, out of what each may read and write. It costs the ranges alone.
+pub fn reads_in(alloc: Global, accesses: &[Access]) -> Result<Items<Items<CellRange>>, AllocError>
+    ensures many { IfOk result (λ all. length all ≡ length accesses.now) }
+    ensures each { IfOk result (λ all. (k : ℕ) → slice_index_or all k [] ≡ reads_of accesses.now k) }
+{
+    let mut all = Items::new(alloc);
+    for access in accesses {
+        let reads = access.reads.as_slice().to_vec(alloc)?;
+        all.push(Items::from_vec(reads))?;
+    }
+    Ok(all)
 }
 
 /// What each job of a program may write, by its number, as [`access`] has it, for whoever needs no more
