@@ -1,8 +1,14 @@
-ghost use Rattle.std.specs.Prelude.{◌≡◌, ◌<◌, ◌≤◌, IfOk, MatchOption, None, Some, false, length, pos, replicate, true, ℕ};
+//! Where a job is evaluated.
+
+ghost use Rattle.std.specs.List.{slice_index_or};
+ghost use Rattle.std.specs.Prelude.{◌≡◌, ◌<◌, ◌≤◌, IfOk, MatchOption, None, Some, [], false, length, pos, replicate, true, ℕ};
+ghost use Rattle.trick_access.specs.Accesses.{AreAccessesOf};
+ghost use Rattle.trick_access.specs.Ranges.{AreCellsOf};
 ghost use Rattle.trick_eval.specs.Bench.{IsEvaluated, IsFilled, IsFirstDifference, IsFor, fault_of, the_job};
 ghost use Rattle.trick_lang.specs.Effect.{after_effect, effect, reads, scalars_of};
 ghost use Rattle.trick_lang.specs.Laws.{AgreeOn};
 ghost use Rattle.trick_lang.specs.Valid.{deep_at};
+ghost use Rattle.trick_lang.specs.declared.job.JobId.{JobId};
 
 use crate::machine::run;
 use crate::stack::Stack;
@@ -10,7 +16,7 @@ use crate::store::{copy, difference, overwrite};
 use crate::working::Working;
 use std::alloc::{AllocError, Global};
 use std::marker::Model;
-use trick_access::{base, body, ranges_of, reads_of_jobs};
+use trick_access::{Access, base, body, ranges_of, reads_in, reads_of_jobs};
 use trick_base::Items;
 use trick_lang::laws::{length_law, range_law};
 use trick_lang::{Block, Cell, CellRange, Cells, JobFault, JobId, Program, Stop};
@@ -73,7 +79,7 @@ fn deepest(blocks: &[Block]) -> u64
 
 impl Bench {
     /// An empty bench for a program, with room for the deepest chain of calls of any of its jobs. Of
-    /// all calls of a bench this one alone takes memory.
+    /// all calls of a bench those that make it alone take memory.
     pub fn new(alloc: Global, program: &Program) -> Result<Self, AllocError>
         ensures empty { IfOk result (λ b. b ≡ record {
           phase = 0;
@@ -84,7 +90,43 @@ impl Bench {
         }) }
         ensures parts { IfOk result (λ b. IsFor program.now b.parts) }
     {
-        let reads = reads_of_jobs(alloc, program)?;
+        Self::reading(alloc, program, reads_of_jobs(alloc, program)?)
+    }
+
+    /// The bench that [`new`](Self::new) makes, for a program of which it is known what its jobs may
+    /// read and write. It costs their ranges, and nothing is found of the jobs' bodies.
+    pub fn of(alloc: Global, program: &Program, accesses: &[Access]) -> Result<Self, AllocError>
+        requires { AreAccessesOf program.now accesses.now }
+        ensures empty { IfOk result (λ b. b ≡ record {
+          phase = 0;
+          job = None;
+          inputs = replicate (length program.now.cells) (pos 0);
+          outcome = None;
+          parts = b.parts;
+        }) }
+        ensures parts { IfOk result (λ b. IsFor program.now b.parts) }
+    {
+        Self::reading(alloc, program, reads_in(alloc, accesses)?)
+    }
+
+    // An empty bench for a program whose jobs may read these cells.
+    fn reading(
+        alloc: Global,
+        program: &Program,
+        ranges: Items<Items<CellRange>>,
+    ) -> Result<Self, AllocError>
+        requires many { length ranges ≡ length program.now.jobs }
+        requires each { (job : JobId) → job.0 < length program.now.jobs →
+            AreCellsOf (length program.now.cells) (reads program.now job) (slice_index_or ranges job.0 []) }
+        ensures empty { IfOk result (λ b. b ≡ record {
+          phase = 0;
+          job = None;
+          inputs = replicate (length program.now.cells) (pos 0);
+          outcome = None;
+          parts = b.parts;
+        }) }
+        ensures parts { IfOk result (λ b. IsFor program.now b.parts) }
+    {
         let cells = program.cells.len();
         let room = deepest(program.blocks.as_slice());
         let inputs = vec![in alloc; 0; cells]?;
@@ -97,7 +139,7 @@ impl Bench {
             inputs,
             working,
             stack,
-            reads,
+            reads: ranges,
         })
     }
 
