@@ -10,6 +10,7 @@ use Rattle.std.proofs.option.Option.TheSendSync as option
 use Rattle.std.specs.contracts.alloc.Global as Global
 use Rattle.std.specs.contracts.impls.GlobalAllocator.TheImpl.{ghosts}
 use Rattle.std.specs.contracts.sync.Arc as Arc
+use Rattle.trick_access.proofs.cells.Access.TheSendSync as access
 use Rattle.trick_base.proofs.items.Items.TheSendSync as items
 use Rattle.trick_base.specs.contracts.items.Items as Items
 use Rattle.trick_lang.proofs.cells.Cell.TheSendSync as cell
@@ -65,7 +66,7 @@ pub plan_send : IsSend Plan.the_row
 plan_send = search (plan_field_send, sendable) depth 20
 
 pub accepted_send : IsSend Accepted.the_row
-accepted_send = search (plan_field_send, sendable) depth 20
+accepted_send = search (plan_field_send, access.the_send, items.the_send, sendable) depth 20
 
 deeds_sync : IsSync (Tuple (u8 ∷ Items.the_row Deed.the_row ∷ []))
 deeds_sync = recorded_sync (tuple_field (u8 ∷ Items.the_row Deed.the_row ∷ [])).row _ _ (tuple_type (u8 ∷
@@ -105,7 +106,7 @@ pub plan_sync : IsSync Plan.the_row
 plan_sync = search (plan_field_sync, sendable) depth 20
 
 pub accepted_sync : IsSync Accepted.the_row
-accepted_sync = search (plan_field_sync, sendable) depth 20
+accepted_sync = search (plan_field_sync, access.the_sync, items.the_sync, sendable) depth 20
 
 pub shared_send : IsSend (Arc.the_row Accepted.the_row Global.the_row ghosts)
 shared_send = Arc-send Accepted.the_row accepted_send accepted_sync

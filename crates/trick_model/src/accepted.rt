@@ -1,23 +1,32 @@
+//! A plan that is accepted.
+
 ghost use Rattle.std.specs.Prelude.{◌≡◌};
+ghost use Rattle.trick_access.specs.Accesses.{AreAccessesOf};
 ghost use Rattle.trick_model.specs.Acceptance.{IsAccepted};
 ghost use Rattle.trick_model.specs.PlanOf.{plan_of};
 
 use crate::Plan;
+use trick_access::Access;
+use trick_base::Items;
 
-/// A plan that is accepted: no schedule of its threads can make its result another one.
+/// A plan that is accepted: no schedule of its threads can make its result another one. It keeps what
+/// each of its jobs may read and write, which was found to accept it.
 #[derive(Drop)]
 pub struct Accepted {
     plan: Plan,
+    accesses: Items<Access>,
     ghost accepted: { ∥ IsAccepted (plan_of plan) ∥₁ },
+    ghost known: { AreAccessesOf plan.program accesses },
 }
 
 impl Accepted {
-    /// An accepted plan.
-    pub fn of(plan: Plan) -> Self
+    /// An accepted plan, with what each of its jobs may read and write.
+    pub fn of(plan: Plan, accesses: Items<Access>) -> Self
         requires accepted { ∥ IsAccepted (plan_of plan) ∥₁ }
+        requires accesses { AreAccessesOf plan.program accesses }
         ensures { result.plan ≡ plan }
     {
-        Accepted { plan }
+        Accepted { plan, accesses }
     }
 
     /// The plan.
@@ -26,5 +35,12 @@ impl Accepted {
         ensures accepted { ∥ IsAccepted (plan_of result.now) ∥₁ }
     {
         &self.plan
+    }
+
+    /// What each job of the plan may read and write, by its number.
+    pub fn accesses(&self) -> &[Access]
+        ensures { AreAccessesOf self.now.plan.program result.now }
+    {
+        self.accesses.as_slice()
     }
 }
