@@ -2,7 +2,7 @@
 
 ghost use Rattle.std.specs.List.{slice_index_or};
 ghost use Rattle.std.specs.Prelude.{◌≡◌, ◌<◌, [], IfOk, length, ℕ};
-ghost use Rattle.trick_access.specs.Accesses.{AreAccessesOf, reads_of};
+ghost use Rattle.trick_access.specs.Accesses.{AreAccessesOf, reads_of, writes_of};
 ghost use Rattle.trick_access.specs.Ranges.{AreCellsOf};
 ghost use Rattle.trick_access.specs.Reached.{block_cells};
 ghost use Rattle.trick_lang.specs.Effect.{base_of, body_of, reads, writes};
@@ -85,6 +85,19 @@ pub fn writes_of_jobs(
         AreCellsOf (length program.now.cells) (writes program.now job) (slice_index_or all job.0 [])) }
 {
     ranges_of_jobs(alloc, program, Way::Writes)
+}
+
+/// What each job may write, out of what each may read and write. It costs the ranges alone.
+pub fn writes_in(alloc: Global, accesses: &[Access]) -> Result<Items<Items<CellRange>>, AllocError>
+    ensures many { IfOk result (λ all. length all ≡ length accesses.now) }
+    ensures each { IfOk result (λ all. (k : ℕ) → slice_index_or all k [] ≡ writes_of accesses.now k) }
+{
+    let mut all = Items::new(alloc);
+    for access in accesses {
+        let writes = access.writes.as_slice().to_vec(alloc)?;
+        all.push(Items::from_vec(writes))?;
+    }
+    Ok(all)
 }
 
 /// The ranges of a job, of those of each job by its number.
