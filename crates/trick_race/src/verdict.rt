@@ -1,4 +1,7 @@
+//! Whether a plan is accepted.
+
 ghost use Rattle.std.specs.Prelude.{◌≡◌, IfErr, IfOk, OnOk};
+ghost use Rattle.trick_access.specs.Accesses.{AreAccessesOf};
 ghost use Rattle.trick_model.specs.Acceptance.{IsAccepted};
 ghost use Rattle.trick_model.specs.PlanOf.{plan_of};
 ghost use Rattle.trick_race.specs.Refusals.{AreForward, AreNamedRight, AreOnMain, HoldsBefore, NamesFirst};
@@ -10,14 +13,17 @@ use crate::recorded::{async_event, async_recorded};
 use crate::threads::{backwards, class_on_child, no_thread};
 use crate::writers::shared_writer;
 use std::alloc::Global;
-use trick_access::accesses;
+use trick_access::{Access, accesses};
+use trick_base::Items;
 use trick_model::{Accepted, Plan};
 
-/// Judges a plan: it is accepted, or the first case is named of the first condition that does not hold.
+/// Judges a plan: it is accepted, and the answer is what each of its jobs may read and write, or the
+/// first case is named of the first condition that does not hold.
 ///
 /// Its time grows with the pairs of jobs, times the ranges of cells that they may read and write.
-pub fn judge(alloc: Global, plan: &Plan) -> Result<(), PlanFault>
+pub fn judge(alloc: Global, plan: &Plan) -> Result<Items<Access>, PlanFault>
     ensures accepted { OnOk result (IsAccepted (plan_of plan.now)) }
+    ensures accesses { IfOk result (AreAccessesOf plan.now.program) }
     ensures before { IfErr result (HoldsBefore (plan_of plan.now)) }
     ensures first { IfErr result (NamesFirst (plan_of plan.now)) }
 {
@@ -35,20 +41,21 @@ pub fn judge(alloc: Global, plan: &Plan) -> Result<(), PlanFault>
             depended: pair.depended,
         });
     }
-    judge_cells(alloc, plan)
+    let accesses = accesses(alloc, &plan.program)?;
+    judge_cells(alloc, plan, accesses.as_slice())?;
+    Ok(accesses)
 }
 
 // Judges what the jobs may read and write, where the conditions before hold.
-fn judge_cells(alloc: Global, plan: &Plan) -> Result<(), PlanFault>
+fn judge_cells(alloc: Global, plan: &Plan, accesses: &[Access]) -> Result<(), PlanFault>
     requires named { AreNamedRight (plan_of plan.now) }
     requires on_main { AreOnMain (plan_of plan.now) }
     requires forward { AreForward (plan_of plan.now) }
+    requires accesses { AreAccessesOf plan.now.program accesses.now }
     ensures accepted { OnOk result (IsAccepted (plan_of plan.now)) }
     ensures before { IfErr result (HoldsBefore (plan_of plan.now)) }
     ensures first { IfErr result (NamesFirst (plan_of plan.now)) }
 {
-    let all = accesses(alloc, &plan.program)?;
-    let accesses = all.as_slice();
     if let Some((cell, one, other)) = shared_writer(alloc, plan, accesses)? {
         return Err(PlanFault::SharedWriter {
             cell,
@@ -76,6 +83,6 @@ pub fn accept(alloc: Global, plan: Plan) -> Result<Accepted, PlanFault>
     ensures before { IfErr result (HoldsBefore (plan_of plan)) }
     ensures first { IfErr result (NamesFirst (plan_of plan)) }
 {
-    judge(alloc, &plan)?;
-    Ok(Accepted::of(plan))
+    let accesses = judge(alloc, &plan)?;
+    Ok(Accepted::of(plan, accesses))
 }
