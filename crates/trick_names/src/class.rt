@@ -1,7 +1,8 @@
 //! Parts of classes: what they declare and what they do, with the mistakes in it.
 
 ghost use Rattle.std.specs.Prelude.{◌≡◌, ◌+◌, [], length, IfOk, OnOk};
-ghost use Rattle.trick_lang.specs.Syntax.{class_part_of, class_parts_of, jobs_of};
+ghost use Rattle.trick_lang.specs.Syntax.{class_part_of, class_parts_of, jobs_of, statements_of_list};
+ghost use Rattle.trick_names.specs.BodyMistakes.{all_mistakes};
 ghost use Rattle.trick_names.specs.FileMistakes.{class_mistakes, declared_mistakes, done_mistakes, job_mistakes};
 ghost use Rattle.trick_names.specs.Mistakes.{noted};
 ghost use Rattle.trick_names.specs.Tables.{behind_part, behind_parts, nothing_inside};
@@ -14,7 +15,7 @@ use crate::world::World;
 use crate::{Global, Member, Names};
 use std::alloc::{AllocError, Global as Memory};
 use trick_base::Word;
-use trick_lang::syntax::{ClassPart, JobLine};
+use trick_lang::syntax::{ClassPart, JobLine, Stmt};
 
 fn nothing(alloc: Memory) -> Inside
     ensures { result ≡ nothing_inside }
@@ -62,20 +63,19 @@ fn add_part(
     Ok(())
 }
 
-/// What the parts of a class declare, where these names of the file are known. What is noted on the
-/// way is of no matter.
+/// What the parts of a class declare, where these names of the file are known.
 pub fn read_class(
     alloc: Memory,
     parts: &[ClassPart],
     names: &Names<Global>,
-    found: &mut Found,
 ) -> Result<Names<Member>, AllocError>
     ensures { IfOk result (λ members. members ≡
         (behind_parts (class_parts_of parts.now) 0 names.now nothing_inside).members) }
 {
+    let mut unheeded = Found::nothing();
     let mut inside = nothing(alloc);
     for number in 0..parts.len() {
-        add_part(&parts[number], number, names, &mut inside, found)?;
+        add_part(&parts[number], number, names, &mut inside, &mut unheeded)?;
     }
     Ok(inside.members)
 }
@@ -86,6 +86,19 @@ fn look_jobs(jobs: &[JobLine], world: &World, found: &mut Found)
     for job in jobs {
         look_call(job.line, &job.method, world, found);
     }
+}
+
+// Notes the mistakes in the body of a method.
+fn look_body(
+    alloc: Memory,
+    body: &[Stmt],
+    world: &World,
+    found: &mut Found,
+) -> Result<(), AllocError>
+    ensures { OnOk result (found.new ≡ noted (all_mistakes (statements_of_list body.now) world.now []) found.old) }
+{
+    let mut locals = Names::new(alloc);
+    look_all(body, world, &mut locals, found)
 }
 
 // Notes the mistakes in what a part of the class of that name does.
@@ -99,18 +112,35 @@ fn look_part(
     ensures { OnOk result (found.new ≡ noted (done_mistakes (class_part_of part.now) class.now world.now) found.old) }
 {
     match part {
-        ClassPart::Public => {}
-        ClassPart::Members(_) => {}
-        ClassPart::Method(method) => {
-            let mut locals = Names::new(alloc);
-            look_all(method.body.as_slice(), world, &mut locals, found)?
-        }
+        ClassPart::Public => Ok(()),
+        ClassPart::Members(_) => Ok(()),
+        ClassPart::Method(method) => look_body(alloc, method.body.as_slice(), world, found),
         ClassPart::Constructor { line, name, jobs } => {
             if !name.is(class.as_slice()) {
                 found.note_unknown(*line);
             }
             look_jobs(jobs.as_slice(), world, found);
+            Ok(())
         }
+    }
+}
+
+// Notes the mistakes in the parts of the class of that name, of which nothing was read.
+fn look_parts(
+    alloc: Memory,
+    parts: &[ClassPart],
+    class: &Word,
+    world: &World,
+    inside: &mut Inside,
+    found: &mut Found,
+) -> Result<(), AllocError>
+    ensures { OnOk result (found.new ≡ noted
+        (class_mistakes (class_parts_of parts.now) 0 class.now inside.old world.now) found.old) }
+{
+    for number in 0..parts.len() {
+        let part = &parts[number];
+        add_part(part, number, &world.names, inside, found)?;
+        look_part(alloc, part, class, world, found)?;
     }
     Ok(())
 }
@@ -127,10 +157,5 @@ pub fn look_class(
         (class_mistakes (class_parts_of parts.now) 0 class.now nothing_inside world.now) found.old) }
 {
     let mut inside = nothing(alloc);
-    for number in 0..parts.len() {
-        let part = &parts[number];
-        add_part(part, number, &world.names, &mut inside, found)?;
-        look_part(alloc, part, class, world, found)?;
-    }
-    Ok(())
+    look_parts(alloc, parts, class, world, &mut inside, found)
 }

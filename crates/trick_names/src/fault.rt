@@ -5,7 +5,7 @@ use std::alloc::{AllocError, AllocFailed};
 use trick_base::Word;
 
 /// Why the names of a file do not resolve.
-#[derive(Debug, Drop, PartialEq, Eq)]
+#[derive(Drop)]
 pub enum NameFault {
     /// This name is given twice.
     Twice(Word),

@@ -1,10 +1,12 @@
-ghost use Rattle.std.specs.Prelude.{◌≡◌, ◌≢◌, None, Some, IfErr, IfOk, OnOk};
+ghost use Rattle.std.specs.Prelude.{◌≡◌, ◌≢◌, ◌++◌, [], None, Some, IfErr, IfOk, OnOk, pos};
 ghost use Rattle.trick_lang.specs.SDefineOf.{sdefine_of};
-ghost use Rattle.trick_lang.specs.Syntax.{definition_of, definitions_of};
-ghost use Rattle.trick_names.specs.FileMistakes.{definition_mistakes, definitions_mistakes, mistakes, unless_class};
+ghost use Rattle.trick_lang.specs.Syntax.{all_members_of, class_parts_of, definition_of, definitions_of, items_of};
+ghost use Rattle.trick_names.specs.FileMistakes.{all_members_mistakes, class_mistakes, definition_mistakes, definitions_mistakes, item_mistakes, mistakes, unless_class};
 ghost use Rattle.trick_names.specs.Mistakes.{fault_of, noted, twice};
-ghost use Rattle.trick_names.specs.Tables.{behind_definition, members_in, names_behind, object_base, tables_of};
+ghost use Rattle.trick_names.specs.Names.{with_name};
+ghost use Rattle.trick_names.specs.Tables.{behind_definition, members_in, names_behind, nothing_inside, object_base, tables_of, with_all_members, with_items};
 ghost use Rattle.trick_names.specs.declared.fault.NameFault.TheVariants.{OutOfMemory};
+ghost use Rattle.trick_names.specs.declared.tables.Global.TheVariants.{Class as OfClass, Enum as OfEnum, Struct as OfStruct};
 
 use crate::class::{look_class, read_class};
 use crate::found::{Found, declare};
@@ -14,7 +16,7 @@ use crate::{Base, Global, Member, NameFault, Names, Tables};
 use std::alloc::{AllocError, Global as Memory};
 use trick_base::{Items, Word};
 use trick_lang::Scalar;
-use trick_lang::syntax::{Definition, SDefine};
+use trick_lang::syntax::{ClassPart, Definition, EnumItem, Members, SDefine};
 
 // What an object of a type is.
 fn base(class: Option<Global>) -> Base
@@ -26,6 +28,22 @@ fn base(class: Option<Global>) -> Base
     }
 }
 
+// Makes a name known that was not.
+fn add_name(name: &Word, meaning: Global, names: &mut Names<Global>) -> Result<(), AllocError>
+    ensures { OnOk result (names.new ≡ with_name name.now meaning names.old) }
+{
+    names.add(name, meaning)?;
+    Ok(())
+}
+
+// Adds the names of an enum.
+fn add_enum(name: &Word, items: &[EnumItem], names: &mut Names<Global>) -> Result<(), AllocError>
+    ensures { OnOk result (names.new ≡ with_items (items_of items.now) (pos 0) (with_name name.now OfEnum names.old)) }
+{
+    let mut unheeded = Found::nothing();
+    look_enum(name, items, names, &mut unheeded)
+}
+
 // Adds the names of a definition.
 fn add_names(
     definition: &Definition,
@@ -35,28 +53,33 @@ fn add_names(
     ensures { OnOk result (names.new ≡ names_behind (definition_of definition.now) number names.old) }
 {
     match definition {
-        Definition::Include => {}
-        Definition::Enum { name, items } => {
-            names.add(name, Global::Enum)?;
-            let mut unheeded = Found::nothing();
-            add_items(items.as_slice(), names, &mut unheeded)?;
-        }
-        Definition::Struct { name, members: _ } => {
-            names.add(name, Global::Struct(number))?;
-        }
-        Definition::Class { name, parts: _ } => {
-            names.add(name, Global::Class(number))?;
-        }
+        Definition::Include => Ok(()),
+        Definition::Enum { name, items } => add_enum(name, items.as_slice(), names),
+        Definition::Struct { name, members: _ } => add_name(name, Global::Struct(number), names),
+        Definition::Class { name, parts: _ } => add_name(name, Global::Class(number), names),
         Definition::Object {
             line: _,
             class,
             name,
         } => {
             let base = base(names.meaning(class));
-            names.add(name, Global::Object(base))?;
+            add_name(name, Global::Object(base), names)
         }
     }
-    Ok(())
+}
+
+// The members of a struct.
+fn read_struct(
+    alloc: Memory,
+    members: &[Members],
+    names: &Names<Global>,
+) -> Result<Names<Member>, AllocError>
+    ensures { IfOk result (λ read. read ≡ with_all_members (all_members_of members.now) names.now []) }
+{
+    let mut unheeded = Found::nothing();
+    let mut read = Names::new(alloc);
+    add_all_members(members, names, &mut read, &mut unheeded)?;
+    Ok(read)
 }
 
 // The members of a definition.
@@ -67,16 +90,9 @@ fn read_members(
 ) -> Result<Names<Member>, AllocError>
     ensures { IfOk result (λ members. members ≡ members_in (definition_of definition.now) names.now) }
 {
-    let mut unheeded = Found::nothing();
     match definition {
-        Definition::Struct { name: _, members } => {
-            let mut read = Names::new(alloc);
-            add_all_members(members.as_slice(), names, &mut read, &mut unheeded)?;
-            Ok(read)
-        }
-        Definition::Class { name: _, parts } => {
-            read_class(alloc, parts.as_slice(), names, &mut unheeded)
-        }
+        Definition::Struct { name: _, members } => read_struct(alloc, members.as_slice(), names),
+        Definition::Class { name: _, parts } => read_class(alloc, parts.as_slice(), names),
         _ => Ok(Names::new(alloc)),
     }
 }
@@ -89,10 +105,10 @@ fn add_definition(
 ) -> Result<(), AllocError>
     ensures { OnOk result (tables.new ≡ behind_definition (definition_of definition.now) tables.old) }
 {
+    let number = tables.groups.len();
     let members = read_members(alloc, definition, &tables.names)?;
-    add_names(definition, tables.groups.len(), &mut tables.names)?;
     tables.groups.push(members)?;
-    Ok(())
+    add_names(definition, number, &mut tables.names)
 }
 
 /// What a file declares, in whatever order.
@@ -129,6 +145,72 @@ fn note_object_type(line: u32, class: Option<Global>, found: &mut Found)
     }
 }
 
+// Notes the mistakes of an enum, and adds its names.
+fn look_enum(
+    name: &Word,
+    items: &[EnumItem],
+    names: &mut Names<Global>,
+    found: &mut Found,
+) -> Result<(), AllocError>
+    ensures names { OnOk result (names.new ≡ with_items (items_of items.now) (pos 0)
+        (with_name name.now OfEnum names.old)) }
+    ensures found { OnOk result (found.new ≡ noted (twice name.now names.old
+        ++ item_mistakes (items_of items.now) (pos 0) (with_name name.now OfEnum names.old)) found.old) }
+{
+    declare(name, Global::Enum, names, found)?;
+    add_items(items, names, found)
+}
+
+// Notes the mistakes in the members of a struct.
+fn look_members(
+    alloc: Memory,
+    members: &[Members],
+    names: &Names<Global>,
+    found: &mut Found,
+) -> Result<(), AllocError>
+    ensures { OnOk result (found.new ≡ noted
+        (all_members_mistakes (all_members_of members.now) names.now []) found.old) }
+{
+    let mut read = Names::new(alloc);
+    add_all_members(members, names, &mut read, found)
+}
+
+// Notes the mistakes of a struct, and adds its name.
+fn look_struct(
+    alloc: Memory,
+    name: &Word,
+    members: &[Members],
+    world: &mut World,
+    found: &mut Found,
+) -> Result<(), AllocError>
+    ensures world { OnOk result (world.new ≡
+        record world.old { names = with_name name.now (OfStruct world.old.own) world.old.names }) }
+    ensures found { OnOk result (found.new ≡ noted (twice name.now world.old.names
+        ++ all_members_mistakes (all_members_of members.now) world.old.names []) found.old) }
+{
+    note_known(name, &world.names, found)?;
+    look_members(alloc, members, &world.names, found)?;
+    add_name(name, Global::Struct(world.own), &mut world.names)
+}
+
+// Notes the mistakes of a class, and adds its name.
+fn look_named_class(
+    alloc: Memory,
+    name: &Word,
+    parts: &[ClassPart],
+    world: &mut World,
+    found: &mut Found,
+) -> Result<(), AllocError>
+    ensures world { OnOk result (world.new ≡
+        record world.old { names = with_name name.now (OfClass world.old.own) world.old.names }) }
+    ensures found { OnOk result (found.new ≡ noted (twice name.now world.old.names
+        ++ class_mistakes (class_parts_of parts.now) 0 name.now nothing_inside world.old) found.old) }
+{
+    note_known(name, &world.names, found)?;
+    look_class(alloc, parts, name, world, found)?;
+    add_name(name, Global::Class(world.own), &mut world.names)
+}
+
 // Notes the mistakes of a definition, and adds its names.
 fn look_definition(
     alloc: Memory,
@@ -142,29 +224,22 @@ fn look_definition(
         (definition_mistakes (definition_of definition.now) world.old) found.old) }
 {
     match definition {
-        Definition::Include => {}
+        Definition::Include => Ok(()),
         Definition::Enum { name, items } => {
-            declare(name, Global::Enum, &mut world.names, found)?;
-            add_items(items.as_slice(), &mut world.names, found)?;
+            look_enum(name, items.as_slice(), &mut world.names, found)
         }
         Definition::Struct { name, members } => {
-            note_known(name, &world.names, found)?;
-            let mut read = Names::new(alloc);
-            add_all_members(members.as_slice(), &world.names, &mut read, found)?;
-            world.names.add(name, Global::Struct(world.own))?;
+            look_struct(alloc, name, members.as_slice(), world, found)
         }
         Definition::Class { name, parts } => {
-            note_known(name, &world.names, found)?;
-            look_class(alloc, parts.as_slice(), name, world, found)?;
-            world.names.add(name, Global::Class(world.own))?;
+            look_named_class(alloc, name, parts.as_slice(), world, found)
         }
         Definition::Object { line, class, name } => {
             let meaning = world.names.meaning(class);
             note_object_type(*line, meaning, found);
-            declare(name, Global::Object(base(meaning)), &mut world.names, found)?;
+            declare(name, Global::Object(base(meaning)), &mut world.names, found)
         }
     }
-    Ok(())
 }
 
 // Notes the mistakes of all definitions.
@@ -186,6 +261,22 @@ fn look_definitions(
     Ok(())
 }
 
+// Looks for the mistake that decides of all definitions.
+fn look(alloc: Memory, definitions: &[Definition], world: &mut World) -> Result<(), NameFault>
+    requires start { world.old.own ≡ 0 }
+    ensures tables { OnOk result (world.new.tables ≡ world.old.tables) }
+    ensures ok { OnOk result (fault_of (definitions_mistakes (definitions_of definitions.now) world.old) ≡ None) }
+    ensures err { IfErr result (λ fault. fault ≢ OutOfMemory →
+        fault_of (definitions_mistakes (definitions_of definitions.now) world.old) ≡ Some fault) }
+{
+    let mut found = Found::nothing();
+    look_definitions(alloc, definitions, world, &mut found)?;
+    match found.fault() {
+        Some(fault) => Err(fault),
+        None => Ok(()),
+    }
+}
+
 /// Looks whether each name of a file is given once and stands for something that may stand there,
 /// and gives what the file declares. The first name that is given twice decides, or else the first
 /// unknown one, or else the first place that is no scalar (docs/FORMATS.md, 4.4 and 5.3).
@@ -201,10 +292,6 @@ pub fn check(alloc: Memory, sdef: &SDefine) -> Result<Tables, NameFault>
         names: Names::new(alloc),
         own: 0,
     };
-    let mut found = Found::nothing();
-    look_definitions(alloc, definitions, &mut world, &mut found)?;
-    match found.fault() {
-        Some(fault) => Err(fault),
-        None => Ok(world.tables),
-    }
+    look(alloc, definitions, &mut world)?;
+    Ok(world.tables)
 }

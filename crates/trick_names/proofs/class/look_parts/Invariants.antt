@@ -1,12 +1,11 @@
 use Rattle.std.proofs.Common.{◌≡◌, drop}
 use Rattle.trick_lang.specs.Syntax.{class_parts_of}
-use Rattle.trick_names.proofs.class.look_class.Given as goal
+use Rattle.trick_names.proofs.class.look_parts.Given as goal
 use Rattle.trick_names.specs.FileMistakes.{class_mistakes}
 use Rattle.trick_names.specs.Mistakes.{noted}
-use Rattle.trick_names.specs.Tables.{nothing_inside}
 
 -- what is left finds from here what all find from the start
 abbrev pub invariant-loop-number : goal.invariant-loop-number
 invariant-loop-number l =
     noted (class_mistakes (class_parts_of (drop l.number l.parts)) l.number l.class l.inside l.world) l.found
-    ≡ noted (class_mistakes (class_parts_of l.parts) 0 l.class nothing_inside l.world) l.fn.found
+    ≡ noted (class_mistakes (class_parts_of l.parts) 0 l.class l.fn.inside l.world) l.fn.found
