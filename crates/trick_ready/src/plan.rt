@@ -61,7 +61,7 @@ pub(crate) fn accept(alloc: Global, plan: Plan) -> Result<Accepted, Unready>
         → IfErr result (IsUnready s_define input) }
 {
     match judge(alloc, &plan) {
-        Ok(()) => Ok(Accepted::of(plan)),
+        Ok(accesses) => Ok(Accepted::of(plan, accesses)),
         Err(fault) => Err(unaccepted(alloc, &plan, fault)),
     }
 }
