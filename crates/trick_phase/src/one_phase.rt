@@ -29,7 +29,7 @@ impl OnePhase {
     pub fn new(alloc: Global, accepted: &Accepted) -> Result<Self, AllocError>
         ensures { IfOk result (λ one. IsFor accepted.now.plan.program one) }
     {
-        let bench = Bench::new(alloc, &accepted.plan().program)?;
+        let bench = Bench::of(alloc, &accepted.plan().program, accepted.accesses())?;
         Ok(OnePhase { bench })
     }
 }
