@@ -43,3 +43,5 @@ pub mod Crossings
 pub mod PlanNames
 -- The jobs of a plan stand in queues by class, and are jobs of its program.
 pub mod PlanJobs
+-- The object and the method of a job are there, and so is what is looked up by a number.
+pub mod NamesThere

@@ -1,12 +1,12 @@
 -- The text of a checkpoint: lines `name = value;` in this order, and `end;`. The list of faults.
 use Rattle.std.specs.Fmt.{signed_decimal}
-use Rattle.std.specs.List.{slice_index_or}
 use Rattle.std.specs.Prelude.{ℕ, suc, ℤ, Bool, true, false, List, [], ◌∷◌, ◌++◌, codes, decimal, map, Option, Some, None}
 use Rattle.trick_lang.specs.declared.fault.FaultKind.{FaultKind}
 use Rattle.trick_lang.specs.declared.fault.FaultKind.TheVariants.{DivideByZero, IndexOutOfRange}
 use Rattle.trick_lang.specs.declared.fault.JobFault.{JobFault}
 use Rattle.trick_model.specs.Access.{scope}
 use Rattle.trick_model.specs.FaultList.{FaultList}
+use Rattle.trick_model.specs.NameAt.{name_at}
 use Rattle.trick_model.specs.Plan.{Plan, job_at, jobs_of, numbers_from, threads_beside}
 use Rattle.trick_model.specs.State.{State}
 use Rattle.trick_model.specs.declared.flags.Flags.{Flags}
@@ -77,7 +77,7 @@ group_lines k (group ∷ groups) (flag ∷ flags) (row ∷ rows) =
 -- what is held for a thread: the numbers of its scope, and then the flags of its jobs
 abbrev pub held_lines : Plan → Thread → List ℕ → Taken → List ℕ
 held_lines p thread name taken =
-    cell_lines (name ++ codes ".") (map (λ cell. slice_index_or p.names cell []) (scope p thread)) taken.cells
+    cell_lines (name ++ codes ".") (map (name_at p.names) (scope p thread)) taken.cells
     ++ flag_lines (name ++ codes ".job") (jobs_of p.jobs thread) taken.on.on
 
 -- the record of a thread: whether something is held, and what
@@ -103,7 +103,7 @@ kind_text IndexOutOfRange = codes "IndexOutOfRange"
 abbrev pub fault_text : Plan → JobFault → List ℕ
 fault_text p fault =
     let k = (fault.job).0 in
-    decimal fault.tic ++ codes " " ++ slice_index_or p.job_names k [] ++ codes " "
+    decimal fault.tic ++ codes " " ++ name_at p.job_names k ++ codes " "
     ++ decimal (job_at p.jobs k).instance ++ codes " " ++ kind_text fault.kind ++ codes " " ++ decimal fault.line
 
 -- the faults that are kept, by number

@@ -20,6 +20,8 @@ pub mod Names
 pub mod Events
 -- Work beside the tics.
 pub mod Beside
+-- The names of cells and jobs by their numbers.
+pub mod NameAt
 -- Rows of data record groups.
 pub mod Records
 -- One tic, and the tics of a frame.

@@ -5,6 +5,7 @@ use Rattle.std.specs.Ordering.{int_eq}
 use Rattle.std.specs.Prelude.{ℕ, suc, ◌%◌, ◌==◌, ℤ, Bool, true, false, ◌&&◌, ◌||◌, not, List, [], ◌∷◌, ◌++◌, map, codes, decimal, slice_set, Option, Some, None}
 use Rattle.trick_base.specs.Files.{Write, Append}
 use Rattle.trick_lang.specs.declared.cells.Cell.{Cell}
+use Rattle.trick_model.specs.NameAt.{name_at}
 use Rattle.trick_model.specs.Plan.{Plan, is_on}
 use Rattle.trick_model.specs.State.{State, number_at}
 use Rattle.trick_model.specs.declared.group.Group.{Group}
@@ -45,7 +46,7 @@ fields (f ∷ fs) = codes "," ++ f ++ fields fs
 
 -- The header is `tic` and the full names.
 abbrev pub header : Plan → Group → List ℕ
-header p group = codes "tic" ++ fields (map (λ (cell : Cell). slice_index_or p.names cell.0 []) group.cells)
+header p group = codes "tic" ++ fields (map (λ (cell : Cell). name_at p.names cell.0) group.cells)
 
 -- A row is the tic and the numbers.
 abbrev pub row : ℕ → List ℤ → List ℕ

@@ -16,6 +16,7 @@ mod journal;
 mod key_order;
 pub mod laws;
 mod mode;
+mod names;
 mod plan;
 mod plan_jobs;
 mod planned;
@@ -39,6 +40,10 @@ pub use group::Group;
 pub use journal::Journal;
 pub use key_order::{is_of_class, precedes, rank};
 pub use mode::Mode;
+pub use names::{
+    cell_name, cell_type, cell_type_or_long, instance_at, method_name, object_name, push_job_name,
+    push_name_at,
+};
 pub use plan::Plan;
 pub use planned::Planned;
 pub use read_at::ReadAt;
