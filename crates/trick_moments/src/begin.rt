@@ -127,7 +127,7 @@ pub fn start<M: Cells + Drop>(
         (M.scalars state.memory)) }
 {
     let plan = accepted.plan();
-    let mut bench = Bench::new(alloc, &plan.program)?;
+    let mut bench = Bench::of(alloc, &plan.program, accepted.accesses())?;
     let mut state = empty(alloc, plan, memory)?;
     run_class(plan, Class::DefaultData, &mut state, &mut bench);
     assign(plan, &mut state.memory);
