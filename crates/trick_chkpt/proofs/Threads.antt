@@ -1,7 +1,6 @@
 -- The jobs of a thread, and what is held for it.
 use Rattle.std.proofs.Common.{◌≡◌, ℕ, zero, suc, ◌+◌, ◌<◌, cond, List, [], ◌∷◌, ◌++◌, length, drop, get_or, map, refl, ap, ◌∙◌, arith}
 use Rattle.std.proofs.lemmas.List.{at_drop_more}
-use Rattle.std.specs.List.{slice_index_or}
 use Rattle.std.specs.Prelude.{filter, ◌==◌, codes}
 use Rattle.trick_chkpt.specs.Parts.{held_of}
 use Rattle.trick_lang.specs.declared.cells.Cell.{Cell}
@@ -9,6 +8,7 @@ use Rattle.trick_lang.specs.declared.job.Job.{Job}
 use Rattle.trick_lang.specs.declared.job.JobId.{JobId}
 use Rattle.trick_model.specs.Access.{scope}
 use Rattle.trick_model.specs.Checkpoint.{cell_lines, flag_lines, held_lines}
+use Rattle.trick_model.specs.NameAt.{name_at}
 use Rattle.trick_model.specs.Plan.{Plan, jobs_of, no_job, numbers_from, thread_of}
 use Rattle.trick_model.specs.declared.taken.Taken.{Taken}
 use Rattle.trick_model.specs.declared.thread.Thread.{Thread}
@@ -31,21 +31,21 @@ next_job jobs number k d lt =
     ∙ ap (λ (job : Job). cond (job.thread == number) (k ∷ others) others) (at_other jobs k no_job d lt)
 
 names_of : (names : List (List ℕ)) (cells : List Cell)
-    → map (λ (cell : Cell). slice_index_or names cell.0 []) cells
-    ≡ map (λ (k : ℕ). slice_index_or names k []) (map (λ (cell : Cell). cell.0) cells)
+    → map (λ (cell : Cell). name_at names cell.0) cells
+    ≡ map (name_at names) (map (λ (cell : Cell). cell.0) cells)
 names_of names [] = refl
-names_of names (cell ∷ cells) = ap (λ (us : List (List ℕ)). slice_index_or names cell.0 [] ∷ us) (names_of names cells)
+names_of names (cell ∷ cells) = ap (λ (us : List (List ℕ)). name_at names cell.0 ∷ us) (names_of names cells)
 
 -- what is held for a thread, of the cells of its scope and of its jobs
 pub held_by : (p : Plan) (thread : Thread) (taken : Taken) (name : List ℕ) (cells : List Cell) (jobs : List JobId)
     → map (λ (cell : Cell). cell.0) cells ≡ scope p thread → map (λ (job : JobId). job.0) jobs ≡ jobs_of p.jobs thread
     → held_of p.names name cells jobs taken ≡ held_lines p thread name taken
 held_by p thread taken name cells jobs in_scope of_thread =
-    let names : map (λ (cell : Cell). slice_index_or p.names cell.0 []) cells
-    ≡ map (λ (k : ℕ). slice_index_or p.names k []) (scope p thread) =
-    names_of p.names cells ∙ ap (map (λ (k : ℕ). slice_index_or p.names k [])) in_scope in
+    let names : map (λ (cell : Cell). name_at p.names cell.0) cells
+    ≡ map (name_at p.names) (scope p thread) =
+    names_of p.names cells ∙ ap (map (name_at p.names)) in_scope in
     ap (λ (us : List (List ℕ)). cell_lines (name ++ codes ".") us taken.cells
     ++ flag_lines (name ++ codes ".job") (map (λ (job : JobId). job.0) jobs) taken.on.on) names
     ∙ ap (λ (ks : List ℕ). cell_lines (name
-    ++ codes ".") (map (λ (k : ℕ). slice_index_or p.names k []) (scope p thread)) taken.cells
+    ++ codes ".") (map (name_at p.names) (scope p thread)) taken.cells
     ++ flag_lines (name ++ codes ".job") ks taken.on.on) of_thread

@@ -1,5 +1,4 @@
 -- The parts in which a checkpoint is printed.
-use Rattle.std.specs.List.{slice_index_or}
 use Rattle.std.specs.Prelude.{ℕ, List, [], ◌++◌, codes, decimal, map}
 use Rattle.trick_lang.specs.Names.{job_name}
 use Rattle.trick_lang.specs.declared.cells.Cell.{Cell}
@@ -7,7 +6,8 @@ use Rattle.trick_lang.specs.declared.fault.JobFault.{JobFault}
 use Rattle.trick_lang.specs.declared.job.JobId.{JobId}
 use Rattle.trick_lang.specs.declared.program.Program.{Program}
 use Rattle.trick_model.specs.Checkpoint.{all_flag_lines, all_taken_lines, cell_lines, fault_lines, flag_lines, group_lines, line, mode_text}
-use Rattle.trick_model.specs.Plan.{Plan, job_at, threads_beside}
+use Rattle.trick_model.specs.NameAt.{job_title, name_at}
+use Rattle.trick_model.specs.Plan.{Plan, threads_beside}
 use Rattle.trick_model.specs.State.{State}
 use Rattle.trick_model.specs.declared.taken.Taken.{Taken}
 
@@ -39,12 +39,10 @@ end_lines p s =
 -- the tic and the job of a fault
 abbrev pub when_text : Program → JobFault → List ℕ
 when_text p fault =
-    let k = (fault.job).0 in
-    decimal fault.tic ++ codes " " ++ slice_index_or (map (job_name p.objects p.methods) p.jobs) k [] ++ codes " "
-    ++ decimal (job_at p.jobs k).instance
+    decimal fault.tic ++ codes " " ++ job_title (map (job_name p.objects p.methods) p.jobs) p.jobs (fault.job).0
 
 -- what is held for a thread of these cells and jobs, under the name of its record
 abbrev pub held_of : List (List ℕ) → List ℕ → List Cell → List JobId → Taken → List ℕ
 held_of names name cells jobs taken =
-    cell_lines (name ++ codes ".") (map (λ (cell : Cell). slice_index_or names cell.0 []) cells) taken.cells
+    cell_lines (name ++ codes ".") (map (λ (cell : Cell). name_at names cell.0) cells) taken.cells
     ++ flag_lines (name ++ codes ".job") (map (λ (job : JobId). job.0) jobs) taken.on.on

@@ -1,16 +1,17 @@
 //! Lines of cells and flags.
 
-ghost use Rattle.std.specs.List.{slice_index_or};
 ghost use Rattle.std.specs.Prelude.{◌≡◌, ◌++◌, [], OnOk, map};
 ghost use Rattle.trick_lang.specs.declared.cells.Cell.{Cell};
 ghost use Rattle.trick_lang.specs.declared.job.JobId.{JobId};
 ghost use Rattle.trick_model.specs.Checkpoint.{cell_lines, flag_lines};
+ghost use Rattle.trick_model.specs.NameAt.{cell_name};
 ghost use Rattle.trick_model.specs.Plan.{numbers_from};
 ghost use Rattle.trick_model.specs.Valid.{cell_names};
 
 use crate::line::{push_cell, push_flag};
 use std::alloc::AllocError;
-use trick_lang::{Cell, Cells, JobId, Variable};
+use trick_lang::{Cell, Cells, JobId, Program, Variable};
+use trick_model::cell_name;
 
 /// Appends the lines of all cells of a memory.
 pub(crate) fn push_memory<M: Cells>(
@@ -33,29 +34,19 @@ pub(crate) fn push_memory<M: Cells>(
     Ok(())
 }
 
-/// The full name of a cell.
-pub fn name_of(variables: &[Variable], cell: Cell) -> &[u8]
-    ensures { result.now ≡ slice_index_or (cell_names variables.now) cell.0 [] }
-{
-    match variables.get(cell.0 as usize) {
-        Some(variable) => variable.name.as_slice(),
-        None => b"",
-    }
-}
-
 /// Appends the lines of these cells and numbers, with this in front of each name.
 pub(crate) fn push_cells(
     text: &mut Vec<u8>,
     front: &[u8],
-    variables: &[Variable],
+    program: &Program,
     cells: &[Cell],
     numbers: &[i64],
 ) -> Result<(), AllocError>
     ensures { OnOk result (text.new.items ≡ text.old.items ++ cell_lines front.now
-        (map (λ (cell : Cell). slice_index_or (cell_names variables.now) cell.0 []) cells.now) numbers.now) }
+        (map (λ (cell : Cell). cell_name program.now.cells cell.0) cells.now) numbers.now) }
 {
     for i in 0..cells.len().min(numbers.len()) {
-        push_cell(text, front, name_of(variables, cells[i]), numbers[i])?;
+        push_cell(text, front, cell_name(program, cells[i]), numbers[i])?;
     }
     Ok(())
 }

@@ -2,15 +2,13 @@
 
 ghost use Rattle.std.specs.Prelude.{◌≡◌, ◌++◌, OnOk, codes, decimal};
 ghost use Rattle.trick_model.specs.Checkpoint.{fault_lines, fault_text, kind_text, at, line};
-ghost use Rattle.trick_model.specs.Plan.{job_at};
 ghost use Rattle.trick_chkpt.specs.Parts.{when_text};
 ghost use Rattle.trick_model.specs.PlanOf.{plan_of};
 
 use crate::line::{push_indexed, push_number, push_number_line};
-use crate::plan_names::push_job_name;
 use std::alloc::AllocError;
-use trick_lang::{FaultKind, JobFault, JobId, Program};
-use trick_model::Plan;
+use trick_lang::{FaultKind, JobFault, Program};
+use trick_model::{Plan, instance_at, push_name_at};
 
 fn kind_word(kind: FaultKind) -> &'static [u8]
     ensures { result.now ≡ kind_text kind }
@@ -21,25 +19,15 @@ fn kind_word(kind: FaultKind) -> &'static [u8]
     }
 }
 
-// The instance of a job; 0, where it is not there.
-fn instance_of(program: &Program, job: JobId) -> u32
-    ensures { result ≡ (job_at program.now.jobs job.0).instance }
-{
-    match program.jobs.as_slice().get(job.0 as usize) {
-        Some(job) => job.instance,
-        None => 0,
-    }
-}
-
 // Appends the tic and the job of a fault.
 fn push_when(text: &mut Vec<u8>, program: &Program, fault: &JobFault) -> Result<(), AllocError>
     ensures { OnOk result (text.new.items ≡ text.old.items ++ when_text program.now fault.now) }
 {
     push_number(text, fault.tic)?;
     text.extend_from_slice(b" ")?;
-    push_job_name(text, program, fault.job)?;
+    push_name_at(text, program, fault.job)?;
     text.extend_from_slice(b" ")?;
-    push_number(text, u64::from(instance_of(program, fault.job)))
+    push_number(text, u64::from(instance_at(program, fault.job)))
 }
 
 /// Appends a fault: its tic, job, instance, kind and line, with spaces between.

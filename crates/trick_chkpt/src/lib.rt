@@ -6,14 +6,11 @@ mod cells;
 mod faults;
 mod line;
 mod plan_jobs;
-mod plan_names;
 mod printer;
 mod records;
 mod thread_scope;
 
-pub use cells::name_of;
 pub use faults::push_fault;
 pub use plan_jobs::{jobs_of, threads_beside};
-pub use plan_names::push_name_of;
 pub use printer::print;
 pub use thread_scope::scope;

@@ -14,7 +14,7 @@ use crate::thread_scope::scope;
 use std::alloc::{AllocError, Global};
 use trick_base::Items;
 use trick_codes::push_row;
-use trick_lang::{Cell, JobId, Variable};
+use trick_lang::{Cell, JobId, Program};
 use trick_model::{Group, Plan, Taken, Thread};
 
 // Appends the value of a last row and the end of its line.
@@ -73,17 +73,17 @@ fn record_name(alloc: Global, thread: Thread) -> Result<Vec<u8>, AllocError>
 // Appends the lines of what is held for these cells and jobs, under the name of the record.
 fn push_held_lines(
     text: &mut Vec<u8>,
-    variables: &[Variable],
+    program: &Program,
     mut name: Vec<u8>,
     cells: &[Cell],
     jobs: &[JobId],
     taken: &Taken,
 ) -> Result<(), AllocError>
     ensures { OnOk result (text.new.items ≡ text.old.items ++
-        held_of (cell_names variables.now) name.items cells.now jobs.now taken.now) }
+        held_of (cell_names program.now.cells) name.items cells.now jobs.now taken.now) }
 {
     name.extend_from_slice(b".")?;
-    push_cells(text, &name, variables, cells, taken.cells.as_slice())?;
+    push_cells(text, &name, program, cells, taken.cells.as_slice())?;
     name.extend_from_slice(b"job")?;
     push_job_flags(text, &name, jobs, taken.on.on.as_slice())
 }
@@ -102,14 +102,7 @@ fn push_held(
     let cells = scope(alloc, plan, thread)?;
     let jobs = jobs_of(alloc, &plan.program, thread)?;
     let name = record_name(alloc, thread)?;
-    push_held_lines(
-        text,
-        plan.program.cells.as_slice(),
-        name,
-        &cells,
-        &jobs,
-        taken,
-    )
+    push_held_lines(text, &plan.program, name, &cells, &jobs, taken)
 }
 
 // Appends the record of a thread.

@@ -6,10 +6,8 @@ use Rattle.trick_chkpt.proofs.records.push_held.Goals as goal
 use Rattle.trick_chkpt.specs.Parts.{held_of}
 use Rattle.trick_lang.specs.declared.cells.Cell.{Cell}
 use Rattle.trick_lang.specs.declared.job.JobId.{JobId}
-use Rattle.trick_lang.specs.declared.variable.Variable.{Variable}
 use Rattle.trick_model.specs.Checkpoint.{at}
 use Rattle.trick_model.specs.PlanOf.{plan_of}
-use Rattle.trick_model.specs.Valid.{cell_names}
 
 pub returns : goal.returns
 returns c =
@@ -21,7 +19,6 @@ returns c =
     let held = held_by p c.args.thread taken name cells jobs
     (ap (map (λ (cell : Cell). cell.0)) c.deref.ensures.value ∙ c.in_ok-cells.ensures)
     (ap (map (λ (job : JobId). job.0)) c.deref-2.ensures.value ∙ c.in_ok-jobs.ensures.jobs) in
-    let parts = ap (λ (vs : List Variable). held_of (cell_names vs) c.in_ok-name.name.items cells jobs taken) c.as_slice.ensures
-    ∙ ap (λ (us : List ℕ). held_of p.names us cells jobs taken) c.in_ok-name.ensures ∙ held in
+    let parts = ap (λ (us : List ℕ). held_of p.names us cells jobs taken) c.in_ok-name.ensures ∙ held in
     on_ok_weaker c.push_held_lines.result (λ e. e
     ∙ ap (λ (us : List ℕ). c.args.text.now.items ++ us) parts) c.push_held_lines.ensures
