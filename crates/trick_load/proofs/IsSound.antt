@@ -9,7 +9,7 @@ use Rattle.trick_load.proofs.JobTexts.{one_line, texts_apart}
 use Rattle.trick_load.specs.CheckpointLines.{Held, cells_of, checkpoint, flag_at, flag_line, flag_place, flags_of, group_of, groups_of, head_lines, held_behind, held_of, job_flags_of, last_line, last_of, memory_of, mode_at, mode_line, mode_place, mode_words, record_name, record_of, record_words, records_of, scope_cells, taken_by, taken_parts, thread_jobs}
 use Rattle.trick_load.specs.Faults.{fault_code, fault_line, faults_lines, faults_of, job_text, job_texts, kind_place, kind_word_at, kind_words, no_fault}
 use Rattle.trick_load.proofs.Plain.{HasInstances, HasWords, instances_fit, names_are_words}
-use Rattle.trick_load.specs.Ranges.{name_at, range_at, range_of, ranges_at}
+use Rattle.trick_load.specs.Ranges.{full_name, range_at, range_of, ranges_at}
 use Rattle.trick_codes.proofs.IsSound.{end_line_sound, indexed_one_line, integer_line_sound, named_one_line, named_sound, none_or_one_line, none_or_sound, number_line_sound, number_one_line, numbered_sound, one_line-append, one_of_lines, row_one_line, row_sound, row_start, word_line_sound}
 use Rattle.trick_codes.proofs.Words.{prefix_free}
 use Rattle.trick_codes.specs.Code.{ArePrefixFree, Fits, Sound, largest, spell}
@@ -169,9 +169,9 @@ module _ (plan : Plan) (plain : HasWords plan) (thread : Thread) (small : thread
   cells_sound : (front : List ℕ) (cells : List Cell) → is_one_line front ≡ true → SoundLines (cells_of plan front cells)
   unfolding cells_of
   cells_sound front cells h =
-      each_sound (pos 0) (λ (cell : Cell). integer_line (front ++ name_at plan cell) (range_at plan cell)) cells
-      (all_sound (λ (cell : Cell). integer_line (front ++ name_at plan cell) (range_at plan cell))
-      (λ cell. integer_line_sound (front ++ name_at plan cell) (range_at plan cell) (one_line-append front (name_at plan cell) h (one_line_at plan.program.cells plain.cells cell.0))) cells)
+      each_sound (pos 0) (λ (cell : Cell). integer_line (front ++ full_name plan cell) (range_at plan cell)) cells
+      (all_sound (λ (cell : Cell). integer_line (front ++ full_name plan cell) (range_at plan cell))
+      (λ cell. integer_line_sound (front ++ full_name plan cell) (range_at plan cell) (one_line-append front (full_name plan cell) h (one_line_at plan.program.cells plain.cells cell.0))) cells)
 
   held_sound : SoundLines (held_of plan thread)
   unfolding held_of

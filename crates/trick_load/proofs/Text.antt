@@ -10,7 +10,7 @@ use Rattle.trick_load.proofs.JobTexts.{length_map}
 use Rattle.trick_chkpt.proofs.Rows.{row_with_commas}
 use Rattle.trick_load.specs.CheckpointLines.{cells_of, checkpoint, flag_line, flags_of, group_of, groups_of, head_lines, held_behind, held_of, job_flags_of, last_line, last_of, memory_of, mode_line, record_name, record_of, record_words, records_of, scope_cells, thread_jobs}
 use Rattle.trick_load.specs.Faults.{fault_code, fault_line, faults_lines, faults_of, job_text, job_texts, kind_place, kind_words, no_fault}
-use Rattle.trick_load.specs.Ranges.{name_at, range_at, range_of, ranges_at}
+use Rattle.trick_load.specs.Ranges.{full_name, range_at, range_of, ranges_at}
 use Rattle.trick_codes.proofs.IsSound.{length-each, length-numbered, length-row, row_spelled}
 use Rattle.trick_codes.specs.Code.{spell}
 use Rattle.trick_codes.specs.Lines.{Holds, and_then, each, no_line, numbered, text}
@@ -63,14 +63,14 @@ memory_text (v ∷ cells) (n ∷ ns) e =
     ∙ ap (λ (us : List ℕ). line v.name (signed_decimal n) ++ us) (memory_text cells ns (omega arith))
 
 cells_text : (plan : Plan) (front : List ℕ) (cells : List Cell) (ns : List ℤ) → length ns ≡ length cells
-    → text (cells_of plan front cells) ns ≡ cell_lines front (map (name_at plan) cells) ns
+    → text (cells_of plan front cells) ns ≡ cell_lines front (map (full_name plan) cells) ns
 unfolding cells_of
 cells_text plan front [] [] e = refl
 cells_text plan front [] (n ∷ ns) e = absurd (omega arith)
 cells_text plan front (cell ∷ cells) [] e = absurd (omega arith)
 cells_text plan front (cell ∷ cells) (n ∷ ns) e =
-    ap (λ (us : List ℕ). us ++ text (cells_of plan front cells) ns) (line_is (front ++ name_at plan cell) (signed_decimal n))
-    ∙ ap (λ (us : List ℕ). line (front ++ name_at plan cell) (signed_decimal n) ++ us) (cells_text plan front cells ns (omega arith))
+    ap (λ (us : List ℕ). us ++ text (cells_of plan front cells) ns) (line_is (front ++ full_name plan cell) (signed_decimal n))
+    ∙ ap (λ (us : List ℕ). line (front ++ full_name plan cell) (signed_decimal n) ++ us) (cells_text plan front cells ns (omega arith))
 
 flag_is : (stem : List ℕ) (k : ℕ) (on : Bool) → text (flag_line (indexed stem k)) on ≡ line (at stem k) (flag_text on)
 unfolding flag_line
@@ -144,7 +144,7 @@ groups_text plan k (group ∷ groups) (on ∷ flags) (row ∷ rows) e f h =
 record_is : (thread : Thread) → record_name thread ≡ at (codes "taken") thread.number
 record_is thread = at_is (codes "taken") thread.number
 
-names_in_scope : (plan : Plan) (ks : List ℕ) → map (name_at plan) (map (λ (k : ℕ). record { 0 = k }) ks) ≡ map (λ (k : ℕ). slice_index_or (cell_names plan.program.cells) k []) ks
+names_in_scope : (plan : Plan) (ks : List ℕ) → map (full_name plan) (map (λ (k : ℕ). record { 0 = k }) ks) ≡ map (λ (k : ℕ). slice_index_or (cell_names plan.program.cells) k []) ks
 names_in_scope plan [] = refl
 names_in_scope plan (k ∷ ks) = ap (λ (us : List (List ℕ)). slice_index_or (cell_names plan.program.cells) k [] ∷ us) (names_in_scope plan ks)
 
@@ -159,7 +159,7 @@ held_text plan thread taken h =
     let cells = scope_cells plan thread in
     let jobs = thread_jobs plan thread in
     let name = record_name thread in
-    let one = cells_text plan (name ++ codes ".") cells taken.cells (length-each (pos 0) (λ (cell : Cell). integer_line ((name ++ codes ".") ++ name_at plan cell) (range_at plan cell)) cells taken.cells h.0)
+    let one = cells_text plan (name ++ codes ".") cells taken.cells (length-each (pos 0) (λ (cell : Cell). integer_line ((name ++ codes ".") ++ full_name plan cell) (range_at plan cell)) cells taken.cells h.0)
     ∙ ap (λ (us : List (List ℕ)). cell_lines (name ++ codes ".") us taken.cells) (names_in_scope plan (scope (plan_of plan) thread)) in
     let other = job_flags_text (name ++ codes ".job") jobs (taken.on).on (length-each false (λ (job : JobId). flag_line (indexed (name ++ codes ".job") job.0)) jobs (taken.on).on h.1)
     ∙ ap (λ (ks : List ℕ). flag_lines (name ++ codes ".job") ks (taken.on).on) (numbers_back (jobs_of plan.program.jobs thread)) in

@@ -2,9 +2,7 @@
 use Rattle.std.proofs.Common.{◌≡◌, ℕ, zero, suc, ◌≤◌, ◌<◌, ℤ, pos, negsuc, List, [], ◌∷◌, length, get_or, refl, sym, ap, ◌∙◌, subst, arith}
 use Rattle.std.proofs.lemmas.Int.{ints}
 use Rattle.std.specs.List.{slice_index_or}
-use Rattle.std.specs.Prelude.{slice_get}
 use Rattle.trick_load.specs.Ranges.{range_of}
-use Rattle.trick_load.specs.Scalars.{scalar_where}
 use Rattle.trick_codes.specs.Code.{IsWithin}
 use Rattle.trick_lang.proofs.WrapLaw.{wraps_right}
 use Rattle.trick_lang.specs.Effect.{scalars_of}
@@ -50,11 +48,6 @@ pub in_range_at : (slice cells : List Variable) (i : ℕ) (v : Variable) (n : �
     → IsOf v.scalar n → IsInRange (scalars_of cells) i n
 in_range_at slice cells i v n same lt is h =
     in_range_of cells i v n lt (subst (λ (w : Variable). IsOf w.scalar n) (is ∙ ap (λ (us : List Variable). get_or us i v) same) h)
-
-pub found_scalar : (cells : List Variable) (k : ℕ) → scalar_where (slice_get cells k) ≡ scalar_at (scalars_of cells) k
-found_scalar [] k = refl
-found_scalar (v ∷ cells) zero = refl
-found_scalar (v ∷ cells) (suc k) = found_scalar cells k
 
 pub length-scalars : (cells : List Variable) → length (scalars_of cells) ≡ length cells
 length-scalars [] = refl

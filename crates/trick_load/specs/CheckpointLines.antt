@@ -2,7 +2,7 @@
 use Rattle.std.specs.List.{enumerate_from, zip}
 use Rattle.std.specs.Prelude.{ℕ, zero, suc, ◌+◌, ℤ, pos, Bool, true, false, List, [], ◌∷◌, ◌++◌, length, map, codes, Option, None}
 use Rattle.trick_load.specs.Faults.{faults_lines, job_texts}
-use Rattle.trick_load.specs.Ranges.{name_at, range_at, range_of, ranges_at}
+use Rattle.trick_load.specs.Ranges.{full_name, range_at, range_of, ranges_at}
 use Rattle.trick_codes.specs.Forms.{kind_of}
 use Rattle.trick_codes.specs.Lines.{Lines, and_then, each, line, no_line, numbered, seen_as}
 use Rattle.trick_codes.specs.Named.{end_line, indexed, integer_line, named, none_or, number_line, row, word_line}
@@ -62,7 +62,7 @@ memory_of plan = each (pos 0) (λ (v : Variable). integer_line v.name (range_of 
 -- a line for each of these cells, with this in front of its full name
 unfoldable pub cells_of : Plan → List ℕ → List Cell → Lines (List ℤ)
 cells_of plan front cells =
-    each (pos 0) (λ (cell : Cell). integer_line (front ++ name_at plan cell) (range_at plan cell)) cells
+    each (pos 0) (λ (cell : Cell). integer_line (front ++ full_name plan cell) (range_at plan cell)) cells
 
 abbrev pub flag_at : ℕ → Bool
 flag_at zero = false

@@ -1,7 +1,5 @@
 -- the ranges of cells
 pub mod Ranges
--- the type of a cell, where it is there
-pub mod Scalars
 -- the lines of faults
 pub mod Faults
 -- the fields of a fault, as they are read in code

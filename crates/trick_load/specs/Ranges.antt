@@ -1,14 +1,13 @@
 -- The ranges of cells, as the lines of a checkpoint write them.
 use Rattle.std.proofs.Math.Nat.{le-add_right}
-use Rattle.std.specs.List.{slice_index_or}
-use Rattle.std.specs.Prelude.{ℕ, List, [], map}
+use Rattle.std.specs.Prelude.{ℕ, List, map}
 use Rattle.trick_codes.specs.declared.range.Range.{Range}
 use Rattle.trick_lang.specs.Effect.{scalars_of}
 use Rattle.trick_lang.specs.Wrap.{scalar_at}
 use Rattle.trick_lang.specs.declared.cells.Cell.{Cell}
 use Rattle.trick_lang.specs.declared.scalar.Scalar.{Scalar}
 use Rattle.trick_lang.specs.declared.scalar.Scalar.TheVariants as scalar
-use Rattle.trick_model.specs.Valid.{cell_names}
+use Rattle.trick_model.specs.NameAt.{cell_name}
 use Rattle.trick_model.specs.declared.plan.Plan.{Plan}
 
 -- the numbers of a type
@@ -63,8 +62,8 @@ range_of scalar.Long = record {
 }
 
 -- the full name and the range of a cell of a plan
-abbrev pub name_at : Plan → Cell → List ℕ
-name_at plan cell = slice_index_or (cell_names plan.program.cells) cell.0 []
+abbrev pub full_name : Plan → Cell → List ℕ
+full_name plan cell = cell_name plan.program.cells cell.0
 
 abbrev pub range_at : Plan → Cell → Range
 range_at plan cell = range_of (scalar_at (scalars_of plan.program.cells) cell.0)

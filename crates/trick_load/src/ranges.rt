@@ -1,13 +1,12 @@
 //! The ranges of cells.
 
-ghost use Rattle.std.specs.Prelude.{◌≡◌, IfOk, slice_get};
+ghost use Rattle.std.specs.Prelude.{◌≡◌, IfOk};
 ghost use Rattle.trick_load.specs.Ranges.{range_at as range_at_of, range_of as range_of_type, ranges_at as ranges_at_of};
-ghost use Rattle.trick_load.specs.Scalars.{scalar_where};
 
 use std::alloc::{AllocError, Global};
 use trick_codes::Range;
-use trick_lang::{Cell, Scalar, Variable};
-use trick_model::Plan;
+use trick_lang::{Cell, Scalar};
+use trick_model::{Plan, cell_type_or_long};
 
 /// The numbers of a type.
 pub(crate) fn range_of(scalar: Scalar) -> Range
@@ -26,21 +25,11 @@ pub(crate) fn range_of(scalar: Scalar) -> Range
     Range { below, above }
 }
 
-// The type of a cell.
-fn scalar_of(variables: &[Variable], cell: Cell) -> Scalar
-    ensures { result ≡ scalar_where (slice_get variables.now cell.0) }
-{
-    match variables.get(cell.0 as usize) {
-        Some(variable) => variable.scalar,
-        None => Scalar::Long,
-    }
-}
-
 /// The numbers of a cell.
 pub(crate) fn range_at(plan: &Plan, cell: Cell) -> Range
     ensures { result ≡ range_at_of plan.now cell }
 {
-    range_of(scalar_of(plan.program.cells.as_slice(), cell))
+    range_of(cell_type_or_long(&plan.program, cell))
 }
 
 /// The numbers of each of these cells.

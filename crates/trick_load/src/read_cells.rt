@@ -2,7 +2,7 @@
 
 ghost use Rattle.std.specs.Prelude.{◌≡◌, ◌++◌, IfOk, codes, length};
 ghost use Rattle.trick_load.specs.CheckpointLines.{cells_of, flag_line, flags_of, job_flags_of, memory_of};
-ghost use Rattle.trick_load.specs.Ranges.{name_at, range_at as range_at_of, range_of as range_of_type};
+ghost use Rattle.trick_load.specs.Ranges.{full_name, range_at as range_at_of, range_of as range_of_type};
 ghost use Rattle.trick_codes.specs.Gives.{beside, Gives};
 ghost use Rattle.trick_codes.specs.Lines.{read_lines};
 ghost use Rattle.trick_codes.specs.Named.{indexed, integer_line as integer_line_of};
@@ -12,10 +12,9 @@ ghost use Rattle.trick_lang.specs.Wrap.{IsOf};
 use crate::ranges::{range_at, range_of};
 use std::alloc::Global;
 use trick_base::Items;
-use trick_chkpt::name_of;
 use trick_codes::{Stop, integer_line, number_line, set_indexed};
 use trick_lang::{Cell, Cells, JobId, Variable};
-use trick_model::{Flags, Plan};
+use trick_model::{Flags, Plan, cell_name};
 
 // Reads the line of a cell.
 #[tactic(auto, using(crate::proofs::Within::of_type))]
@@ -58,11 +57,11 @@ fn read_cell<'a>(
     rest: &'a [u8],
 ) -> Result<(i64, &'a [u8]), Stop<'a>>
     ensures { Gives beside result
-        (read_lines (integer_line_of (front.now ++ name_at plan.now cell) (range_at_of plan.now cell)) rest.now) }
+        (read_lines (integer_line_of (front.now ++ full_name plan.now cell) (range_at_of plan.now cell)) rest.now) }
 {
     name.clear();
     name.extend_from_slice(front)?;
-    name.extend_from_slice(name_of(plan.program.cells.as_slice(), cell))?;
+    name.extend_from_slice(cell_name(&plan.program, cell))?;
     integer_line(name, range_at(plan, cell), rest)
 }
 

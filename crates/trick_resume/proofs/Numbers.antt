@@ -5,7 +5,7 @@ use Rattle.std.specs.List.{slice_index_or}
 use Rattle.std.specs.Prelude.{◌⊎◌, codes, map}
 use Rattle.trick_load.proofs.Within.{in_range_of, of_type}
 use Rattle.trick_load.specs.CheckpointLines.{cells_of, memory_of}
-use Rattle.trick_load.specs.Ranges.{name_at, range_at, range_of, ranges_at}
+use Rattle.trick_load.specs.Ranges.{range_at, range_of, ranges_at}
 use Rattle.trick_codes.specs.Code.{Fits, IsWithin}
 use Rattle.trick_codes.specs.Lines.{Holds, each, split_first}
 use Rattle.trick_codes.specs.Named.{each_code, integer_line, row, row_number}

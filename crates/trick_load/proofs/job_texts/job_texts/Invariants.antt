@@ -4,8 +4,8 @@ use Rattle.trick_load.specs.Faults.{job_text}
 use Rattle.trick_lang.specs.Names.{job_name}
 use Rattle.trick_lang.specs.declared.job.Job.{Job}
 
-abbrev pub invariant-loop-job : goal.invariant-loop-job
-invariant-loop-job l =
+abbrev pub invariant-loop-place : goal.invariant-loop-place
+invariant-loop-place l =
     let p = l.plan.program in
     l.texts.items
-    ≡ map (λ (job : Job). job_text (job_name p.objects p.methods job) job.instance) (take l.job-index l.job-items)
+    ≡ map (λ (job : Job). job_text (job_name p.objects p.methods job) job.instance) (take l.place p.jobs)
