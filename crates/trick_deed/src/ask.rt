@@ -1,9 +1,9 @@
 //! Actions as deeds.
 
-ghost use Rattle.std.specs.Prelude.{◌≡◌, ◌<◌, IfSome, [], length};
+ghost use Rattle.std.specs.Prelude.{◌≡◌, IfSome, []};
 ghost use Rattle.trick_deed.specs.Deeds.{fitting};
 ghost use Rattle.trick_lang.specs.Effect.{scalars_of};
-ghost use Rattle.trick_lang.specs.Wrap.{IsOf, scalar_at};
+ghost use Rattle.trick_lang.specs.Wrap.{IsOf};
 ghost use Rattle.trick_model.specs.Events.{names_of};
 ghost use Rattle.trick_model.specs.Names.{deed_of, find_name, set_in_range, stop_after};
 ghost use Rattle.trick_model.specs.PlanOf.{plan_of};
@@ -12,15 +12,8 @@ ghost use Rattle.trick_model.specs.Valid.{IsDeedAmong, cell_names, names_in};
 use crate::find::{find_cell, find_job};
 use crate::named::place_of;
 use trick_base::TIC_LIMIT;
-use trick_lang::{Cell, Program, Scalar, wrap};
-use trick_model::{Action, Deed, Event, Group, Plan};
-
-fn scalar_at(program: &Program, cell: Cell) -> Scalar
-    requires { cell.0 < length program.now.cells }
-    ensures { result ≡ scalar_at (scalars_of program.now.cells) cell.0 }
-{
-    program.cells.as_slice()[cell.0 as usize].scalar
-}
+use trick_lang::{Program, Scalar, wrap};
+use trick_model::{Action, Deed, Event, Group, Plan, cell_type};
 
 /// The number, if it is one of the type. Takes no memory.
 pub fn fitting(scalar: Scalar, number: i128) -> Option<i64>
@@ -42,7 +35,7 @@ fn set_cell(program: &Program, name: &[u8], number: i128) -> Option<Deed>
     ensures there { IfSome result (IsDeedAmong (names_in program.now [] [])) }
 {
     let cell = find_cell(program, name)?;
-    let number = fitting(scalar_at(program, cell), number)?;
+    let number = fitting(cell_type(program, cell), number)?;
     Some(Deed::SetCell { cell, number })
 }
 

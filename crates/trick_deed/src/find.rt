@@ -1,15 +1,17 @@
 //! Cells and jobs by their names.
 
-ghost use Rattle.std.specs.Prelude.{◌≡◌, ◌<◌, ◌==◌, ◌&&◌, ◌++◌, ◌∷◌, IfSome, length, map, option_map, slice_get};
+ghost use Rattle.std.specs.Prelude.{◌≡◌, ◌<◌, ◌==◌, ◌&&◌, ◌++◌, ◌∷◌, IfSome, length, map, option_map};
 ghost use Rattle.std.specs.Str.{bytes_eq};
-ghost use Rattle.trick_lang.specs.Names.{dot, job_name, method_name, object_name};
+ghost use Rattle.trick_lang.specs.Names.{dot, job_name};
 ghost use Rattle.trick_lang.specs.declared.job.JobId.{JobId};
 ghost use Rattle.trick_model.specs.Names.{find_job, find_name};
+ghost use Rattle.trick_model.specs.Plan.{job_at};
 ghost use Rattle.trick_model.specs.Session.{cell_found};
 ghost use Rattle.trick_model.specs.Valid.{cell_names};
 
 use crate::named::place_of;
-use trick_lang::{Cell, Job, JobId, Method, Object, Program};
+use trick_lang::{Cell, JobId, Program};
+use trick_model::{method_name, object_name};
 
 /// The cell of a full name, byte for byte. It takes time as there are cells, and no memory.
 pub fn find_cell(program: &Program, name: &[u8]) -> Option<Cell>
@@ -18,24 +20,6 @@ pub fn find_cell(program: &Program, name: &[u8]) -> Option<Cell>
 {
     let place = place_of(program.cells.as_slice(), name)?;
     Some(Cell(place as u32))
-}
-
-fn object_name(objects: &[Object], object: u32) -> &[u8]
-    ensures { result.now ≡ object_name (slice_get objects.now object) }
-{
-    match objects.get(object as usize) {
-        Some(object) => object.name.as_slice(),
-        None => b"",
-    }
-}
-
-fn method_name(methods: &[Method], method: u32) -> &[u8]
-    ensures { result.now ≡ method_name (slice_get methods.now method) }
-{
-    match methods.get(method as usize) {
-        Some(method) => method.name.as_slice(),
-        None => b"",
-    }
 }
 
 // Whether a name is that of an object, a dot, and that of a method.
@@ -52,13 +36,15 @@ fn is_joined(name: &[u8], object: &[u8], method: &[u8]) -> bool
 }
 
 // Whether the job has this name and instance.
-fn is_job(program: &Program, job: &Job, name: &[u8], instance: u64) -> bool
-    ensures { result ≡ (bytes_eq name.now (job_name program.now.objects program.now.methods job.now)
-        && (job.now.instance == instance)) }
+fn is_job(program: &Program, job: JobId, name: &[u8], instance: u64) -> bool
+    requires { job.0 < length program.now.jobs }
+    ensures { result ≡
+        (bytes_eq name.now (job_name program.now.objects program.now.methods (job_at program.now.jobs job.0))
+        && ((job_at program.now.jobs job.0).instance == instance)) }
 {
-    let object = object_name(program.objects.as_slice(), job.object);
-    let method = method_name(program.methods.as_slice(), job.method);
-    u64::from(job.instance) == instance && is_joined(name, object, method)
+    let found = program.jobs.as_slice()[job.0 as usize].instance;
+    u64::from(found) == instance
+        && is_joined(name, object_name(program, job), method_name(program, job))
 }
 
 /// The job of a name and an instance. It takes time as there are jobs, and no memory.
@@ -68,10 +54,10 @@ pub fn find_job(program: &Program, name: &[u8], instance: u64) -> Option<JobId>
         program.now.jobs }
     ensures within { IfSome result (λ job. job.0 < length program.now.jobs) }
 {
-    let jobs = program.jobs.as_slice();
-    for place in 0..jobs.len() {
-        if is_job(program, &jobs[place], name, instance) {
-            return Some(JobId(place as u32));
+    for place in 0..program.jobs.len() {
+        let job = JobId(place as u32);
+        if is_job(program, job, name, instance) {
+            return Some(job);
         }
     }
     None
