@@ -17,7 +17,7 @@ use trick_board::{Board, Closed};
 use trick_cycle::laws::due_test_is_exact;
 use trick_eval::Bench;
 use trick_lang::laws::{frame_law, write_law};
-use trick_lang::{Cells, JobId, Program};
+use trick_lang::{Cells, JobId};
 use trick_model::laws::key_order_is_one;
 use trick_model::{Accepted, Faults, Flags, Plan};
 use trick_queue::Queues;
@@ -53,15 +53,18 @@ fn due_jobs(alloc: Global, plan: &Plan, tic: u64) -> Result<Vec<JobId>, AllocErr
 }
 
 // A bench for each thread.
-fn all_benches(alloc: Global, program: &Program) -> Result<Vec<Bench>, AllocError>
+fn all_benches(alloc: Global, accepted: &Accepted) -> Result<Vec<Bench>, AllocError>
     ensures many { IfOk result (λ benches. length benches.items ≡ 16) }
-    ensures own { IfOk result (λ benches. (k : ℕ) → k < 16 → IsFor program.now (bench_at benches.items k).parts) }
+    ensures own { IfOk result (λ benches. (k : ℕ) → k < 16 →
+        IsFor accepted.now.plan.program (bench_at benches.items k).parts) }
     ensures empty { IfOk result (λ benches. (k : ℕ) → k < 16 → (bench_at benches.items k).job ≡ None) }
 {
+    let program = &accepted.plan().program;
+    let accesses = accepted.accesses();
     let mut benches = Vec::new(alloc);
     for thread in 0..THREADS {
         let _thread = thread;
-        benches.push(Bench::new(alloc, program)?)?;
+        benches.push(Bench::of(alloc, program, accesses)?)?;
     }
     Ok(benches)
 }
@@ -111,7 +114,7 @@ pub fn play<M: Cells + Drop>(
     write_law();
     let plan = accepted.plan();
     let due = due_jobs(alloc, plan, tic)?;
-    let mut benches = all_benches(alloc, &plan.program)?;
+    let mut benches = all_benches(alloc, accepted)?;
     let mut board = Board::new(alloc, accepted)?;
     let mut faults = Faults::new(alloc)?;
     board.open(accepted, memory, on, &due, tic);

@@ -24,7 +24,7 @@ impl<M: Cells> Single<M> {
     pub fn new(alloc: Global, accepted: &Accepted) -> Result<Self, AllocError>
         ensures { IfOk result (λ single. IsSingleOf accepted.now.plan single.board single.bench.parts) }
     {
-        let bench = Bench::new(alloc, &accepted.plan().program)?;
+        let bench = Bench::of(alloc, &accepted.plan().program, accepted.accesses())?;
         let board = Board::new(alloc, accepted)?;
         Ok(Single { board, bench })
     }

@@ -1,14 +1,12 @@
 use Rattle.std.proofs.Common.{◌≡◌, ◌∙◌, ◌<◌, ◌≤◌, List, ap, arith, length, subst, sym, take}
 use Rattle.std.proofs.lemmas.List.{take_all, take_more}
 use Rattle.std.specs.List.{slice_index_or}
-use Rattle.trick_eval.specs.Bench.{IsFor}
 use Rattle.trick_model.specs.Order.{jobs_at}
 use Rattle.trick_model.specs.PlanOf.{plan_of}
 use Rattle.trick_model.specs.Valid.{ids}
 use Rattle.trick_model.specs.declared.plan.Plan.{Plan as PlanValue}
 use Rattle.trick_play.proofs.Follows.{Laws}
 use Rattle.trick_play.proofs.Plays.{GoesOn, done_is, goes_start, left_is, step_at_self, step_done, wrong_here}
-use Rattle.trick_play.specs.Steps.{bench_at}
 use Rattle.trick_schedule.specs.declared.step.Step.{Step}
 use Rattle.trick_schedule.specs.declared.step.Step.TheVariants.{Take}
 use Rattle.trick_play.proofs.player.play.Goals as goal
@@ -28,7 +26,7 @@ loop-at-init g c =
     record {
       goes = goes_start laws plan c.args.accepted.now.accepted c.args.on.now c.args.tic (g.M.Cells.numbers c.args.memory) c.open.new.self c.in_ok-benches.benches.items
           c.open.ensures.opened c.in_ok-benches.ensures.many
-          (λ k less. subst (λ (p : PlanValue). IsFor p.program (bench_at c.in_ok-benches.benches.items k).parts) c.plan-plan.ensures.plan (c.in_ok-benches.ensures.own k less))
+          c.in_ok-benches.ensures.own
           c.in_ok-benches.ensures.empty;
       belongs = c.open.ensures.belongs;
     }
