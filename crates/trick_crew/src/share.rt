@@ -57,7 +57,8 @@ impl<M: Cells + Drop, P: Planned> Share<M, P> {
         ensures threads { IfOk result (λ share. share.threads.items ≡ 0 ∷ []) }
         ensures room { IfOk result (λ share. vec_len share.threads + more ≤ vec_capacity share.threads) }
     {
-        let bench = Bench::new(alloc, &held.accepted.plan().program)?;
+        let accepted = &*held.accepted;
+        let bench = Bench::of(alloc, &accepted.plan().program, accepted.accesses())?;
         let mut threads = Vec::with_capacity(alloc, more + 1)?;
         threads.push_reserved(0);
         Ok(Share {

@@ -49,7 +49,8 @@ impl<M: Cells + Drop, P: Planned, G: Gate + Drop, R: Wait + Copy + Drop> Worker<
     {
         let held = Held::try_clone(means.held)?;
         let gate = Arc::try_clone(means.gate)?;
-        let bench = Bench::new(means.alloc, &held.accepted.plan().program)?;
+        let accepted = &*held.accepted;
+        let bench = Bench::of(means.alloc, &accepted.plan().program, accepted.accesses())?;
         Ok(Worker {
             rt: means.rt,
             held,
