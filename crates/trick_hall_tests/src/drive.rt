@@ -32,7 +32,7 @@ impl<P: Planned> Worker<P> {
     ) -> Result<Worker<P>, AllocError>
         ensures { IfOk result (λ w. IsBenchFor accepted.now.plan.program w.bench.parts) }
     {
-        let bench = Bench::new(alloc, &accepted.plan().program)?;
+        let bench = Bench::of(alloc, &accepted.plan().program, accepted.accesses())?;
         Ok(Worker { hand, bench })
     }
 }
