@@ -48,8 +48,9 @@ impl Trial {
     pub(crate) fn new(alloc: Global, accepted: &Accepted) -> Result<Self, AllocError>
         ensures { IfOk result (λ t. IsTrial accepted.now.plan t.board t.is_open t.bench t.other) }
     {
-        let bench = Bench::new(alloc, &accepted.plan().program)?;
-        let other = Bench::new(alloc, &accepted.plan().program)?;
+        let program = &accepted.plan().program;
+        let bench = Bench::of(alloc, program, accepted.accesses())?;
+        let other = Bench::of(alloc, program, accepted.accesses())?;
         let board = Board::new(alloc, accepted)?;
         Ok(Trial {
             board,
