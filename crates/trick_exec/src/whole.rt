@@ -52,19 +52,19 @@ fn no_wait(alloc: Global, stations: &[Station]) -> Result<Vec<u64>, AllocError>
     Ok(waits)
 }
 
-// What a run of a plan keeps beside its world.
+// What a run of an accepted plan keeps beside its world.
 fn keep<M: Cells, L: Ledger>(
     alloc: Global,
-    plan: &Plan,
+    accepted: &Accepted,
     state: &State<M>,
     steps: Steps<L>,
 ) -> Result<Keeping<L>, AllocError>
     requires { state.now.tic ≤ tic_limit + 1 }
-    ensures course { IfOk result (λ keeping. IsCourseOf plan.now keeping.equipment.course (seen M.numbers state.now)) }
-    ensures bench { IfOk result (λ keeping. IsFor plan.now.program keeping.equipment.bench.parts) }
-    ensures waits { IfOk result (λ keeping. keeping.waits.items ≡ no_waits (plan_of plan.now)) }
+    ensures course { IfOk result (λ keeping. IsCourseOf accepted.now.plan keeping.equipment.course (seen M.numbers state.now)) }
+    ensures bench { IfOk result (λ keeping. IsFor accepted.now.plan.program keeping.equipment.bench.parts) }
+    ensures waits { IfOk result (λ keeping. keeping.waits.items ≡ no_waits (plan_of accepted.now.plan)) }
 {
-    let equipment = Equipment::new(alloc, plan, state, steps)?;
+    let equipment = Equipment::new(alloc, accepted, state, steps)?;
     let waits = no_wait(alloc, equipment.course.stations())?;
     Ok(Keeping {
         alloc,
@@ -205,7 +205,7 @@ fn run_by<M: Cells + Drop, F: Shelf, H: Phases<M>, P: Posts, T: Turns<M>, L: Led
 {
     laws::runs_join();
     let Start { alloc, state } = start;
-    let Ok(mut keeping) = keep(alloc, accepted.plan(), &state, Steps::<L>::new(blank)) else {
+    let Ok(mut keeping) = keep(alloc, accepted, &state, Steps::<L>::new(blank)) else {
         return Err(Stop::Memory);
     };
     let mut run = Run::new(&mut keeping, shelf, workers, turns);

@@ -10,7 +10,7 @@ use std::alloc::{AllocError, Global};
 use std::sync::ledger::Ledger;
 use trick_eval::Bench;
 use trick_lang::Cells;
-use trick_model::{Plan, State};
+use trick_model::{Accepted, State};
 use trick_queue::Steps;
 use trick_tic::Course;
 
@@ -22,19 +22,20 @@ pub struct Equipment<L: Ledger> {
 }
 
 impl<L: Ledger> Equipment<L> {
-    /// That of a run of a plan that goes on from a state. Its tics count on in `steps`.
+    /// That of a run of an accepted plan that goes on from a state. Its tics count on in `steps`.
     pub fn new<M: Cells>(
         alloc: Global,
-        plan: &Plan,
+        accepted: &Accepted,
         state: &State<M>,
         steps: Steps<L>,
     ) -> Result<Self, AllocError>
         requires { state.now.tic ≤ tic_limit + 1 }
-        ensures course { IfOk result (λ equipment. IsCourseOf plan.now equipment.course (seen M.numbers state.now)) }
-        ensures bench { IfOk result (λ equipment. IsFor plan.now.program equipment.bench.parts) }
+        ensures course { IfOk result (λ equipment. IsCourseOf accepted.now.plan equipment.course (seen M.numbers state.now)) }
+        ensures bench { IfOk result (λ equipment. IsFor accepted.now.plan.program equipment.bench.parts) }
     {
+        let plan = accepted.plan();
         let course = Course::new(alloc, plan, state, steps)?;
-        let bench = Bench::new(alloc, &plan.program)?;
+        let bench = Bench::of(alloc, &plan.program, accepted.accesses())?;
         Ok(Equipment { course, bench })
     }
 }

@@ -6,4 +6,4 @@ use Rattle.trick_model.specs.PlanOf.{plan_of}
 pub returns-clause-waits : goal.returns-clause-waits
 returns-clause-waits g c =
     c.in_ok-waits.ensures
-    ∙ waits_of (plan_of c.args.plan.now) c.stations.result.now c.in_ok-equipment.equipment.course.ends.stations c.stations.ensures c.in_ok-equipment.ensures.course.ends.stations
+    ∙ waits_of (plan_of c.args.accepted.now.plan) c.stations.result.now c.in_ok-equipment.equipment.course.ends.stations c.stations.ensures c.in_ok-equipment.ensures.course.ends.stations

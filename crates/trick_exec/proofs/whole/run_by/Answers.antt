@@ -42,9 +42,9 @@ whole-requires g c =
         free = subst (λ w. IsFree (plan_of plan) (g.P.Posts.in_flight w.posts)) (sym work) c.requires.free;
         valid = c.requires.valid;
         memory = c.requires.memory;
-        course = subst (λ e. IsCourseOf plan e.course s) (sym c.new-run.ensures.equipment) (rw c.plan.ensures.plan at c.in-Ok.ensures.course);
-        bench = subst (λ e. IsFor plan.program e.bench.parts) (sym c.new-run.ensures.equipment) (rw c.plan.ensures.plan at c.in-Ok.ensures.bench);
-        waits = ap (λ v. v.items) c.new-run.ensures.waits ∙ (rw c.plan.ensures.plan at c.in-Ok.ensures.waits);
+        course = subst (λ e. IsCourseOf plan e.course s) (sym c.new-run.ensures.equipment) c.in-Ok.ensures.course;
+        bench = subst (λ e. IsFor plan.program e.bench.parts) (sym c.new-run.ensures.equipment) c.in-Ok.ensures.bench;
+        waits = ap (λ v. v.items) c.new-run.ensures.waits ∙ c.in-Ok.ensures.waits;
         unknown = ap g.T.Turns.sessions c.new-run.ensures.turns ∙ c.requires.unknown;
         paid = ap g.T.Turns.owes c.new-run.ensures.turns ∙ c.requires.paid;
       };
