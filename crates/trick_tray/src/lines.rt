@@ -7,10 +7,10 @@ ghost use Rattle.trick_tray.specs.Calendars.{scheduled_of};
 ghost use Rattle.trick_tray.specs.Trays.{AreWrites};
 
 use std::alloc::{AllocError, Global};
-use trick_access::{Access, access};
+use trick_access::writes_in;
 use trick_base::Items;
 use trick_lang::{CellRange, Class, JobId};
-use trick_model::Plan;
+use trick_model::{Accepted, Plan};
 
 // Adds a job where it is wanted.
 fn add(jobs: &mut Items<JobId>, job: JobId, wanted: bool) -> Result<(), AllocError>
@@ -34,14 +34,9 @@ pub fn line(alloc: Global, plan: &Plan, thread: u8) -> Result<Items<JobId>, Allo
     Ok(jobs)
 }
 
-/// The cells that each job of a plan may write.
-pub fn all_writes(alloc: Global, plan: &Plan) -> Result<Items<Items<CellRange>>, AllocError>
-    ensures { IfOk result (AreWrites plan.now) }
+/// The cells that each job of an accepted plan may write.
+pub fn all_writes(alloc: Global, accepted: &Accepted) -> Result<Items<Items<CellRange>>, AllocError>
+    ensures { IfOk result (AreWrites accepted.now.plan) }
 {
-    let mut all = Items::new(alloc);
-    for number in 0..plan.program.jobs.len() {
-        let Access { writes, .. } = access(alloc, &plan.program, JobId(number as u32))?;
-        all.push(writes)?;
-    }
-    Ok(all)
+    writes_in(alloc, accepted.accesses())
 }

@@ -28,7 +28,7 @@ use trick_eval::Bench;
 use trick_job::{Setting, run_jobs};
 use trick_lang::laws::write_law;
 use trick_lang::{CellRange, Cells, JobId};
-use trick_model::{Faults, Flags, Plan};
+use trick_model::{Accepted, Faults, Flags, Plan};
 use trick_post::Job1;
 
 /// A bench, and a memory of its own. All of its buffers are made with it.
@@ -57,15 +57,15 @@ fn set_flags(jobs: &[JobId], flags: &[bool], on: &mut Flags)
 }
 
 impl Worker {
-    /// A worker for a plan. This call alone takes memory.
-    pub fn new(alloc: Global, plan: &Plan) -> Result<Self, AllocError>
-        ensures { IfOk result (IsWorkerOf plan.now) }
+    /// A worker for an accepted plan. This call alone takes memory.
+    pub fn new(alloc: Global, accepted: &Accepted) -> Result<Self, AllocError>
+        ensures { IfOk result (IsWorkerOf accepted.now.plan) }
     {
-        let program = &plan.program;
+        let program = &accepted.plan().program;
         let on = vec![in alloc; false; program.jobs.len()]?;
-        let writes = all_writes(alloc, plan)?;
+        let writes = all_writes(alloc, accepted)?;
         let scratch = Scratch::new(alloc, program)?;
-        let bench = Bench::new(alloc, program)?;
+        let bench = Bench::of(alloc, program, accepted.accesses())?;
         Ok(Worker {
             bench,
             scratch,
