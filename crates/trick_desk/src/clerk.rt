@@ -67,7 +67,7 @@ impl<P: Planned> Clerk<P> {
         let held = held.try_clone()?;
         let lock = Arc::try_clone(lock)?;
         let parcel = Parcel::new(alloc, held.accepted.plan(), thread)?;
-        let worker = Worker::new(alloc, held.accepted.plan())?;
+        let worker = Worker::new(alloc, &*held.accepted)?;
         Ok(Clerk {
             held,
             lock,

@@ -79,7 +79,7 @@ impl Post {
         let pass = passes.remove(0);
         let clerks = clerks_with(alloc, &held, &lock, &NUMBERS, &mut passes)?;
         let parcels = Parcel::all(alloc, held.accepted.plan())?;
-        let worker = Worker::new(alloc, held.accepted.plan())?;
+        let worker = Worker::new(alloc, &*held.accepted)?;
         let rack = Rack {
             held,
             lock,

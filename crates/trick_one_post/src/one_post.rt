@@ -28,7 +28,7 @@ impl OnePost {
         ensures none { IfOk result (λ post. (n : ℕ) → started_at post.trays.items n ≡ None) }
     {
         let trays = Tray::all(alloc, accepted.plan())?;
-        let worker = Worker::new(alloc, accepted.plan())?;
+        let worker = Worker::new(alloc, &*accepted)?;
         Ok(OnePost {
             accepted,
             trays,
