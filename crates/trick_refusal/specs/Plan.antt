@@ -1,7 +1,8 @@
 -- The lines of what a plan is refused for. They name what the plan has by numbers.
-use Rattle.std.specs.List.{slice_get, slice_index_or}
-use Rattle.std.specs.Prelude.{ℕ, List, [], ◌∷◌, ◌++◌, Option, Some, None, codes, decimal}
-use Rattle.trick_model.specs.Plan.{Plan, Event, job_at}
+use Rattle.std.specs.List.{slice_get}
+use Rattle.std.specs.Prelude.{ℕ, List, [], ◌∷◌, Option, Some, None, codes, decimal}
+use Rattle.trick_model.specs.NameAt.{job_title, name_at}
+use Rattle.trick_model.specs.Plan.{Plan, Event}
 use Rattle.trick_model.specs.declared.group.Group.{Group}
 use Rattle.trick_race.specs.declared.fault.PlanFault.{PlanFault}
 use Rattle.trick_race.specs.declared.fault.PlanFault.TheVariants.{NoThread, ClassOnChild, Backwards}
@@ -11,11 +12,11 @@ use Rattle.trick_refusal.specs.Line.{out_of_memory, refused}
 
 -- a job is told by its name and its instance
 abbrev pub job : Plan → ℕ → List ℕ
-job p k = slice_index_or p.job_names k [] ++ codes " " ++ decimal (job_at p.jobs k).instance
+job p k = job_title p.job_names p.jobs k
 
 -- a cell is told by its full name
 abbrev pub cell : Plan → ℕ → List ℕ
-cell p k = slice_index_or p.names k []
+cell p k = name_at p.names k
 
 abbrev pub group_name : Option Group → List ℕ
 group_name None = []

@@ -7,10 +7,10 @@ ghost use Rattle.trick_refusal.specs.Plan.{plan_line as line_of};
 
 use crate::field::Field;
 use crate::line::{out_of_memory, refused};
-use crate::name::{cell, event, group, job};
+use crate::name::{event, group, job};
 use std::alloc::{AllocError, Global};
 use trick_lang::JobId;
-use trick_model::Plan;
+use trick_model::{Plan, cell_name};
 use trick_race::PlanFault;
 
 // The line of a target that waits for a job which is not before it.
@@ -65,7 +65,7 @@ pub fn plan_line(alloc: Global, plan: &Plan, fault: PlanFault) -> Result<Vec<u8>
             other,
         } => {
             let fields = [
-                Field::Name(cell(plan, first)),
+                Field::Name(cell_name(&plan.program, first)),
                 Field::Number(u64::from(thread)),
                 Field::Number(u64::from(other)),
             ];
@@ -77,7 +77,7 @@ pub fn plan_line(alloc: Global, plan: &Plan, fault: PlanFault) -> Result<Vec<u8>
         } => {
             let fields = [
                 Field::Name(group(plan, first)),
-                Field::Name(cell(plan, variable)),
+                Field::Name(cell_name(&plan.program, variable)),
             ];
             refused(alloc, b"AsyncRecorded", &fields)
         }
