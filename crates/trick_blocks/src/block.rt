@@ -1,11 +1,11 @@
 //! Blocks, with the frames that they need.
 
-ghost use Rattle.std.specs.Prelude.{◌≡◌, ◌+◌, max, IfOk, OnOk, length};
+ghost use Rattle.std.specs.Prelude.{◌≡◌, ◌+◌, ◌∷◌, [], max, IfOk, OnOk, length};
 ghost use Rattle.trick_blocks.specs.Bodies.{all_depth, branch_depth, code_depth, depth_at, with_body};
 ghost use Rattle.trick_blocks.specs.Held.{bodies_of};
 ghost use Rattle.trick_lang.specs.TreeOf.{branches_of, code_list, code_of, else_of};
 
-use std::alloc::AllocError;
+use std::alloc::{AllocError, Global};
 use trick_base::Items;
 use trick_lang::{Block, Branch, Stmt};
 
@@ -111,4 +111,21 @@ pub fn add_block(
         deep,
     })?;
     Ok(number as u32)
+}
+
+/// Adds a block of a class that has one statement, and gives its number.
+pub fn add_single(
+    alloc: Global,
+    class: u32,
+    statement: Stmt,
+    blocks: &mut Vec<Block>,
+) -> Result<u32, AllocError>
+    ensures number { IfOk result (λ number. number ≡ length blocks.old.items) }
+    ensures blocks { OnOk result (bodies_of blocks.new.items
+        ≡ with_body class (code_of statement ∷ []) (bodies_of blocks.old.items)) }
+    ensures length { OnOk result (length blocks.new.items ≡ length blocks.old.items + 1) }
+{
+    let mut statements = Vec::new(alloc);
+    statements.push(statement)?;
+    add_block(class, statements, blocks)
 }

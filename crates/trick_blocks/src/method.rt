@@ -8,9 +8,9 @@ ghost use Rattle.trick_blocks.specs.Methods.{body_blocks, progress, with_method,
 ghost use Rattle.trick_blocks.specs.Room.{IsLaid};
 ghost use Rattle.trick_lang.specs.Syntax.{class_part_of, class_parts_of, method_of, statements_of_list};
 
-use crate::block::{add_block, count_of};
+use crate::block::count_of;
 use crate::slots::slots_of_blocks;
-use crate::statement::resolve_all;
+use crate::statement::add_statements;
 use crate::world::World;
 use std::alloc::{AllocError, Global};
 use trick_lang::Block;
@@ -33,9 +33,7 @@ fn add_body(
         ≡ length blocks.old.items + (all_count (statements_of_list body.now) + 1)) }
 {
     let mut locals = Names::new(alloc);
-    let statements = resolve_all(alloc, body, world, &mut locals, blocks)?;
-    let number = add_block(world.class, statements, blocks)?;
-    Ok(number)
+    add_statements(alloc, body, world, &mut locals, blocks)
 }
 
 fn resolve_method(

@@ -11,7 +11,7 @@ ghost use Rattle.trick_lang.specs.Tree as codes;
 ghost use Rattle.trick_lang.specs.TreeOf as tree;
 ghost use Rattle.trick_names.specs.Names.{meaning_of};
 
-use crate::block::add_block;
+use crate::block::{add_block, add_single};
 use crate::local::{declare, enter_loop, scalar};
 use crate::start::Local;
 use crate::term::{Reached, resolve_expression, resolve_path};
@@ -171,9 +171,8 @@ fn resolve_statement(
         syntax::Stmt::Empty => Ok(Stmt::Empty),
         syntax::Stmt::Block(all) => {
             let mark = locals.len();
-            let statements = resolve_all(alloc, all, world, locals, blocks)?;
+            let number = add_statements(alloc, all, world, locals, blocks)?;
             locals.forget(mark);
-            let number = add_block(world.class, statements, blocks)?;
             Ok(Stmt::Run(number))
         }
         syntax::Stmt::Declare {
@@ -209,6 +208,31 @@ fn resolve_statement(
     }
 }
 
+/// Adds the block of these statements after those in it, and gives its number.
+#[cycle(walk)]
+pub fn add_statements(
+    alloc: Global,
+    body: &[syntax::Stmt],
+    world: &World,
+    locals: &mut Names<Local>,
+    blocks: &mut Vec<Block>,
+) -> Result<u32, AllocError>
+    requires laid { IsLaid world.now }
+    ensures number { IfOk result (λ number. number
+        ≡ length blocks.old.items + all_count (text.statements_of_list body.now)) }
+    ensures blocks { OnOk result (bodies_of blocks.new.items ≡ with_bodies world.now.class
+        (all_inner (text.statements_of_list body.now) world.now locals.old (length blocks.old.items)
+        ++ all_codes (text.statements_of_list body.now) world.now locals.old (length blocks.old.items) ∷ [])
+        (bodies_of blocks.old.items)) }
+    ensures length { OnOk result (length blocks.new.items
+        ≡ length blocks.old.items + (all_count (text.statements_of_list body.now) + 1)) }
+    ensures locals { OnOk result (locals.new ≡ after_all (text.statements_of_list body.now) world.now locals.old) }
+{
+    let statements = resolve_all(alloc, body, world, locals, blocks)?;
+    let number = add_block(world.class, statements, blocks)?;
+    Ok(number)
+}
+
 // The block of a branch's or a loop's body.
 #[cycle(walk)]
 fn resolve_body(
@@ -231,9 +255,7 @@ fn resolve_body(
     let mark = locals.len();
     let one = resolve_statement(alloc, s, world, locals, blocks)?;
     locals.forget(mark);
-    let mut statements = Vec::new(alloc);
-    statements.push(one)?;
-    let number = add_block(world.class, statements, blocks)?;
+    let number = add_single(alloc, world.class, one, blocks)?;
     Ok(number)
 }
 
@@ -259,8 +281,8 @@ fn resolve_if(
 {
     let mut out = Vec::new(alloc);
     for branch in branches {
-        let test = resolve_expression(alloc, &branch.test, world, locals)?;
         let block = resolve_body(alloc, &branch.body, world, locals, blocks)?;
+        let test = resolve_expression(alloc, &branch.test, world, locals)?;
         out.push(Branch {
             line: branch.line,
             test,

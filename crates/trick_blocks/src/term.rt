@@ -4,6 +4,7 @@ ghost use Rattle.trick_blocks.specs.Places.{followed, literal_count, scalar_ther
 ghost use Rattle.trick_blocks.specs.Room.{Fits, IsLaid};
 ghost use Rattle.trick_blocks.specs.Terms.{added_steps, choice_terms, goal_term, link_terms, path_goal, place_goal, steps, term};
 ghost use Rattle.trick_lang.specs.Syntax as text;
+ghost use Rattle.trick_lang.specs.Tree as codes;
 ghost use Rattle.trick_lang.specs.TreeOf as tree;
 ghost use Rattle.trick_lang.specs.Wrap.{wrap};
 ghost use Rattle.trick_lang.specs.declared.scalar.Scalar.TheVariants.{Long};
@@ -13,7 +14,7 @@ use crate::spot::{Spot, scalar};
 use crate::start::{Local, Meaning, stands_for};
 use crate::world::World;
 use std::alloc::{AllocError, Global};
-use trick_lang::{Choice, Expr, Index, Link, Place, Scalar, syntax};
+use trick_lang::{Choice, Expr, Index, Link, Place, Prefix, Scalar, syntax};
 use trick_names::Names;
 
 /// What a path stands for.
@@ -45,6 +46,26 @@ fn named(reached: Reached) -> Expr
     }
 }
 
+fn prefixed(alloc: Global, prefix: Prefix, inside: Expr) -> Result<Expr, AllocError>
+    ensures { IfOk result (λ made. tree.term_of made ≡ codes.Prefixed prefix (tree.term_of inside)) }
+{
+    Ok(Expr::Prefixed(prefix, Box::new(alloc, inside)?))
+}
+
+fn chain(alloc: Global, first: Expr, links: Vec<Link>) -> Result<Expr, AllocError>
+    ensures { IfOk result (λ made. tree.term_of made
+        ≡ codes.Chain (tree.term_of first) (tree.links_of_list links.items)) }
+{
+    Ok(Expr::Chain(Box::new(alloc, first)?, links))
+}
+
+fn choose(alloc: Global, choices: Vec<Choice>, last: Expr) -> Result<Expr, AllocError>
+    ensures { IfOk result (λ made. tree.term_of made
+        ≡ codes.Choose (tree.choices_of_list choices.items (tree.term_of last))) }
+{
+    Ok(Expr::Choose(choices, Box::new(alloc, last)?))
+}
+
 /// What an expression becomes. Each level of the text's nesting, of which there are at most 64, is
 /// three calls deep.
 #[cycle(terms)]
@@ -66,17 +87,17 @@ pub fn resolve_expression(
         }
         syntax::Expr::Prefixed(prefix, operand) => {
             let inside = resolve_expression(alloc, operand, world, locals)?;
-            Ok(Expr::Prefixed(*prefix, Box::new(alloc, inside)?))
+            prefixed(alloc, *prefix, inside)
         }
         syntax::Expr::Chain(first, links) => {
             let begin = resolve_expression(alloc, first, world, locals)?;
             let more = resolve_links(alloc, links, world, locals)?;
-            Ok(Expr::Chain(Box::new(alloc, begin)?, more))
+            chain(alloc, begin, more)
         }
         syntax::Expr::Choose(choices, last) => {
             let tests = resolve_choices(alloc, choices, world, locals)?;
             let end = resolve_expression(alloc, last, world, locals)?;
-            Ok(Expr::Choose(tests, Box::new(alloc, end)?))
+            choose(alloc, tests, end)
         }
     }
 }

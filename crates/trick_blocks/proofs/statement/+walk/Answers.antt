@@ -12,8 +12,8 @@ use Rattle.trick_blocks.specs.Terms.{term}
 use Rattle.trick_lang.specs.Tree as codes
 use Rattle.trick_lang.specs.TreeOf.{code_list}
 
-pub resolve_statement-resolve_all-requires : goal.resolve_statement-resolve_all-requires
-resolve_statement-resolve_all-requires t c =
+pub resolve_statement-add_statements-requires : goal.resolve_statement-add_statements-requires
+resolve_statement-add_statements-requires t c =
     let heavy = ap weight (ap text.statement_of c.in-Block.is ∙ block_is c.in-Block.all) in
     (rw c.deref.ensures.value (omega (arith, c.decreases, heavy)), c.requires.laid)
 
@@ -82,7 +82,7 @@ resolve_if-loop-branch-preserved t c =
     record {
       codes = ap (λ q. branches_after q (branch_codes rest w c.resolve_body.new.locals m)) c.in_ok-push.ensures.items
           ∙ (branches_grown out _ _
-          ∙ (ap (λ x. branches_after out (codes.Test item.line x c.in_ok-block.block (branch_codes rest w c.resolve_body.new.locals m))) c.in_ok-test.ensures
+          ∙ (ap (λ x. branches_after out (codes.Test item.line x c.in_ok-block.block (branch_codes rest w c.resolve_body.new.locals m))) (c.in_ok-test.ensures ∙ ap (term (text.expression_of item.test) w) done.locals)
           ∙ (ap (λ b. branches_after out (codes.Test item.line (term (text.expression_of item.test) w locals) b (branch_codes rest w c.resolve_body.new.locals m))) done.number
           ∙ (ap (λ q. branches_after out (codes.Test item.line (term (text.expression_of item.test) w locals) (n + count s) q)) there
           ∙ subst (λ q. branches_after out (branch_codes q w locals n) ≡ branch_codes all w first begin) next c.loop-branch.invariant.codes))));
@@ -114,14 +114,14 @@ resolve_statement-returns-in_ok-number-in-Block-clause-code t c =
     let is = ap text.statement_of c.in-Block.is ∙ block_is c.in-Block.all in
     let n = length c.args.blocks.now.items in
     let counted = ap (λ xs. n + all_count (text.statements_of_list xs)) c.deref.ensures.value in
-    ap codes.Run (c.in_ok-number-in-Block.ensures.number ∙ (c.in_ok-statements-in-Block.ensures.length ∙ counted))
+    ap codes.Run (c.in_ok-number-in-Block.ensures.number ∙ counted)
     ∙ ap (λ s. code s c.args.world.now c.args.locals.now n) (sym is)
 
 pub resolve_statement-returns-in_ok-number-in-Block-clause-length : goal.resolve_statement-returns-in_ok-number-in-Block-clause-length
 resolve_statement-returns-in_ok-number-in-Block-clause-length t c =
     let is = ap count (ap text.statement_of c.in-Block.is ∙ block_is c.in-Block.all) in
     let inside = ap (λ xs. all_count (text.statements_of_list xs)) c.deref.ensures.value in
-    omega (arith, is, inside, c.in_ok-number-in-Block.ensures.length, c.in_ok-statements-in-Block.ensures.length)
+    omega (arith, is, inside, c.in_ok-number-in-Block.ensures.length)
 
 pub resolve_statement-returns-in_ok-number-in-Block-clause-blocks : goal.resolve_statement-returns-in_ok-number-in-Block-clause-blocks
 resolve_statement-returns-in_ok-number-in-Block-clause-blocks t c =
@@ -130,21 +130,16 @@ resolve_statement-returns-in_ok-number-in-Block-clause-blocks t c =
     let locals = c.args.locals.now in
     let n = length c.args.blocks.now.items in
     let old = bodies_of c.args.blocks.now.items in
-    let all = text.statements_of_list c.deref.result.now in
-    let last = code_list c.in_ok-statements-in-Block.statements.items in
     c.in_ok-number-in-Block.ensures.blocks
-    ∙ (ap (with_body w.class last) c.in_ok-statements-in-Block.ensures.blocks
-    ∙ (sym (bodies_both w.class (all_inner all w locals n) (last ∷ []) old)
-    ∙ (ap (λ q. with_bodies w.class (all_inner all w locals n ++ q ∷ []) old) c.in_ok-statements-in-Block.ensures.codes
     ∙ (ap (λ xs. with_bodies w.class (all_inner (text.statements_of_list xs) w locals n ++ all_codes (text.statements_of_list xs) w locals n ∷ []) old) c.deref.ensures.value
-    ∙ ap (λ s. with_bodies w.class (inner s w locals n) old) (sym is)))))
+    ∙ ap (λ s. with_bodies w.class (inner s w locals n) old) (sym is))
 
 pub resolve_statement-returns-in_ok-number-in-Block-clause-locals : goal.resolve_statement-returns-in_ok-number-in-Block-clause-locals
 resolve_statement-returns-in_ok-number-in-Block-clause-locals t c =
     let is = ap text.statement_of c.in-Block.is ∙ block_is c.in-Block.all in
     let w = c.args.world.now in
     let locals = c.args.locals.now in
-    let forgotten : take c.len-mark.result c.resolve_all.new.locals ≡ take (length locals) (after_all (text.statements_of_list c.deref.result.now) w locals) = ap (λ k. take k c.resolve_all.new.locals) c.len-mark.ensures ∙ ap (take (length locals)) c.in_ok-statements-in-Block.ensures.locals in
+    let forgotten : take c.len-mark.result c.add_statements.new.locals ≡ take (length locals) (after_all (text.statements_of_list c.deref.result.now) w locals) = ap (λ k. take k c.add_statements.new.locals) c.len-mark.ensures ∙ ap (take (length locals)) c.in_ok-number-in-Block.ensures.locals in
     c.forget.ensures ∙ (forgotten ∙ (left_again locals _ (all_begins (text.statements_of_list c.deref.result.now) w locals) ∙ ap (λ s. after s w locals) (sym is)))
 
 pub resolve_statement-returns-in_ok-block-in-For-clause-locals : goal.resolve_statement-returns-in_ok-block-in-For-clause-locals
@@ -162,8 +157,21 @@ resolve_body-returns-clause-blocks t c =
     let n = length c.args.blocks.now.items in
     let old = bodies_of c.args.blocks.now.items in
     let s = text.statement_of c.args.s.now in
-    let one : code_list c.push.new.self.items ≡ code s w locals n ∷ [] = ap code_list (c.in_ok-push.ensures.items ∙ ap (λ q. q ++ c.in_ok-one.one ∷ []) c.new-statements.ensures.items) ∙ ap (λ q. q ∷ []) c.in_ok-one.ensures.code in
+    let before = bodies_of c.resolve_statement.new.blocks.items in
     c.in_ok-number.ensures.blocks
-    ∙ (ap (λ q. with_body w.class q (bodies_of c.resolve_statement.new.blocks.items)) one
+    ∙ (ap (λ x. with_body w.class (x ∷ []) before) c.in_ok-one.ensures.code
     ∙ (ap (with_body w.class (code s w locals n ∷ [])) c.in_ok-one.ensures.blocks
     ∙ sym (bodies_both w.class (inner s w locals n) ((code s w locals n ∷ []) ∷ []) old)))
+
+pub add_statements-returns-clause-blocks : goal.add_statements-returns-clause-blocks
+add_statements-returns-clause-blocks t c =
+    let w = c.args.world.now in
+    let locals = c.args.locals.now in
+    let n = length c.args.blocks.now.items in
+    let old = bodies_of c.args.blocks.now.items in
+    let all = text.statements_of_list c.args.body.now in
+    let last = code_list c.in_ok-statements.statements.items in
+    c.in_ok-number.ensures.blocks
+    ∙ (ap (with_body w.class last) c.in_ok-statements.ensures.blocks
+    ∙ (sym (bodies_both w.class (all_inner all w locals n) (last ∷ []) old)
+    ∙ ap (λ q. with_bodies w.class (all_inner all w locals n ++ q ∷ []) old) c.in_ok-statements.ensures.codes))

@@ -11,6 +11,9 @@ use Rattle.trick_lang.specs.TreeOf.{code_list}
 abbrev pub decreases-resolve_statement : goal.decreases-resolve_statement
 decreases-resolve_statement l = weight (text.statement_of l.s.now)
 
+abbrev pub decreases-add_statements : goal.decreases-add_statements
+decreases-add_statements l = 1 + all_weight (text.statements_of_list l.body.now)
+
 abbrev pub decreases-resolve_body : goal.decreases-resolve_body
 decreases-resolve_body l = 1 + weight (text.statement_of l.s.now)
 

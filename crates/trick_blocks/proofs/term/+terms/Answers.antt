@@ -1,7 +1,6 @@
-use Rattle.std.proofs.Common.{rules, ◌≡◌, ◌+◌, [], ◌∷◌, Some, drop, ap, sym, ◌∙◌, subst, arith}
+use Rattle.std.proofs.Common.{◌≡◌, ◌+◌, [], ◌∷◌, IfOk, Some, drop, ap, sym, ◌∙◌, subst, arith}
 use Rattle.trick_base.proofs.ListLemmas.{next_item}
 use Rattle.trick_lang.proofs.SyntaxLists.{chain_is, choose_is, named_is}
-use Rattle.trick_lang.proofs.TreeLists as built
 use Rattle.trick_lang.specs.Syntax as text
 use Rattle.trick_lang.specs.Tree as Tree
 use Rattle.trick_lang.specs.Tree.{NoStep, Step}
@@ -41,32 +40,30 @@ pub resolve_expression-returns-in_ok-reached-in-Named : goal.resolve_expression-
 resolve_expression-returns-in_ok-reached-in-Named t c =
     c.named.ensures ∙ (ap goal_term c.in_ok-reached-in-Named.ensures ∙ ap (λ e. term e c.args.world.now c.args.locals.now) (sym (ap text.expression_of c.in-Named.is ∙ named_is c.in-Named.path)))
 
-pub resolve_expression-returns-in_ok-new-in-Chain : goal.resolve_expression-returns-in_ok-new-in-Chain
-resolve_expression-returns-in_ok-new-in-Chain t c =
+pub resolve_expression-returns-in_ok-more-in-Chain : goal.resolve_expression-returns-in_ok-more-in-Chain
+resolve_expression-returns-in_ok-more-in-Chain t c =
     let w = c.args.world.now in
     let locals = c.args.locals.now in
     let is = ap text.expression_of c.in-Chain.is ∙ chain_is c.in-Chain.first c.in-Chain.links in
-    let more = c.in_ok-more-in-Chain.more in
-    let boxed : c.in_ok-new-in-Chain.field-0.value ≡ c.in_ok-begin-in-Chain.begin = search rules in
+    let more = tree.links_of_list c.in_ok-more-in-Chain.more.items in
     let first : tree.term_of c.in_ok-begin-in-Chain.begin ≡ term (text.expression_of c.in-Chain.first.value) w locals = c.in_ok-begin-in-Chain.ensures ∙ ap (λ e. term (text.expression_of e) w locals) c.deref-in-Chain.ensures in
-    let rest : tree.links_of_list more.items ≡ link_terms (text.links_of_list c.in-Chain.links.items) w locals = c.in_ok-more-in-Chain.ensures ∙ ap (λ ls. link_terms (text.links_of_list ls) w locals) c.deref-in-Chain-2.ensures.value in
-    built.chain_is c.in_ok-new-in-Chain.field-0 more
-    ∙ (ap (λ e. Tree.Chain e (tree.links_of_list more.items)) (ap tree.term_of boxed ∙ first)
-    ∙ (ap (Tree.Chain (term (text.expression_of c.in-Chain.first.value) w locals)) rest ∙ ap (λ e. term e w locals) (sym is)))
+    let rest : more ≡ link_terms (text.links_of_list c.in-Chain.links.items) w locals = c.in_ok-more-in-Chain.ensures ∙ ap (λ ls. link_terms (text.links_of_list ls) w locals) c.deref-in-Chain-2.ensures.value in
+    subst (λ q. IfOk c.chain.result (λ made. tree.term_of made ≡ q))
+    (ap (λ e. Tree.Chain e more) first ∙ (ap (Tree.Chain (term (text.expression_of c.in-Chain.first.value) w locals)) rest ∙ ap (λ e. term e w locals) (sym is)))
+    c.chain.ensures
 
-pub resolve_expression-returns-in_ok-new-in-Choose : goal.resolve_expression-returns-in_ok-new-in-Choose
-resolve_expression-returns-in_ok-new-in-Choose t c =
+pub resolve_expression-returns-in_ok-end-in-Choose : goal.resolve_expression-returns-in_ok-end-in-Choose
+resolve_expression-returns-in_ok-end-in-Choose t c =
     let w = c.args.world.now in
     let locals = c.args.locals.now in
     let is = ap text.expression_of c.in-Choose.is ∙ choose_is c.in-Choose.choices c.in-Choose.last in
     let tests = c.in_ok-tests-in-Choose.tests in
     let last = text.expression_of c.in-Choose.last.value in
-    let boxed : c.in_ok-new-in-Choose.field-0.value ≡ c.in_ok-end-in-Choose.end = search rules in
     let end : tree.term_of c.in_ok-end-in-Choose.end ≡ term last w locals = c.in_ok-end-in-Choose.ensures ∙ ap (λ e. term (text.expression_of e) w locals) c.deref-in-Choose-2.ensures in
     let all : tree.choices_of_list tests.items (term last w locals) ≡ choice_terms (text.choices_of_list c.in-Choose.choices.items last) w locals = c.in_ok-tests-in-Choose.ensures last ∙ ap (λ cs. choice_terms (text.choices_of_list cs last) w locals) c.deref-in-Choose.ensures.value in
-    built.choose_is tests c.in_ok-new-in-Choose.field-0
-    ∙ (ap (λ e. Tree.Choose (tree.choices_of_list tests.items e)) (ap tree.term_of boxed ∙ end)
-    ∙ (ap Tree.Choose all ∙ ap (λ e. term e w locals) (sym is)))
+    subst (λ q. IfOk c.choose.result (λ made. tree.term_of made ≡ q))
+    (ap (λ e. Tree.Choose (tree.choices_of_list tests.items e)) end ∙ (ap Tree.Choose all ∙ ap (λ e. term e w locals) (sym is)))
+    c.choose.ensures
 
 pub resolve_links-loop-link-preserved : goal.resolve_links-loop-link-preserved
 resolve_links-loop-link-preserved t c =
