@@ -12,4 +12,4 @@ mod reach;
 pub use cells::Access;
 pub use job_access::access;
 pub use job_body::{base, body};
-pub use program_access::{accesses, ranges_of, reads_in, reads_of_jobs, writes_in, writes_of_jobs};
+pub use program_access::{accesses, ranges_of, reads_in, reads_of_jobs, writes_in};

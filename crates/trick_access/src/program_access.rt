@@ -4,9 +4,7 @@ ghost use Rattle.std.specs.List.{slice_index_or};
 ghost use Rattle.std.specs.Prelude.{◌≡◌, ◌<◌, [], IfOk, length, ℕ};
 ghost use Rattle.trick_access.specs.Accesses.{AreAccessesOf, reads_of, writes_of};
 ghost use Rattle.trick_access.specs.Ranges.{AreCellsOf};
-ghost use Rattle.trick_access.specs.Reached.{block_cells};
-ghost use Rattle.trick_lang.specs.Effect.{base_of, body_of, reads, writes};
-ghost use Rattle.trick_lang.specs.TreeOf.{codes_of};
+ghost use Rattle.trick_lang.specs.Effect.{reads};
 ghost use Rattle.trick_lang.specs.declared.job.JobId.{JobId};
 
 use crate::cells::Access;
@@ -29,25 +27,6 @@ pub fn accesses(alloc: Global, program: &Program) -> Result<Items<Access>, Alloc
     Ok(all)
 }
 
-// The cells of each job, of one way.
-fn ranges_of_jobs(
-    alloc: Global,
-    program: &Program,
-    way: Way,
-) -> Result<Items<Items<CellRange>>, AllocError>
-    ensures many { IfOk result (λ all. length all ≡ length program.now.jobs) }
-    ensures each { IfOk result (λ all. (job : JobId) → job.0 < length program.now.jobs →
-        AreCellsOf (length program.now.cells)
-        (block_cells way (base_of program.now job) (codes_of program.now.blocks) (body_of program.now job))
-        (slice_index_or all job.0 [])) }
-{
-    let mut all = Items::new(alloc);
-    for number in 0..program.jobs.len() {
-        all.push(cells_of(alloc, program, JobId(number as u32), way)?)?;
-    }
-    Ok(all)
-}
-
 /// What each job of a program may read, by its number, as [`access`] has it, for whoever needs no more
 /// than that. It costs half of what [`accesses`] costs.
 pub fn reads_of_jobs(
@@ -58,7 +37,11 @@ pub fn reads_of_jobs(
     ensures each { IfOk result (λ all. (job : JobId) → job.0 < length program.now.jobs →
         AreCellsOf (length program.now.cells) (reads program.now job) (slice_index_or all job.0 [])) }
 {
-    ranges_of_jobs(alloc, program, Way::Reads)
+    let mut all = Items::new(alloc);
+    for number in 0..program.jobs.len() {
+        all.push(cells_of(alloc, program, JobId(number as u32), Way::Reads)?)?;
+    }
+    Ok(all)
 }
 
 /// What each job may read, out of what each may read and write. It costs the ranges alone.
@@ -72,19 +55,6 @@ pub fn reads_in(alloc: Global, accesses: &[Access]) -> Result<Items<Items<CellRa
         all.push(Items::from_vec(reads))?;
     }
     Ok(all)
-}
-
-/// What each job of a program may write, by its number, as [`access`] has it, for whoever needs no more
-/// than that. It costs half of what [`accesses`] costs.
-pub fn writes_of_jobs(
-    alloc: Global,
-    program: &Program,
-) -> Result<Items<Items<CellRange>>, AllocError>
-    ensures many { IfOk result (λ all. length all ≡ length program.now.jobs) }
-    ensures each { IfOk result (λ all. (job : JobId) → job.0 < length program.now.jobs →
-        AreCellsOf (length program.now.cells) (writes program.now job) (slice_index_or all job.0 [])) }
-{
-    ranges_of_jobs(alloc, program, Way::Writes)
 }
 
 /// What each job may write, out of what each may read and write. It costs the ranges alone.
