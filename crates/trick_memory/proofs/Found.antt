@@ -10,7 +10,8 @@ use Rattle.indexmap.specs.IndexSet.{insert_key}
 use Rattle.trick_lang.specs.Names.{are_apart, of_one_name}
 use Rattle.trick_lang.specs.declared.cells.Cell.{Cell}
 use Rattle.trick_lang.specs.declared.variable.Variable.{Variable}
-use Rattle.trick_memory.specs.Stored.{cell_of, name_of}
+use Rattle.trick_memory.specs.Stored.{cell_of}
+use Rattle.trick_model.specs.NameAt.{cell_name}
 use Rattle.trick_model.specs.Names.{find_name, one_more}
 use Rattle.trick_model.specs.Valid.{cell_names}
 
@@ -179,11 +180,11 @@ length_names [] = refl
 length_names (v ∷ vs) = ap suc (length_names vs)
 
 pub cells_found : (cells : List Variable) (cell : Cell) → IsTrue (are_apart of_one_name cells) → cell.0 < length cells
-    → cell_of (name_of cell cells) (cell_names cells) ≡ Some cell
+    → cell_of (cell_name cells cell.0) (cell_names cells) ≡ Some cell
 cells_found cells cell apart there =
     ap (λ (o : Option ℕ). option_map (λ k. let c : Cell = record { 0 = k } in c) o) (name_finds cells cell.0 apart there)
 
-pub names_found : (cells : List Variable) (name : List ℕ) (cell : Cell) → cell_of name (cell_names cells) ≡ Some cell → name_of cell cells ≡ name
+pub names_found : (cells : List Variable) (name : List ℕ) (cell : Cell) → cell_of name (cell_names cells) ≡ Some cell → cell_name cells cell.0 ≡ name
 names_found cells name cell h = found_is name (cell_names cells) cell.0 (of_found (find_name name (cell_names cells)) cell h)
 
 -- the name of a cell is none of those before it

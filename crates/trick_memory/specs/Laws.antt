@@ -6,7 +6,8 @@ use Rattle.trick_lang.specs.declared.cells.Cell.{Cell}
 use Rattle.trick_lang.specs.declared.scalar.Scalar.{Scalar}
 use Rattle.trick_memory.specs.Listing.{name_text}
 use Rattle.trick_memory.specs.Packed.{bytes_of, numbers_of}
-use Rattle.trick_memory.specs.Stored.{cell_of, name_of}
+use Rattle.trick_memory.specs.Stored.{cell_of}
+use Rattle.trick_model.specs.NameAt.{cell_name}
 use Rattle.trick_model.specs.Valid.{cell_names}
 use Rattle.trick_model.specs.declared.plan.Plan.{Plan as PlanValue}
 
@@ -14,13 +15,13 @@ use Rattle.trick_model.specs.declared.plan.Plan.{Plan as PlanValue}
 abbrev pub NamesFindCells : Type 0
 NamesFindCells =
     (plan : PlanValue) (cell : Cell) → cell.0 < length plan.program.cells
-    → cell_of (name_of cell plan.program.cells) (cell_names plan.program.cells) ≡ Some cell
+    → cell_of (cell_name plan.program.cells cell.0) (cell_names plan.program.cells) ≡ Some cell
 
 -- the name of the cell of a name is the name
 abbrev pub CellsHaveNames : Type 0
 CellsHaveNames =
     (plan : PlanValue) (name : List ℕ) (cell : Cell) → cell_of name (cell_names plan.program.cells) ≡ Some cell
-    → name_of cell plan.program.cells ≡ name
+    → cell_name plan.program.cells cell.0 ≡ name
 
 -- a letter, a digit, `_`, `.`, `[` or `]`
 abbrev pub is_name_byte : ℕ → Bool

@@ -1,6 +1,5 @@
 -- What a memory holds, and how its cells are found.
-use Rattle.std.specs.List.{slice_index_or}
-use Rattle.std.specs.Prelude.{◌≡◌, ℕ, ◌≤◌, ℤ, pos, List, [], length, replicate, Option, option_map}
+use Rattle.std.specs.Prelude.{◌≡◌, ℕ, ◌≤◌, ℤ, pos, List, length, replicate, Option, option_map}
 use Rattle.trick_lang.specs.Effect.{scalars_of}
 use Rattle.trick_lang.specs.Wrap.{AreInRange}
 use Rattle.trick_lang.specs.declared.cells.Cell.{Cell}
@@ -41,7 +40,3 @@ zeros cells = record {
 -- the cell of a full name
 abbrev pub cell_of : List ℕ → List (List ℕ) → Option Cell
 cell_of name names = option_map (λ k. record { 0 = k }) (find_name name names)
-
--- the full name of a cell; of one that is not there no byte
-abbrev pub name_of : Cell → List Variable → List ℕ
-name_of cell cells = slice_index_or (cell_names cells) cell.0 []

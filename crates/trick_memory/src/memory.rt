@@ -1,6 +1,7 @@
 ghost use Rattle.std.specs.Prelude.{◌≡◌, IfOk, IfSome};
 ghost use Rattle.trick_memory.specs.Packed.{bytes_of};
-ghost use Rattle.trick_memory.specs.Stored.{cell_of, name_of, zeros};
+ghost use Rattle.trick_memory.specs.Stored.{cell_of, zeros};
+ghost use Rattle.trick_model.specs.NameAt.{cell_name};
 ghost use Rattle.trick_model.specs.Valid.{cell_names};
 
 use crate::names::Names;
@@ -8,7 +9,7 @@ use crate::packing::{pack_at, unpack_at, width};
 use std::alloc::{AllocError, Global};
 use std::marker::Model;
 use trick_lang::{Cell, Cells, Scalar};
-use trick_model::Plan;
+use trick_model::{Plan, cell_name};
 
 /// The memory of a simulation: for each cell a number of its type. Cells are found by their full
 /// names. The numbers are kept as bytes, cell after cell and without gaps.
@@ -76,7 +77,7 @@ impl Memory {
     pub fn find(&self, plan: &Plan, name: &[u8]) -> Option<Cell>
         ensures cell { self.now.names ≡ cell_names plan.now.program.cells
             → result ≡ cell_of name.now (cell_names plan.now.program.cells) }
-        ensures named { IfSome result (λ cell. name_of cell plan.now.program.cells ≡ name.now) }
+        ensures named { IfSome result (λ cell. cell_name plan.now.program.cells cell.0 ≡ name.now) }
     {
         let cell = Cell(self.names.find(name)? as u32);
         if self.name(plan, cell) == name {
@@ -88,12 +89,9 @@ impl Memory {
 
     /// The full name of a cell of a plan; no byte for a cell that is not there. Takes no memory.
     pub fn name<'a>(&self, plan: &'a Plan, cell: Cell) -> &'a [u8]
-        ensures { result.now ≡ name_of cell plan.now.program.cells }
+        ensures { result.now ≡ cell_name plan.now.program.cells cell.0 }
     {
-        match plan.program.cells.as_slice().get(cell.0 as usize) {
-            Some(variable) => variable.name.as_slice(),
-            None => &[],
-        }
+        cell_name(&plan.program, cell)
     }
 }
 
