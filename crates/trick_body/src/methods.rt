@@ -8,7 +8,7 @@ ghost use Rattle.trick_grammar.specs.Gives.{Gives, class_of, text_of};
 ghost use Rattle.trick_grammar.specs.Reading.{read};
 ghost use Rattle.trick_lang.specs.Syntax.{method_of, statements_of_list};
 
-use crate::source::{Source, name_of};
+use crate::source::{Source, name_beside};
 use crate::statements::read_statements;
 use crate::symbol::{NAMES, Symbol, Token};
 use std::alloc::{AllocError, Global};
@@ -123,7 +123,7 @@ fn method_from(
     ensures { IfOk result (λ m. method_of m
         ≡ record { name = text_of text.now name.now; body = statements_of_list body }) }
 {
-    let name = name_of(alloc, text, name)?;
+    let (name, body) = name_beside(alloc, text, name, body)?;
     Ok(Method { name, body })
 }
 

@@ -10,7 +10,7 @@ ghost use Rattle.trick_grammar.specs.Reading.{read};
 ghost use Rattle.trick_lang.specs.Syntax.{change_of, expression_of, first_value_of, statement_of};
 
 use crate::expressions::{read_expression, read_some_steps, read_steps};
-use crate::source::{Source, name_of, take_hinted};
+use crate::source::{Source, name_beside, take_hinted};
 use crate::symbol::{ASSIGNMENTS, BASIC, COUNTING, NAMES, OPERATIONS, Symbol, Token};
 use crate::types::read_basic;
 use std::alloc::{AllocError, Global};
@@ -259,14 +259,17 @@ fn named_of(alloc: Global, text: &[u8], first: &Token, after: AfterName) -> Resu
     ensures { IfOk result (λ s. statement_of s ≡ named_of text.now first.now (after_name_of after)) }
 {
     let line = first.line;
-    let bytes = name_of(alloc, text, first)?;
+    let (bytes, after) = name_beside(alloc, text, first, after)?;
     match after {
-        AfterName::Declares(local, value) => Ok(Stmt::Declare {
-            line,
-            written: TypeName::Custom { line, name: bytes },
-            name: name_of(alloc, text, &local)?,
-            value,
-        }),
+        AfterName::Declares(local, value) => {
+            let (name, (bytes, value)) = name_beside(alloc, text, &local, (bytes, value))?;
+            Ok(Stmt::Declare {
+                line,
+                written: TypeName::Custom { line, name: bytes },
+                name,
+                value,
+            })
+        }
         AfterName::Calls => Ok(Stmt::Call { line, name: bytes }),
         AfterName::Changes(parts, change) => Ok(Stmt::Assign {
             line,
@@ -351,9 +354,10 @@ fn counted_of(
     ensures { IfOk result (λ s. statement_of s
         ≡ grammar.counted_of text.now mark.now name.now (map step_of parts.items)) }
 {
+    let (bytes, parts) = name_beside(alloc, text, name, parts)?;
     let path = Path {
         line: name.line,
-        name: name_of(alloc, text, name)?,
+        name: bytes,
         parts,
     };
     Ok(Stmt::Assign {
@@ -397,10 +401,11 @@ fn declared_of(
         ≡ grammar.declared_of text.now basic name.now (first_value_of value)) }
 {
     let (line, scalar) = basic;
+    let (name, value) = name_beside(alloc, text, name, value)?;
     Ok(Stmt::Declare {
         line,
         written: TypeName::Basic(scalar),
-        name: name_of(alloc, text, name)?,
+        name,
         value,
     })
 }

@@ -39,6 +39,20 @@ pub fn name_of(alloc: Global, text: &[u8], token: &Token) -> Result<Word, AllocE
     Ok(Items::from_vec(text_of(text, token).to_vec(alloc)?))
 }
 
+/// The bytes of a token of the text, beside a value that is kept meanwhile. Where memory runs out the value
+/// is let go here, so that no caller has to.
+pub fn name_beside<T: Drop>(
+    alloc: Global,
+    text: &[u8],
+    token: &Token,
+    kept: T,
+) -> Result<(Word, T), AllocError>
+    ensures { IfOk result (λ x. (x.0 ≡ text_of text.now token.now) × (x.1 ≡ kept)) }
+{
+    let name = name_of(alloc, text, token)?;
+    Ok((name, kept))
+}
+
 /// The tokens in scope after the name of a loop, the innermost first.
 pub fn within(alloc: Global, name: &Token, scope: &[Token]) -> Result<Vec<Token>, AllocError>
     ensures { IfOk result (λ inner. inner.items ≡ name.now ∷ scope.now) }

@@ -13,7 +13,7 @@ ghost use Rattle.trick_lang.specs.SyntaxTree;
 
 use crate::expressions::read_expression;
 use crate::simple::read_simple;
-use crate::source::{Source, name_of, take_hinted, within};
+use crate::source::{Source, name_beside, take_hinted, within};
 use crate::symbol::{BOUNDS, NAMES, STATEMENTS, Symbol, Token, WHOLES};
 use std::alloc::{AllocError, Global};
 use trick_grammar::{
@@ -435,8 +435,8 @@ fn loop_of(
     ensures { IfOk result (λ s. statement_of s ≡ loop_of text.now name.now header (statement_of body)) }
 {
     let (from, bound) = header;
-    let name = name_of(alloc, text, name)?;
     let body = Box::new(alloc, body)?;
+    let (name, body) = name_beside(alloc, text, name, body)?;
     Ok(Stmt::For {
         name,
         from,
