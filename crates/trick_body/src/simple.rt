@@ -1,11 +1,11 @@
 //! Statements that hold no other: one function for each production, with its line of the grammar.
 
-ghost use Rattle.std.specs.Prelude.{◌≡◌, ◌∷◌, [], IfOk, ℕ, suc, map};
+ghost use Rattle.std.specs.Prelude.{◌≡◌, ◌∷◌, [], IfOk, ℕ, suc, map, if◌then◌else◌};
 ghost use Rattle.trick_body.specs.Statements as grammar;
 ghost use Rattle.trick_body.specs.Statements.{bound_change, bound_steps, by_name, call, counted, counting_of, declaration, ended_operation, free_change, free_steps, local, named, named_of, operation, simple, value};
 ghost use Rattle.trick_body.specs.Symbols.{number_of};
 ghost use Rattle.trick_body.specs.Trees.{after_name_of, step_of};
-ghost use Rattle.trick_grammar.specs.Gives.{Gives, class_of};
+ghost use Rattle.trick_grammar.specs.Gives.{Gives, class_of, is_in_scope};
 ghost use Rattle.trick_grammar.specs.Reading.{read};
 ghost use Rattle.trick_lang.specs.Syntax.{change_of, expression_of, first_value_of, statement_of};
 
@@ -253,6 +253,27 @@ fn read_local<'a>(
     Ok((AfterName::Declares(*name, value), rest))
 }
 
+/// A declaration, a call or a change, after this NAME.
+fn read_named<'a>(
+    alloc: Global,
+    source: Source,
+    depth: usize,
+    name: &Token,
+    rest: &'a [Token],
+) -> Result<(AfterName, &'a [Token]), Stop<'a, Symbol>>
+    ensures { Gives (λ x. (after_name_of x.0, x.1.now)) result
+        (if is_in_scope source.entry.text.now source.entry.scope.now name.now
+        then read number_of class_of [] (named source.entry.text.now source.entry.limit depth
+        (bound_change source.entry.text.now source.entry.limit depth)) rest.now
+        else read number_of class_of [] (named source.entry.text.now source.entry.limit depth
+        (free_change source.entry.text.now source.entry.limit depth)) rest.now) }
+{
+    if is_in_scope(source.text, source.scope, name) {
+        return read_bound_named(alloc, source, depth, rest);
+    }
+    read_free_named(alloc, source, depth, rest)
+}
+
 /// The statement of a NAME and what stands after it.
 #[tactic(auto, using(crate::proofs::Lists::parts_are))]
 fn named_of(alloc: Global, text: &[u8], first: &Token, after: AfterName) -> Result<Stmt, AllocError>
@@ -296,11 +317,7 @@ fn read_by_name<'a>(
         rest.now) }
 {
     let (first, rest) = take_hinted(rest, &NAMES, Refusal::Expected)?;
-    let (after, rest) = if is_in_scope(source.text, source.scope, first) {
-        read_bound_named(alloc, source, depth, rest)?
-    } else {
-        read_free_named(alloc, source, depth, rest)?
-    };
+    let (after, rest) = read_named(alloc, source, depth, first, rest)?;
     Ok((named_of(alloc, source.text, first, after)?, rest))
 }
 
@@ -342,6 +359,25 @@ fn read_bound_steps<'a>(
     Ok((parts, rest))
 }
 
+/// { step } ";", after this NAME
+fn read_counted_steps<'a>(
+    alloc: Global,
+    source: Source,
+    depth: usize,
+    name: &Token,
+    rest: &'a [Token],
+) -> Result<(Vec<Part>, &'a [Token]), Stop<'a, Symbol>>
+    ensures { Gives (λ x. (map step_of x.0.items, x.1.now)) result
+        (if is_in_scope source.entry.text.now source.entry.scope.now name.now
+        then read number_of class_of [] (bound_steps source.entry.text.now source.entry.limit depth) rest.now
+        else read number_of class_of [] (free_steps source.entry.text.now source.entry.limit depth) rest.now) }
+{
+    if is_in_scope(source.text, source.scope, name) {
+        return read_bound_steps(alloc, source, depth, rest);
+    }
+    read_free_steps(alloc, source, depth, rest)
+}
+
 /// The statement of `++` or `--` before the place of this name and these steps.
 #[tactic(auto, using(crate::proofs::Lists::parts_are))]
 fn counted_of(
@@ -381,11 +417,7 @@ fn read_counted<'a>(
 {
     let (mark, rest) = take_one_of(rest, &COUNTING)?;
     let (name, rest) = take_hinted(rest, &NAMES, Refusal::Expected)?;
-    let (parts, rest) = if is_in_scope(source.text, source.scope, name) {
-        read_bound_steps(alloc, source, depth, rest)?
-    } else {
-        read_free_steps(alloc, source, depth, rest)?
-    };
+    let (parts, rest) = read_counted_steps(alloc, source, depth, name, rest)?;
     Ok((counted_of(alloc, source.text, mark, name, parts)?, rest))
 }
 
