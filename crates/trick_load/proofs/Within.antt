@@ -1,7 +1,6 @@
 -- Numbers that are read are in the ranges of their cells.
-use Rattle.std.proofs.Common.{◌≡◌, ℕ, zero, suc, ◌≤◌, ◌<◌, ℤ, pos, negsuc, List, [], ◌∷◌, length, get_or, refl, sym, ap, ◌∙◌, subst, arith}
+use Rattle.std.proofs.Common.{◌≡◌, ℕ, zero, suc, ◌<◌, ℤ, pos, negsuc, List, [], ◌∷◌, length, get_or, refl, sym, ap, ◌∙◌, subst, arith}
 use Rattle.std.proofs.lemmas.Int.{ints}
-use Rattle.std.specs.List.{slice_index_or}
 use Rattle.trick_load.specs.Ranges.{range_of}
 use Rattle.trick_codes.specs.Code.{IsWithin}
 use Rattle.trick_lang.proofs.WrapLaw.{wraps_right}

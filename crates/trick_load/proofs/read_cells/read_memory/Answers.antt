@@ -1,6 +1,6 @@
 use Rattle.std.proofs.Common.{◌≡◌, ◌+◌, ◌++◌, ◌∷◌, [], ◌<◌, length, take, rules, arith, refl, subst, sym, ap, ◌∙◌, w64, to_z, of_z}
 use Rattle.std.proofs.lemmas.List.{take_more_set}
-use Rattle.std.specs.Prelude.{pos, ℤ, slice_set}
+use Rattle.std.specs.Prelude.{pos, ℤ}
 use Rattle.trick_load.proofs.Within.{in_range_at, length-scalars}
 use Rattle.trick_load.proofs.read_cells.read_memory.Goals as goal
 use Rattle.trick_load.specs.CheckpointLines.{memory_of}
