@@ -28,7 +28,7 @@ use Rattle.trick_model.specs.Plan.{is_on_scheduled, job_numbers, no_job, thread_
 use Rattle.trick_model.specs.PlanOf.{plan_of}
 use Rattle.trick_model.specs.declared.flags.Flags.{Flags}
 use Rattle.trick_model.specs.declared.plan.Plan.{Plan as PlanValue}
-use Rattle.trick_play.specs.Steps.{CanBeTaken, Commits, Goes, HasCommitted, HasTaken, HoldsRight, IsCommittedFrom, IsHeld, IsTakenInto, Runs, RunsFrom, Takes, TakesFrom, bench_at, has_job}
+use Rattle.trick_play.specs.Steps.{AreBenches, CanBeTaken, Commits, Goes, HasCommitted, HasTaken, HoldsRight, IsCommittedFrom, IsHeld, IsTakenInto, Runs, RunsFrom, Takes, TakesFrom, bench_at, has_job}
 use Rattle.trick_queue.proofs.Orders.{jobs_kept, numbers_are}
 use Rattle.trick_queue.proofs.Trees.{below_or}
 use Rattle.trick_schedule.proofs.Due.{due_there}
@@ -309,6 +309,45 @@ pub run_parts : (old new : BoardView) (was bench : BenchView) (answer : Ran) →
 run_parts old new was bench (ran.Done done) emptied kept = ap (λ (b : BenchView). b.parts) emptied
 run_parts old new was bench (ran.NotYet next waits) emptied kept = ap (λ (b : BenchView). b.parts) kept.1
 run_parts old new was bench ran.ThreadDone emptied kept = ap (λ (b : BenchView). b.parts) kept.1
+
+-- ---- a job that is not there
+
+-- only a job of the plan can be taken
+taken_there : (plan : PlanValue) (o : Opened) (job : JobId) → IsOpenOf plan o → CanBeTaken plan o job → job.0 < length plan.program.jobs
+taken_there plan o job open_ can = due_there (tic_at plan o) job.0 (due_of plan o open_ job.0 (ap is_due can.next.holds.1))
+
+none_taken : (plan : PlanValue) (old : BoardView) (job : JobId) → IsBoardOf plan old → length plan.program.jobs ≤ job.0
+    → IfSome old.opened (λ o. CanBeTaken plan o job → ⊥)
+none_taken plan old job belongs past = by_open old.opened belongs.opened
+  where
+    by_open : (opened : Option Opened) → IfSome opened (IsOpenOf plan) → IfSome opened (λ o. CanBeTaken plan o job → ⊥)
+    by_open None open_ = tt
+    by_open (Some o) open_ = λ can. let there = taken_there plan o job open_ can in omega (arith, there, past)
+
+-- and no bench has it
+none_held : (plan : PlanValue) (b : BoardView) (benches : List BenchView) (job : JobId) → AreBenches plan b benches
+    → length plan.program.jobs ≤ job.0 → (bench_at benches (thread_of plan.program.jobs job.0)).job ≢ Some job
+none_held plan b benches job are past =
+    let thread = thread_of plan.program.jobs job.0 in
+    let low : thread ≤ 15 = thread_small plan.program.jobs job.0 plan.program.right_threads in
+    λ held. by_open (bench_at benches thread) held b.opened (are.holds thread (omega (arith, low)))
+  where
+    by_open : (bench : BenchView) → bench.job ≡ Some job → (opened : Option Opened)
+        → MatchOption opened ⊥ (λ o. IfSome bench.job (λ i. IsHeld plan b o i bench)) → ⊥
+    by_open bench held None right = right
+    by_open bench held (Some o) right =
+        let kept : IsHeld plan b o job bench = subst (λ (j : Option JobId). IfSome j (λ i. IsHeld plan b o i bench)) held right in
+        let there = kept.there in
+        omega (arith, there, past)
+
+-- so no step of it is done
+pub take_past : (plan : PlanValue) (b : BoardView) (job : JobId) (benches : List BenchView) → IsBoardOf plan b
+    → length plan.program.jobs ≤ job.0 → Goes plan b b benches benches (Take job) false
+take_past plan b job benches belongs past = none_taken plan b job belongs past
+
+pub commit_past : (plan : PlanValue) (b : BoardView) (job : JobId) (benches : List BenchView) → AreBenches plan b benches
+    → length plan.program.jobs ≤ job.0 → Goes plan b b benches benches (Commit job) false
+commit_past plan b job benches are past = none_held plan b benches job are past
 
 -- ---- a step, with a bench for each thread
 

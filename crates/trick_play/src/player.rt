@@ -1,4 +1,4 @@
-ghost use Rattle.std.specs.Prelude.{◌≡◌, ◌<◌, ℕ, IfOk, IsSome, None, length};
+ghost use Rattle.std.specs.Prelude.{◌≡◌, ◌<◌, ◌≤◌, ℕ, IfOk, IsSome, MatchBool, None, length};
 ghost use Rattle.trick_board.specs.Board.{IsBoardOf};
 ghost use Rattle.trick_eval.specs.Bench.{IsFor};
 ghost use Rattle.trick_job.specs.Belongs.{IsMemoryOf};
@@ -69,7 +69,15 @@ fn all_benches(alloc: Global, accepted: &Accepted) -> Result<Vec<Bench>, AllocEr
     Ok(benches)
 }
 
-// Does a step, where a schedule can go on with it.
+// Whether a plan has the job.
+fn is_there(plan: &Plan, job: JobId) -> bool
+    ensures { MatchBool result (job.0 < length plan.now.program.jobs) (length plan.now.program.jobs ≤ job.0) }
+{
+    (job.0 as usize) < plan.program.jobs.len()
+}
+
+// Does a step, where a schedule can go on with it. None goes on with a job that is not there.
+#[tactic(auto, using(crate::proofs::Turns::take_past, crate::proofs::Turns::commit_past))]
 fn go<M: Cells>(
     board: &mut Board<M>,
     benches: &mut Vec<Bench>,
@@ -82,13 +90,20 @@ fn go<M: Cells>(
     ensures goes { Goes accepted.now.plan board.old board.new benches.old.items benches.new.items step result }
     ensures belongs { IsBoardOf accepted.now.plan board.new }
 {
+    let plan = accepted.plan();
     match step {
         Step::Take(job) => {
-            let thread = thread_at(accepted.plan(), job) as usize;
+            if !is_there(plan, job) {
+                return false;
+            }
+            let thread = thread_at(plan, job) as usize;
             take_job(board, &mut benches[thread], accepted, job)
         }
         Step::Commit(job) => {
-            let thread = thread_at(accepted.plan(), job) as usize;
+            if !is_there(plan, job) {
+                return false;
+            }
+            let thread = thread_at(plan, job) as usize;
             commit_job(board, &mut benches[thread], accepted, job)
         }
     }

@@ -1,6 +1,6 @@
 //! Takes and commits of jobs by name.
 
-ghost use Rattle.std.specs.Prelude.{◌≡◌, ◌≤◌, IsSome};
+ghost use Rattle.std.specs.Prelude.{◌≡◌, ◌<◌, ◌≤◌, IsSome, length};
 ghost use Rattle.trick_board.specs.Board.{IsBoardOf};
 ghost use Rattle.trick_eval.specs.Bench.{IsFor};
 ghost use Rattle.trick_model.specs.Plan.{thread_of};
@@ -11,15 +11,13 @@ use trick_eval::{Bench, eval};
 use trick_lang::{Cells, JobId};
 use trick_model::{Accepted, Plan};
 
-/// The thread of a job; 0 for a job that is not there.
+/// The thread of a job.
 pub fn thread_at(plan: &Plan, job: JobId) -> u8
+    requires { job.0 < length plan.now.program.jobs }
     ensures thread { result ≡ thread_of plan.now.program.jobs job.0 }
     ensures small { result ≤ 15 }
 {
-    match plan.program.jobs.as_slice().get(job.0 as usize) {
-        Some(job) => job.thread,
-        None => 0,
-    }
+    plan.job(job).thread
 }
 
 // Whether the bench has the job.
@@ -43,6 +41,7 @@ pub fn take_job<M: Cells>(
     requires open { IsSome board.old.opened }
     requires belongs { IsBoardOf accepted.now.plan board.old }
     requires bench { IsFor accepted.now.plan.program bench.old.parts }
+    requires there { job.0 < length accepted.now.plan.program.jobs }
     ensures takes { Takes accepted.now.plan board.old board.new job bench.new result }
     ensures belongs { IsBoardOf accepted.now.plan board.new }
     ensures bench { bench.new.parts ≡ bench.old.parts }
@@ -93,6 +92,7 @@ pub fn run_job<M: Cells>(
     requires open { IsSome board.old.opened }
     requires belongs { IsBoardOf accepted.now.plan board.old }
     requires bench { IsFor accepted.now.plan.program bench.old.parts }
+    requires there { job.0 < length accepted.now.plan.program.jobs }
     ensures runs { Runs accepted.now.plan board.old board.new job result }
     ensures belongs { IsBoardOf accepted.now.plan board.new }
     ensures bench { bench.new.parts ≡ bench.old.parts }
