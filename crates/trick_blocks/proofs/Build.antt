@@ -16,7 +16,7 @@ use Rattle.trick_blocks.specs.Terms.{added_steps, computed, stepped, steps, term
 use Rattle.trick_blocks.specs.declared.start.Local.{Local}
 use Rattle.trick_blocks.specs.declared.spot.Element.{Element}
 use Rattle.trick_blocks.specs.declared.spot.Spot.{Spot}
-use Rattle.trick_blocks.specs.declared.world.World.{World}
+use Rattle.trick_blocks.specs.declared.scope.ClassScope.{ClassScope}
 use Rattle.trick_names.specs.Names.{Names}
 
 abbrev pub links_after : List Link → Links → Links
@@ -70,11 +70,11 @@ stepped_splits None x rest = refl
 stepped_splits (Some el) x rest = refl
 
 -- the steps of a part, and of the rest from where it leads
-pub steps_split : (item : Part) (rest : List Part) (w : World) (locals : Names Local) (at : Option Spot) → steps (parts_of_list (item ∷ rest)) w locals at ≡ added_steps (steps (parts_of_list (item ∷ [])) w locals at) (steps (parts_of_list rest) w locals (followed (parts_of_list (item ∷ [])) w at))
+pub steps_split : (item : Part) (rest : List Part) (w : ClassScope) (locals : Names Local) (at : Option Spot) → steps (parts_of_list (item ∷ rest)) w locals at ≡ added_steps (steps (parts_of_list (item ∷ [])) w locals at) (steps (parts_of_list rest) w locals (followed (parts_of_list (item ∷ [])) w at))
 steps_split (Member line name) rest w locals at = refl
 steps_split (Index e) rest w locals at = stepped_splits (computed (literal_of (expression_of e)) (element_at at)) (term (expression_of e) w locals) (steps (parts_of_list rest) w locals (to_index (literal_of (expression_of e)) at))
 
-pub followed_splits : (item : Part) (rest : List Part) (w : World) (at : Option Spot) → followed (parts_of_list (item ∷ rest)) w at ≡ followed (parts_of_list rest) w (followed (parts_of_list (item ∷ [])) w at)
+pub followed_splits : (item : Part) (rest : List Part) (w : ClassScope) (at : Option Spot) → followed (parts_of_list (item ∷ rest)) w at ≡ followed (parts_of_list rest) w (followed (parts_of_list (item ∷ [])) w at)
 followed_splits (Member line name) rest w at = refl
 followed_splits (Index e) rest w at = refl
 

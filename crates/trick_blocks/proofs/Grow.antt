@@ -5,7 +5,7 @@ use Rattle.trick_blocks.specs.Bodies.{Body, with_body, with_bodies}
 use Rattle.trick_blocks.specs.Codes.{after, after_all}
 use Rattle.trick_blocks.specs.Held.{bodies_of}
 use Rattle.trick_blocks.specs.declared.start.Local.{Local}
-use Rattle.trick_blocks.specs.declared.world.World.{World}
+use Rattle.trick_blocks.specs.declared.scope.ClassScope.{ClassScope}
 use Rattle.trick_lang.specs.SyntaxTree.{Name, Statement, Empty, Block, Declare, Assign, If, For, Call, Statements, NoStatement, Then}
 use Rattle.trick_lang.specs.Tree as Tree
 use Rattle.trick_lang.specs.Tree.{Code, Branches, NoElse}
@@ -59,7 +59,7 @@ by_test false locals more = (more, refl)
 pub known_begins : (name : Name) (x : Local) (locals : Names Local) → Begins locals (with_name name x locals)
 known_begins name x locals = by_test (is_some (meaning_of name locals)) locals ((name, x) ∷ [])
 
-pub after_begins : (s : Statement) (w : World) (locals : Names Local) → Begins locals (after s w locals)
+pub after_begins : (s : Statement) (w : ClassScope) (locals : Names Local) → Begins locals (after s w locals)
 after_begins Empty w locals = ([], sym (append-nil locals))
 after_begins (Block all) w locals = ([], sym (append-nil locals))
 after_begins (Declare line written name value) w locals = known_begins name _ locals
@@ -71,7 +71,7 @@ after_begins (Call line name) w locals = ([], sym (append-nil locals))
 begins_then : (a b c : Names Local) → Begins a b → Begins b c → Begins a c
 begins_then a b c p q = (p.0 ++ q.0, q.1 ∙ (ap (λ xs. xs ++ q.0) p.1 ∙ append_assoc a p.0 q.0))
 
-pub all_begins : (all : Statements) (w : World) (locals : Names Local) → Begins locals (after_all all w locals)
+pub all_begins : (all : Statements) (w : ClassScope) (locals : Names Local) → Begins locals (after_all all w locals)
 all_begins NoStatement w locals = ([], sym (append-nil locals))
 all_begins (Then s rest) w locals = begins_then _ _ _ (after_begins s w locals) (all_begins rest w (after s w locals))
 

@@ -18,7 +18,7 @@ use Rattle.trick_blocks.specs.declared.start.Local.{Local}
 use Rattle.trick_blocks.specs.declared.start.Meaning.{Meaning}
 use Rattle.trick_blocks.specs.declared.start.Meaning.TheVariants as means
 use Rattle.trick_blocks.specs.declared.spot.Spot.{Spot}
-use Rattle.trick_blocks.specs.declared.world.World.{World}
+use Rattle.trick_blocks.specs.declared.scope.ClassScope.{ClassScope}
 use Rattle.trick_lang.proofs.Alike.{knows_is}
 use Rattle.trick_lang.specs.Blocks.{block_at}
 use Rattle.trick_lang.specs.Locals.{Known, after, all_know, block_knows, bound_number, branch_knows, code_knows, is_free, is_known, is_known_as, is_type, locals_test, type_number}
@@ -46,13 +46,13 @@ lt_is m n h = grind (arith, nat_tests)
 
 -- the slots of the locals that are known by name are known, those after them are free up to a top,
 -- and those below the body's first are no local's
-pub record Knows (w : World) (top : ℕ) (locals : Names Local) (known : List Known) : Type 0 where
+pub record Knows (w : ClassScope) (top : ℕ) (locals : Names Local) (known : List Known) : Type 0 where
   pub sees : (name : Name) (l : Local) → meaning_of name locals ≡ Some l → IsTrue (is_known known l.slot)
   pub types : (name : Name) (l : Local) → meaning_of name locals ≡ Some l → l.is_loop ≡ false → IsTrue (is_known_as known l.slot l.scalar)
   pub free : (slot : ℕ) → w.slots + length locals ≤ slot → slot < top → is_known known slot ≡ false
   pub above : AreAbove w.slots known
 
-knows_pass : (w : World) (top : ℕ) (locals : Names Local) (known : List Known) → Knows w top locals known → Pass (locals_test known) w locals
+knows_pass : (w : ClassScope) (top : ℕ) (locals : Names Local) (known : List Known) → Knows w top locals known → Pass (locals_test known) w locals
 knows_pass w top locals known k = record {
   local = k.sees;
   place = λ name parts from at is there. refl;
@@ -72,13 +72,13 @@ grown_case q name l l' (k ∷ ks) P h f g = by_test (bytes_eq q k.0) h f (λ h f
     by_test false h f later = later h f
 
 -- a local that is new
-abbrev fresh_local : World → Names Local → Scalar → Bool → Local
+abbrev fresh_local : ClassScope → Names Local → Scalar → Bool → Local
 fresh_local w locals scalar is_loop = record { slot = slot_behind w locals; scalar = scalar; is_loop = is_loop }
 
-abbrev fresh_known : World → Names Local → Option Scalar → Known
+abbrev fresh_known : ClassScope → Names Local → Option Scalar → Known
 fresh_known w locals type = record { slot = slot_behind w locals; scalar = type }
 
-knows_more : (w : World) (top : ℕ) (locals : Names Local) (known : List Known) (name : Name) (scalar : Scalar) (is_loop : Bool) (type : Option Scalar) → (is_loop ≡ false → type ≡ Some scalar) → Knows w top locals known → Knows w top (locals ++ (name, fresh_local w locals scalar is_loop) ∷ []) (fresh_known w locals type ∷ known)
+knows_more : (w : ClassScope) (top : ℕ) (locals : Names Local) (known : List Known) (name : Name) (scalar : Scalar) (is_loop : Bool) (type : Option Scalar) → (is_loop ≡ false → type ≡ Some scalar) → Knows w top locals known → Knows w top (locals ++ (name, fresh_local w locals scalar is_loop) ∷ []) (fresh_known w locals type ∷ known)
 knows_more w top locals known name scalar is_loop type typed k = record {
   sees = λ q l is.
       grown_case q name new l locals (IsTrue (is_known (fresh ∷ known) l.slot)) is
@@ -106,12 +106,12 @@ knows_more w top locals known name scalar is_loop type typed k = record {
   typed_here : is_loop ≡ false → IsTrue (is_type type scalar)
   typed_here e = subst (λ q. IsTrue (is_type q scalar)) (sym (typed e)) (equal_to_itself (type_number scalar))
 
-knows_new : (w : World) (top : ℕ) (locals : Names Local) (known : List Known) (name : Name) (scalar : Scalar) (is_loop : Bool) (type : Option Scalar) → meaning_of name locals ≡ None → (is_loop ≡ false → type ≡ Some scalar) → Knows w top locals known → Knows w top (with_name name (fresh_local w locals scalar is_loop) locals) (fresh_known w locals type ∷ known)
+knows_new : (w : ClassScope) (top : ℕ) (locals : Names Local) (known : List Known) (name : Name) (scalar : Scalar) (is_loop : Bool) (type : Option Scalar) → meaning_of name locals ≡ None → (is_loop ≡ false → type ≡ Some scalar) → Knows w top locals known → Knows w top (with_name name (fresh_local w locals scalar is_loop) locals) (fresh_known w locals type ∷ known)
 knows_new w top locals known name scalar is_loop type none typed k =
     subst (λ (q : Option Local). Knows w top (if is_some q then locals else locals ++ (name, fresh_local w locals scalar is_loop) ∷ []) (fresh_known w locals type ∷ known)) (sym none)
     (knows_more w top locals known name scalar is_loop type typed k)
 
-knows_old : (w : World) (top : ℕ) (locals : Names Local) (known : List Known) (name : Name) (l new : Local) → meaning_of name locals ≡ Some l → Knows w top locals known → Knows w top (with_name name new locals) known
+knows_old : (w : ClassScope) (top : ℕ) (locals : Names Local) (known : List Known) (name : Name) (l new : Local) → meaning_of name locals ≡ Some l → Knows w top locals known → Knows w top (with_name name new locals) known
 knows_old w top locals known name l new is k =
     subst (λ (q : Option Local). Knows w top (if is_some q then locals else locals ++ (name, new) ∷ []) known) (sym is) k
 
@@ -135,11 +135,11 @@ call_after : (o : Option ℕ) (known : List Known) → after (call_code o) known
 call_after None known = refl
 call_after (Some block) known = refl
 
-declare_after : (w : World) (top : ℕ) (locals : Names Local) (known : List Known) (line : ℕ) (name : Name) (scalar : Scalar) (value : Option Tree.Term) (o : Option Local) → meaning_of name locals ≡ o → Knows w top locals known → Knows w top (with_name name (fresh_local w locals scalar false) locals) (after (declared_code line (free_slot o (slot_behind w locals)) scalar value) known)
+declare_after : (w : ClassScope) (top : ℕ) (locals : Names Local) (known : List Known) (line : ℕ) (name : Name) (scalar : Scalar) (value : Option Tree.Term) (o : Option Local) → meaning_of name locals ≡ o → Knows w top locals known → Knows w top (with_name name (fresh_local w locals scalar false) locals) (after (declared_code line (free_slot o (slot_behind w locals)) scalar value) known)
 declare_after w top locals known line name scalar value None is k = knows_new w top locals known name scalar false (Some scalar) is (λ e. refl) k
 declare_after w top locals known line name scalar value (Some l) is k = knows_old w top locals known name l (fresh_local w locals scalar false) is k
 
-after_knows : (s : Statement) (w : World) (locals : Names Local) (n top : ℕ) (known : List Known) → Knows w top locals known → Knows w top (Codes.after s w locals) (after (code s w locals n) known)
+after_knows : (s : Statement) (w : ClassScope) (locals : Names Local) (n top : ℕ) (known : List Known) → Knows w top locals known → Knows w top (Codes.after s w locals) (after (code s w locals n) known)
 after_knows Empty w locals n top known k = k
 after_knows (Block all) w locals n top known k = k
 after_knows (Declare line written name value) w locals n top known k =
@@ -179,14 +179,14 @@ place_assigned : (known : List Known) (at : Option Spot) (literals : ℕ) (st : 
 place_assigned known None literals st = refl
 place_assigned known (Some at) literals st = refl
 
-meaning_assigned : (w : World) (top : ℕ) (locals : Names Local) (known : List Known) → Knows w top locals known → (name : Name) (parts : Parts) (m : Meaning) → named name w locals ≡ m → IsTrue (assigned_as known (goal_of m (scalar_there (followed parts w (start_of m))) (literal_count parts) (steps parts w locals (start_of m))))
+meaning_assigned : (w : ClassScope) (top : ℕ) (locals : Names Local) (known : List Known) → Knows w top locals known → (name : Name) (parts : Parts) (m : Meaning) → named name w locals ≡ m → IsTrue (assigned_as known (goal_of m (scalar_there (followed parts w (start_of m))) (literal_count parts) (steps parts w locals (start_of m))))
 meaning_assigned w top locals known k name parts (means.Local l) is =
     by_loop known l l.is_loop refl (k.types name l (local_named (meaning_of name locals) (meaning_of name (fields_at w.layout.groups w.class)) (meaning_of name w.layout.sites) l is))
 meaning_assigned w top locals known k name parts (means.Number value) is = refl
 meaning_assigned w top locals known k name parts (means.Stands from) is = place_assigned known (scalar_there (followed parts w (Some from))) (literal_count parts) (steps parts w locals (Some from))
 meaning_assigned w top locals known k name parts means.Nothing is = refl
 
-path_assigned : (q : Path) (w : World) (top : ℕ) (locals : Names Local) (known : List Known) → Knows w top locals known → IsTrue (assigned_as known (path_goal q w locals))
+path_assigned : (q : Path) (w : ClassScope) (top : ℕ) (locals : Names Local) (known : List Known) → Knows w top locals known → IsTrue (assigned_as known (path_goal q w locals))
 path_assigned (path line name parts) w top locals known k = meaning_assigned w top locals known k name parts (named name w locals) refl
 
 local_assigned : (more : ℕ) (blocks : ℕ → List Known → Bool) (known : List Known) (l : Local) (line : ℕ) (change : Tree.Change) (b : Bool) → IsTrue (if b then true else is_known_as known l.slot l.scalar) → IsTrue (change_passes (locals_test known) change) → IsTrue (code_knows more (if b then Tree.Empty else Tree.SetLocal line l.slot l.scalar change) blocks known)
@@ -202,18 +202,18 @@ goal_know more blocks known OfNothing line change h p k = refl
 -- ---- statements
 
 -- where bodies of a class are looked at: the blocks that there are, of which the methods keep the rules
-pub record Ground (w : World) (top more : ℕ) (bs : List (List Code)) : Type 0 where
+pub record Ground (w : ClassScope) (top more : ℕ) (bs : List (List Code)) : Type 0 where
   pub order : IsTrue (are_in_order 0 bs)
   pub enough : top ≤ more
   pub methods : (name : Name) (block : ℕ) → meaning_of name w.methods ≡ Some block → (known : List Known) → AreAbove w.slots known → IsTrue (block_knows more bs block known)
 
-slot_free : (w : World) (top more : ℕ) (locals : Names Local) (known : List Known) → top ≤ more → Knows w top locals known → IsTrue (nat_lt (slot_behind w locals) top) → IsTrue (is_free more known (slot_behind w locals))
+slot_free : (w : ClassScope) (top more : ℕ) (locals : Names Local) (known : List Known) → top ≤ more → Knows w top locals known → IsTrue (nat_lt (slot_behind w locals) top) → IsTrue (is_free more known (slot_behind w locals))
 slot_free w top more locals known enough k h =
     let slot = slot_behind w locals in
     let less : slot < top = lt_is slot top h in
     and_from (nat_lt slot more) (not (is_known known slot)) (lt_test slot more (omega (arith, less, enough))) (ap not (k.free slot (omega arith) less))
 
-declare_know : (w : World) (top more : ℕ) (blocks : ℕ → List Known → Bool) (locals : Names Local) (known : List Known) (line : ℕ) (name : Name) (scalar : Scalar) (value : Option Expression) (o : Option Local) → meaning_of name locals ≡ o → top ≤ more → Knows w top locals known → IsTrue (code_under top (declared_code line (free_slot o (slot_behind w locals)) scalar (value_term value w (with_name name (fresh_local w locals scalar false) locals)))) → IsTrue (code_knows more (declared_code line (free_slot o (slot_behind w locals)) scalar (value_term value w (with_name name (fresh_local w locals scalar false) locals))) blocks known)
+declare_know : (w : ClassScope) (top more : ℕ) (blocks : ℕ → List Known → Bool) (locals : Names Local) (known : List Known) (line : ℕ) (name : Name) (scalar : Scalar) (value : Option Expression) (o : Option Local) → meaning_of name locals ≡ o → top ≤ more → Knows w top locals known → IsTrue (code_under top (declared_code line (free_slot o (slot_behind w locals)) scalar (value_term value w (with_name name (fresh_local w locals scalar false) locals)))) → IsTrue (code_knows more (declared_code line (free_slot o (slot_behind w locals)) scalar (value_term value w (with_name name (fresh_local w locals scalar false) locals))) blocks known)
 declare_know w top more blocks locals known line name scalar value (Some l) is enough k under = refl
 declare_know w top more blocks locals known line name scalar value None is enough k under =
     let inside = with_name name (fresh_local w locals scalar false) locals in
@@ -221,7 +221,7 @@ declare_know w top more blocks locals known line name scalar value None is enoug
     and_from (is_free more known (slot_behind w locals)) (first_passes (locals_test there) (value_term value w inside)) (slot_free w top more locals known enough k under)
     (value_pass value (locals_test there) w inside (knows_pass w top inside there (knows_new w top locals known name scalar false (Some scalar) is (λ e. refl) k)))
 
-loop_know : (w : World) (top more : ℕ) (blocks : ℕ → List Known → Bool) (locals : Names Local) (known : List Known) (from : ℕ) (bound : Bound) (block : ℕ) (b : Bool) (o : Option Local) → nat_le (bound_number bound) 1000000 ≡ b → top ≤ more → Knows w top locals known → IsTrue (code_under top (loop_code (if b then free_slot o (slot_behind w locals) else None) from bound block)) → (o ≡ None → IsTrue (blocks block (fresh_known w locals None ∷ known))) → IsTrue (code_knows more (loop_code (if b then free_slot o (slot_behind w locals) else None) from bound block) blocks known)
+loop_know : (w : ClassScope) (top more : ℕ) (blocks : ℕ → List Known → Bool) (locals : Names Local) (known : List Known) (from : ℕ) (bound : Bound) (block : ℕ) (b : Bool) (o : Option Local) → nat_le (bound_number bound) 1000000 ≡ b → top ≤ more → Knows w top locals known → IsTrue (code_under top (loop_code (if b then free_slot o (slot_behind w locals) else None) from bound block)) → (o ≡ None → IsTrue (blocks block (fresh_known w locals None ∷ known))) → IsTrue (code_knows more (loop_code (if b then free_slot o (slot_behind w locals) else None) from bound block) blocks known)
 loop_know w top more blocks locals known from bound block false o is enough k under body = refl
 loop_know w top more blocks locals known from bound block true (Some l) is enough k under body = refl
 loop_know w top more blocks locals known from bound block true None is enough k under body =
@@ -233,28 +233,28 @@ call_know more blocks known None h = refl
 call_know more blocks known (Some block) h = h block refl
 
 -- the block of one statement keeps the rules where the statement does
-body_know : (s : Statement) (w : World) (locals : Names Local) (n top more : ℕ) (bs : List (List Code)) (known : List Known) → Ground w top more bs → Sits bs n (inner s w locals n ++ (code s w locals n ∷ []) ∷ []) → IsTrue (code_knows more (code s w locals n) (block_knows more bs) known) → IsTrue (block_knows more bs (n + count s) known)
+body_know : (s : Statement) (w : ClassScope) (locals : Names Local) (n top more : ℕ) (bs : List (List Code)) (known : List Known) → Ground w top more bs → Sits bs n (inner s w locals n ++ (code s w locals n ∷ []) ∷ []) → IsTrue (code_knows more (code s w locals n) (block_knows more bs) known) → IsTrue (block_knows more bs (n + count s) known)
 body_know s w locals n top more bs known g sits h =
     let last : block_at bs (n + count s) ≡ code s w locals n ∷ [] = sits_one bs (n + count s) (code s w locals n ∷ []) (sits_right bs n (n + count s) (inner s w locals n) ((code s w locals n ∷ []) ∷ []) (omega (arith, inner_count s w locals n)) sits) in
     subst (λ q. IsTrue q) (sym (knows_is more bs g.order (n + count s) known ∙ ap (λ (q : List Code). all_know more q (block_knows more bs) known) last))
     (and_from (code_knows more (code s w locals n) (block_knows more bs) known) true h refl)
 
-block_know : (all : Statements) (w : World) (locals : Names Local) (n top more : ℕ) (bs : List (List Code)) (known : List Known) → Ground w top more bs → Sits bs n (all_inner all w locals n ++ all_codes all w locals n ∷ []) → IsTrue (all_know more (all_codes all w locals n) (block_knows more bs) known) → IsTrue (block_knows more bs (n + all_count all) known)
+block_know : (all : Statements) (w : ClassScope) (locals : Names Local) (n top more : ℕ) (bs : List (List Code)) (known : List Known) → Ground w top more bs → Sits bs n (all_inner all w locals n ++ all_codes all w locals n ∷ []) → IsTrue (all_know more (all_codes all w locals n) (block_knows more bs) known) → IsTrue (block_knows more bs (n + all_count all) known)
 block_know all w locals n top more bs known g sits h =
     let last : block_at bs (n + all_count all) ≡ all_codes all w locals n = sits_one bs (n + all_count all) (all_codes all w locals n) (sits_right bs n (n + all_count all) (all_inner all w locals n) (all_codes all w locals n ∷ []) (omega (arith, all_inner_count all w locals n)) sits) in
     subst (λ q. IsTrue q) (sym (knows_is more bs g.order (n + all_count all) known ∙ ap (λ (q : List Code). all_know more q (block_knows more bs) known) last)) h
 
 -- the slot of a body that is one statement
-one_under : (top : ℕ) (s : Statement) (w : World) (locals : Names Local) (n : ℕ) → IsTrue (each_under top (inner s w locals n ++ (code s w locals n ∷ []) ∷ [])) → IsTrue (code_under top (code s w locals n))
+one_under : (top : ℕ) (s : Statement) (w : ClassScope) (locals : Names Local) (n : ℕ) → IsTrue (each_under top (inner s w locals n ++ (code s w locals n ∷ []) ∷ [])) → IsTrue (code_under top (code s w locals n))
 one_under top s w locals n h =
     let last : IsTrue (each_under top ((code s w locals n ∷ []) ∷ [])) = under_right top (inner s w locals n) ((code s w locals n ∷ []) ∷ []) h in
     first_holds (code_under top (code s w locals n)) true (first_holds (all_under top (code s w locals n ∷ [])) true last)
 
-all_of : (top : ℕ) (all : Statements) (w : World) (locals : Names Local) (n : ℕ) → IsTrue (each_under top (all_inner all w locals n ++ all_codes all w locals n ∷ [])) → IsTrue (all_under top (all_codes all w locals n))
+all_of : (top : ℕ) (all : Statements) (w : ClassScope) (locals : Names Local) (n : ℕ) → IsTrue (each_under top (all_inner all w locals n ++ all_codes all w locals n ∷ [])) → IsTrue (all_under top (all_codes all w locals n))
 all_of top all w locals n h = first_holds (all_under top (all_codes all w locals n)) true (under_right top (all_inner all w locals n) (all_codes all w locals n ∷ []) h)
 
 mutual
-  code_know : (s : Statement) (w : World) (locals : Names Local) (n top more : ℕ) (bs : List (List Code)) (known : List Known) → Ground w top more bs → Sits bs n (inner s w locals n) → IsTrue (each_under top (inner s w locals n)) → IsTrue (code_under top (code s w locals n)) → Knows w top locals known → IsTrue (code_knows more (code s w locals n) (block_knows more bs) known)
+  code_know : (s : Statement) (w : ClassScope) (locals : Names Local) (n top more : ℕ) (bs : List (List Code)) (known : List Known) → Ground w top more bs → Sits bs n (inner s w locals n) → IsTrue (each_under top (inner s w locals n)) → IsTrue (code_under top (code s w locals n)) → Knows w top locals known → IsTrue (code_knows more (code s w locals n) (block_knows more bs) known)
   code_know Empty w locals n top more bs known g sits under slot k = refl
   code_know (Block all) w locals n top more bs known g sits under slot k =
       block_know all w locals n top more bs known g sits
@@ -275,7 +275,7 @@ mutual
   code_know (Call line name) w locals n top more bs known g sits under slot k =
       call_know more (block_knows more bs) known (meaning_of name w.methods) (λ block is. g.methods name block is known k.above)
 
-  branches_know : (branches : Branches) (w : World) (locals : Names Local) (n top more : ℕ) (bs : List (List Code)) (known : List Known) → Ground w top more bs → Sits bs n (branch_inner branches w locals n) → IsTrue (each_under top (branch_inner branches w locals n)) → Knows w top locals known → IsTrue (branch_knows (branch_codes branches w locals n) (block_knows more bs) known)
+  branches_know : (branches : Branches) (w : ClassScope) (locals : Names Local) (n top more : ℕ) (bs : List (List Code)) (known : List Known) → Ground w top more bs → Sits bs n (branch_inner branches w locals n) → IsTrue (each_under top (branch_inner branches w locals n)) → Knows w top locals known → IsTrue (branch_knows (branch_codes branches w locals n) (block_knows more bs) known)
   branches_know NoElse w locals n top more bs known g sits under k = refl
   branches_know (Else body) w locals n top more bs known g sits under k =
       body_know body w locals n top more bs known g sits
@@ -292,7 +292,7 @@ mutual
       (code_know body w locals n top more bs known g (sits_left bs n (inner body w locals n) ((code body w locals n ∷ []) ∷ []) here) (under_left top (inner body w locals n) ((code body w locals n ∷ []) ∷ []) below) (one_under top body w locals n below) k))
       (branches_know rest w locals m top more bs known g (sits_right bs n m first (branch_inner rest w locals m) (omega (arith, one_count body w locals n)) sits) (under_right top first (branch_inner rest w locals m) under) k))
 
-  all_knows : (all : Statements) (w : World) (locals : Names Local) (n top more : ℕ) (bs : List (List Code)) (known : List Known) → Ground w top more bs → Sits bs n (all_inner all w locals n) → IsTrue (each_under top (all_inner all w locals n)) → IsTrue (all_under top (all_codes all w locals n)) → Knows w top locals known → IsTrue (all_know more (all_codes all w locals n) (block_knows more bs) known)
+  all_knows : (all : Statements) (w : ClassScope) (locals : Names Local) (n top more : ℕ) (bs : List (List Code)) (known : List Known) → Ground w top more bs → Sits bs n (all_inner all w locals n) → IsTrue (each_under top (all_inner all w locals n)) → IsTrue (all_under top (all_codes all w locals n)) → Knows w top locals known → IsTrue (all_know more (all_codes all w locals n) (block_knows more bs) known)
   all_knows NoStatement w locals n top more bs known g sits under slots k = refl
   all_knows (Then s rest) w locals n top more bs known g sits under slots k =
       let m = n + count s in
@@ -305,7 +305,7 @@ mutual
 -- ---- methods
 
 -- before a method's first statement
-nothing_known : (w : World) (top : ℕ) (known : List Known) → w.slots ≤ top → AreAbove top known → Knows w top [] known
+nothing_known : (w : ClassScope) (top : ℕ) (known : List Known) → w.slots ≤ top → AreAbove top known → Knows w top [] known
 nothing_known w top known low h = record {
   sees = λ name l is. absurd (cc is);
   types = λ name l is loop. absurd (cc is);
@@ -314,7 +314,7 @@ nothing_known w top known low h = record {
 }
 
 -- the block of a method keeps the rules, whatever locals its callers have after its slots
-pub method_knows : (all : Statements) (w : World) (n top more : ℕ) (bs : List (List Code)) (known : List Known) → Ground w top more bs → Sits bs n (all_inner all w [] n ++ all_codes all w [] n ∷ []) → IsTrue (each_under top (all_inner all w [] n ++ all_codes all w [] n ∷ [])) → w.slots ≤ top → AreAbove top known → IsTrue (block_knows more bs (n + all_count all) known)
+pub method_knows : (all : Statements) (w : ClassScope) (n top more : ℕ) (bs : List (List Code)) (known : List Known) → Ground w top more bs → Sits bs n (all_inner all w [] n ++ all_codes all w [] n ∷ []) → IsTrue (each_under top (all_inner all w [] n ++ all_codes all w [] n ∷ [])) → w.slots ≤ top → AreAbove top known → IsTrue (block_knows more bs (n + all_count all) known)
 method_knows all w n top more bs known g sits under low above =
     block_know all w [] n top more bs known g sits
     (all_knows all w [] n top more bs known g (sits_left bs n (all_inner all w [] n) (all_codes all w [] n ∷ []) sits) (under_left top (all_inner all w [] n) (all_codes all w [] n ∷ []) under) (all_of top all w [] n under) (nothing_known w top known low above))

@@ -17,7 +17,7 @@ use Rattle.trick_blocks.specs.Held.{bodies_of}
 use Rattle.trick_blocks.specs.Kept.{BlocksHold, Grows, Keeps, MethodHolds, MethodKept, class_in, codes_in}
 use Rattle.trick_blocks.specs.Methods.{Progress, block_slots, body_blocks, progress, with_method, with_part, with_parts}
 use Rattle.trick_blocks.specs.Room.{IsLaid}
-use Rattle.trick_blocks.specs.declared.world.World.{World}
+use Rattle.trick_blocks.specs.declared.scope.ClassScope.{ClassScope}
 use Rattle.trick_lang.specs.Locals.{Known, all_know, block_knows}
 use Rattle.trick_lang.specs.Passes.{Leaves}
 use Rattle.trick_lang.specs.SyntaxTree as tree
@@ -55,8 +55,8 @@ grow_kept class slots behind own made bodies block low k = record {
 
 pub grows_method : (m : tree.Method) (p : Progress) → Grows p (with_method m p)
 grows_method m p class block k =
-    let made = body_blocks m.body p.world (length p.bodies) in
-    grow_kept class p.world.slots (block_slots made p.world.slots) p.world.class made p.bodies block (slots_grow made p.world.slots) k
+    let made = body_blocks m.body p.scope (length p.bodies) in
+    grow_kept class p.scope.slots (block_slots made p.scope.slots) p.scope.class made p.bodies block (slots_grow made p.scope.slots) k
 
 grows_part : (o : Option tree.Part) (p : Progress) → Grows p (with_part o p)
 grows_part None p class block k = k
@@ -92,52 +92,52 @@ name_case q name l l' names P h f g = by_known (is_some (meaning_of name names))
 
 -- ---- one more method
 
-method_pass : (all : Statements) (w : World) (n : ℕ) (p : Leaves) → PassAny p w → IsTrue (each_passes p (body_blocks all w n))
+method_pass : (all : Statements) (w : ClassScope) (n : ℕ) (p : Leaves) → PassAny p w → IsTrue (each_passes p (body_blocks all w n))
 method_pass all w n p h = each_more p (all_inner all w [] n) (all_codes all w [] n) (all_inner_pass all p w [] n h) (codes_pass all p w [] n h)
 
-module _ (m : tree.Method) (p : Progress) (laid : IsLaid p.world) (k : Keeps p) where
+module _ (m : tree.Method) (p : Progress) (laid : IsLaid p.scope) (k : Keeps p) where
   abbrev made : List (List Code)
-  made = body_blocks m.body p.world (length p.bodies)
+  made = body_blocks m.body p.scope (length p.bodies)
 
   abbrev grown : List Body
-  grown = with_bodies p.world.class made p.bodies
+  grown = with_bodies p.scope.class made p.bodies
 
-  are_made : AreMade (length p.bodies) p.world
+  are_made : AreMade (length p.bodies) p.scope
   are_made name block is = (k.methods name block is).there
 
   codes : codes_in grown ≡ codes_in p.bodies ++ made
-  codes = codes_with p.world.class made p.bodies
+  codes = codes_with p.scope.class made p.bodies
 
   made_count : length made ≡ all_count m.body + 1
-  made_count = method_count m.body p.world (length p.bodies)
+  made_count = method_count m.body p.scope (length p.bodies)
 
   ordered : IsTrue (are_in_order 0 (codes_in grown))
   ordered =
       subst (λ q. IsTrue (are_in_order 0 q)) (sym codes)
-      (order_both (codes_in p.bodies) made 0 (length p.bodies) (omega (arith, codes_count p.bodies)) k.in_order (method_ordered m.body p.world (length p.bodies) are_made))
+      (order_both (codes_in p.bodies) made 0 (length p.bodies) (omega (arith, codes_count p.bodies)) k.in_order (method_ordered m.body p.scope (length p.bodies) are_made))
 
   spans : IsTrue (stay_in_span (codes_in grown))
   spans =
       let before : IsTrue (each_passes span_test (codes_in p.bodies)) = subst (λ q. IsTrue q) (spans_are (codes_in p.bodies)) k.in_span in
-      let behind = method_pass m.body p.world (length p.bodies) span_test (span_passes p.world laid) in
+      let behind = method_pass m.body p.scope (length p.bodies) span_test (span_passes p.scope laid) in
       subst (λ q. IsTrue (stay_in_span q)) (sym codes)
       (subst (λ q. IsTrue q) (sym (spans_are (codes_in p.bodies ++ made))) (each_both span_test (codes_in p.bodies) made before behind))
 
-  runs_own : Runs (λ j. is_of p.world.class (class_in grown j)) (length p.bodies) (length p.bodies + (all_count m.body + 1)) p.world
+  runs_own : Runs (λ j. is_of p.scope.class (class_in grown j)) (length p.bodies) (length p.bodies + (all_count m.body + 1)) p.scope
   runs_own = record {
     inside = λ j low high.
-        subst (λ q. IsTrue (is_of p.world.class q)) (sym (class_made p.world.class made p.bodies j low (omega (arith, high, made_count)))) (equal_to_itself p.world.class);
+        subst (λ q. IsTrue (is_of p.scope.class q)) (sym (class_made p.scope.class made p.bodies j low (omega (arith, high, made_count)))) (equal_to_itself p.scope.class);
     methods = λ name block is.
-        subst (λ q. IsTrue (is_of p.world.class q)) (sym (class_stays p.world.class made p.bodies block p.world.class (k.methods name block is).class_is)) (equal_to_itself p.world.class);
+        subst (λ q. IsTrue (is_of p.scope.class q)) (sym (class_stays p.scope.class made p.bodies block p.scope.class (k.methods name block is).class_is)) (equal_to_itself p.scope.class);
   }
 
   abbrev top : ℕ
-  top = block_slots made p.world.slots
+  top = block_slots made p.scope.slots
 
-  low : p.world.slots ≤ top
-  low = slots_grow made p.world.slots
+  low : p.scope.slots ≤ top
+  low = slots_grow made p.scope.slots
 
-  ground : (more : ℕ) → top ≤ more → Ground p.world top more (codes_in grown)
+  ground : (more : ℕ) → top ≤ more → Ground p.scope top more (codes_in grown)
   ground more most = record {
     order = ordered;
     enough = most;
@@ -156,42 +156,42 @@ module _ (m : tree.Method) (p : Progress) (laid : IsLaid p.world) (k : Keeps p) 
     at = codes_count p.bodies;
   }
 
-  new_kept : MethodKept p.world.class top grown (length p.bodies + all_count m.body)
+  new_kept : MethodKept p.scope.class top grown (length p.bodies + all_count m.body)
   new_kept = record {
     there = omega (arith, sym (codes_count grown), ap (λ q. length q) codes, length-append (codes_in p.bodies) made, codes_count p.bodies, made_count);
-    class_is = class_made p.world.class made p.bodies (length p.bodies + all_count m.body) (omega arith) (omega (arith, made_count));
+    class_is = class_made p.scope.class made p.bodies (length p.bodies + all_count m.body) (omega arith) (omega (arith, made_count));
     knows = λ more known most above.
-        method_knows m.body p.world (length p.bodies) top more (codes_in grown) known (ground more most) sits (slots_under made p.world.slots top (omega arith)) low above;
+        method_knows m.body p.scope (length p.bodies) top more (codes_in grown) known (ground more most) sits (slots_under made p.scope.slots top (omega arith)) low above;
   }
 
   pub keeps_method : Keeps (with_method m p)
   keeps_method = record {
     in_span = spans;
-    in_cells = lie_with p.world.layout.cells p.world.layout.sizes p.world.class made p.bodies k.in_cells (method_pass m.body p.world (length p.bodies) (cells_test p.world.layout.cells (size_at p.world.layout.sizes p.world.class)) (cells_pass p.world laid));
+    in_cells = lie_with p.scope.layout.cells p.scope.layout.sizes p.scope.class made p.bodies k.in_cells (method_pass m.body p.scope (length p.bodies) (cells_test p.scope.layout.cells (size_at p.scope.layout.sizes p.scope.class)) (cells_pass p.scope laid));
     in_order = ordered;
-    own_class = own_made p.world.class made p.bodies k.own_class (method_runs m.body p.world (length p.bodies) (λ j. is_of p.world.class (class_in grown j)) runs_own);
-    deep = deepen_with p.world.class made p.bodies k.deep;
+    own_class = own_made p.scope.class made p.bodies k.own_class (method_runs m.body p.scope (length p.bodies) (λ j. is_of p.scope.class (class_in grown j)) runs_own);
+    deep = deepen_with p.scope.class made p.bodies k.deep;
     methods = λ name block is.
-        name_case name m.name (length p.bodies + all_count m.body) block p.world.methods (MethodKept p.world.class top grown block) is
-        (λ old. grows_method m p p.world.class block (k.methods name block old))
-        (λ same. subst (MethodKept p.world.class top grown) same new_kept);
+        name_case name m.name (length p.bodies + all_count m.body) block p.scope.methods (MethodKept p.scope.class top grown block) is
+        (λ old. grows_method m p p.scope.class block (k.methods name block old))
+        (λ same. subst (MethodKept p.scope.class top grown) same new_kept);
   }
 
 -- ---- the methods of a class
 
-keeps_part : (o : Option tree.Part) (p : Progress) → IsLaid p.world → Keeps p → Keeps (with_part o p)
+keeps_part : (o : Option tree.Part) (p : Progress) → IsLaid p.scope → Keeps p → Keeps (with_part o p)
 keeps_part None p laid k = k
 keeps_part (Some tree.Public) p laid k = k
 keeps_part (Some (tree.HasMembers m)) p laid k = k
 keeps_part (Some (tree.HasMethod m)) p laid k = keeps_method m p laid k
 keeps_part (Some (tree.Constructor line name jobs)) p laid k = k
 
-pub keeps_parts : (order : List ℕ) (parts : List tree.Part) (p : Progress) → IsLaid p.world → Keeps p → Keeps (with_parts order parts p)
+pub keeps_parts : (order : List ℕ) (parts : List tree.Part) (p : Progress) → IsLaid p.scope → Keeps p → Keeps (with_parts order parts p)
 keeps_parts [] parts p laid k = k
 keeps_parts (i ∷ is) parts p laid k = keeps_parts is parts (with_part (slice_get parts i) p) (laid_part (slice_get parts i) p laid) (keeps_part (slice_get parts i) p laid k)
 
 -- before the first block
-pub keeps_start : (w : World) → w.methods ≡ [] → Keeps (progress w [])
+pub keeps_start : (w : ClassScope) → w.methods ≡ [] → Keeps (progress w [])
 keeps_start w none = record {
   in_span = refl;
   in_cells = refl;
@@ -202,7 +202,7 @@ keeps_start w none = record {
 }
 
 -- before the first method of the next class
-pub keeps_class : (w : World) (class : ℕ) (bodies : List Body) → Keeps (progress w bodies) → Keeps (progress (record w { class = class; methods = [] }) bodies)
+pub keeps_class : (w : ClassScope) (class : ℕ) (bodies : List Body) → Keeps (progress w bodies) → Keeps (progress (record w { class = class; methods = [] }) bodies)
 keeps_class w class bodies k = record {
   in_span = k.in_span;
   in_cells = k.in_cells;
@@ -214,7 +214,7 @@ keeps_class w class bodies k = record {
 
 -- ---- a program
 
-pub holds : (w : World) (blocks : List Block) → Keeps (progress w (bodies_of blocks)) → BlocksHold w.layout.cells w.layout.sizes blocks
+pub holds : (w : ClassScope) (blocks : List Block) → Keeps (progress w (bodies_of blocks)) → BlocksHold w.layout.cells w.layout.sizes blocks
 holds w blocks k =
     let order : IsTrue (are_in_order 0 (codes_of blocks)) = subst (λ q. IsTrue (are_in_order 0 q)) (codes_are blocks) k.in_order in
     record {
@@ -225,7 +225,7 @@ holds w blocks k =
       deep_enough = deep_blocks blocks k.deep order;
     }
 
-pub method_holds : (w : World) (blocks : List Block) (class block : ℕ) → MethodKept class w.slots (bodies_of blocks) block → MethodHolds w.slots blocks class block
+pub method_holds : (w : ClassScope) (blocks : List Block) (class block : ℕ) → MethodKept class w.slots (bodies_of blocks) block → MethodHolds w.slots blocks class block
 method_holds w blocks class block k = record {
   stands = subst (λ q. IsTrue (is_of class q)) (sym (class_blocks blocks block ∙ k.class_is)) (equal_to_itself class);
   knows = subst (λ (q : List (List Code)). IsTrue (block_knows w.slots q block [])) (codes_are blocks) (k.knows w.slots [] (omega arith) (λ slot less. refl));

@@ -14,7 +14,7 @@ use Rattle.trick_blocks.specs.declared.start.Meaning.TheVariants as means
 use Rattle.trick_blocks.specs.declared.spot.Element.{Element}
 use Rattle.trick_blocks.specs.declared.spot.Loose.{Loose}
 use Rattle.trick_blocks.specs.declared.spot.Spot.{Spot}
-use Rattle.trick_blocks.specs.declared.world.World.{World}
+use Rattle.trick_blocks.specs.declared.scope.ClassScope.{ClassScope}
 use Rattle.trick_lang.specs.SyntaxTree.{Name, Parts, NoPart, Member, Index}
 use Rattle.trick_lang.specs.Tree as Tree
 use Rattle.trick_lang.specs.Tree.{Steps, NoStep, Step}
@@ -55,13 +55,13 @@ field_stays : (sizes : List ℕ) (n reached : ℕ) (o : Option Field) (s : Spot)
 field_stays sizes n reached None s h k = tt
 field_stays sizes n reached (Some f) s h k = stays_moved n f.offset (size_of sizes f.extent.dims f.extent.base) reached s.loose h.0 k
 
-member_stays : (dims : Dims) (base : Base) (name : Name) (w : World) (reached : ℕ) (s : Spot) → IsLaid w → StaysIn (size_of w.layout.sizes dims base) reached s.loose → Stays w.layout.sizes reached (on_field (field_in dims base name w) s)
+member_stays : (dims : Dims) (base : Base) (name : Name) (w : ClassScope) (reached : ℕ) (s : Spot) → IsLaid w → StaysIn (size_of w.layout.sizes dims base) reached s.loose → Stays w.layout.sizes reached (on_field (field_in dims base name w) s)
 member_stays Plain (Group k) name w reached s laid h = field_stays w.layout.sizes (size_at w.layout.sizes k) reached _ s (laid.tables.members k name) h
 member_stays Plain (Single scalar) name w reached s laid h = tt
 member_stays (One d) base name w reached s laid h = tt
 member_stays (Two d e) base name w reached s laid h = tt
 
-to_member_stays : (name : Name) (w : World) (reached : ℕ) (at : Option Spot) → IsLaid w → Stays w.layout.sizes reached at → Stays w.layout.sizes reached (to_member name w at)
+to_member_stays : (name : Name) (w : ClassScope) (reached : ℕ) (at : Option Spot) → IsLaid w → Stays w.layout.sizes reached at → Stays w.layout.sizes reached (to_member name w at)
 to_member_stays name w reached None laid h = tt
 to_member_stays name w reached (Some s) laid h = member_stays s.extent.dims s.extent.base name w reached s laid h
 
@@ -95,7 +95,7 @@ index_stays sizes literal Plain base reached s strides h = none_stays sizes lite
 index_stays sizes literal (One d) base reached s strides h = element_stays sizes literal d (record { dims = Plain; base = base }) reached s strides h
 index_stays sizes literal (Two d e) base reached s strides h = element_stays sizes literal d (record { dims = One e; base = base }) reached s strides.0 h
 
-to_index_stays : (literal : Option ℕ) (w : World) (reached : ℕ) (at : Option Spot) → Fits w at → Stays w.layout.sizes reached at → Stays w.layout.sizes (reached + lead (computed literal (element_at at))) (to_index literal at)
+to_index_stays : (literal : Option ℕ) (w : ClassScope) (reached : ℕ) (at : Option Spot) → Fits w at → Stays w.layout.sizes reached at → Stays w.layout.sizes (reached + lead (computed literal (element_at at))) (to_index literal at)
 to_index_stays literal w reached None fits h = tt
 to_index_stays literal w reached (Some s) fits h = index_stays w.layout.sizes literal s.extent.dims s.extent.base reached s fits.1 h
 
@@ -105,7 +105,7 @@ stepped_reach : (el : Option Element) (x : Tree.Term) (rest : Steps) → reach (
 stepped_reach None x rest = omega arith
 stepped_reach (Some el) x rest = refl
 
-parts_stay : (parts : Parts) (w : World) (locals : Names Local) (reached : ℕ) (at : Option Spot) → IsLaid w → Fits w at → Stays w.layout.sizes reached at → Stays w.layout.sizes (reached + reach (steps parts w locals at)) (followed parts w at)
+parts_stay : (parts : Parts) (w : ClassScope) (locals : Names Local) (reached : ℕ) (at : Option Spot) → IsLaid w → Fits w at → Stays w.layout.sizes reached at → Stays w.layout.sizes (reached + reach (steps parts w locals at)) (followed parts w at)
 parts_stay NoPart w locals reached at laid fits h =
     let same : reached ≡ reached + 0 = omega arith in
     subst (λ q. Stays w.layout.sizes q at) same h
@@ -120,7 +120,7 @@ parts_stay (Index e rest) w locals reached at laid fits h =
     subst (λ q. Stays w.layout.sizes q (followed rest w next)) sum
     (parts_stay rest w locals (reached + lead el) next laid (to_index_fits literal w at fits) (to_index_stays literal w reached at fits h))
 
-parts_fit : (parts : Parts) (w : World) (at : Option Spot) → IsLaid w → Fits w at → Fits w (followed parts w at)
+parts_fit : (parts : Parts) (w : ClassScope) (at : Option Spot) → IsLaid w → Fits w at → Fits w (followed parts w at)
 parts_fit NoPart w at laid fits = fits
 parts_fit (Member line name rest) w at laid fits = parts_fit rest w (to_member name w at) laid (to_member_fits name w at laid fits)
 parts_fit (Index e rest) w at laid fits = parts_fit rest w (to_index (literal_of e) at) laid (to_index_fits (literal_of e) w at fits)
@@ -147,7 +147,7 @@ span_lies : (limit n first : ℕ) (l : Option Loose) → n ≡ 1 → LieIn limit
 span_lies limit n first None one h = grind (arith, nat_tests)
 span_lies limit n first (Some l) one h = let far = h.1 in grind (arith, nat_tests)
 
-end_lies : (dims : Dims) (base : Base) (w : World) (s at : Spot) → scalar_in dims base s ≡ Some at → LieIn (room w s.own) (size_of w.layout.sizes dims base) s.first s.loose → IsTrue (nat_le (at.first + span_of at.loose) (room w at.own))
+end_lies : (dims : Dims) (base : Base) (w : ClassScope) (s at : Spot) → scalar_in dims base s ≡ Some at → LieIn (room w s.own) (size_of w.layout.sizes dims base) s.first s.loose → IsTrue (nat_le (at.first + span_of at.loose) (room w at.own))
 end_lies Plain (Single scalar) w s at is h =
     let same : s ≡ at = cc is in
     subst (λ (q : Spot). IsTrue (nat_le (q.first + span_of q.loose) (room w q.own))) same (span_lies (room w s.own) 1 s.first s.loose refl h)
@@ -155,12 +155,12 @@ end_lies Plain (Group k) w s at is h = absurd (cc is)
 end_lies (One d) base w s at is h = absurd (cc is)
 end_lies (Two d e) base w s at is h = absurd (cc is)
 
-there_lies : (w : World) (o : Option Spot) (at : Spot) → scalar_there o ≡ Some at → Fits w o → IsTrue (nat_le (at.first + span_of at.loose) (room w at.own))
+there_lies : (w : ClassScope) (o : Option Spot) (at : Spot) → scalar_there o ≡ Some at → Fits w o → IsTrue (nat_le (at.first + span_of at.loose) (room w at.own))
 there_lies w None at is h = absurd (cc is)
 there_lies w (Some s) at is h = end_lies s.extent.dims s.extent.base w s at is h.0
 
 -- what stands for a place begins without an index
-from_fits : (name : Name) (w : World) (locals : Names Local) (from : Spot) → IsLaid w → named name w locals ≡ means.Stands from → Fits w (Some from)
+from_fits : (name : Name) (w : ClassScope) (locals : Names Local) (from : Spot) → IsLaid w → named name w locals ≡ means.Stands from → Fits w (Some from)
 from_fits name w locals from laid is = subst (λ m. Fits w (start_of m)) is (start_fits name w locals laid)
 
 -- ---- the tests
@@ -184,11 +184,11 @@ local_fresh : (l : Option Local) (f : Option Field) (o : Option Site) → loose_
 local_fresh None f o = field_fresh f o
 local_fresh (Some l) f o = refl
 
-fresh : (name : Name) (w : World) (locals : Names Local) (from : Spot) → named name w locals ≡ means.Stands from → from.loose ≡ None
+fresh : (name : Name) (w : ClassScope) (locals : Names Local) (from : Spot) → named name w locals ≡ means.Stands from → from.loose ≡ None
 fresh name w locals from is = ap loose_start (sym is) ∙ local_fresh (meaning_of name locals) (meaning_of name (fields_at w.layout.groups w.class)) (meaning_of name w.layout.sites)
 
 -- wherever its computed indexes lead, a place stays in its span
-pub span_passes : (w : World) → IsLaid w → PassAny span_test w
+pub span_passes : (w : ClassScope) → IsLaid w → PassAny span_test w
 span_passes w laid locals = record {
   local = λ name l is. refl;
   place = λ name parts from at is there.
@@ -200,11 +200,11 @@ span_passes w laid locals = record {
 }
 
 -- the span lies in an object of the class, or in the memory
-cells_place : (w : World) (own : Bool) (first span offset literals : ℕ) (st : Steps) → IsTrue (nat_le (first + span) (room w own)) → IsTrue ((cells_test w.layout.cells (size_at w.layout.sizes w.class)).place (Tree.spot own first span offset literals st))
+cells_place : (w : ClassScope) (own : Bool) (first span offset literals : ℕ) (st : Steps) → IsTrue (nat_le (first + span) (room w own)) → IsTrue ((cells_test w.layout.cells (size_at w.layout.sizes w.class)).place (Tree.spot own first span offset literals st))
 cells_place w true first span offset literals st h = h
 cells_place w false first span offset literals st h = h
 
-pub cells_pass : (w : World) → IsLaid w → PassAny (cells_test w.layout.cells (size_at w.layout.sizes w.class)) w
+pub cells_pass : (w : ClassScope) → IsLaid w → PassAny (cells_test w.layout.cells (size_at w.layout.sizes w.class)) w
 cells_pass w laid locals = record {
   local = λ name l is. refl;
   place = λ name parts from at is there.

@@ -89,7 +89,7 @@ next_number xs i h = first xs i h ∙ ap (λ k. get_or xs i 0 ∷ drop k xs) (mo
   first (x ∷ xs) (suc i) h = first xs i (omega arith)
 
 -- the tables stay as they are
-pub laid_part : (o : Option tree.Part) (p : Progress) → IsLaid p.world → IsLaid (with_part o p).world
+pub laid_part : (o : Option tree.Part) (p : Progress) → IsLaid p.scope → IsLaid (with_part o p).scope
 laid_part None p laid = laid
 laid_part (Some tree.Public) p laid = laid
 laid_part (Some (tree.HasMembers m)) p laid = laid

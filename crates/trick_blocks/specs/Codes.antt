@@ -5,7 +5,7 @@
 use Rattle.std.specs.Prelude.{ℕ, ◌+◌, true, false, if◌then◌else◌, nat_le, List, [], ◌∷◌, ◌++◌, length, Option, Some, None}
 use Rattle.trick_blocks.specs.Terms.{Goal, OfLocal, OfNumber, OfPlace, OfNothing, term, path_goal}
 use Rattle.trick_blocks.specs.declared.start.Local.{Local}
-use Rattle.trick_blocks.specs.declared.world.World.{World}
+use Rattle.trick_blocks.specs.declared.scope.ClassScope.{ClassScope}
 use Rattle.trick_lang.specs.Locals.{bound_number}
 use Rattle.trick_lang.specs.SyntaxTree.{Name, Expression, TypeName, Basic, Custom, Change, Set, Update, Increase, Decrease, Statement, Empty, Block, Declare, Assign, If, For, Call, Branches, NoElse, Else, Test, Statements, NoStatement, Then}
 use Rattle.trick_lang.specs.Tree as Tree
@@ -24,7 +24,7 @@ scalar_of (Custom line name) = Int
 
 -- Locals have slots in the order in which they became known, so that one that is known no more
 -- leaves its slot to the next.
-abbrev pub slot_behind : World → Names Local → ℕ
+abbrev pub slot_behind : ClassScope → Names Local → ℕ
 slot_behind w locals = w.slots + length locals
 
 abbrev pub free_slot : Option Local → ℕ → Option ℕ
@@ -32,24 +32,24 @@ free_slot None slot = Some slot
 free_slot (Some local) slot = None
 
 -- the slot of a new local, whose name was not known
-abbrev pub new_slot : Name → World → Names Local → Option ℕ
+abbrev pub new_slot : Name → ClassScope → Names Local → Option ℕ
 new_slot name w locals = free_slot (meaning_of name locals) (slot_behind w locals)
 
 -- a local is known from its name on
-abbrev pub declared : TypeName → Name → World → Names Local → Names Local
+abbrev pub declared : TypeName → Name → ClassScope → Names Local → Names Local
 declared written name w locals =
     with_name name (record { slot = slot_behind w locals; scalar = scalar_of written; is_loop = false }) locals
 
 -- the variable of a loop is a `long`
-abbrev pub loop_in : Name → World → Names Local → Names Local
+abbrev pub loop_in : Name → ClassScope → Names Local → Names Local
 loop_in name w locals = with_name name (record { slot = slot_behind w locals; scalar = Long; is_loop = true }) locals
 
 -- the slot of a loop's variable, where the bound of the loop is at most 1,000,000
-abbrev pub loop_slot : Name → Bound → World → Names Local → Option ℕ
+abbrev pub loop_slot : Name → Bound → ClassScope → Names Local → Option ℕ
 loop_slot name bound w locals = if nat_le (bound_number bound) 1000000 then new_slot name w locals else None
 
 -- the locals that are known after a statement: its own, and none of those in it
-abbrev pub after : Statement → World → Names Local → Names Local
+abbrev pub after : Statement → ClassScope → Names Local → Names Local
 after Empty w locals = locals
 after (Block all) w locals = locals
 after (Declare line written name value) w locals = declared written name w locals
@@ -58,19 +58,19 @@ after (If branches) w locals = locals
 after (For name from bound body) w locals = locals
 after (Call line name) w locals = locals
 
-abbrev pub after_all : Statements → World → Names Local → Names Local
+abbrev pub after_all : Statements → ClassScope → Names Local → Names Local
 after_all NoStatement w locals = locals
 after_all (Then s rest) w locals = after_all rest w (after s w locals)
 
 -- ---- what has no blocks
 
-abbrev pub change_term : Change → World → Names Local → Tree.Change
+abbrev pub change_term : Change → ClassScope → Names Local → Tree.Change
 change_term (Set e) w locals = Tree.Set (term e w locals)
 change_term (Update o e) w locals = Tree.Update o (term e w locals)
 change_term Increase w locals = Tree.Increase
 change_term Decrease w locals = Tree.Decrease
 
-abbrev pub value_term : Option Expression → World → Names Local → Option Term
+abbrev pub value_term : Option Expression → ClassScope → Names Local → Option Term
 value_term None w locals = None
 value_term (Some e) w locals = Some (term e w locals)
 
@@ -121,13 +121,13 @@ abbrev mutual
 -- ---- what a statement becomes, where its blocks have the numbers from n on
 
 -- the body of a branch stands in the last of its blocks
-abbrev pub branch_codes : Branches → World → Names Local → ℕ → Tree.Branches
+abbrev pub branch_codes : Branches → ClassScope → Names Local → ℕ → Tree.Branches
 branch_codes NoElse w locals n = Tree.NoElse
 branch_codes (Else body) w locals n = Tree.Else (n + count body)
 branch_codes (Test line test body rest) w locals n =
     Tree.Test line (term test w locals) (n + count body) (branch_codes rest w locals (n + (count body + 1)))
 
-abbrev pub code : Statement → World → Names Local → ℕ → Code
+abbrev pub code : Statement → ClassScope → Names Local → ℕ → Code
 code Empty w locals n = Tree.Empty
 code (Block all) w locals n = Tree.Run (n + all_count all)
 -- a local is known in its own first value
@@ -139,7 +139,7 @@ code (If branches) w locals n = Tree.If (branch_codes branches w locals n)
 code (For name from bound body) w locals n = loop_code (loop_slot name bound w locals) from bound (n + count body)
 code (Call line name) w locals n = call_code (meaning_of name w.methods)
 
-abbrev pub all_codes : Statements → World → Names Local → ℕ → List Code
+abbrev pub all_codes : Statements → ClassScope → Names Local → ℕ → List Code
 all_codes NoStatement w locals n = []
 all_codes (Then s rest) w locals n = code s w locals n ∷ all_codes rest w (after s w locals) (n + count s)
 
@@ -147,7 +147,7 @@ all_codes (Then s rest) w locals n = code s w locals n ∷ all_codes rest w (aft
 
 -- the body of a branch or a loop is a block of that one statement
 abbrev mutual
-  pub inner : Statement → World → Names Local → ℕ → List (List Code)
+  pub inner : Statement → ClassScope → Names Local → ℕ → List (List Code)
   inner Empty w locals n = []
   inner (Block all) w locals n = all_inner all w locals n ++ all_codes all w locals n ∷ []
   inner (Declare line written name value) w locals n = []
@@ -157,12 +157,12 @@ abbrev mutual
       inner body w (loop_in name w locals) n ++ (code body w (loop_in name w locals) n ∷ []) ∷ []
   inner (Call line name) w locals n = []
 
-  pub branch_inner : Branches → World → Names Local → ℕ → List (List Code)
+  pub branch_inner : Branches → ClassScope → Names Local → ℕ → List (List Code)
   branch_inner NoElse w locals n = []
   branch_inner (Else body) w locals n = inner body w locals n ++ (code body w locals n ∷ []) ∷ []
   branch_inner (Test line test body rest) w locals n =
       (inner body w locals n ++ (code body w locals n ∷ []) ∷ []) ++ branch_inner rest w locals (n + (count body + 1))
 
-  pub all_inner : Statements → World → Names Local → ℕ → List (List Code)
+  pub all_inner : Statements → ClassScope → Names Local → ℕ → List (List Code)
   all_inner NoStatement w locals n = []
   all_inner (Then s rest) w locals n = inner s w locals n ++ all_inner rest w (after s w locals) (n + count s)

@@ -55,22 +55,22 @@ pub record MethodKept (class slots : ℕ) (bodies : List Body) (block : ℕ) : T
 -- what is kept while methods are made, one after another
 pub record Keeps (p : Progress) : Type 0 where
   pub in_span : IsTrue (stay_in_span (codes_in p.bodies))
-  pub in_cells : IsTrue (bodies_lie p.world.layout.cells p.world.layout.sizes p.bodies)
+  pub in_cells : IsTrue (bodies_lie p.scope.layout.cells p.scope.layout.sizes p.bodies)
   pub in_order : IsTrue (are_in_order 0 (codes_in p.bodies))
   pub own_class : IsTrue (bodies_run_own p.bodies p.bodies)
   pub deep : Deepen [] p.bodies
-  pub methods : (name : Name) (block : ℕ) → meaning_of name p.world.methods ≡ Some block
-      → MethodKept p.world.class p.world.slots p.bodies block
+  pub methods : (name : Name) (block : ℕ) → meaning_of name p.scope.methods ≡ Some block
+      → MethodKept p.scope.class p.scope.slots p.bodies block
 
 -- the methods that are made stay as they are
 abbrev pub Grows : Progress → Progress → Type 0
-Grows p q = (class block : ℕ) → MethodKept class p.world.slots p.bodies block
-    → MethodKept class q.world.slots q.bodies block
+Grows p q = (class block : ℕ) → MethodKept class p.scope.slots p.bodies block
+    → MethodKept class q.scope.slots q.bodies block
 
 -- of each of these methods it is kept
 abbrev pub AreKept : Progress → List Method → Type 0
 AreKept p [] = Unit {0}
-AreKept p (m ∷ ms) = MethodKept m.class p.world.slots p.bodies m.block × AreKept p ms
+AreKept p (m ∷ ms) = MethodKept m.class p.scope.slots p.bodies m.block × AreKept p ms
 
 -- the number is one of the list
 abbrev pub is_one_of : List ℕ → ℕ → Bool

@@ -2,7 +2,7 @@
 use Rattle.std.specs.Prelude.{ℕ, ◌+◌, max, List, [], ◌∷◌, ◌++◌, length, Option, Some, None, slice_get}
 use Rattle.trick_blocks.specs.Bodies.{Body, with_bodies}
 use Rattle.trick_blocks.specs.Codes.{all_codes, all_count, all_inner}
-use Rattle.trick_blocks.specs.declared.world.World.{World}
+use Rattle.trick_blocks.specs.declared.scope.ClassScope.{ClassScope}
 use Rattle.trick_lang.specs.SyntaxTree as tree
 use Rattle.trick_lang.specs.SyntaxTree.{Statements, Public, HasMembers, HasMethod, Constructor}
 use Rattle.trick_lang.specs.Tree.{Code, Empty, Declare, SetLocal, Assign, If, For, Run}
@@ -32,19 +32,19 @@ block_slots (b ∷ bs) so_far = block_slots bs (all_slots b so_far)
 
 -- what a body of the class sees, and the blocks that are made
 pub record Progress : Type 0 where
-  pub world : World
+  pub scope : ClassScope
   pub bodies : List Body
 
-abbrev pub progress : World → List Body → Progress
-progress w bodies = record { world = w; bodies = bodies }
+abbrev pub progress : ClassScope → List Body → Progress
+progress w bodies = record { scope = w; bodies = bodies }
 
 -- the blocks of a body, where the first has the number n: those in it, and itself
-abbrev pub body_blocks : Statements → World → ℕ → List (List Code)
+abbrev pub body_blocks : Statements → ClassScope → ℕ → List (List Code)
 body_blocks body w n = all_inner body w [] n ++ all_codes body w [] n ∷ []
 
 -- After a method its name stands for the block of its body, and the locals of the next one have
 -- slots of their own, so that a method that is called leaves those of its caller alone.
-abbrev pub world_with : tree.Method → World → ℕ → World
+abbrev pub world_with : tree.Method → ClassScope → ℕ → ClassScope
 world_with m w n = record w {
   methods = with_name m.name (n + all_count m.body) w.methods;
   slots = block_slots (body_blocks m.body w n) w.slots;
@@ -52,8 +52,8 @@ world_with m w n = record w {
 
 abbrev pub with_method : tree.Method → Progress → Progress
 with_method m p = record {
-  world = world_with m p.world (length p.bodies);
-  bodies = with_bodies p.world.class (body_blocks m.body p.world (length p.bodies)) p.bodies;
+  scope = world_with m p.scope (length p.bodies);
+  bodies = with_bodies p.scope.class (body_blocks m.body p.scope (length p.bodies)) p.bodies;
 }
 
 -- other parts of a class have no blocks

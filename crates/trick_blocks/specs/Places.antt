@@ -7,7 +7,7 @@ use Rattle.trick_blocks.specs.declared.start.Meaning.TheVariants as means
 use Rattle.trick_blocks.specs.declared.spot.Element.{Element}
 use Rattle.trick_blocks.specs.declared.spot.Loose.{Loose}
 use Rattle.trick_blocks.specs.declared.spot.Spot.{Spot}
-use Rattle.trick_blocks.specs.declared.world.World.{World}
+use Rattle.trick_blocks.specs.declared.scope.ClassScope.{ClassScope}
 use Rattle.trick_lang.specs.SyntaxTree.{Name, Expression, Whole, Truth, Named, Prefixed, Chain, Choose, Parts, NoPart, Member, Index}
 use Rattle.trick_layout.specs.Laid.{fields_at}
 use Rattle.trick_layout.specs.declared.layout.Dims.{Dims}
@@ -45,7 +45,7 @@ local_meaning None field site = field_meaning field site
 local_meaning (Some local) field site = means.Local local
 
 -- what the first name of a path stands for, where these locals are known
-abbrev pub named : Name → World → Names Local → Meaning
+abbrev pub named : Name → ClassScope → Names Local → Meaning
 named name w locals =
     local_meaning (meaning_of name locals) (meaning_of name (fields_at w.layout.groups w.class))
     (meaning_of name w.layout.sites)
@@ -73,7 +73,7 @@ moved by extent s =
     record { own = s.own; first = first_moved s.loose s.first by; loose = loose_moved s.loose by; extent = extent }
 
 -- the variable of that name; only a struct and an object have some
-abbrev pub field_in : Dims → Base → Name → World → Option Field
+abbrev pub field_in : Dims → Base → Name → ClassScope → Option Field
 field_in Plain (Group k) name w = meaning_of name (fields_at w.layout.groups k)
 field_in Plain (Single scalar) name w = None
 field_in (One d) base name w = None
@@ -84,7 +84,7 @@ on_field None s = None
 on_field (Some f) s = Some (moved f.offset f.extent s)
 
 -- `.name`
-abbrev pub to_member : Name → World → Option Spot → Option Spot
+abbrev pub to_member : Name → ClassScope → Option Spot → Option Spot
 to_member name w None = None
 to_member name w (Some s) = on_field (field_in s.extent.dims s.extent.base name w) s
 
@@ -125,7 +125,7 @@ to_index literal None = None
 to_index literal (Some s) = on_element literal (element_in s.extent.dims s.extent.base) s
 
 -- where the parts of a path lead
-abbrev pub followed : Parts → World → Option Spot → Option Spot
+abbrev pub followed : Parts → ClassScope → Option Spot → Option Spot
 followed NoPart w at = at
 followed (Member line name rest) w at = followed rest w (to_member name w at)
 followed (Index e rest) w at = followed rest w (to_index (literal_of e) at)

@@ -7,7 +7,7 @@ use Rattle.trick_blocks.specs.declared.start.Meaning.TheVariants as means
 use Rattle.trick_blocks.specs.declared.spot.Element.{Element}
 use Rattle.trick_blocks.specs.declared.spot.Loose.{Loose}
 use Rattle.trick_blocks.specs.declared.spot.Spot.{Spot}
-use Rattle.trick_blocks.specs.declared.world.World.{World}
+use Rattle.trick_blocks.specs.declared.scope.ClassScope.{ClassScope}
 use Rattle.trick_lang.specs.Numbers.{number_of}
 use Rattle.trick_lang.specs.SyntaxTree.{Expression, Whole, Truth, Named, Prefixed, Chain, Choose, Links, NoLink, Link, Choices, Last, Choice, Path, path, Parts, NoPart, Member, Index}
 use Rattle.trick_lang.specs.Tree as Tree
@@ -72,7 +72,7 @@ goal_term OfNothing = Tree.Number (pos 0)
 
 abbrev mutual
   -- a literal is wrapped to 64 bits
-  pub term : Expression → World → Names Local → Term
+  pub term : Expression → ClassScope → Names Local → Term
   term (Whole line n) w locals = Tree.Number (wrap Long (pos n))
   term (Truth line b) w locals = Tree.Number (number_of b)
   term (Named p) w locals = goal_term (path_goal p w locals)
@@ -80,16 +80,16 @@ abbrev mutual
   term (Chain e links) w locals = Tree.Chain (term e w locals) (link_terms links w locals)
   term (Choose choices) w locals = Tree.Choose (choice_terms choices w locals)
 
-  pub link_terms : Links → World → Names Local → Tree.Links
+  pub link_terms : Links → ClassScope → Names Local → Tree.Links
   link_terms NoLink w locals = Tree.NoLink
   link_terms (Link o e rest) w locals = Tree.Link o (term e w locals) (link_terms rest w locals)
 
-  pub choice_terms : Choices → World → Names Local → Tree.Choices
+  pub choice_terms : Choices → ClassScope → Names Local → Tree.Choices
   choice_terms (Last e) w locals = Tree.Last (term e w locals)
   choice_terms (Choice test e rest) w locals =
       Tree.Choice (term test w locals) (term e w locals) (choice_terms rest w locals)
 
-  pub path_goal : Path → World → Names Local → Goal
+  pub path_goal : Path → ClassScope → Names Local → Goal
   path_goal (path line name parts) w locals =
       goal_of (named name w locals)
       (scalar_there (followed parts w (start_of (named name w locals))))
@@ -97,7 +97,7 @@ abbrev mutual
       (steps parts w locals (start_of (named name w locals)))
 
   -- the computed indexes of a path, from where it has come
-  pub steps : Parts → World → Names Local → Option Spot → Steps
+  pub steps : Parts → ClassScope → Names Local → Option Spot → Steps
   steps NoPart w locals at = NoStep
   steps (Member line name rest) w locals at = steps rest w locals (to_member name w at)
   steps (Index e rest) w locals at =

@@ -4,7 +4,7 @@ use Rattle.trick_blocks.specs.Codes.{all_codes, all_inner}
 use Rattle.trick_blocks.specs.Methods.{progress, with_parts}
 use Rattle.trick_blocks.specs.Terms.{term}
 use Rattle.trick_blocks.specs.declared.start.Local.{Local}
-use Rattle.trick_blocks.specs.declared.world.World.{World}
+use Rattle.trick_blocks.specs.declared.scope.ClassScope.{ClassScope}
 use Rattle.trick_lang.specs.SyntaxTree as text
 use Rattle.trick_lang.specs.SyntaxTree.{Name, Expression, Whole, Truth, Named, path, Parts, NoPart, Member, Index, Basic, Set, Statement, Statements, NoStatement, Then, HasMethod, Public}
 use Rattle.trick_lang.specs.Tree.{Term, Number, Cell, spot, NoStep, Step, Code, Empty, Declare, SetLocal, Assign, If, For, Run, NoElse, Else, Test}
@@ -65,8 +65,8 @@ dim length stride = record { length = length; stride = stride; cells = length * 
 -- enum e { i = 7 };  struct s { long a, b; };
 -- class g { long v, w[3]; s p, q[2][3]; .. };  g o;
 -- where the object begins at cell 5, the method m of the class is the block 4, and two slots are taken
-abbrev pub world : World
-world = record {
+abbrev pub scope : ClassScope
+scope = record {
   layout = record {
     groups = ((a, field 0 Plain (Single Long)) ∷ (b, field 1 Plain (Single Long)) ∷ [])
         ∷ ((v, field 0 Plain (Single Long)) ∷ (w, field 1 (One (dim 3 1)) (Single Long))
@@ -102,7 +102,7 @@ dot name = Member 1 name NoPart
 
 -- where the local x is known
 abbrev pub meant : Name → Parts → Term
-meant name parts = term (place name parts) world (one_local x)
+meant name parts = term (place name parts) scope (one_local x)
 
 abbrev pub x_read : Term
 x_read = Tree.Local 2
@@ -127,10 +127,10 @@ local_code slot = Declare 1 slot Long None
 
 -- what statements become where no local is known and their first block has the number 10
 abbrev pub codes : List Statement → List Code
-codes all = all_codes (row all) world [] 10
+codes all = all_codes (row all) scope [] 10
 
 abbrev pub blocks : List Statement → List (List Code)
-blocks all = all_inner (row all) world [] 10
+blocks all = all_inner (row all) scope [] 10
 
 -- ---- what the rules say
 
@@ -154,7 +154,7 @@ pub record AreResolved : Type 0 where
   pub item : meant i NoPart ≡ Number (pos 7)
   pub local_read : meant x NoPart ≡ Tree.Local 2
   -- a local hides a variable of the class
-  pub hidden : term (place v NoPart) world (one_local v) ≡ Tree.Local 2
+  pub hidden : term (place v NoPart) scope (one_local v) ≡ Tree.Local 2
   -- `long x; long y;`
   pub slots : codes (local x ∷ local y ∷ []) ≡ local_code 2 ∷ local_code 3 ∷ []
   -- `{ long x; } { long y; }`: what is known no more leaves its slot
@@ -177,8 +177,8 @@ pub record AreResolved : Type 0 where
   -- `void a() { long x; } void b() { long x; a(); }`: after one block of the class 0
   pub methods : (with_parts (1 ∷ 2 ∷ []) (Public ∷ HasMethod (record { name = a; body = row (local x ∷ []) })
       ∷ HasMethod (record { name = b; body = row (local x ∷ text.Call 1 a ∷ []) }) ∷ [])
-      (progress (record world { methods = [] }) (record { class = 0; codes = []; deep = 1 } ∷ [])))
-      ≡ progress (record world { methods = (a, 1) ∷ (b, 2) ∷ []; slots = 4 }) (record {
+      (progress (record scope { methods = [] }) (record { class = 0; codes = []; deep = 1 } ∷ [])))
+      ≡ progress (record scope { methods = (a, 1) ∷ (b, 2) ∷ []; slots = 4 }) (record {
         class = 0;
         codes = [];
         deep = 1;

@@ -8,7 +8,7 @@ ghost use Rattle.trick_blocks.specs.Kept.{AreKept, BlocksHold, Grows, Keeps, Met
 ghost use Rattle.trick_blocks.specs.Methods.{Progress, progress, with_parts};
 ghost use Rattle.trick_blocks.specs.Room.{IsLaid};
 ghost use Rattle.trick_blocks.specs.Worked.{AreResolved};
-ghost use Rattle.trick_blocks.specs.declared.world.World.{World};
+ghost use Rattle.trick_blocks.specs.declared.scope.ClassScope.{ClassScope};
 ghost use Rattle.trick_lang.specs.SyntaxTree as tree;
 ghost use Rattle.trick_lang.specs.declared.method.Method.{Method};
 ghost use Rattle.trick_lang.specs.declared.tree.Block.{Block};
@@ -16,18 +16,18 @@ ghost use Rattle.trick_names.specs.Names.{meaning_of};
 
 /// Before the first block all is kept.
 pub fn start_law()
-    ensures { (w : World) → w.methods ≡ [] → Keeps (progress w []) }
+    ensures { (w : ClassScope) → w.methods ≡ [] → Keeps (progress w []) }
 {}
 
 /// It is kept where the next class begins.
 pub fn class_law()
-    ensures { (w : World) (class : ℕ) (bodies : List Body) → Keeps (progress w bodies)
+    ensures { (w : ClassScope) (class : ℕ) (bodies : List Body) → Keeps (progress w bodies)
         → Keeps (progress (record w { class = class; methods = [] }) bodies) }
 {}
 
 /// It is kept when the methods of a class are made, in any order of its parts.
 pub fn methods_law()
-    ensures { (order : List ℕ) (parts : List tree.Part) (p : Progress) → IsLaid p.world → Keeps p
+    ensures { (order : List ℕ) (parts : List tree.Part) (p : Progress) → IsLaid p.scope → Keeps p
         → Keeps (with_parts order parts p) }
 {}
 
@@ -38,13 +38,13 @@ pub fn growth_law()
 
 /// What is kept is what a program asks of its blocks.
 pub fn blocks_law()
-    ensures { (w : World) (blocks : List Block) → Keeps (progress w (bodies_of blocks))
+    ensures { (w : ClassScope) (blocks : List Block) → Keeps (progress w (bodies_of blocks))
         → BlocksHold w.layout.cells w.layout.sizes blocks }
 {}
 
 /// What is kept of a method is what a program asks of it.
 pub fn method_law()
-    ensures { (w : World) (blocks : List Block) (class block : ℕ)
+    ensures { (w : ClassScope) (blocks : List Block) (class block : ℕ)
         → MethodKept class w.slots (bodies_of blocks) block → MethodHolds w.slots blocks class block }
 {}
 
@@ -55,7 +55,7 @@ pub fn kept_law()
 
 /// What is kept of all methods is what a program asks of them.
 pub fn program_law()
-    ensures { (w : World) (blocks : List Block) (methods : List Method)
+    ensures { (w : ClassScope) (blocks : List Block) (methods : List Method)
         → AreKept (progress w (bodies_of blocks)) methods → MethodsHold w.slots blocks methods }
 {}
 
@@ -63,7 +63,7 @@ pub fn program_law()
 pub fn name_law()
     ensures { (order : List ℕ) (parts : List tree.Part) (p : Progress) (k : ℕ) (m : tree.Method)
         → slice_get parts k ≡ Some (tree.HasMethod m) → IsTrue (is_one_of order k)
-        → IsTrue (is_some (meaning_of m.name (with_parts order parts p).world.methods)) }
+        → IsTrue (is_some (meaning_of m.name (with_parts order parts p).scope.methods)) }
 {}
 
 /// The rules make of the worked bodies what docs/RULES.md says of them.

@@ -13,11 +13,11 @@ mod spot;
 mod start;
 mod statement;
 mod term;
-mod world;
+mod scope;
 
 pub use method::resolve_class;
 pub use spot::{Element, Loose, Spot};
 pub use start::{Local, Meaning};
 pub use statement::resolve_all;
 pub use term::{Reached, resolve_expression, resolve_path};
-pub use world::World;
+pub use scope::ClassScope;

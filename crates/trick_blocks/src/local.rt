@@ -6,7 +6,7 @@ ghost use Rattle.trick_lang.specs.Locals.{bound_number};
 ghost use Rattle.trick_lang.specs.Syntax.{written_of};
 
 use crate::start::Local;
-use crate::world::World;
+use crate::scope::ClassScope;
 use std::alloc::AllocError;
 use trick_base::Word;
 use trick_lang::syntax::TypeName;
@@ -17,14 +17,14 @@ use trick_names::Names;
 const SLOT_LIMIT: usize = 1_000_000_000;
 
 // The slot after those of the known locals.
-fn slot_after(world: &World, locals: &Names<Local>) -> Result<u32, AllocError>
-    ensures { IfOk result (λ slot. slot ≡ slot_behind world.now locals.now) }
+fn slot_after(scope: &ClassScope, locals: &Names<Local>) -> Result<u32, AllocError>
+    ensures { IfOk result (λ slot. slot ≡ slot_behind scope.now locals.now) }
 {
     let known = locals.len();
-    if known > SLOT_LIMIT || world.slots > 1_000_000_000 {
+    if known > SLOT_LIMIT || scope.slots > 1_000_000_000 {
         return Err(AllocError);
     }
-    Ok(world.slots + known as u32)
+    Ok(scope.slots + known as u32)
 }
 
 /// The scalar of a local.
@@ -41,13 +41,13 @@ pub fn scalar(written: &TypeName) -> Scalar
 pub fn declare(
     written: &TypeName,
     name: &Word,
-    world: &World,
+    scope: &ClassScope,
     locals: &mut Names<Local>,
 ) -> Result<Option<u32>, AllocError>
-    ensures slot { IfOk result (λ slot. slot ≡ new_slot name.now world.now locals.old) }
-    ensures locals { OnOk result (locals.new ≡ declared (written_of written.now) name.now world.now locals.old) }
+    ensures slot { IfOk result (λ slot. slot ≡ new_slot name.now scope.now locals.old) }
+    ensures locals { OnOk result (locals.new ≡ declared (written_of written.now) name.now scope.now locals.old) }
 {
-    let slot = slot_after(world, locals)?;
+    let slot = slot_after(scope, locals)?;
     let local = Local {
         slot,
         scalar: scalar(written),
@@ -71,13 +71,13 @@ fn bound_of(bound: Bound) -> u32
 pub fn enter_loop(
     name: &Word,
     bound: Bound,
-    world: &World,
+    scope: &ClassScope,
     locals: &mut Names<Local>,
 ) -> Result<Option<u32>, AllocError>
-    ensures slot { IfOk result (λ slot. slot ≡ loop_slot name.now bound world.now locals.old) }
-    ensures locals { OnOk result (locals.new ≡ loop_in name.now world.now locals.old) }
+    ensures slot { IfOk result (λ slot. slot ≡ loop_slot name.now bound scope.now locals.old) }
+    ensures locals { OnOk result (locals.new ≡ loop_in name.now scope.now locals.old) }
 {
-    let slot = slot_after(world, locals)?;
+    let slot = slot_after(scope, locals)?;
     let local = Local {
         slot,
         scalar: Scalar::Long,

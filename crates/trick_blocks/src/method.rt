@@ -11,7 +11,7 @@ ghost use Rattle.trick_lang.specs.Syntax.{class_part_of, class_parts_of, method_
 use crate::block::count_of;
 use crate::slots::slots_of_blocks;
 use crate::statement::add_statements;
-use crate::world::World;
+use crate::scope::ClassScope;
 use std::alloc::{AllocError, Global};
 use trick_lang::Block;
 use trick_lang::syntax::{ClassPart, Method, Stmt};
@@ -21,51 +21,51 @@ use trick_names::Names;
 fn add_body(
     alloc: Global,
     body: &[Stmt],
-    world: &World,
+    scope: &ClassScope,
     blocks: &mut Vec<Block>,
 ) -> Result<u32, AllocError>
-    requires laid { IsLaid world.now }
+    requires laid { IsLaid scope.now }
     ensures number { IfOk result (λ number. number
         ≡ length blocks.old.items + all_count (statements_of_list body.now)) }
-    ensures blocks { OnOk result (bodies_of blocks.new.items ≡ with_bodies world.now.class
-        (body_blocks (statements_of_list body.now) world.now (length blocks.old.items)) (bodies_of blocks.old.items)) }
+    ensures blocks { OnOk result (bodies_of blocks.new.items ≡ with_bodies scope.now.class
+        (body_blocks (statements_of_list body.now) scope.now (length blocks.old.items)) (bodies_of blocks.old.items)) }
     ensures length { OnOk result (length blocks.new.items
         ≡ length blocks.old.items + (all_count (statements_of_list body.now) + 1)) }
 {
     let mut locals = Names::new(alloc);
-    add_statements(alloc, body, world, &mut locals, blocks)
+    add_statements(alloc, body, scope, &mut locals, blocks)
 }
 
 fn resolve_method(
     alloc: Global,
     method: &Method,
-    world: &mut World,
+    scope: &mut ClassScope,
     blocks: &mut Vec<Block>,
 ) -> Result<(), AllocError>
-    requires laid { IsLaid world.old }
-    ensures { OnOk result (progress world.new (bodies_of blocks.new.items)
-        ≡ with_method (method_of method.now) (progress world.old (bodies_of blocks.old.items))) }
+    requires laid { IsLaid scope.old }
+    ensures { OnOk result (progress scope.new (bodies_of blocks.new.items)
+        ≡ with_method (method_of method.now) (progress scope.old (bodies_of blocks.old.items))) }
 {
     let first = count_of(blocks);
-    let number = add_body(alloc, method.body.as_slice(), world, blocks)?;
-    let slots = slots_of_blocks(&blocks[first..], world.slots)?;
-    world.methods.add(&method.name, number)?;
-    world.slots = slots;
+    let number = add_body(alloc, method.body.as_slice(), scope, blocks)?;
+    let slots = slots_of_blocks(&blocks[first..], scope.slots)?;
+    scope.methods.add(&method.name, number)?;
+    scope.slots = slots;
     Ok(())
 }
 
 fn resolve_part(
     alloc: Global,
     part: &ClassPart,
-    world: &mut World,
+    scope: &mut ClassScope,
     blocks: &mut Vec<Block>,
 ) -> Result<(), AllocError>
-    requires laid { IsLaid world.old }
-    ensures { OnOk result (progress world.new (bodies_of blocks.new.items)
-        ≡ with_part (Some (class_part_of part.now)) (progress world.old (bodies_of blocks.old.items))) }
+    requires laid { IsLaid scope.old }
+    ensures { OnOk result (progress scope.new (bodies_of blocks.new.items)
+        ≡ with_part (Some (class_part_of part.now)) (progress scope.old (bodies_of blocks.old.items))) }
 {
     match part {
-        ClassPart::Method(method) => resolve_method(alloc, method, world, blocks),
+        ClassPart::Method(method) => resolve_method(alloc, method, scope, blocks),
         ClassPart::Public => Ok(()),
         ClassPart::Members(_) => Ok(()),
         ClassPart::Constructor {
@@ -80,34 +80,34 @@ fn resolve_part_at(
     alloc: Global,
     parts: &[ClassPart],
     number: usize,
-    world: &mut World,
+    scope: &mut ClassScope,
     blocks: &mut Vec<Block>,
 ) -> Result<(), AllocError>
-    requires laid { IsLaid world.old }
-    ensures { OnOk result (progress world.new (bodies_of blocks.new.items)
-        ≡ with_part (slice_get (class_parts_of parts.now) number) (progress world.old (bodies_of blocks.old.items))) }
+    requires laid { IsLaid scope.old }
+    ensures { OnOk result (progress scope.new (bodies_of blocks.new.items)
+        ≡ with_part (slice_get (class_parts_of parts.now) number) (progress scope.old (bodies_of blocks.old.items))) }
 {
     if number >= parts.len() {
         return Ok(());
     }
-    resolve_part(alloc, &parts[number], world, blocks)
+    resolve_part(alloc, &parts[number], scope, blocks)
 }
 
 /// Makes the methods of a class, whose parts are taken in this order, by their numbers: after it
-/// `world` tells the block of each method, and how many slots there are so far.
+/// `scope` tells the block of each method, and how many slots there are so far.
 pub fn resolve_class(
     alloc: Global,
     parts: &[ClassPart],
     order: &[usize],
-    world: &mut World,
+    scope: &mut ClassScope,
     blocks: &mut Vec<Block>,
 ) -> Result<(), AllocError>
-    requires laid { IsLaid world.old }
-    ensures { OnOk result (progress world.new (bodies_of blocks.new.items)
-        ≡ with_parts order.now (class_parts_of parts.now) (progress world.old (bodies_of blocks.old.items))) }
+    requires laid { IsLaid scope.old }
+    ensures { OnOk result (progress scope.new (bodies_of blocks.new.items)
+        ≡ with_parts order.now (class_parts_of parts.now) (progress scope.old (bodies_of blocks.old.items))) }
 {
     for number in order {
-        resolve_part_at(alloc, parts, *number, world, blocks)?;
+        resolve_part_at(alloc, parts, *number, scope, blocks)?;
     }
     Ok(())
 }

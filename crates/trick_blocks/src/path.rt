@@ -6,7 +6,7 @@ ghost use Rattle.trick_lang.specs.Syntax.{expression_of, parts_of_list};
 ghost use Rattle.trick_lang.specs.TreeOf.{spot_of, steps_of_list};
 
 use crate::spot::{Element, Loose, Spot, array_of, element_on, loosen, move_on};
-use crate::world::World;
+use crate::scope::ClassScope;
 use trick_base::Word;
 use trick_lang::syntax::{Expr, Part};
 use trick_lang::{Index, Place};
@@ -14,13 +14,13 @@ use trick_layout::Dims;
 use trick_names::Base;
 
 // Where `.name` leads.
-fn member(name: &Word, world: &World, spot: Spot) -> Option<Spot>
-    requires laid { IsLaid world.now }
-    requires fits { Fits world.now (Some spot) }
-    ensures { result ≡ to_member name.now world.now (Some spot) }
+fn member(name: &Word, scope: &ClassScope, spot: Spot) -> Option<Spot>
+    requires laid { IsLaid scope.now }
+    requires fits { Fits scope.now (Some spot) }
+    ensures { result ≡ to_member name.now scope.now (Some spot) }
 {
     match (spot.extent.dims, spot.extent.base) {
-        (Dims::Plain, Base::Group(group)) => match world.layout.field(group, name) {
+        (Dims::Plain, Base::Group(group)) => match scope.layout.field(group, name) {
             Some(found) => Some(move_on(spot, found.offset, found.extent)),
             None => None,
         },
@@ -29,9 +29,9 @@ fn member(name: &Word, world: &World, spot: Spot) -> Option<Spot>
 }
 
 // Where `[index]` leads, whose index may be a literal.
-fn index(literal: Option<u64>, world: &World, spot: Spot) -> Option<Spot>
-    requires laid { IsLaid world.now }
-    requires fits { Fits world.now (Some spot) }
+fn index(literal: Option<u64>, scope: &ClassScope, spot: Spot) -> Option<Spot>
+    requires laid { IsLaid scope.now }
+    requires fits { Fits scope.now (Some spot) }
     ensures { result ≡ to_index literal (Some spot) }
 {
     match array_of(Some(spot)) {
@@ -66,29 +66,29 @@ pub fn literal(e: &Expr) -> Option<u64>
 }
 
 /// Where one part of a path leads.
-pub fn step(part: &Part, world: &World, at: Option<Spot>) -> Option<Spot>
-    requires laid { IsLaid world.now }
-    requires fits { Fits world.now at }
-    ensures { result ≡ followed (parts_of_list (part.now ∷ [])) world.now at }
+pub fn step(part: &Part, scope: &ClassScope, at: Option<Spot>) -> Option<Spot>
+    requires laid { IsLaid scope.now }
+    requires fits { Fits scope.now at }
+    ensures { result ≡ followed (parts_of_list (part.now ∷ [])) scope.now at }
 {
     match at {
         None => None,
         Some(spot) => match part {
-            Part::Member { line: _, name } => member(name, world, spot),
-            Part::Index(e) => index(literal(e), world, spot),
+            Part::Member { line: _, name } => member(name, scope, spot),
+            Part::Index(e) => index(literal(e), scope, spot),
         },
     }
 }
 
 /// Where the parts of a path lead.
-pub fn follow(parts: &[Part], world: &World, from: Spot) -> Option<Spot>
-    requires laid { IsLaid world.now }
-    requires fits { Fits world.now (Some from) }
-    ensures { result ≡ followed (parts_of_list parts.now) world.now (Some from) }
+pub fn follow(parts: &[Part], scope: &ClassScope, from: Spot) -> Option<Spot>
+    requires laid { IsLaid scope.now }
+    requires fits { Fits scope.now (Some from) }
+    ensures { result ≡ followed (parts_of_list parts.now) scope.now (Some from) }
 {
     let mut at = Some(from);
     for part in parts {
-        at = step(part, world, at);
+        at = step(part, scope, at);
     }
     at
 }

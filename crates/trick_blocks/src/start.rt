@@ -2,7 +2,7 @@ ghost use Rattle.std.specs.Prelude.{◌≡◌};
 ghost use Rattle.trick_blocks.specs.Places.{named};
 
 use crate::spot::Spot;
-use crate::world::World;
+use crate::scope::ClassScope;
 use trick_base::Word;
 use trick_lang::Scalar;
 use trick_layout::{Dims, Extent, Site};
@@ -29,13 +29,13 @@ pub enum Meaning {
 }
 
 /// What a name stands for, where these locals are known.
-pub fn stands_for(name: &Word, world: &World, locals: &Names<Local>) -> Meaning
-    ensures { result ≡ named name.now world.now locals.now }
+pub fn stands_for(name: &Word, scope: &ClassScope, locals: &Names<Local>) -> Meaning
+    ensures { result ≡ named name.now scope.now locals.now }
 {
     if let Some(local) = locals.meaning(name) {
         return Meaning::Local(local);
     }
-    if let Some(field) = world.layout.field(world.class as usize, name) {
+    if let Some(field) = scope.layout.field(scope.class as usize, name) {
         return Meaning::Stands(Spot {
             own: true,
             first: field.offset,
@@ -43,7 +43,7 @@ pub fn stands_for(name: &Word, world: &World, locals: &Names<Local>) -> Meaning
             extent: field.extent,
         });
     }
-    match world.layout.site(name) {
+    match scope.layout.site(name) {
         Some(Site::Item(value)) => Meaning::Number(value),
         Some(Site::Object { first, class }) => Meaning::Stands(Spot {
             own: false,

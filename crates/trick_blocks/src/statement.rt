@@ -15,7 +15,7 @@ use crate::block::{add_block, add_single};
 use crate::local::{declare, enter_loop, scalar};
 use crate::start::Local;
 use crate::term::{Reached, resolve_expression, resolve_path};
-use crate::world::World;
+use crate::scope::ClassScope;
 use std::alloc::{AllocError, Global};
 use trick_base::Word;
 use trick_lang::{Block, Bound, Branch, Change, Expr, Scalar, Stmt, syntax};
@@ -26,18 +26,18 @@ use trick_names::Names;
 fn resolve_change(
     alloc: Global,
     change: &syntax::Change,
-    world: &World,
+    scope: &ClassScope,
     locals: &Names<Local>,
 ) -> Result<Change, AllocError>
-    requires laid { IsLaid world.now }
+    requires laid { IsLaid scope.now }
     ensures { IfOk result (λ made. tree.change_of made
-        ≡ change_term (text.change_of change.now) world.now locals.now) }
+        ≡ change_term (text.change_of change.now) scope.now locals.now) }
 {
     match change {
-        syntax::Change::Set(e) => Ok(Change::Set(resolve_expression(alloc, e, world, locals)?)),
+        syntax::Change::Set(e) => Ok(Change::Set(resolve_expression(alloc, e, scope, locals)?)),
         syntax::Change::Update(operator, e) => Ok(Change::Update(
             *operator,
-            resolve_expression(alloc, e, world, locals)?,
+            resolve_expression(alloc, e, scope, locals)?,
         )),
         syntax::Change::Increase => Ok(Change::Increase),
         syntax::Change::Decrease => Ok(Change::Decrease),
@@ -47,17 +47,17 @@ fn resolve_change(
 fn resolve_value(
     alloc: Global,
     value: &Option<syntax::Expr>,
-    world: &World,
+    scope: &ClassScope,
     locals: &Names<Local>,
 ) -> Result<Option<Expr>, AllocError>
-    requires laid { IsLaid world.now }
+    requires laid { IsLaid scope.now }
     ensures { IfOk result (λ made. tree.first_value_of made
-        ≡ value_term (text.first_value_of value.now) world.now locals.now) }
+        ≡ value_term (text.first_value_of value.now) scope.now locals.now) }
 {
     match value {
         None => Ok(None),
         Some(e) => {
-            let made = resolve_expression(alloc, e, world, locals)?;
+            let made = resolve_expression(alloc, e, scope, locals)?;
             Ok(Some(made))
         }
     }
@@ -111,23 +111,23 @@ fn resolve_assign(
     line: u32,
     path: &syntax::Path,
     change: &syntax::Change,
-    world: &World,
+    scope: &ClassScope,
     locals: &Names<Local>,
 ) -> Result<Stmt, AllocError>
-    requires laid { IsLaid world.now }
+    requires laid { IsLaid scope.now }
     ensures { IfOk result (λ made. tree.code_of made
-        ≡ goal_code (path_goal (text.path_of path.now) world.now locals.now) line
-        (change_term (text.change_of change.now) world.now locals.now)) }
+        ≡ goal_code (path_goal (text.path_of path.now) scope.now locals.now) line
+        (change_term (text.change_of change.now) scope.now locals.now)) }
 {
-    let reached = resolve_path(alloc, path, world, locals)?;
-    let change = resolve_change(alloc, change, world, locals)?;
+    let reached = resolve_path(alloc, path, scope, locals)?;
+    let change = resolve_change(alloc, change, scope, locals)?;
     Ok(assigned(line, reached, change))
 }
 
-fn call(name: &Word, world: &World) -> Stmt
-    ensures { tree.code_of result ≡ call_code (meaning_of name.now world.now.methods) }
+fn call(name: &Word, scope: &ClassScope) -> Stmt
+    ensures { tree.code_of result ≡ call_code (meaning_of name.now scope.now.methods) }
 {
-    match world.methods.meaning(name) {
+    match scope.methods.meaning(name) {
         None => Stmt::Empty,
         Some(block) => Stmt::Run(block),
     }
@@ -153,25 +153,25 @@ fn looped(slot: Option<u32>, from: u64, bound: Bound, block: u32) -> Stmt
 fn resolve_statement(
     alloc: Global,
     s: &syntax::Stmt,
-    world: &World,
+    scope: &ClassScope,
     locals: &mut Names<Local>,
     blocks: &mut Vec<Block>,
 ) -> Result<Stmt, AllocError>
-    requires laid { IsLaid world.now }
+    requires laid { IsLaid scope.now }
     ensures code { IfOk result (λ made. tree.code_of made
-        ≡ code (text.statement_of s.now) world.now locals.old (length blocks.old.items)) }
+        ≡ code (text.statement_of s.now) scope.now locals.old (length blocks.old.items)) }
     ensures blocks { OnOk result (bodies_of blocks.new.items
-        ≡ with_bodies world.now.class (inner (text.statement_of s.now) world.now locals.old (length blocks.old.items))
+        ≡ with_bodies scope.now.class (inner (text.statement_of s.now) scope.now locals.old (length blocks.old.items))
         (bodies_of blocks.old.items)) }
     ensures length { OnOk result (length blocks.new.items
         ≡ length blocks.old.items + count (text.statement_of s.now)) }
-    ensures locals { OnOk result (locals.new ≡ after (text.statement_of s.now) world.now locals.old) }
+    ensures locals { OnOk result (locals.new ≡ after (text.statement_of s.now) scope.now locals.old) }
 {
     match s {
         syntax::Stmt::Empty => Ok(Stmt::Empty),
         syntax::Stmt::Block(all) => {
             let mark = locals.len();
-            let number = add_statements(alloc, all, world, locals, blocks)?;
+            let number = add_statements(alloc, all, scope, locals, blocks)?;
             locals.forget(mark);
             Ok(Stmt::Run(number))
         }
@@ -181,17 +181,17 @@ fn resolve_statement(
             name,
             value,
         } => {
-            let slot = declare(written, name, world, locals)?;
-            let value = resolve_value(alloc, value, world, locals)?;
+            let slot = declare(written, name, scope, locals)?;
+            let value = resolve_value(alloc, value, scope, locals)?;
             Ok(declaration(*line, slot, scalar(written), value))
         }
         syntax::Stmt::Assign { line, path, change } => {
-            resolve_assign(alloc, *line, path, change, world, locals)
+            resolve_assign(alloc, *line, path, change, scope, locals)
         }
         syntax::Stmt::If {
             branches,
             otherwise,
-        } => resolve_if(alloc, branches, otherwise, world, locals, blocks),
+        } => resolve_if(alloc, branches, otherwise, scope, locals, blocks),
         syntax::Stmt::For {
             name,
             from,
@@ -199,12 +199,12 @@ fn resolve_statement(
             body,
         } => {
             let mark = locals.len();
-            let slot = enter_loop(name, *bound, world, locals)?;
-            let block = resolve_body(alloc, body, world, locals, blocks)?;
+            let slot = enter_loop(name, *bound, scope, locals)?;
+            let block = resolve_body(alloc, body, scope, locals, blocks)?;
             locals.forget(mark);
             Ok(looped(slot, *from, *bound, block))
         }
-        syntax::Stmt::Call { line: _, name } => Ok(call(name, world)),
+        syntax::Stmt::Call { line: _, name } => Ok(call(name, scope)),
     }
 }
 
@@ -213,23 +213,23 @@ fn resolve_statement(
 pub fn add_statements(
     alloc: Global,
     body: &[syntax::Stmt],
-    world: &World,
+    scope: &ClassScope,
     locals: &mut Names<Local>,
     blocks: &mut Vec<Block>,
 ) -> Result<u32, AllocError>
-    requires laid { IsLaid world.now }
+    requires laid { IsLaid scope.now }
     ensures number { IfOk result (λ number. number
         ≡ length blocks.old.items + all_count (text.statements_of_list body.now)) }
-    ensures blocks { OnOk result (bodies_of blocks.new.items ≡ with_bodies world.now.class
-        (all_inner (text.statements_of_list body.now) world.now locals.old (length blocks.old.items)
-        ++ all_codes (text.statements_of_list body.now) world.now locals.old (length blocks.old.items) ∷ [])
+    ensures blocks { OnOk result (bodies_of blocks.new.items ≡ with_bodies scope.now.class
+        (all_inner (text.statements_of_list body.now) scope.now locals.old (length blocks.old.items)
+        ++ all_codes (text.statements_of_list body.now) scope.now locals.old (length blocks.old.items) ∷ [])
         (bodies_of blocks.old.items)) }
     ensures length { OnOk result (length blocks.new.items
         ≡ length blocks.old.items + (all_count (text.statements_of_list body.now) + 1)) }
-    ensures locals { OnOk result (locals.new ≡ after_all (text.statements_of_list body.now) world.now locals.old) }
+    ensures locals { OnOk result (locals.new ≡ after_all (text.statements_of_list body.now) scope.now locals.old) }
 {
-    let statements = resolve_all(alloc, body, world, locals, blocks)?;
-    let number = add_block(world.class, statements, blocks)?;
+    let statements = resolve_all(alloc, body, scope, locals, blocks)?;
+    let number = add_block(scope.class, statements, blocks)?;
     Ok(number)
 }
 
@@ -238,24 +238,24 @@ pub fn add_statements(
 fn resolve_body(
     alloc: Global,
     s: &syntax::Stmt,
-    world: &World,
+    scope: &ClassScope,
     locals: &mut Names<Local>,
     blocks: &mut Vec<Block>,
 ) -> Result<u32, AllocError>
-    requires laid { IsLaid world.now }
+    requires laid { IsLaid scope.now }
     ensures number { IfOk result (λ number. number ≡ length blocks.old.items + count (text.statement_of s.now)) }
     ensures blocks { OnOk result (bodies_of blocks.new.items
-        ≡ with_bodies world.now.class (inner (text.statement_of s.now) world.now locals.old (length blocks.old.items)
-        ++ (code (text.statement_of s.now) world.now locals.old (length blocks.old.items) ∷ []) ∷ [])
+        ≡ with_bodies scope.now.class (inner (text.statement_of s.now) scope.now locals.old (length blocks.old.items)
+        ++ (code (text.statement_of s.now) scope.now locals.old (length blocks.old.items) ∷ []) ∷ [])
         (bodies_of blocks.old.items)) }
     ensures length { OnOk result (length blocks.new.items
         ≡ length blocks.old.items + (count (text.statement_of s.now) + 1)) }
     ensures locals { OnOk result (locals.new ≡ locals.old) }
 {
     let mark = locals.len();
-    let one = resolve_statement(alloc, s, world, locals, blocks)?;
+    let one = resolve_statement(alloc, s, scope, locals, blocks)?;
     locals.forget(mark);
-    let number = add_single(alloc, world.class, one, blocks)?;
+    let number = add_single(alloc, scope.class, one, blocks)?;
     Ok(number)
 }
 
@@ -264,16 +264,16 @@ fn resolve_if(
     alloc: Global,
     branches: &[syntax::Branch],
     otherwise: &Option<Box<syntax::Stmt>>,
-    world: &World,
+    scope: &ClassScope,
     locals: &mut Names<Local>,
     blocks: &mut Vec<Block>,
 ) -> Result<Stmt, AllocError>
-    requires laid { IsLaid world.now }
+    requires laid { IsLaid scope.now }
     ensures code { IfOk result (λ made. tree.code_of made ≡ codes.If
-        (branch_codes (text.branches_of_list branches.now (text.else_of_option otherwise.now)) world.now locals.old
+        (branch_codes (text.branches_of_list branches.now (text.else_of_option otherwise.now)) scope.now locals.old
         (length blocks.old.items))) }
-    ensures blocks { OnOk result (bodies_of blocks.new.items ≡ with_bodies world.now.class
-        (branch_inner (text.branches_of_list branches.now (text.else_of_option otherwise.now)) world.now locals.old
+    ensures blocks { OnOk result (bodies_of blocks.new.items ≡ with_bodies scope.now.class
+        (branch_inner (text.branches_of_list branches.now (text.else_of_option otherwise.now)) scope.now locals.old
         (length blocks.old.items)) (bodies_of blocks.old.items)) }
     ensures length { OnOk result (length blocks.new.items ≡ length blocks.old.items
         + branch_count (text.branches_of_list branches.now (text.else_of_option otherwise.now))) }
@@ -281,8 +281,8 @@ fn resolve_if(
 {
     let mut out = Vec::new(alloc);
     for branch in branches {
-        let block = resolve_body(alloc, &branch.body, world, locals, blocks)?;
-        let test = resolve_expression(alloc, &branch.test, world, locals)?;
+        let block = resolve_body(alloc, &branch.body, scope, locals, blocks)?;
+        let test = resolve_expression(alloc, &branch.test, scope, locals)?;
         out.push(Branch {
             line: branch.line,
             test,
@@ -295,7 +295,7 @@ fn resolve_if(
             otherwise: None,
         }),
         Some(body) => {
-            let block = resolve_body(alloc, body, world, locals, blocks)?;
+            let block = resolve_body(alloc, body, scope, locals, blocks)?;
             Ok(Stmt::If {
                 branches: out,
                 otherwise: Some(block),
@@ -311,23 +311,23 @@ fn resolve_if(
 pub fn resolve_all(
     alloc: Global,
     all: &[syntax::Stmt],
-    world: &World,
+    scope: &ClassScope,
     locals: &mut Names<Local>,
     blocks: &mut Vec<Block>,
 ) -> Result<Vec<Stmt>, AllocError>
-    requires laid { IsLaid world.now }
+    requires laid { IsLaid scope.now }
     ensures codes { IfOk result (λ made. tree.code_list made.items
-        ≡ all_codes (text.statements_of_list all.now) world.now locals.old (length blocks.old.items)) }
-    ensures blocks { OnOk result (bodies_of blocks.new.items ≡ with_bodies world.now.class
-        (all_inner (text.statements_of_list all.now) world.now locals.old (length blocks.old.items))
+        ≡ all_codes (text.statements_of_list all.now) scope.now locals.old (length blocks.old.items)) }
+    ensures blocks { OnOk result (bodies_of blocks.new.items ≡ with_bodies scope.now.class
+        (all_inner (text.statements_of_list all.now) scope.now locals.old (length blocks.old.items))
         (bodies_of blocks.old.items)) }
     ensures length { OnOk result (length blocks.new.items
         ≡ length blocks.old.items + all_count (text.statements_of_list all.now)) }
-    ensures locals { OnOk result (locals.new ≡ after_all (text.statements_of_list all.now) world.now locals.old) }
+    ensures locals { OnOk result (locals.new ≡ after_all (text.statements_of_list all.now) scope.now locals.old) }
 {
     let mut out = Vec::new(alloc);
     for s in all {
-        let one = resolve_statement(alloc, s, world, locals, blocks)?;
+        let one = resolve_statement(alloc, s, scope, locals, blocks)?;
         out.push(one)?;
     }
     Ok(out)

@@ -12,7 +12,7 @@ ghost use Rattle.trick_lang.specs.declared.scalar.Scalar.TheVariants.{Long};
 use crate::path::{computed_array, follow, literal, literals, place_at, step};
 use crate::spot::{Spot, scalar};
 use crate::start::{Local, Meaning, stands_for};
-use crate::world::World;
+use crate::scope::ClassScope;
 use std::alloc::{AllocError, Global};
 use trick_lang::{Choice, Expr, Index, Link, Place, Prefix, Scalar, syntax};
 use trick_names::Names;
@@ -72,31 +72,31 @@ fn choose(alloc: Global, choices: Vec<Choice>, last: Expr) -> Result<Expr, Alloc
 pub fn resolve_expression(
     alloc: Global,
     e: &syntax::Expr,
-    world: &World,
+    scope: &ClassScope,
     locals: &Names<Local>,
 ) -> Result<Expr, AllocError>
-    requires laid { IsLaid world.now }
-    ensures { IfOk result (λ made. tree.term_of made ≡ term (text.expression_of e.now) world.now locals.now) }
+    requires laid { IsLaid scope.now }
+    ensures { IfOk result (λ made. tree.term_of made ≡ term (text.expression_of e.now) scope.now locals.now) }
 {
     match e {
         syntax::Expr::Whole { line: _, number: n } => Ok(Expr::Number(number(*n))),
         syntax::Expr::Truth { line: _, value } => Ok(Expr::Number(i64::from(*value))),
         syntax::Expr::Named(path) => {
-            let reached = resolve_path(alloc, path, world, locals)?;
+            let reached = resolve_path(alloc, path, scope, locals)?;
             Ok(named(reached))
         }
         syntax::Expr::Prefixed(prefix, operand) => {
-            let inside = resolve_expression(alloc, operand, world, locals)?;
+            let inside = resolve_expression(alloc, operand, scope, locals)?;
             prefixed(alloc, *prefix, inside)
         }
         syntax::Expr::Chain(first, links) => {
-            let begin = resolve_expression(alloc, first, world, locals)?;
-            let more = resolve_links(alloc, links, world, locals)?;
+            let begin = resolve_expression(alloc, first, scope, locals)?;
+            let more = resolve_links(alloc, links, scope, locals)?;
             chain(alloc, begin, more)
         }
         syntax::Expr::Choose(choices, last) => {
-            let tests = resolve_choices(alloc, choices, world, locals)?;
-            let end = resolve_expression(alloc, last, world, locals)?;
+            let tests = resolve_choices(alloc, choices, scope, locals)?;
+            let end = resolve_expression(alloc, last, scope, locals)?;
             choose(alloc, tests, end)
         }
     }
@@ -106,16 +106,16 @@ pub fn resolve_expression(
 fn resolve_links(
     alloc: Global,
     links: &[syntax::Link],
-    world: &World,
+    scope: &ClassScope,
     locals: &Names<Local>,
 ) -> Result<Vec<Link>, AllocError>
-    requires laid { IsLaid world.now }
+    requires laid { IsLaid scope.now }
     ensures { IfOk result (λ made. tree.links_of_list made.items
-        ≡ link_terms (text.links_of_list links.now) world.now locals.now) }
+        ≡ link_terms (text.links_of_list links.now) scope.now locals.now) }
 {
     let mut out = Vec::new(alloc);
     for link in links {
-        let operand = resolve_expression(alloc, &link.operand, world, locals)?;
+        let operand = resolve_expression(alloc, &link.operand, scope, locals)?;
         out.push(Link {
             operator: link.operator,
             operand,
@@ -128,17 +128,17 @@ fn resolve_links(
 fn resolve_choices(
     alloc: Global,
     choices: &[syntax::Choice],
-    world: &World,
+    scope: &ClassScope,
     locals: &Names<Local>,
 ) -> Result<Vec<Choice>, AllocError>
-    requires laid { IsLaid world.now }
-    ensures { IfOk result (λ made. (last : _) → tree.choices_of_list made.items (term last world.now locals.now)
-        ≡ choice_terms (text.choices_of_list choices.now last) world.now locals.now) }
+    requires laid { IsLaid scope.now }
+    ensures { IfOk result (λ made. (last : _) → tree.choices_of_list made.items (term last scope.now locals.now)
+        ≡ choice_terms (text.choices_of_list choices.now last) scope.now locals.now) }
 {
     let mut out = Vec::new(alloc);
     for choice in choices {
-        let test = resolve_expression(alloc, &choice.test, world, locals)?;
-        let value = resolve_expression(alloc, &choice.value, world, locals)?;
+        let test = resolve_expression(alloc, &choice.test, scope, locals)?;
+        let value = resolve_expression(alloc, &choice.value, scope, locals)?;
         out.push(Choice { test, value })?;
     }
     Ok(out)
@@ -149,16 +149,16 @@ fn resolve_choices(
 pub fn resolve_path(
     alloc: Global,
     path: &syntax::Path,
-    world: &World,
+    scope: &ClassScope,
     locals: &Names<Local>,
 ) -> Result<Reached, AllocError>
-    requires laid { IsLaid world.now }
-    ensures { IfOk result (λ made. goal_held made ≡ path_goal (text.path_of path.now) world.now locals.now) }
+    requires laid { IsLaid scope.now }
+    ensures { IfOk result (λ made. goal_held made ≡ path_goal (text.path_of path.now) scope.now locals.now) }
 {
-    match stands_for(&path.name, world, locals) {
+    match stands_for(&path.name, scope, locals) {
         Meaning::Local(local) => Ok(Reached::Local(local)),
         Meaning::Number(value) => Ok(Reached::Number(i64::from(value))),
-        Meaning::Stands(from) => resolve_place(alloc, path.parts.as_slice(), from, world, locals),
+        Meaning::Stands(from) => resolve_place(alloc, path.parts.as_slice(), from, scope, locals),
         Meaning::Nothing => Ok(Reached::Nothing),
     }
 }
@@ -168,20 +168,20 @@ fn resolve_place(
     alloc: Global,
     parts: &[syntax::Part],
     from: Spot,
-    world: &World,
+    scope: &ClassScope,
     locals: &Names<Local>,
 ) -> Result<Reached, AllocError>
-    requires laid { IsLaid world.now }
-    requires fits { Fits world.now (Some from) }
+    requires laid { IsLaid scope.now }
+    requires fits { Fits scope.now (Some from) }
     ensures { IfOk result (λ made. goal_held made ≡ place_goal
-        (scalar_there (followed (text.parts_of_list parts.now) world.now (Some from)))
+        (scalar_there (followed (text.parts_of_list parts.now) scope.now (Some from)))
         (literal_count (text.parts_of_list parts.now))
-        (steps (text.parts_of_list parts.now) world.now locals.now (Some from))) }
+        (steps (text.parts_of_list parts.now) scope.now locals.now (Some from))) }
 {
-    match scalar(follow(parts, world, from)) {
+    match scalar(follow(parts, scope, from)) {
         None => Ok(Reached::Nothing),
         Some(at) => {
-            let indexes = resolve_steps(alloc, parts, from, world, locals)?;
+            let indexes = resolve_steps(alloc, parts, from, scope, locals)?;
             Ok(Reached::Place(place_at(at, literals(parts), indexes)))
         }
     }
@@ -193,19 +193,19 @@ fn resolve_steps(
     alloc: Global,
     parts: &[syntax::Part],
     from: Spot,
-    world: &World,
+    scope: &ClassScope,
     locals: &Names<Local>,
 ) -> Result<Vec<Index>, AllocError>
-    requires laid { IsLaid world.now }
-    requires fits { Fits world.now (Some from) }
+    requires laid { IsLaid scope.now }
+    requires fits { Fits scope.now (Some from) }
     ensures { IfOk result (λ made. tree.steps_of_list made.items
-        ≡ steps (text.parts_of_list parts.now) world.now locals.now (Some from)) }
+        ≡ steps (text.parts_of_list parts.now) scope.now locals.now (Some from)) }
 {
     let mut out = Vec::new(alloc);
     let mut at = Some(from);
     for part in parts {
-        resolve_step(alloc, part, at, world, locals, &mut out)?;
-        at = step(part, world, at);
+        resolve_step(alloc, part, at, scope, locals, &mut out)?;
+        at = step(part, scope, at);
     }
     Ok(out)
 }
@@ -216,20 +216,20 @@ fn resolve_step(
     alloc: Global,
     part: &syntax::Part,
     at: Option<Spot>,
-    world: &World,
+    scope: &ClassScope,
     locals: &Names<Local>,
     out: &mut Vec<Index>,
 ) -> Result<(), AllocError>
-    requires laid { IsLaid world.now }
+    requires laid { IsLaid scope.now }
     ensures { OnOk result (added_steps (tree.steps_of_list out.old.items)
-        (steps (text.parts_of_list (part.now ∷ [])) world.now locals.now at) ≡ tree.steps_of_list out.new.items) }
+        (steps (text.parts_of_list (part.now ∷ [])) scope.now locals.now at) ≡ tree.steps_of_list out.new.items) }
 {
     match part {
         syntax::Part::Member { line: _, name: _ } => Ok(()),
         syntax::Part::Index(e) => match computed_array(literal(e), at) {
             None => Ok(()),
             Some(found) => {
-                let x = resolve_expression(alloc, e, world, locals)?;
+                let x = resolve_expression(alloc, e, scope, locals)?;
                 out.push(Index {
                     length: found.dim.length,
                     stride: found.dim.stride,

@@ -25,7 +25,7 @@ use Rattle.trick_job.specs.Belongs.{IsMemoryOf}
 use Rattle.trick_lang.specs.Effect.{reads}
 use Rattle.trick_lang.specs.Laws.{AgreeOn, OverwritesRight}
 use Rattle.trick_lang.specs.declared.fault.JobFault.{JobFault}
-use Rattle.trick_lang.specs.declared.fault.Stop.{Stop}
+use Rattle.trick_lang.specs.declared.fault.StatementFault.{StatementFault}
 use Rattle.trick_lang.specs.declared.job.JobId.{JobId}
 use Rattle.trick_lang.specs.declared.scalar.Scalar.{Scalar}
 use Rattle.trick_model.specs.Acceptance.{IsAccepted}
@@ -130,7 +130,7 @@ apply_length : OverwritesRight → (p : Plan) (b : Bool) (tic k : ℕ) (m : List
 apply_length law p false tic k m = refl
 apply_length law p true tic k m = by_effect (p.effect k m)
   where
-    by_effect : (e : Result (List (Option ℤ)) Stop) → length (outcome tic k m e).memory ≡ length m
+    by_effect : (e : Result (List (Option ℤ)) StatementFault) → length (outcome tic k m e).memory ≡ length m
     by_effect (Ok stored) = law.as_many stored m
     by_effect (Err stop) = refl
 

@@ -16,18 +16,18 @@ pub record Made : Type 0 where
   pub numbers : List (Names ℕ)
 
 abbrev pub made : Bodies → Made
-made b = record { progress = progress b.world (bodies_of b.blocks.items); methods = b.methods; numbers = b.numbers }
+made b = record { progress = progress b.scope (bodies_of b.blocks.items); methods = b.methods; numbers = b.numbers }
 
 -- the blocks of a class, after those that there are
 abbrev pub class_progress : ℕ → List ℕ → List tree.Part → Progress → Progress
 class_progress class order parts p =
-    with_parts order parts (progress (record p.world { class = class; methods = [] }) p.bodies)
+    with_parts order parts (progress (record p.scope { class = class; methods = [] }) p.bodies)
 
 -- a class, whose parts stand in this order
 abbrev pub with_class : ℕ → List ℕ → List tree.Part → Made → Made
 with_class class order parts m = record {
   progress = class_progress class order parts m.progress;
-  methods = m.methods ++ class_methods class (class_progress class order parts m.progress).world.methods parts;
+  methods = m.methods ++ class_methods class (class_progress class order parts m.progress).scope.methods parts;
   numbers = m.numbers ++ with_numbers (length m.methods) parts [] ∷ [];
 }
 

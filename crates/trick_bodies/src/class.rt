@@ -8,7 +8,7 @@ ghost use Rattle.trick_layout.specs.Laid.{size_at};
 
 use std::alloc::{AllocError, Global as Memory};
 use trick_base::Items;
-use trick_blocks::{World, resolve_class};
+use trick_blocks::{ClassScope, resolve_class};
 use trick_jobs::{add_methods, numbers};
 use trick_lang::syntax::ClassPart;
 use trick_lang::{Block, Method};
@@ -21,7 +21,7 @@ const METHOD_LIMIT: usize = 1_000_000_000;
 #[derive(Drop)]
 pub struct Bodies {
     /// What the bodies of the class see; its `slots` are those of all methods so far.
-    pub world: World,
+    pub scope: ClassScope,
     pub blocks: Vec<Block>,
     pub methods: Items<Method>,
     /// For each class so far the numbers of its methods in `methods`.
@@ -29,14 +29,14 @@ pub struct Bodies {
 }
 
 // The next class, none of whose methods is made.
-fn enter(alloc: Memory, class: u32, world: &mut World)
-    requires tables { AreLaid world.old.layout }
-    requires home { size_at world.old.layout.sizes class ≤ 65536 }
-    ensures world { world.new ≡ record world.old { class = class; methods = [] } }
-    ensures laid { IsLaid world.new }
+fn enter(alloc: Memory, class: u32, scope: &mut ClassScope)
+    requires tables { AreLaid scope.old.layout }
+    requires home { size_at scope.old.layout.sizes class ≤ 65536 }
+    ensures scope { scope.new ≡ record scope.old { class = class; methods = [] } }
+    ensures laid { IsLaid scope.new }
 {
-    world.class = class;
-    world.methods = Names::new(alloc);
+    scope.class = class;
+    scope.methods = Names::new(alloc);
 }
 
 fn count_of(methods: &Items<Method>) -> Result<u32, AllocError>
@@ -58,18 +58,18 @@ pub fn add_class(
     order: &[usize],
     bodies: &mut Bodies,
 ) -> Result<(), AllocError>
-    requires tables { AreLaid bodies.old.world.layout }
-    requires home { size_at bodies.old.world.layout.sizes class ≤ 65536 }
+    requires tables { AreLaid bodies.old.scope.layout }
+    requires home { size_at bodies.old.scope.layout.sizes class ≤ 65536 }
     requires order { (k : ℕ) → k < length parts.now → IsTrue (is_one_of order.now k) }
     requires whole { AreWhole (made bodies.old) }
     ensures made { OnOk result (made bodies.new
         ≡ with_class class order.now (class_parts_of parts.now) (made bodies.old)) }
     ensures whole { OnOk result (AreWhole (made bodies.new)) }
 {
-    enter(alloc, class, &mut bodies.world);
-    resolve_class(alloc, parts, order, &mut bodies.world, &mut bodies.blocks)?;
+    enter(alloc, class, &mut bodies.scope);
+    resolve_class(alloc, parts, order, &mut bodies.scope, &mut bodies.blocks)?;
     let first = count_of(&bodies.methods)?;
-    add_methods(class, parts, &bodies.world.methods, &mut bodies.methods)?;
+    add_methods(class, parts, &bodies.scope.methods, &mut bodies.methods)?;
     let own = numbers(alloc, first, parts)?;
     bodies.numbers.push(own)?;
     Ok(())

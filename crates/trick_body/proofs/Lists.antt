@@ -13,7 +13,7 @@ use Rattle.trick_grammar.specs.Grammar.{act, any_number, first_of}
 use Rattle.trick_grammar.specs.Reading.{Reading, ◌>>=◌, read}
 use Rattle.trick_grammar.specs.StartsWith.{next_in}
 use Rattle.trick_body.specs.declared.symbol.Symbol.{Symbol}
-use Rattle.trick_grammar.specs.declared.stop.Stop.{Stop}
+use Rattle.trick_grammar.specs.declared.stop.GrammarStop.{GrammarStop}
 use Rattle.trick_lang.specs.Syntax.{expression_of, parts_of_list, links_of_list, choices_of_list, statement_of, statements_of_list, branches_of_list}
 use Rattle.trick_lang.specs.SyntaxTree
 use Rattle.trick_lang.specs.SyntaxTree.{Expression, Choices, Statement}
@@ -37,7 +37,7 @@ some_items (suc n) h e = absurd cc
 
 -- a loop that counts down what may still come stops where an item does
 module _ {X Y : Type 0} (number : Symbol → ℕ) (view : X → Y) (cs : List Symbol) (r : List Token → Reading Token Y) where
-  pub items_halt : (left : ℕ) (found : List X) (stop : Stop Symbol) (rest : List Token) (total : Reading Token (List Y)) → 0 < left → next_in number class_of cs rest ≡ true → Stops stop (r rest) → items_left number view cs r left found rest ≡ total → Stops stop total
+  pub items_halt : (left : ℕ) (found : List X) (stop : GrammarStop Symbol) (rest : List Token) (total : Reading Token (List Y)) → 0 < left → next_in number class_of cs rest ≡ true → Stops stop (r rest) → items_left number view cs r left found rest ≡ total → Stops stop total
   items_halt left found stop rest total lt on p so_far =
       let none : left - 0 ≡ left = omega arith in items_stops number view cs r left 0 found stop rest total lt on p (ap (λ n. items_left number view cs r n found rest) none ∙ so_far)
 

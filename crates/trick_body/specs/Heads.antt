@@ -4,13 +4,13 @@ use Rattle.trick_body.specs.Statements.{Branch, Header, loop_of}
 use Rattle.trick_body.specs.Symbols.{Token}
 use Rattle.trick_grammar.specs.Gives.{Stops}
 use Rattle.trick_grammar.specs.Reading.{Reading}
-use Rattle.trick_grammar.specs.declared.stop.Stop.{Stop}
+use Rattle.trick_grammar.specs.declared.stop.GrammarStop.{GrammarStop}
 use Rattle.trick_body.specs.declared.symbol.Symbol.{Symbol}
 use Rattle.trick_lang.specs.SyntaxTree.{Expression, Statement}
 
 -- a reader of a head returns what the whole reads as after it, or else the refusal of the whole, unless memory
 -- runs out
-abbrev pub Leads : {X Y : Type 0} → (X → Reading Token Y) → Result X (Stop Symbol) → Reading Token Y → Type 0
+abbrev pub Leads : {X Y : Type 0} → (X → Reading Token Y) → Result X (GrammarStop Symbol) → Reading Token Y → Type 0
 Leads after (Ok x) whole = whole ≡ after x
 Leads after (Err stop) whole = Stops stop whole
 

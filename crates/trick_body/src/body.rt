@@ -19,7 +19,7 @@ use crate::source::Source;
 use crate::symbol::{Symbol, Token};
 use crate::telling::{told, told_line};
 use std::alloc::Global;
-use trick_grammar::{Refusal, Stop};
+use trick_grammar::{Refusal, GrammarStop};
 use trick_lang::syntax::{Expr, Method};
 use trick_text::{FirstFault, Style, TextFault, cut, last_line};
 
@@ -114,8 +114,8 @@ fn read_lexemes(
             let to = place_behind(from, tokens, found.1);
             Ok((found.0, to))
         }
-        Err(Stop::Memory) => Err(BodyFault::OutOfMemory),
-        Err(Stop::At(reason, rest)) => Err(told_by(text, tokens, reason, rest)),
+        Err(GrammarStop::Memory) => Err(BodyFault::OutOfMemory),
+        Err(GrammarStop::At(reason, rest)) => Err(told_by(text, tokens, reason, rest)),
     }
 }
 
@@ -169,8 +169,8 @@ fn read_cut(
             None => Ok(expression),
             Some(first) => Err(BodyFault::Text(first.fault)),
         },
-        Err(Stop::Memory) => Err(BodyFault::OutOfMemory),
-        Err(Stop::At(reason, rest)) => Err(refused(text, tokens, reason, rest, fault)),
+        Err(GrammarStop::Memory) => Err(BodyFault::OutOfMemory),
+        Err(GrammarStop::At(reason, rest)) => Err(refused(text, tokens, reason, rest, fault)),
     }
 }
 
@@ -200,7 +200,7 @@ fn read_to_end<'a>(
     alloc: Global,
     text: &[u8],
     tokens: &'a [Token],
-) -> Result<Expr, Stop<'a, Symbol>>
+) -> Result<Expr, GrammarStop<'a, Symbol>>
     ensures { Gives expression_of result
         (read_all number_of class_of (condition text.now) tokens.now) }
 {
@@ -212,6 +212,6 @@ fn read_to_end<'a>(
     let (expression, rest) = read_expression(alloc, source, NESTING_LIMIT, tokens)?;
     match rest {
         [] => Ok(expression),
-        [_, ..] => Err(Stop::At(Refusal::Expected, rest)),
+        [_, ..] => Err(GrammarStop::At(Refusal::Expected, rest)),
     }
 }

@@ -16,7 +16,7 @@ use crate::operators::{marks, operator_of, prefix_of};
 use crate::source::{Source, name_of};
 use crate::symbol::{NAMES, Symbol, Token, WHOLES};
 use std::alloc::Global;
-use trick_grammar::{Refusal, Stop, next_is, next_is_one_of, reason_at, take, take_one_of};
+use trick_grammar::{Refusal, GrammarStop, next_is, next_is_one_of, reason_at, take, take_one_of};
 use trick_lang::syntax::{Choice, Expr, Link, Part, Path};
 
 // How many levels of precedence the binary operators have.
@@ -30,7 +30,7 @@ pub fn read_expression<'a>(
     source: Source,
     depth: usize,
     rest: &'a [Token],
-) -> Result<(Expr, &'a [Token]), Stop<'a, Symbol>>
+) -> Result<(Expr, &'a [Token]), GrammarStop<'a, Symbol>>
     ensures { Gives (λ x. (expression_of x.0, x.1.now)) result
         (read number_of class_of [] (expression source.entry.text.now source.entry.limit depth) rest.now) }
 {
@@ -46,7 +46,7 @@ fn read_choices<'a>(
     depth: usize,
     first: Expr,
     rest: &'a [Token],
-) -> Result<(Expr, &'a [Token]), Stop<'a, Symbol>>
+) -> Result<(Expr, &'a [Token]), GrammarStop<'a, Symbol>>
     ensures { Gives (λ x. (expression_of x.0, x.1.now)) result
         (read number_of class_of [] (act (choose_of (expression_of first))
         (any_number (choice (nested source.entry.text.now source.entry.limit Chosen depth)
@@ -74,7 +74,7 @@ fn read_choice<'a>(
     source: Source,
     depth: usize,
     rest: &'a [Token],
-) -> Result<((Expr, Expr), &'a [Token]), Stop<'a, Symbol>>
+) -> Result<((Expr, Expr), &'a [Token]), GrammarStop<'a, Symbol>>
     ensures { Gives (λ x. ((expression_of x.0.0, expression_of x.0.1), x.1.now)) result
         (read number_of class_of []
         (choice (nested source.entry.text.now source.entry.limit Chosen depth)
@@ -93,7 +93,7 @@ fn read_binary<'a>(
     depth: usize,
     level: usize,
     rest: &'a [Token],
-) -> Result<(Expr, &'a [Token]), Stop<'a, Symbol>>
+) -> Result<(Expr, &'a [Token]), GrammarStop<'a, Symbol>>
     ensures { Gives (λ x. (expression_of x.0, x.1.now)) result
         (read number_of class_of [] (binary level (operand source.entry.text.now source.entry.limit depth)) rest.now) }
 {
@@ -111,7 +111,7 @@ fn read_level<'a>(
     depth: usize,
     level: usize,
     rest: &'a [Token],
-) -> Result<(Expr, &'a [Token]), Stop<'a, Symbol>>
+) -> Result<(Expr, &'a [Token]), GrammarStop<'a, Symbol>>
     ensures { Gives (λ x. (expression_of x.0, x.1.now)) result
         (read number_of class_of [] (binary (suc level) (operand source.entry.text.now source.entry.limit depth))
         rest.now) }
@@ -132,7 +132,7 @@ fn read_links<'a>(
     depth: usize,
     level: usize,
     rest: &'a [Token],
-) -> Result<(Vec<Link>, &'a [Token]), Stop<'a, Symbol>>
+) -> Result<(Vec<Link>, &'a [Token]), GrammarStop<'a, Symbol>>
     ensures { Gives (λ x. (map link_of x.0.items, x.1.now)) result
         (read number_of class_of []
         (any_number (link level (binary level (operand source.entry.text.now source.entry.limit depth)))) rest.now) }
@@ -155,7 +155,7 @@ fn read_link<'a>(
     depth: usize,
     level: usize,
     rest: &'a [Token],
-) -> Result<(Link, &'a [Token]), Stop<'a, Symbol>>
+) -> Result<(Link, &'a [Token]), GrammarStop<'a, Symbol>>
     ensures { Gives (λ x. (link_of x.0, x.1.now)) result
         (read number_of class_of [] (link level (binary level (operand source.entry.text.now source.entry.limit depth)))
         rest.now) }
@@ -179,7 +179,7 @@ fn read_operand<'a>(
     source: Source,
     depth: usize,
     rest: &'a [Token],
-) -> Result<(Expr, &'a [Token]), Stop<'a, Symbol>>
+) -> Result<(Expr, &'a [Token]), GrammarStop<'a, Symbol>>
     ensures { Gives (λ x. (expression_of x.0, x.1.now)) result
         (read number_of class_of [] (operand source.entry.text.now source.entry.limit depth) rest.now) }
 {
@@ -208,7 +208,7 @@ fn read_named<'a>(
     source: Source,
     depth: usize,
     rest: &'a [Token],
-) -> Result<(Expr, &'a [Token]), Stop<'a, Symbol>>
+) -> Result<(Expr, &'a [Token]), GrammarStop<'a, Symbol>>
     ensures { Gives (λ x. (expression_of x.0, x.1.now)) result
         (read number_of class_of [] (named source.entry.text.now source.entry.limit depth) rest.now) }
 {
@@ -217,7 +217,7 @@ fn read_named<'a>(
 }
 
 /// WHOLE
-fn read_whole<'a>(rest: &'a [Token]) -> Result<(Expr, &'a [Token]), Stop<'a, Symbol>>
+fn read_whole<'a>(rest: &'a [Token]) -> Result<(Expr, &'a [Token]), GrammarStop<'a, Symbol>>
     ensures { Gives (λ x. (expression_of x.0, x.1.now)) result
         (read number_of class_of [] whole_literal rest.now) }
 {
@@ -234,7 +234,7 @@ fn read_truth<'a>(
     rest: &'a [Token],
     word: Symbol,
     value: bool,
-) -> Result<(Expr, &'a [Token]), Stop<'a, Symbol>>
+) -> Result<(Expr, &'a [Token]), GrammarStop<'a, Symbol>>
     ensures { Gives (λ x. (expression_of x.0, x.1.now)) result
         (read number_of class_of [] (truth_literal word value) rest.now) }
 {
@@ -254,7 +254,7 @@ fn read_nested<'a>(
     depth: usize,
     kind: Nested,
     rest: &'a [Token],
-) -> Result<(Expr, &'a [Token]), Stop<'a, Symbol>>
+) -> Result<(Expr, &'a [Token]), GrammarStop<'a, Symbol>>
     ensures { Gives (λ x. (expression_of x.0, x.1.now)) result
         (read number_of class_of [] (nested source.entry.text.now source.entry.limit kind depth) rest.now) }
 {
@@ -269,11 +269,11 @@ fn read_too_deep<'a>(
     source: Source,
     kind: Nested,
     rest: &'a [Token],
-) -> Result<(Expr, &'a [Token]), Stop<'a, Symbol>>
+) -> Result<(Expr, &'a [Token]), GrammarStop<'a, Symbol>>
     ensures { Gives (λ x. (expression_of x.0, x.1.now)) result
         (read number_of class_of [] (nested source.entry.text.now source.entry.limit kind 0) rest.now) }
 {
-    Err(Stop::At(reason_at(rest, Refusal::TooDeep, kind.first()), rest))
+    Err(GrammarStop::At(reason_at(rest, Refusal::TooDeep, kind.first()), rest))
 }
 
 /// What counts as a level, with one level more than stands inside.
@@ -285,7 +285,7 @@ fn read_inside<'a>(
     depth: usize,
     kind: Nested,
     rest: &'a [Token],
-) -> Result<(Expr, &'a [Token]), Stop<'a, Symbol>>
+) -> Result<(Expr, &'a [Token]), GrammarStop<'a, Symbol>>
     ensures { Gives (λ x. (expression_of x.0, x.1.now)) result
         (read number_of class_of [] (nested source.entry.text.now source.entry.limit kind (suc depth)) rest.now) }
 {
@@ -320,7 +320,7 @@ fn read_prefix<'a>(
     source: Source,
     depth: usize,
     rest: &'a [Token],
-) -> Result<(Expr, &'a [Token]), Stop<'a, Symbol>>
+) -> Result<(Expr, &'a [Token]), GrammarStop<'a, Symbol>>
     ensures { Gives (λ x. (expression_of x.0, x.1.now)) result
         (read number_of class_of [] (prefix_with (operand source.entry.text.now source.entry.limit depth)) rest.now) }
 {
@@ -341,7 +341,7 @@ fn read_enclosed<'a>(
     first: Symbol,
     last: Symbol,
     rest: &'a [Token],
-) -> Result<(Expr, &'a [Token]), Stop<'a, Symbol>>
+) -> Result<(Expr, &'a [Token]), GrammarStop<'a, Symbol>>
     ensures { Gives (λ x. (expression_of x.0, x.1.now)) result
         (read number_of class_of [] (enclosed first (expression source.entry.text.now source.entry.limit depth) last)
         rest.now) }
@@ -360,7 +360,7 @@ fn read_place<'a>(
     source: Source,
     depth: usize,
     rest: &'a [Token],
-) -> Result<(Path, &'a [Token]), Stop<'a, Symbol>>
+) -> Result<(Path, &'a [Token]), GrammarStop<'a, Symbol>>
     ensures { Gives (λ x. (path_of x.0, x.1.now)) result
         (read number_of class_of [] (place source.entry.text.now source.entry.limit depth) rest.now) }
 {
@@ -381,7 +381,7 @@ pub fn read_steps<'a>(
     source: Source,
     depth: usize,
     rest: &'a [Token],
-) -> Result<(Vec<Part>, &'a [Token]), Stop<'a, Symbol>>
+) -> Result<(Vec<Part>, &'a [Token]), GrammarStop<'a, Symbol>>
     ensures { Gives (λ x. (map step_of x.0.items, x.1.now)) result
         (read number_of class_of [] (repetition source.entry.limit
         (step source.entry.text.now source.entry.limit depth)) rest.now) }
@@ -395,7 +395,7 @@ pub fn read_some_steps<'a>(
     source: Source,
     depth: usize,
     rest: &'a [Token],
-) -> Result<(Vec<Part>, &'a [Token]), Stop<'a, Symbol>>
+) -> Result<(Vec<Part>, &'a [Token]), GrammarStop<'a, Symbol>>
     ensures { Gives (λ x. (map step_of x.0.items, x.1.now)) result
         (read number_of class_of [] (some_steps source.entry.text.now source.entry.limit depth) rest.now) }
 {
@@ -419,7 +419,7 @@ fn read_more_steps<'a>(
     depth: usize,
     so_far: (Vec<Part>, usize),
     rest: &'a [Token],
-) -> Result<(Vec<Part>, &'a [Token]), Stop<'a, Symbol>>
+) -> Result<(Vec<Part>, &'a [Token]), GrammarStop<'a, Symbol>>
     ensures { Gives (λ x. (map step_of x.0.items, x.1.now)) result
         (prefixed (map step_of so_far.0.items)
         (read number_of class_of [] (repetition so_far.1 (step source.entry.text.now source.entry.limit depth))
@@ -429,7 +429,7 @@ fn read_more_steps<'a>(
     let mut rest = rest;
     while next_is_one_of(rest, &[Symbol::Dot, Symbol::OpenBracket]) {
         if left == 0 {
-            return Err(Stop::At(Refusal::TooLong, rest));
+            return Err(GrammarStop::At(Refusal::TooLong, rest));
         }
         let (part, after) = read_step(alloc, source, depth, rest)?;
         found.push(part)?;
@@ -447,7 +447,7 @@ fn read_step<'a>(
     source: Source,
     depth: usize,
     rest: &'a [Token],
-) -> Result<(Part, &'a [Token]), Stop<'a, Symbol>>
+) -> Result<(Part, &'a [Token]), GrammarStop<'a, Symbol>>
     ensures { Gives (λ x. (step_of x.0, x.1.now)) result
         (read number_of class_of [] (step source.entry.text.now source.entry.limit depth) rest.now) }
 {
@@ -463,7 +463,7 @@ fn read_member<'a>(
     alloc: Global,
     source: Source,
     rest: &'a [Token],
-) -> Result<(Part, &'a [Token]), Stop<'a, Symbol>>
+) -> Result<(Part, &'a [Token]), GrammarStop<'a, Symbol>>
     ensures { Gives (λ x. (step_of x.0, x.1.now)) result
         (read number_of class_of [] (member_step source.entry.text.now source.entry.limit) rest.now) }
 {

@@ -13,12 +13,12 @@ use crate::statements::read_statements;
 use crate::symbol::{NAMES, Symbol, Token};
 use std::alloc::{AllocError, Global};
 use trick_base::Items;
-use trick_grammar::{Stop, next_is, take, take_one_of};
+use trick_grammar::{GrammarStop, next_is, take, take_one_of};
 use trick_lang::syntax::{Method, Stmt};
 
 /// return = "return" ( "0" | "(" "0" ")" ) ";"
 #[tactic(auto, unfolding(crate::specs::Methods::return_body))]
-fn read_return<'a>(rest: &'a [Token]) -> Result<(&'a Token, &'a [Token]), Stop<'a, Symbol>>
+fn read_return<'a>(rest: &'a [Token]) -> Result<(&'a Token, &'a [Token]), GrammarStop<'a, Symbol>>
     ensures { Gives (λ x. (x.0.now, x.1.now)) result
         (read number_of class_of [] return_line rest.now) }
 {
@@ -38,7 +38,7 @@ fn read_return<'a>(rest: &'a [Token]) -> Result<(&'a Token, &'a [Token]), Stop<'
 /// return "}"
 fn read_last_line<'a>(
     rest: &'a [Token],
-) -> Result<((&'a Token, &'a Token), &'a [Token]), Stop<'a, Symbol>>
+) -> Result<((&'a Token, &'a Token), &'a [Token]), GrammarStop<'a, Symbol>>
     ensures { Gives (λ x. ((x.0.0.now, x.0.1.now), x.1.now)) result
         (read number_of class_of [] last_line rest.now) }
 {
@@ -54,7 +54,7 @@ pub fn read_void_inside<'a>(
     source: Source,
     depth: usize,
     rest: &'a [Token],
-) -> Result<(Items<Stmt>, &'a [Token]), Stop<'a, Symbol>>
+) -> Result<(Items<Stmt>, &'a [Token]), GrammarStop<'a, Symbol>>
     ensures { Gives (λ x. (statements_of_list x.0, x.1.now)) result
         (read number_of class_of [] (void_inside source.entry.text.now source.entry.limit depth) rest.now) }
 {
@@ -72,7 +72,7 @@ pub fn read_int_inside<'a>(
     source: Source,
     depth: usize,
     rest: &'a [Token],
-) -> Result<(Items<Stmt>, &'a [Token]), Stop<'a, Symbol>>
+) -> Result<(Items<Stmt>, &'a [Token]), GrammarStop<'a, Symbol>>
     ensures { Gives (λ x. (statements_of_list x.0, x.1.now)) result
         (read number_of class_of [] (int_inside source.entry.text.now source.entry.limit depth) rest.now) }
 {
@@ -90,7 +90,7 @@ pub fn read_void_rest<'a>(
     source: Source,
     depth: usize,
     rest: &'a [Token],
-) -> Result<(Items<Stmt>, &'a [Token]), Stop<'a, Symbol>>
+) -> Result<(Items<Stmt>, &'a [Token]), GrammarStop<'a, Symbol>>
     ensures { Gives (λ x. (statements_of_list x.0, x.1.now)) result
         (read number_of class_of [] (void_rest source.entry.text.now source.entry.limit depth) rest.now) }
 {
@@ -105,7 +105,7 @@ pub fn read_int_rest<'a>(
     source: Source,
     depth: usize,
     rest: &'a [Token],
-) -> Result<(Items<Stmt>, &'a [Token]), Stop<'a, Symbol>>
+) -> Result<(Items<Stmt>, &'a [Token]), GrammarStop<'a, Symbol>>
     ensures { Gives (λ x. (statements_of_list x.0, x.1.now)) result
         (read number_of class_of [] (int_rest source.entry.text.now source.entry.limit depth) rest.now) }
 {
@@ -134,7 +134,7 @@ pub fn read_method<'a>(
     source: Source,
     depth: usize,
     rest: &'a [Token],
-) -> Result<(Method, &'a [Token]), Stop<'a, Symbol>>
+) -> Result<(Method, &'a [Token]), GrammarStop<'a, Symbol>>
     ensures { Gives (λ x. (method_of x.0, x.1.now)) result
         (read number_of class_of [] (method source.entry.text.now source.entry.limit depth) rest.now) }
 {
@@ -150,7 +150,7 @@ fn read_void_method<'a>(
     source: Source,
     depth: usize,
     rest: &'a [Token],
-) -> Result<(Method, &'a [Token]), Stop<'a, Symbol>>
+) -> Result<(Method, &'a [Token]), GrammarStop<'a, Symbol>>
     ensures { Gives (λ x. (method_of x.0, x.1.now)) result
         (read number_of class_of [] (void_method source.entry.text.now source.entry.limit depth) rest.now) }
 {
@@ -166,7 +166,7 @@ fn read_int_method<'a>(
     source: Source,
     depth: usize,
     rest: &'a [Token],
-) -> Result<(Method, &'a [Token]), Stop<'a, Symbol>>
+) -> Result<(Method, &'a [Token]), GrammarStop<'a, Symbol>>
     ensures { Gives (λ x. (method_of x.0, x.1.now)) result
         (read number_of class_of [] (int_method source.entry.text.now source.entry.limit depth) rest.now) }
 {

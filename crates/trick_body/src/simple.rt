@@ -15,7 +15,7 @@ use crate::symbol::{ASSIGNMENTS, BASIC, COUNTING, NAMES, OPERATIONS, Symbol, Tok
 use crate::types::read_basic;
 use std::alloc::{AllocError, Global};
 use trick_grammar::{
-    Refusal, Stop, is_in_scope, next_is, next_is_one_of, reason_at, take, take_one_of,
+    Refusal, GrammarStop, is_in_scope, next_is, next_is_one_of, reason_at, take, take_one_of,
 };
 use trick_lang::syntax::{Change, Expr, Part, Path, Stmt, TypeName};
 use trick_lang::{Arithmetic, Scalar};
@@ -68,7 +68,7 @@ fn read_value<'a>(
     source: Source,
     depth: usize,
     rest: &'a [Token],
-) -> Result<(Option<Expr>, &'a [Token]), Stop<'a, Symbol>>
+) -> Result<(Option<Expr>, &'a [Token]), GrammarStop<'a, Symbol>>
     ensures { Gives (λ x. (first_value_of x.0, x.1.now)) result
         (read number_of class_of [] (value source.entry.text.now source.entry.limit depth) rest.now) }
 {
@@ -89,7 +89,7 @@ fn read_operation<'a>(
     source: Source,
     depth: usize,
     rest: &'a [Token],
-) -> Result<(Change, &'a [Token]), Stop<'a, Symbol>>
+) -> Result<(Change, &'a [Token]), GrammarStop<'a, Symbol>>
     ensures { Gives (λ x. (change_of x.0, x.1.now)) result
         (read number_of class_of [] (operation source.entry.text.now source.entry.limit depth) rest.now) }
 {
@@ -108,7 +108,7 @@ fn read_ended_operation<'a>(
     source: Source,
     depth: usize,
     rest: &'a [Token],
-) -> Result<((Change, &'a Token), &'a [Token]), Stop<'a, Symbol>>
+) -> Result<((Change, &'a Token), &'a [Token]), GrammarStop<'a, Symbol>>
     ensures { Gives (λ x. ((change_of x.0.0, x.0.1.now), x.1.now)) result
         (read number_of class_of [] (ended_operation source.entry.text.now source.entry.limit depth) rest.now) }
 {
@@ -122,7 +122,7 @@ fn read_call<'a>(
     source: Source,
     depth: usize,
     rest: &'a [Token],
-) -> Result<(AfterName, &'a [Token]), Stop<'a, Symbol>>
+) -> Result<(AfterName, &'a [Token]), GrammarStop<'a, Symbol>>
     ensures { Gives (λ x. (after_name_of x.0, x.1.now)) result
         (read number_of class_of [] (call source.entry.text.now source.entry.limit depth) rest.now) }
 {
@@ -136,11 +136,11 @@ fn read_call<'a>(
 fn read_no_call<'a>(
     source: Source,
     rest: &'a [Token],
-) -> Result<(AfterName, &'a [Token]), Stop<'a, Symbol>>
+) -> Result<(AfterName, &'a [Token]), GrammarStop<'a, Symbol>>
     ensures { Gives (λ x. (after_name_of x.0, x.1.now)) result
         (read number_of class_of [] (call source.entry.text.now source.entry.limit 0) rest.now) }
 {
-    Err(Stop::At(
+    Err(GrammarStop::At(
         reason_at(rest, Refusal::TooDeep, &[Symbol::OpenParen]),
         rest,
     ))
@@ -151,7 +151,7 @@ fn read_marks<'a>(
     source: Source,
     depth: usize,
     rest: &'a [Token],
-) -> Result<(AfterName, &'a [Token]), Stop<'a, Symbol>>
+) -> Result<(AfterName, &'a [Token]), GrammarStop<'a, Symbol>>
     ensures { Gives (λ x. (after_name_of x.0, x.1.now)) result
         (read number_of class_of [] (call source.entry.text.now source.entry.limit (suc depth)) rest.now) }
 {
@@ -168,7 +168,7 @@ fn read_free_change<'a>(
     source: Source,
     depth: usize,
     rest: &'a [Token],
-) -> Result<(AfterName, &'a [Token]), Stop<'a, Symbol>>
+) -> Result<(AfterName, &'a [Token]), GrammarStop<'a, Symbol>>
     ensures { Gives (λ x. (after_name_of x.0, x.1.now)) result
         (read number_of class_of [] (free_change source.entry.text.now source.entry.limit depth) rest.now) }
 {
@@ -184,12 +184,12 @@ fn read_bound_change<'a>(
     source: Source,
     depth: usize,
     rest: &'a [Token],
-) -> Result<(AfterName, &'a [Token]), Stop<'a, Symbol>>
+) -> Result<(AfterName, &'a [Token]), GrammarStop<'a, Symbol>>
     ensures { Gives (λ x. (after_name_of x.0, x.1.now)) result
         (read number_of class_of [] (bound_change source.entry.text.now source.entry.limit depth) rest.now) }
 {
     if !next_is_one_of(rest, &[Symbol::Dot, Symbol::OpenBracket]) {
-        return Err(Stop::At(reason_at(rest, Refusal::BadLoop, &OPERATIONS), rest));
+        return Err(GrammarStop::At(reason_at(rest, Refusal::BadLoop, &OPERATIONS), rest));
     }
     let (parts, rest) = read_some_steps(alloc, source, depth, rest)?;
     let ((change, _), rest) = read_ended_operation(alloc, source, depth, rest)?;
@@ -203,7 +203,7 @@ fn read_free_named<'a>(
     source: Source,
     depth: usize,
     rest: &'a [Token],
-) -> Result<(AfterName, &'a [Token]), Stop<'a, Symbol>>
+) -> Result<(AfterName, &'a [Token]), GrammarStop<'a, Symbol>>
     ensures { Gives (λ x. (after_name_of x.0, x.1.now)) result
         (read number_of class_of [] (named source.entry.text.now source.entry.limit depth
         (free_change source.entry.text.now source.entry.limit depth)) rest.now) }
@@ -224,7 +224,7 @@ fn read_bound_named<'a>(
     source: Source,
     depth: usize,
     rest: &'a [Token],
-) -> Result<(AfterName, &'a [Token]), Stop<'a, Symbol>>
+) -> Result<(AfterName, &'a [Token]), GrammarStop<'a, Symbol>>
     ensures { Gives (λ x. (after_name_of x.0, x.1.now)) result
         (read number_of class_of [] (named source.entry.text.now source.entry.limit depth
         (bound_change source.entry.text.now source.entry.limit depth)) rest.now) }
@@ -244,7 +244,7 @@ fn read_local<'a>(
     source: Source,
     depth: usize,
     rest: &'a [Token],
-) -> Result<(AfterName, &'a [Token]), Stop<'a, Symbol>>
+) -> Result<(AfterName, &'a [Token]), GrammarStop<'a, Symbol>>
     ensures { Gives (λ x. (after_name_of x.0, x.1.now)) result
         (read number_of class_of [] (local source.entry.text.now source.entry.limit depth) rest.now) }
 {
@@ -260,7 +260,7 @@ fn read_named<'a>(
     depth: usize,
     name: &Token,
     rest: &'a [Token],
-) -> Result<(AfterName, &'a [Token]), Stop<'a, Symbol>>
+) -> Result<(AfterName, &'a [Token]), GrammarStop<'a, Symbol>>
     ensures { Gives (λ x. (after_name_of x.0, x.1.now)) result
         (if is_in_scope source.entry.text.now source.entry.scope.now name.now
         then read number_of class_of [] (named source.entry.text.now source.entry.limit depth
@@ -311,7 +311,7 @@ fn read_by_name<'a>(
     source: Source,
     depth: usize,
     rest: &'a [Token],
-) -> Result<(Stmt, &'a [Token]), Stop<'a, Symbol>>
+) -> Result<(Stmt, &'a [Token]), GrammarStop<'a, Symbol>>
     ensures { Gives (λ x. (statement_of x.0, x.1.now)) result
         (read number_of class_of source.entry.scope.now (by_name source.entry.text.now source.entry.limit depth)
         rest.now) }
@@ -328,7 +328,7 @@ fn read_free_steps<'a>(
     source: Source,
     depth: usize,
     rest: &'a [Token],
-) -> Result<(Vec<Part>, &'a [Token]), Stop<'a, Symbol>>
+) -> Result<(Vec<Part>, &'a [Token]), GrammarStop<'a, Symbol>>
     ensures { Gives (λ x. (map step_of x.0.items, x.1.now)) result
         (read number_of class_of [] (free_steps source.entry.text.now source.entry.limit depth) rest.now) }
 {
@@ -344,12 +344,12 @@ fn read_bound_steps<'a>(
     source: Source,
     depth: usize,
     rest: &'a [Token],
-) -> Result<(Vec<Part>, &'a [Token]), Stop<'a, Symbol>>
+) -> Result<(Vec<Part>, &'a [Token]), GrammarStop<'a, Symbol>>
     ensures { Gives (λ x. (map step_of x.0.items, x.1.now)) result
         (read number_of class_of [] (bound_steps source.entry.text.now source.entry.limit depth) rest.now) }
 {
     if !next_is_one_of(rest, &[Symbol::Dot, Symbol::OpenBracket]) {
-        return Err(Stop::At(
+        return Err(GrammarStop::At(
             reason_at(rest, Refusal::BadLoop, &[Symbol::Semicolon]),
             rest,
         ));
@@ -366,7 +366,7 @@ fn read_counted_steps<'a>(
     depth: usize,
     name: &Token,
     rest: &'a [Token],
-) -> Result<(Vec<Part>, &'a [Token]), Stop<'a, Symbol>>
+) -> Result<(Vec<Part>, &'a [Token]), GrammarStop<'a, Symbol>>
     ensures { Gives (λ x. (map step_of x.0.items, x.1.now)) result
         (if is_in_scope source.entry.text.now source.entry.scope.now name.now
         then read number_of class_of [] (bound_steps source.entry.text.now source.entry.limit depth) rest.now
@@ -410,7 +410,7 @@ fn read_counted<'a>(
     source: Source,
     depth: usize,
     rest: &'a [Token],
-) -> Result<(Stmt, &'a [Token]), Stop<'a, Symbol>>
+) -> Result<(Stmt, &'a [Token]), GrammarStop<'a, Symbol>>
     ensures { Gives (λ x. (statement_of x.0, x.1.now)) result
         (read number_of class_of source.entry.scope.now (counted source.entry.text.now source.entry.limit depth)
         rest.now) }
@@ -449,7 +449,7 @@ fn read_declaration<'a>(
     source: Source,
     depth: usize,
     rest: &'a [Token],
-) -> Result<(Stmt, &'a [Token]), Stop<'a, Symbol>>
+) -> Result<(Stmt, &'a [Token]), GrammarStop<'a, Symbol>>
     ensures { Gives (λ x. (statement_of x.0, x.1.now)) result
         (read number_of class_of [] (declaration source.entry.text.now source.entry.limit depth) rest.now) }
 {
@@ -466,7 +466,7 @@ pub fn read_simple<'a>(
     source: Source,
     depth: usize,
     rest: &'a [Token],
-) -> Result<(Stmt, &'a [Token]), Stop<'a, Symbol>>
+) -> Result<(Stmt, &'a [Token]), GrammarStop<'a, Symbol>>
     ensures { Gives (λ x. (statement_of x.0, x.1.now)) result
         (read number_of class_of source.entry.scope.now (simple source.entry.text.now source.entry.limit depth)
         rest.now) }

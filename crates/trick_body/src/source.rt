@@ -6,7 +6,7 @@ ghost use Rattle.trick_grammar.specs.Reading.{read_token, with_hint};
 use crate::symbol::{Symbol, Token};
 use std::alloc::{AllocError, Global};
 use trick_base::{Items, Word};
-use trick_grammar::{Refusal, Stop, hinted, take_one_of, text_of};
+use trick_grammar::{Refusal, GrammarStop, hinted, take_one_of, text_of};
 
 /// What a reader knows beside the tokens: the text that they were cut from, how many items a list may
 /// have, and the names of the loops round the statement, the innermost first.
@@ -68,13 +68,13 @@ pub fn take_hinted<'a>(
     rest: &'a [Token],
     symbols: &[Symbol],
     reason: Refusal,
-) -> Result<(&'a Token, &'a [Token]), Stop<'a, Symbol>>
+) -> Result<(&'a Token, &'a [Token]), GrammarStop<'a, Symbol>>
     ensures { Gives (λ x. (x.0.now, x.1.now)) result
         (with_hint reason (read_token number_of class_of symbols.now rest.now)) }
 {
     match take_one_of(rest, symbols) {
         Ok(taken) => Ok(taken),
-        Err(Stop::Memory) => Err(Stop::Memory),
-        Err(Stop::At(kind, at)) => Err(Stop::At(hinted(reason, kind), at)),
+        Err(GrammarStop::Memory) => Err(GrammarStop::Memory),
+        Err(GrammarStop::At(kind, at)) => Err(GrammarStop::At(hinted(reason, kind), at)),
     }
 }

@@ -17,7 +17,7 @@ use crate::source::{Source, name_beside, take_hinted, within};
 use crate::symbol::{BOUNDS, NAMES, STATEMENTS, Symbol, Token, WHOLES};
 use std::alloc::{AllocError, Global};
 use trick_grammar::{
-    Refusal, Stop, hinted, next_is, next_is_one_of, reason_at, take, take_again, take_one_of,
+    Refusal, GrammarStop, hinted, next_is, next_is_one_of, reason_at, take, take_again, take_one_of,
 };
 use trick_lang::syntax::{Branch, Expr, Stmt};
 use trick_lang::{BOUND_LIMIT, Bound};
@@ -59,7 +59,7 @@ fn read_statement<'a>(
     source: Source,
     depth: usize,
     rest: &'a [Token],
-) -> Result<(Stmt, &'a [Token]), Stop<'a, Symbol>>
+) -> Result<(Stmt, &'a [Token]), GrammarStop<'a, Symbol>>
     ensures { Gives (λ x. (statement_of x.0, x.1.now)) result
         (read number_of class_of source.entry.scope.now (statement source.entry.text.now source.entry.limit depth)
         rest.now) }
@@ -84,7 +84,7 @@ fn read_unblocked<'a>(
     source: Source,
     depth: usize,
     rest: &'a [Token],
-) -> Result<(Stmt, &'a [Token]), Stop<'a, Symbol>>
+) -> Result<(Stmt, &'a [Token]), GrammarStop<'a, Symbol>>
     ensures { Gives (λ x. (statement_of x.0, x.1.now)) result
         (read number_of class_of source.entry.scope.now (unblocked source.entry.text.now source.entry.limit depth)
         rest.now) }
@@ -106,7 +106,7 @@ fn read_unbranched<'a>(
     source: Source,
     depth: usize,
     rest: &'a [Token],
-) -> Result<(Stmt, &'a [Token]), Stop<'a, Symbol>>
+) -> Result<(Stmt, &'a [Token]), GrammarStop<'a, Symbol>>
     ensures { Gives (λ x. (statement_of x.0, x.1.now)) result
         (read number_of class_of source.entry.scope.now (unbranched source.entry.text.now source.entry.limit depth)
         rest.now) }
@@ -125,7 +125,7 @@ fn read_level<'a>(
     depth: usize,
     kind: Level,
     rest: &'a [Token],
-) -> Result<(Stmt, &'a [Token]), Stop<'a, Symbol>>
+) -> Result<(Stmt, &'a [Token]), GrammarStop<'a, Symbol>>
     ensures { Gives (λ x. (statement_of x.0, x.1.now)) result
         (read number_of class_of source.entry.scope.now (nested source.entry.text.now source.entry.limit kind depth)
         rest.now) }
@@ -141,12 +141,12 @@ fn read_too_deep<'a>(
     source: Source,
     kind: Level,
     rest: &'a [Token],
-) -> Result<(Stmt, &'a [Token]), Stop<'a, Symbol>>
+) -> Result<(Stmt, &'a [Token]), GrammarStop<'a, Symbol>>
     ensures { Gives (λ x. (statement_of x.0, x.1.now)) result
         (read number_of class_of source.entry.scope.now (nested source.entry.text.now source.entry.limit kind 0)
         rest.now) }
 {
-    Err(Stop::At(reason_at(rest, Refusal::TooDeep, kind.first()), rest))
+    Err(GrammarStop::At(reason_at(rest, Refusal::TooDeep, kind.first()), rest))
 }
 
 /// What counts as a level, with one level more than stands inside.
@@ -158,7 +158,7 @@ fn read_inside<'a>(
     depth: usize,
     kind: Level,
     rest: &'a [Token],
-) -> Result<(Stmt, &'a [Token]), Stop<'a, Symbol>>
+) -> Result<(Stmt, &'a [Token]), GrammarStop<'a, Symbol>>
     ensures { Gives (λ x. (statement_of x.0, x.1.now)) result
         (read number_of class_of source.entry.scope.now (nested source.entry.text.now source.entry.limit kind
         (suc depth)) rest.now) }
@@ -178,7 +178,7 @@ fn read_block<'a>(
     source: Source,
     depth: usize,
     rest: &'a [Token],
-) -> Result<(Stmt, &'a [Token]), Stop<'a, Symbol>>
+) -> Result<(Stmt, &'a [Token]), GrammarStop<'a, Symbol>>
     ensures { Gives (λ x. (statement_of x.0, x.1.now)) result
         (read number_of class_of source.entry.scope.now (block source.entry.text.now source.entry.limit depth)
         rest.now) }
@@ -196,7 +196,7 @@ pub fn read_statements<'a>(
     source: Source,
     depth: usize,
     rest: &'a [Token],
-) -> Result<(Vec<Stmt>, &'a [Token]), Stop<'a, Symbol>>
+) -> Result<(Vec<Stmt>, &'a [Token]), GrammarStop<'a, Symbol>>
     ensures { Gives (λ x. (map statement_of x.0.items, x.1.now)) result
         (read number_of class_of source.entry.scope.now
         (repetition source.entry.limit (statement source.entry.text.now source.entry.limit depth)) rest.now) }
@@ -206,7 +206,7 @@ pub fn read_statements<'a>(
     let mut rest = rest;
     while next_is_one_of(rest, &STATEMENTS) {
         if left == 0 {
-            return Err(Stop::At(Refusal::TooLong, rest));
+            return Err(GrammarStop::At(Refusal::TooLong, rest));
         }
         let (statement, after) = read_statement(alloc, source, depth, rest)?;
         found.push(statement)?;
@@ -224,7 +224,7 @@ fn read_choice<'a>(
     source: Source,
     depth: usize,
     rest: &'a [Token],
-) -> Result<(Stmt, &'a [Token]), Stop<'a, Symbol>>
+) -> Result<(Stmt, &'a [Token]), GrammarStop<'a, Symbol>>
     ensures { Gives (λ x. (statement_of x.0, x.1.now)) result
         (read number_of class_of source.entry.scope.now (chosen source.entry.text.now source.entry.limit depth)
         rest.now) }
@@ -272,7 +272,7 @@ fn read_elses<'a>(
     depth: usize,
     found: Vec<Branch>,
     rest: &'a [Token],
-) -> Result<((Vec<Branch>, Option<Stmt>), &'a [Token]), Stop<'a, Symbol>>
+) -> Result<((Vec<Branch>, Option<Stmt>), &'a [Token]), GrammarStop<'a, Symbol>>
     ensures { Gives (λ x. ((map branch_of x.0.0.items, option_map statement_of x.0.1), x.1.now)) result
         (read number_of class_of source.entry.scope.now (choice_rest source.entry.text.now source.entry.limit depth
         (map branch_of found.items)) rest.now) }
@@ -298,7 +298,7 @@ fn read_else<'a>(
     source: Source,
     depth: usize,
     rest: &'a [Token],
-) -> Result<(Else, &'a [Token]), Stop<'a, Symbol>>
+) -> Result<(Else, &'a [Token]), GrammarStop<'a, Symbol>>
     ensures { Gives (λ x. (else_of x.0, x.1.now)) result
         (read number_of class_of source.entry.scope.now (else_link source.entry.text.now source.entry.limit depth)
         rest.now) }
@@ -319,7 +319,7 @@ fn read_test<'a>(
     source: Source,
     depth: usize,
     rest: &'a [Token],
-) -> Result<(Branch, &'a [Token]), Stop<'a, Symbol>>
+) -> Result<(Branch, &'a [Token]), GrammarStop<'a, Symbol>>
     ensures { Gives (λ x. (branch_of x.0, x.1.now)) result
         (read number_of class_of source.entry.scope.now (test source.entry.text.now source.entry.limit depth)
         rest.now) }
@@ -336,7 +336,7 @@ fn read_test_head<'a>(
     source: Source,
     depth: usize,
     rest: &'a [Token],
-) -> Result<((u32, Expr), &'a [Token]), Stop<'a, Symbol>>
+) -> Result<((u32, Expr), &'a [Token]), GrammarStop<'a, Symbol>>
     ensures { Leads (λ x. tested x.0.0 (expression_of x.0.1)
         (read number_of class_of source.entry.scope.now (branch source.entry.text.now source.entry.limit depth)
         x.1.now)) result
@@ -358,7 +358,7 @@ fn read_branch<'a>(
     source: Source,
     depth: usize,
     rest: &'a [Token],
-) -> Result<(Stmt, &'a [Token]), Stop<'a, Symbol>>
+) -> Result<(Stmt, &'a [Token]), GrammarStop<'a, Symbol>>
     ensures { Gives (λ x. (statement_of x.0, x.1.now)) result
         (read number_of class_of source.entry.scope.now (branch source.entry.text.now source.entry.limit depth)
         rest.now) }
@@ -377,7 +377,7 @@ fn read_otherwise<'a>(
     source: Source,
     depth: usize,
     rest: &'a [Token],
-) -> Result<(Stmt, &'a [Token]), Stop<'a, Symbol>>
+) -> Result<(Stmt, &'a [Token]), GrammarStop<'a, Symbol>>
     ensures { Gives (λ x. (statement_of x.0, x.1.now)) result
         (read number_of class_of source.entry.scope.now (otherwise source.entry.text.now source.entry.limit depth)
         rest.now) }
@@ -395,7 +395,7 @@ fn read_loop<'a>(
     source: Source,
     depth: usize,
     rest: &'a [Token],
-) -> Result<(Stmt, &'a [Token]), Stop<'a, Symbol>>
+) -> Result<(Stmt, &'a [Token]), GrammarStop<'a, Symbol>>
     ensures { Gives (λ x. (statement_of x.0, x.1.now)) result
         (read number_of class_of source.entry.scope.now (loop_with source.entry.text.now source.entry.limit
         (branch source.entry.text.now source.entry.limit depth)) rest.now) }
@@ -411,7 +411,7 @@ fn read_loop_head<'a>(
     source: Source,
     depth: usize,
     rest: &'a [Token],
-) -> Result<&'a [Token], Stop<'a, Symbol>>
+) -> Result<&'a [Token], GrammarStop<'a, Symbol>>
     ensures { Leads (λ after. looped source.entry.text.now
         (read number_of class_of source.entry.scope.now (scoped_with source.entry.text.now source.entry.limit
         (branch source.entry.text.now source.entry.limit depth)) after.now)) result
@@ -452,7 +452,7 @@ fn read_scoped<'a>(
     source: Source,
     depth: usize,
     rest: &'a [Token],
-) -> Result<((&'a Token, (u64, Bound), Stmt), &'a [Token]), Stop<'a, Symbol>>
+) -> Result<((&'a Token, (u64, Bound), Stmt), &'a [Token]), GrammarStop<'a, Symbol>>
     ensures { Gives (λ x. ((x.0.0.now, (x.0.1, statement_of x.0.2)), x.1.now)) result
         (read number_of class_of source.entry.scope.now (scoped_with source.entry.text.now source.entry.limit
         (branch source.entry.text.now source.entry.limit depth)) rest.now) }
@@ -475,7 +475,7 @@ fn read_turns<'a>(
     source: Source,
     depth: usize,
     rest: &'a [Token],
-) -> Result<(((u64, Bound), Stmt), &'a [Token]), Stop<'a, Symbol>>
+) -> Result<(((u64, Bound), Stmt), &'a [Token]), GrammarStop<'a, Symbol>>
     ensures { Gives (λ x. ((x.0.0, statement_of x.0.1), x.1.now)) result
         (read number_of class_of source.entry.scope.now (turns_with source.entry.text.now source.entry.limit
         (branch source.entry.text.now source.entry.limit depth)) rest.now) }
@@ -490,14 +490,14 @@ fn read_turns<'a>(
 fn read_header<'a>(
     source: Source,
     rest: &'a [Token],
-) -> Result<((u64, Bound), &'a [Token]), Stop<'a, Symbol>>
+) -> Result<((u64, Bound), &'a [Token]), GrammarStop<'a, Symbol>>
     ensures { Gives (λ x. (x.0, x.1.now)) result
         (read number_of class_of source.entry.scope.now (header source.entry.text.now) rest.now) }
 {
     match read_plain_header(source, rest) {
         Ok(read) => Ok(read),
-        Err(Stop::Memory) => Err(Stop::Memory),
-        Err(Stop::At(kind, at)) => Err(Stop::At(hinted(Refusal::BadHeader, kind), at)),
+        Err(GrammarStop::Memory) => Err(GrammarStop::Memory),
+        Err(GrammarStop::At(kind, at)) => Err(GrammarStop::At(hinted(Refusal::BadHeader, kind), at)),
     }
 }
 
@@ -505,7 +505,7 @@ fn read_header<'a>(
 fn read_plain_header<'a>(
     source: Source,
     rest: &'a [Token],
-) -> Result<((u64, Bound), &'a [Token]), Stop<'a, Symbol>>
+) -> Result<((u64, Bound), &'a [Token]), GrammarStop<'a, Symbol>>
     ensures { Gives (λ x. (x.0, x.1.now)) result
         (read number_of class_of source.entry.scope.now
         (plain_header source.entry.text.now) rest.now) }
@@ -525,7 +525,7 @@ fn read_plain_header<'a>(
 fn read_loop_test<'a>(
     source: Source,
     rest: &'a [Token],
-) -> Result<(Bound, &'a [Token]), Stop<'a, Symbol>>
+) -> Result<(Bound, &'a [Token]), GrammarStop<'a, Symbol>>
     ensures { Gives (λ x. (x.0, x.1.now)) result
         (read number_of class_of source.entry.scope.now (loop_test source.entry.text.now) rest.now) }
 {
@@ -550,7 +550,7 @@ fn bound_of(mark: Symbol, number: u64) -> Bound
 fn read_loop_step<'a>(
     source: Source,
     rest: &'a [Token],
-) -> Result<(&'a Token, &'a [Token]), Stop<'a, Symbol>>
+) -> Result<(&'a Token, &'a [Token]), GrammarStop<'a, Symbol>>
     ensures { Gives (λ x. (x.0.now, x.1.now)) result
         (read number_of class_of source.entry.scope.now (loop_step source.entry.text.now) rest.now) }
 {

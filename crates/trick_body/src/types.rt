@@ -7,7 +7,7 @@ ghost use Rattle.trick_grammar.specs.Gives.{Gives, class_of};
 ghost use Rattle.trick_grammar.specs.Reading.{read};
 
 use crate::symbol::{SCALARS, Symbol, Token, UNSIGNED};
-use trick_grammar::{Stop, next_is_one_of, take, take_one_of};
+use trick_grammar::{GrammarStop, next_is_one_of, take, take_one_of};
 use trick_lang::Scalar;
 
 /// The type of a keyword that is one by itself.
@@ -37,7 +37,7 @@ pub fn unsigned_of(more: &Token) -> Scalar
 /// basic = "bool" | "char" | "short" | "int" | "long" | "unsigned" [ "char" | "short" | "int" ]; its
 /// line and the type.
 #[tactic(auto, unfolding(crate::specs::Statements::basic_body))]
-pub fn read_basic<'a>(rest: &'a [Token]) -> Result<((u32, Scalar), &'a [Token]), Stop<'a, Symbol>>
+pub fn read_basic<'a>(rest: &'a [Token]) -> Result<((u32, Scalar), &'a [Token]), GrammarStop<'a, Symbol>>
     ensures { Gives (λ x. (x.0, x.1.now)) result (read number_of class_of [] basic rest.now) }
 {
     if next_is_one_of(rest, &SCALARS) {

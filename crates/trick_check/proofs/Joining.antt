@@ -12,7 +12,7 @@ use Rattle.trick_check.specs.Named.{IsNamed}
 use Rattle.trick_check.specs.Parts.{calls_at, parts_at}
 use Rattle.trick_check.specs.Refused.{JobsAreRight, cells_in}
 use Rattle.trick_check.specs.Walk.{sizes_of}
-use Rattle.trick_check.specs.declared.draft.Draft.{Draft}
+use Rattle.trick_check.specs.declared.draft.ProgramDraft.{ProgramDraft}
 use Rattle.trick_blocks.specs.Held.{bodies_of}
 use Rattle.trick_bodies.specs.Classes.{Made}
 use Rattle.trick_lang.specs.SyntaxTree.{SDefine}
@@ -31,7 +31,7 @@ order_takes ds class order is k low =
 pub count_is : (ds : SDefine) → ((tables : _) → capped (names_count (counts (all_groups tables)) tables.names) ≡ capped (length (memory_cells tables))) → JobsAreRight ds → names_count (sizes_of ds) (tables_of ds).names ≡ cells_in ds
 count_is ds law right = same_count (names_count (sizes_of ds) (tables_of ds).names) (cells_in ds) (law (tables_of ds)) right.0.1
 
-pub named : (ds : SDefine) (d : Draft) (p : Program) → IsDraft ds d → IsJoined d p → IsNamed ds p
+pub named : (ds : SDefine) (d : ProgramDraft) (p : Program) → IsDraft ds d → IsJoined d p → IsNamed ds p
 named ds d p draft joined =
     record {
       right = draft.right;
@@ -41,6 +41,6 @@ named ds d p draft joined =
       objects = joined.objects ∙ draft.objects;
       blocks = ap bodies_of joined.blocks ∙ ap (λ (m : Made). m.progress.bodies) draft.bodies;
       methods = joined.methods ∙ ap (λ (m : Made). m.methods) draft.bodies;
-      slots = joined.slots ∙ ap (λ (m : Made). m.progress.world.slots) draft.bodies;
+      slots = joined.slots ∙ ap (λ (m : Made). m.progress.scope.slots) draft.bodies;
       jobs = joined.jobs ∙ draft.jobs;
     }

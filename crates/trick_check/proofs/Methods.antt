@@ -20,7 +20,7 @@ use Rattle.trick_names.specs.declared.tables.Inside.{Inside}
 use Rattle.trick_names.specs.declared.tables.Member.{Member}
 use Rattle.trick_names.specs.declared.tables.Member.TheVariants.{Variable as Holds, Method}
 use Rattle.trick_names.specs.declared.tables.Tables.{Tables}
-use Rattle.trick_names.specs.declared.world.World.{World}
+use Rattle.trick_names.specs.declared.scope.FileScope.{FileScope}
 
 -- ---- right names are those without a mistake
 
@@ -59,16 +59,16 @@ call_right line None e = absurd cc
 call_right line (Some (Holds shape)) e = absurd cc
 call_right line (Some (Method number)) e = refl
 
-abbrev own : World → Names Member
+abbrev own : FileScope → Names Member
 own w = members_at w.tables.groups w.own
 
-jobs_right : (jobs : List JobLine) (w : World) → job_mistakes jobs w ≡ [] → list_all (calls_one (own w)) jobs ≡ true
+jobs_right : (jobs : List JobLine) (w : FileScope) → job_mistakes jobs w ≡ [] → list_all (calls_one (own w)) jobs ≡ true
 jobs_right [] w e = refl
 jobs_right (job ∷ rest) w e =
     let none = none_in (call_mistakes job.line (own_member job.method w)) _ e in
     rw (call_right job.line (own_member job.method w) none.0, jobs_right rest w none.1) refl
 
-class_right : (parts : List Part) (number : ℕ) (class : Name) (inside : Inside) (w : World)
+class_right : (parts : List Part) (number : ℕ) (class : Name) (inside : Inside) (w : FileScope)
     → class_mistakes parts number class inside w ≡ [] → list_all (calls_one (own w)) (class_lines parts) ≡ true
 class_right [] number class inside w e = refl
 class_right (tree.Public ∷ rest) number class inside w e =
@@ -81,7 +81,7 @@ class_right (tree.HasMethod m ∷ rest) number class inside w e =
 class_right (tree.Constructor line name jobs ∷ rest) number class inside w e =
     jobs_right jobs w (none_in _ _ (none_in _ _ (none_in _ _ e).1).0).1
 
-definition_right : (d : Definition) (w : World) → definition_mistakes d w ≡ []
+definition_right : (d : Definition) (w : FileScope) → definition_mistakes d w ≡ []
     → list_all (calls_one (own w)) (definition_lines d) ≡ true
 definition_right tree.Include w e = refl
 definition_right (tree.Enum name items) w e = refl
@@ -89,7 +89,7 @@ definition_right (tree.Struct name members) w e = refl
 definition_right (tree.ClassOf name parts) w e = class_right parts 0 name nothing_inside w (none_in _ _ e).1
 definition_right (tree.Object line class name) w e = refl
 
-definitions_right : (ds : SDefine) (w : World) (k : ℕ) → definitions_mistakes ds w ≡ []
+definitions_right : (ds : SDefine) (w : FileScope) (k : ℕ) → definitions_mistakes ds w ≡ []
     → list_all (calls_one (members_at w.tables.groups (w.own + k))) (lines_at ds k) ≡ true
 definitions_right [] w k e = refl
 definitions_right (d ∷ ds) w zero e =

@@ -11,7 +11,7 @@ use Rattle.trick_check.proofs.Placed.{jobs_many}
 use Rattle.trick_check.proofs.Stands.{jobs_have_methods}
 use Rattle.trick_check.specs.Draft.{IsDraft, IsProper}
 use Rattle.trick_check.specs.Walk.{all_made, objects_of}
-use Rattle.trick_check.specs.declared.draft.Draft.{Draft}
+use Rattle.trick_check.specs.declared.draft.ProgramDraft.{ProgramDraft}
 use Rattle.trick_lang.specs.Facts.{has_right_times}
 use Rattle.trick_lang.specs.Names.{are_apart, are_plain_cells, are_plain_names, are_short_names, of_one_instance, of_one_name}
 use Rattle.trick_lang.specs.SDefineOf.{sdefine_of}
@@ -20,7 +20,7 @@ use Rattle.trick_lang.specs.Valid.{have_right_instances, have_right_threads, hav
 use Rattle.trick_lang.specs.declared.syntax.definition.SDefine.{SDefine}
 use Rattle.trick_names.specs.Tables.{tables_of}
 
-pub proper : (s : SDefine) (d : Draft) → IsDraft (sdefine_of s) d → IsProper d
+pub proper : (s : SDefine) (d : ProgramDraft) → IsDraft (sdefine_of s) d → IsProper d
 proper s d draft =
     let ds = sdefine_of s in
     let right = draft.right.0 in

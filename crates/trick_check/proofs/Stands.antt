@@ -206,11 +206,11 @@ more_made class n true order other parts m low d =
     let added = with_class_if true n order other m in
     record {
       before = d.before;
-      behind = d.behind ++ class_methods n added.progress.world.methods other;
+      behind = d.behind ++ class_methods n added.progress.scope.methods other;
       blocks = d.blocks;
-      methods = ap (λ ms. ms ++ class_methods n added.progress.world.methods other) d.methods
-          ∙ append_assoc d.before (class_methods class d.blocks parts ++ d.behind) (class_methods n added.progress.world.methods other)
-          ∙ ap (λ ms. d.before ++ ms) (append_assoc (class_methods class d.blocks parts) d.behind (class_methods n added.progress.world.methods other));
+      methods = ap (λ ms. ms ++ class_methods n added.progress.scope.methods other) d.methods
+          ∙ append_assoc d.before (class_methods class d.blocks parts ++ d.behind) (class_methods n added.progress.scope.methods other)
+          ∙ ap (λ ms. d.before ++ ms) (append_assoc (class_methods class d.blocks parts) d.behind (class_methods n added.progress.scope.methods other));
       numbers = numbers_before m.numbers _ class low ∙ d.numbers;
     }
 
@@ -221,8 +221,8 @@ just_made n order parts m is =
     record {
       before = m.methods;
       behind = [];
-      blocks = added.progress.world.methods;
-      methods = ap (λ ms. m.methods ++ ms) (sym (append-nil (class_methods n added.progress.world.methods parts)));
+      blocks = added.progress.scope.methods;
+      methods = ap (λ ms. m.methods ++ ms) (sym (append-nil (class_methods n added.progress.scope.methods parts)));
       numbers = numbers_last m.numbers (with_numbers (length m.methods) parts []) n is;
     }
 

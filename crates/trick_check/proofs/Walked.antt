@@ -11,19 +11,19 @@ use Rattle.trick_lang.specs.SyntaxTree.{SDefine}
 use Rattle.trick_lang.specs.declared.object.Object.{Object}
 use Rattle.trick_layout.specs.Laid.{size_at}
 
-part_layout : (o : Option tree.Part) (p : Progress) → (with_part o p).world.layout ≡ p.world.layout
+part_layout : (o : Option tree.Part) (p : Progress) → (with_part o p).scope.layout ≡ p.scope.layout
 part_layout (Some tree.Public) p = refl
 part_layout o p = refl
 
-parts_layout : (order : List ℕ) (parts : List tree.Part) (p : Progress) → (with_parts order parts p).world.layout ≡ p.world.layout
+parts_layout : (order : List ℕ) (parts : List tree.Part) (p : Progress) → (with_parts order parts p).scope.layout ≡ p.scope.layout
 parts_layout [] parts p = refl
 parts_layout (i ∷ is) parts p = parts_layout is parts (with_part (slice_get parts i) p) ∙ part_layout (slice_get parts i) p
 
-pub class_layout : (b : Bool) (class : ℕ) (order : List ℕ) (parts : List tree.Part) (m : Made) → (with_class_if b class order parts m).progress.world.layout ≡ m.progress.world.layout
-class_layout true class order parts m = parts_layout order parts (progress (record m.progress.world { class = class; methods = [] }) m.progress.bodies)
+pub class_layout : (b : Bool) (class : ℕ) (order : List ℕ) (parts : List tree.Part) (m : Made) → (with_class_if b class order parts m).progress.scope.layout ≡ m.progress.scope.layout
+class_layout true class order parts m = parts_layout order parts (progress (record m.progress.scope { class = class; methods = [] }) m.progress.bodies)
 class_layout false class order parts m = refl
 
-pub first_layout : (ds : SDefine) (objects : List Object) (n : ℕ) → (made_of_first ds objects n).progress.world.layout ≡ file_layout ds
+pub first_layout : (ds : SDefine) (objects : List Object) (n : ℕ) → (made_of_first ds objects n).progress.scope.layout ≡ file_layout ds
 first_layout ds objects zero = refl
 first_layout ds objects (suc n) =
     class_layout (has_object objects n) n (order_at ds n) (parts_at ds n) (made_of_first ds objects n) ∙ first_layout ds objects n

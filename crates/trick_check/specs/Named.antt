@@ -27,7 +27,7 @@ pub record IsNamed (ds : SDefine) (p : Program) : Type 0 where
   -- which each stands after those that it calls.
   pub blocks : bodies_of p.blocks ≡ (all_made ds).progress.bodies
   pub methods : p.methods ≡ (all_made ds).methods
-  pub slots : p.slots ≡ (all_made ds).progress.world.slots
+  pub slots : p.slots ≡ (all_made ds).progress.scope.slots
   -- which methods run when
   pub jobs : p.jobs ≡ jobs_named ds
 

@@ -3,7 +3,7 @@
 
 use Rattle.std.specs.Prelude.{ℕ, zero, suc, ◌==◌, ◌≤◌, Bool, true, false, ◌||◌, List, [], ◌∷◌, ◌++◌, length}
 use Rattle.trick_blocks.specs.Methods.{progress}
-use Rattle.trick_blocks.specs.declared.world.World.{World}
+use Rattle.trick_blocks.specs.declared.scope.ClassScope.{ClassScope}
 use Rattle.trick_bodies.specs.Classes.{Made, with_class}
 use Rattle.trick_cells.specs.Cells.{all_groups}
 use Rattle.trick_cells.specs.Counts.{counts}
@@ -46,7 +46,7 @@ with_class_if true class order parts m = with_class class order parts m
 with_class_if false class order parts m = record m { numbers = m.numbers ++ [] ∷ [] }
 
 -- before the first class
-abbrev pub first_world : Layout → World
+abbrev pub first_world : Layout → ClassScope
 first_world layout = record { layout = layout; class = 0; methods = []; slots = 0 }
 
 abbrev pub nothing_made : Layout → Made

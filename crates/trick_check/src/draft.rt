@@ -3,14 +3,14 @@
 ghost use Rattle.trick_check.specs.Draft.{IsJoined, IsProper, IsWhole};
 
 use trick_base::Items;
-use trick_blocks::{World, laws};
+use trick_blocks::{ClassScope, laws};
 use trick_bodies::Bodies;
 use trick_lang::{EnumItem, Job, Object, Program, Variable};
 use trick_layout::Layout;
 
 /// The parts of a program.
 #[derive(Drop)]
-pub struct Draft {
+pub struct ProgramDraft {
     pub cells: Items<Variable>,
     pub items: Items<EnumItem>,
     pub objects: Items<Object>,
@@ -19,14 +19,14 @@ pub struct Draft {
 }
 
 /// Joins the parts.
-pub fn join(draft: Draft) -> Program
+pub fn join(draft: ProgramDraft) -> Program
     requires whole { IsWhole draft }
     requires proper { IsProper draft }
     ensures { IsJoined draft result }
 {
     laws::blocks_law();
     laws::program_law();
-    let Draft {
+    let ProgramDraft {
         cells,
         items,
         objects,
@@ -34,17 +34,17 @@ pub fn join(draft: Draft) -> Program
         jobs,
     } = draft;
     let Bodies {
-        world,
+        scope,
         blocks,
         methods,
         numbers: _,
     } = bodies;
-    let World {
+    let ClassScope {
         layout,
         class: _,
         methods: _,
         slots,
-    } = world;
+    } = scope;
     let Layout {
         groups: _,
         sizes,

@@ -12,7 +12,7 @@ ghost use Rattle.trick_names.specs.Tables.{tables_of};
 
 use crate::CheckFault;
 use crate::count::{Counted, count};
-use crate::draft::{Draft, join};
+use crate::draft::{ProgramDraft, join};
 use crate::name::check_names;
 use crate::order::orders;
 use crate::step::check_steps;
@@ -85,7 +85,7 @@ fn make(
     tables: &Tables,
     orders: &[Items<usize>],
     counted: Counted,
-) -> Result<Draft, CheckFault>
+) -> Result<ProgramDraft, CheckFault>
     requires tables { tables.now ≡ tables_of (definitions_of definitions.now) }
     requires many { length orders.now ≡ length definitions.now }
     requires ordered { AreOrders (definitions_of definitions.now) orders.now }
@@ -103,7 +103,7 @@ fn make(
     let items = items(alloc, &tables.names)?;
     let bodies = make_bodies(alloc, definitions, tables, orders, &counted)?;
     let jobs = make_jobs(alloc, definitions, &bodies, counted.objects.as_slice())?;
-    Ok(Draft {
+    Ok(ProgramDraft {
         cells,
         items,
         objects: counted.objects,
@@ -113,7 +113,7 @@ fn make(
 }
 
 // All parts of the program of a file whose names are right.
-fn draft_of(alloc: Memory, definitions: &[Definition], tables: &Tables) -> Result<Draft, CheckFault>
+fn draft_of(alloc: Memory, definitions: &[Definition], tables: &Tables) -> Result<ProgramDraft, CheckFault>
     requires tables { tables.now ≡ tables_of (definitions_of definitions.now) }
     requires right { NamesAreRight (definitions_of definitions.now) }
     ensures draft { IfOk result (λ draft. IsDraft (definitions_of definitions.now) draft) }

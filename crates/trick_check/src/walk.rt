@@ -10,7 +10,7 @@ ghost use Rattle.trick_layout.specs.Kept.{AreLaid};
 use crate::class::parts_at;
 use std::alloc::{AllocError, Global as Memory};
 use trick_base::Items;
-use trick_blocks::{World, laws};
+use trick_blocks::{ClassScope, laws};
 use trick_bodies::{Bodies, add_class};
 use trick_lang::Object;
 use trick_lang::syntax::Definition;
@@ -60,7 +60,7 @@ fn nothing(alloc: Memory, layout: Layout) -> Bodies
 {
     laws::start_law();
     Bodies {
-        world: World {
+        scope: ClassScope {
             layout,
             class: 0,
             methods: Names::new(alloc),
@@ -99,8 +99,8 @@ fn add_used(
     requires here { class < length classes.definitions.now }
     requires orders { length classes.orders.now ≡ length classes.definitions.now }
     requires ordered { AreOrders (definitions_of classes.definitions.now) classes.orders.now }
-    requires laid { AreLaid bodies.old.world.layout }
-    requires sizes { SizesFit bodies.old.world.layout }
+    requires laid { AreLaid bodies.old.scope.layout }
+    requires sizes { SizesFit bodies.old.scope.layout }
     requires whole { AreWhole (made bodies.old) }
     ensures made { OnOk result (made bodies.new ≡ with_class_if true class
         (order_at (definitions_of classes.entry.definitions.now) class)
@@ -124,8 +124,8 @@ fn add_definition(
     requires orders { length classes.orders.now ≡ length classes.definitions.now }
     requires used { length classes.used.now ≡ length classes.definitions.now }
     requires ordered { AreOrders (definitions_of classes.definitions.now) classes.orders.now }
-    requires laid { AreLaid bodies.old.world.layout }
-    requires sizes { SizesFit bodies.old.world.layout }
+    requires laid { AreLaid bodies.old.scope.layout }
+    requires sizes { SizesFit bodies.old.scope.layout }
     requires whole { AreWhole (made bodies.old) }
     ensures made { OnOk result (made bodies.new ≡ with_class_if
         (slice_index_or classes.entry.used.now class false) class

@@ -7,8 +7,8 @@ use Rattle.trick_codes.specs.Gives.{Stops}
 use Rattle.trick_codes.specs.Lines.{Lines, text, Seen, read_lines, each, numbered}
 use Rattle.trick_codes.specs.Named.{each_code}
 use Rattle.trick_codes.specs.declared.miss.Miss.{Miss}
-use Rattle.trick_codes.specs.declared.stop.Stop.{Stop}
-use Rattle.trick_codes.specs.declared.stop.Stop.TheVariants.{Memory, Cut, Wrong}
+use Rattle.trick_codes.specs.declared.stop.LineStop.{LineStop}
+use Rattle.trick_codes.specs.declared.stop.LineStop.TheVariants.{Memory, Cut, Wrong}
 
 module _ {A E : Type 0} where
   -- a list that is told, with some items before it
@@ -50,7 +50,7 @@ module _ {K A : Type 0} (d : A) (c : K → Lines A) where
       ∙ sym (one_more (get_or ks i none) (drop (i + 1) ks) found x rest after e)
       ∙ sym (at_drop_more (λ us. lines_left us found rest) ks i none lt) ∙ so_far
 
-  pub lines_fail : (s : Stop) (ks : List K) (i : ℕ) (none : K) (found : List A) (rest : List ℕ) (total : Seen (List A)) → i < length ks → Stops s (read_lines (c (get_or ks i none)) rest) → lines_left (drop i ks) found rest ≡ total → Stops s total
+  pub lines_fail : (s : LineStop) (ks : List K) (i : ℕ) (none : K) (found : List A) (rest : List ℕ) (total : Seen (List A)) → i < length ks → Stops s (read_lines (c (get_or ks i none)) rest) → lines_left (drop i ks) found rest ≡ total → Stops s total
   lines_fail Memory ks i none found rest total lt e so_far = tt
   lines_fail Cut ks i none found rest total lt e so_far =
       sym so_far ∙ at_drop_more (λ us. lines_left us found rest) ks i none lt ∙ rw e refl
@@ -152,7 +152,7 @@ module _ {A : Type 0} (d : A) (c : ℕ → Lines A) where
       rw e (ap (with_items found) (built_numbered x others) ∙ regrouped found x others) in
       ap (λ f. numbered_left (i + 1) (count - (i + 1)) f after) g ∙ sym step ∙ sym (one_numbered i count found rest lt) ∙ so_far
 
-  pub numbered_fail : (s : Stop) (i count : ℕ) (found : List A) (rest : List ℕ) (total : Seen (List A)) → i < count → Stops s (read_lines (c i) rest) → numbered_left i (count - i) found rest ≡ total → Stops s total
+  pub numbered_fail : (s : LineStop) (i count : ℕ) (found : List A) (rest : List ℕ) (total : Seen (List A)) → i < count → Stops s (read_lines (c i) rest) → numbered_left i (count - i) found rest ≡ total → Stops s total
   numbered_fail Memory i count found rest total lt e so_far = tt
   numbered_fail Cut i count found rest total lt e so_far = sym so_far ∙ one_numbered i count found rest lt ∙ rw e refl
   numbered_fail (Wrong kind more) i count found rest total lt e so_far = sym so_far ∙ one_numbered i count found rest lt ∙ rw e refl

@@ -6,7 +6,7 @@ ghost use Rattle.trick_codes.specs.Loads.{front_of, line_behind};
 
 use crate::kind::Kind;
 use crate::load_fault::LoadFault;
-use crate::stop::Stop;
+use crate::stop::LineStop;
 
 // The place in a text at which this rest of it begins.
 fn place_of(text: &[u8], rest: &[u8]) -> usize
@@ -25,19 +25,19 @@ fn line_of(text: &[u8], rest: &[u8]) -> usize
 }
 
 /// The refusal of a text at which reading stopped so.
-pub fn refusal(text: &[u8], stop: Stop) -> LoadFault
+pub fn refusal(text: &[u8], stop: LineStop) -> LoadFault
     ensures { result ≡ fault_of text.now stop.entry }
 {
     match stop {
-        Stop::Memory => LoadFault::OutOfMemory,
-        Stop::Cut => LoadFault::Truncated { at: text.len() },
-        Stop::Wrong(Kind::BadLine, rest) => LoadFault::BadLine {
+        LineStop::Memory => LoadFault::OutOfMemory,
+        LineStop::Cut => LoadFault::Truncated { at: text.len() },
+        LineStop::Wrong(Kind::BadLine, rest) => LoadFault::BadLine {
             line: line_of(text, rest),
         },
-        Stop::Wrong(Kind::WrongPlan, rest) => LoadFault::WrongPlan {
+        LineStop::Wrong(Kind::WrongPlan, rest) => LoadFault::WrongPlan {
             line: line_of(text, rest),
         },
-        Stop::Wrong(Kind::OutOfRange, rest) => LoadFault::OutOfRange {
+        LineStop::Wrong(Kind::OutOfRange, rest) => LoadFault::OutOfRange {
             line: line_of(text, rest),
         },
     }
@@ -47,7 +47,7 @@ pub fn refusal(text: &[u8], stop: Stop) -> LoadFault
 /// text. A refusal drops what was read.
 pub fn whole<'a, T: Drop>(
     text: &[u8],
-    read: Result<(T, &'a [u8]), Stop<'a>>,
+    read: Result<(T, &'a [u8]), LineStop<'a>>,
 ) -> Result<T, LoadFault>
     ensures { Concludes text.now read.entry result }
 {

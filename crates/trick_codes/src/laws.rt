@@ -18,7 +18,7 @@ ghost use Rattle.trick_codes.specs.Gives.{Stops, fault_of};
 ghost use Rattle.trick_codes.specs.Lines.{Holds, IsDue, read_lines, text};
 ghost use Rattle.trick_codes.specs.Loads.{Refuses};
 ghost use Rattle.trick_codes.specs.declared.kind.Kind.{Kind};
-ghost use Rattle.trick_codes.specs.declared.stop.Stop.{Stop};
+ghost use Rattle.trick_codes.specs.declared.stop.LineStop.{LineStop};
 
 /// The text of a value is read as that value, and nothing is left.
 pub fn reading_inverts_printing<F: LineFile>()
@@ -39,7 +39,7 @@ pub fn reading_is_exact<F: LineFile>()
 
 /// The refusal of a text at which reading stopped is exact.
 pub fn refusals_are_exact<F: LineFile>()
-    ensures { (ts : List ℕ) → (stop : Stop) → Stops stop (read_lines F.lines ts)
+    ensures { (ts : List ℕ) → (stop : LineStop) → Stops stop (read_lines F.lines ts)
         → Refuses F.lines ts (fault_of ts stop) }
 {}
 

@@ -24,5 +24,5 @@ pub use load_fault::LoadFault;
 pub use miss::Miss;
 pub use print::{push_integer, push_line, push_number, push_row, push_title, set_indexed};
 pub use range::Range;
-pub use stop::Stop;
+pub use stop::LineStop;
 pub use word::{behind, one_of, stands_at};

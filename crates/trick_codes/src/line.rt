@@ -23,7 +23,7 @@ use crate::field::{byte, integer, literal, number};
 use crate::form::kind_of;
 use crate::miss::Miss;
 use crate::range::Range;
-use crate::stop::Stop;
+use crate::stop::LineStop;
 use crate::word::one_of;
 
 /// A name and ` = `.
@@ -62,13 +62,13 @@ pub fn number_line<'a>(
     least: u64,
     most: u64,
     rest: &'a [u8],
-) -> Result<(u64, &'a [u8]), Stop<'a>>
+) -> Result<(u64, &'a [u8]), LineStop<'a>>
     ensures { Gives beside result (read_lines (number_line_of name.now least most) rest.now) }
 {
     match number_bytes(name, least, most, rest) {
         Ok((number, after)) => Ok((number, after)),
-        Err(Miss::Ends) => Err(Stop::Cut),
-        Err(Miss::Differs) => Err(Stop::Wrong(kind_of(name, 1, rest), rest)),
+        Err(Miss::Ends) => Err(LineStop::Cut),
+        Err(Miss::Differs) => Err(LineStop::Wrong(kind_of(name, 1, rest), rest)),
     }
 }
 
@@ -88,14 +88,14 @@ pub fn integer_line<'a>(
     name: &[u8],
     range: Range,
     rest: &'a [u8],
-) -> Result<(i64, &'a [u8]), Stop<'a>>
+) -> Result<(i64, &'a [u8]), LineStop<'a>>
     ensures told { Gives beside result (read_lines (integer_line_of name.now range) rest.now) }
     ensures range { IfOk result (λ x. IsWithin range.below range.above x.0) }
 {
     match integer_bytes(name, range, rest) {
         Ok((number, after)) => Ok((number, after)),
-        Err(Miss::Ends) => Err(Stop::Cut),
-        Err(Miss::Differs) => Err(Stop::Wrong(kind_of(name, 1, rest), rest)),
+        Err(Miss::Ends) => Err(LineStop::Cut),
+        Err(Miss::Differs) => Err(LineStop::Wrong(kind_of(name, 1, rest), rest)),
     }
 }
 
@@ -113,13 +113,13 @@ pub fn word_line<'a>(
     name: &[u8],
     words: &[&[u8]],
     rest: &'a [u8],
-) -> Result<(usize, &'a [u8]), Stop<'a>>
+) -> Result<(usize, &'a [u8]), LineStop<'a>>
     ensures { Gives beside result (read_lines (word_line_of name.now (bytes_of words.now)) rest.now) }
 {
     match word_bytes(name, words, rest) {
         Ok((place, after)) => Ok((place, after)),
-        Err(Miss::Ends) => Err(Stop::Cut),
-        Err(Miss::Differs) => Err(Stop::Wrong(kind_of(name, 0, rest), rest)),
+        Err(Miss::Ends) => Err(LineStop::Cut),
+        Err(Miss::Differs) => Err(LineStop::Wrong(kind_of(name, 0, rest), rest)),
     }
 }
 
@@ -131,13 +131,13 @@ fn end_bytes(rest: &[u8]) -> Result<&[u8], Miss>
 }
 
 /// The line `end;`.
-pub fn end_line(rest: &[u8]) -> Result<&[u8], Stop>
+pub fn end_line(rest: &[u8]) -> Result<&[u8], LineStop>
     ensures { Gives alone result (read_lines end_line_of rest.now) }
 {
     match end_bytes(rest) {
         Ok(after) => Ok(after),
-        Err(Miss::Ends) => Err(Stop::Cut),
-        Err(Miss::Differs) => Err(Stop::Wrong(kind_of(b"", 0, rest), rest)),
+        Err(Miss::Ends) => Err(LineStop::Cut),
+        Err(Miss::Differs) => Err(LineStop::Wrong(kind_of(b"", 0, rest), rest)),
     }
 }
 

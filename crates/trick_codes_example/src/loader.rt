@@ -22,7 +22,7 @@ use crate::file::{Gauge, Mode, Readings};
 use std::alloc::{AllocError, Global};
 use trick_base::Items;
 use trick_codes::{
-    LoadFault, Miss, Range, Stop, end_line, feed, integer_line, kind_of, number_line, one_of,
+    LoadFault, Miss, Range, LineStop, end_line, feed, integer_line, kind_of, number_line, one_of,
     row_or_none, set_indexed, title, whole,
 };
 
@@ -39,13 +39,13 @@ fn mode_bytes(rest: &[u8]) -> Result<(Mode, &[u8]), Miss>
 }
 
 #[tactic(auto, unfolding(crate::specs::Panel::mode_line))]
-fn mode(rest: &[u8]) -> Result<(Mode, &[u8]), Stop>
+fn mode(rest: &[u8]) -> Result<(Mode, &[u8]), LineStop>
     ensures { Gives beside result (read_lines mode_line rest.now) }
 {
     match mode_bytes(rest) {
         Ok((mode, after)) => Ok((mode, after)),
-        Err(Miss::Ends) => Err(Stop::Cut),
-        Err(Miss::Differs) => Err(Stop::Wrong(kind_of(b"mode", 0, rest), rest)),
+        Err(Miss::Ends) => Err(LineStop::Cut),
+        Err(Miss::Differs) => Err(LineStop::Wrong(kind_of(b"mode", 0, rest), rest)),
     }
 }
 
@@ -54,7 +54,7 @@ fn values<'a>(
     alloc: Global,
     gauges: &[Gauge],
     rest: &'a [u8],
-) -> Result<(Vec<i64>, &'a [u8]), Stop<'a>>
+) -> Result<(Vec<i64>, &'a [u8]), LineStop<'a>>
     ensures { Gives (λ x. (x.0.items, x.1.now)) result (read_lines (gauge_lines gauges.now) rest.now) }
 {
     let mut found = Vec::new(alloc);
@@ -97,20 +97,20 @@ fn last<'a>(
     alloc: Global,
     ranges: &[Range],
     rest: &'a [u8],
-) -> Result<(Option<Items<i64>>, &'a [u8]), Stop<'a>>
+) -> Result<(Option<Items<i64>>, &'a [u8]), LineStop<'a>>
     ensures { Gives beside result (read_lines (last_line ranges.now) rest.now) }
 {
     let mut row = vec![in alloc; 0; ranges.len()]?;
     match last_bytes(ranges, &mut row, rest) {
         Ok((true, after)) => Ok((Some(Items::from_vec(row)), after)),
         Ok((false, after)) => Ok((None, after)),
-        Err(Miss::Ends) => Err(Stop::Cut),
-        Err(Miss::Differs) => Err(Stop::Wrong(kind_of(b"last", ranges.len(), rest), rest)),
+        Err(Miss::Ends) => Err(LineStop::Cut),
+        Err(Miss::Differs) => Err(LineStop::Wrong(kind_of(b"last", ranges.len(), rest), rest)),
     }
 }
 
 #[tactic(auto, unfolding(crate::specs::Panel::note_line))]
-fn note<'a>(name: &mut Vec<u8>, place: usize, rest: &'a [u8]) -> Result<(u64, &'a [u8]), Stop<'a>>
+fn note<'a>(name: &mut Vec<u8>, place: usize, rest: &'a [u8]) -> Result<(u64, &'a [u8]), LineStop<'a>>
     ensures { Gives beside result (read_lines (note_line place) rest.now) }
 {
     set_indexed(name, b"note", place)?;
@@ -122,7 +122,7 @@ fn note_list<'a>(
     alloc: Global,
     count: usize,
     rest: &'a [u8],
-) -> Result<(Vec<u64>, &'a [u8]), Stop<'a>>
+) -> Result<(Vec<u64>, &'a [u8]), LineStop<'a>>
     ensures { Gives (λ x. (x.0.items, x.1.now)) result (read_lines (notes_of count) rest.now) }
 {
     let mut found = Vec::new(alloc);
@@ -137,7 +137,7 @@ fn note_list<'a>(
 }
 
 #[tactic(auto, unfolding(crate::specs::Panel::notes_lines))]
-fn notes<'a>(alloc: Global, rest: &'a [u8]) -> Result<(Vec<u64>, &'a [u8]), Stop<'a>>
+fn notes<'a>(alloc: Global, rest: &'a [u8]) -> Result<(Vec<u64>, &'a [u8]), LineStop<'a>>
     ensures { Gives (λ x. (x.0.items, x.1.now)) result (read_lines notes_lines rest.now) }
 {
     let (count, rest) = number_line(b"notes", 0, 1000, rest)?;
@@ -149,7 +149,7 @@ fn readings<'a>(
     alloc: Global,
     gauges: &[Gauge],
     rest: &'a [u8],
-) -> Result<(Readings, &'a [u8]), Stop<'a>>
+) -> Result<(Readings, &'a [u8]), LineStop<'a>>
     ensures { Gives beside result (read_lines (panel gauges.now) rest.now) }
 {
     let (_, rest) = number_line(b"panel", 1, 1, rest)?;

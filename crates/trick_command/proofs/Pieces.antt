@@ -5,7 +5,7 @@ use Rattle.std.specs.Prelude.{option_map}
 use Rattle.trick_command.specs.Answers.{actions_of_words}
 use Rattle.trick_command.specs.Parts.{parts_from}
 use Rattle.trick_command.specs.Seen.{lexemes_in}
-use Rattle.trick_command.specs.declared.lexeme.Lexeme as code
+use Rattle.trick_command.specs.declared.lexeme.CommandLexeme as code
 use Rattle.trick_model.specs.Commands.{action_of, all_actions, parts_of}
 use Rattle.trick_model.specs.Forms.{Piece, Read, Value, read_piece, read_pieces}
 use Rattle.trick_model.specs.Words.{Lexeme}
@@ -48,7 +48,7 @@ no_act old part parts total e h = sym h ∙ step
 -- ---- parts
 
 -- one part more, by its length
-pub part_done : (found more : List Action) (rest part behind : List code.Lexeme) (n : ℕ) (a : Action) (total : Option (List Action))
+pub part_done : (found more : List Action) (rest part behind : List code.CommandLexeme) (n : ℕ) (a : Action) (total : Option (List Action))
     → parts_of [] (lexemes_in rest) ≡ lexemes_in (take n rest) ∷ parts_from (drop n rest) → part ≡ take n rest → behind ≡ drop n rest → Some a ≡ action_of (lexemes_in part)
     → more ≡ found ++ a ∷ [] → option_map (λ o. found ++ o) (actions_of_words (lexemes_in rest)) ≡ total → option_map (λ o. more ++ o) (all_actions (parts_from behind)) ≡ total
 part_done found more rest part behind n a total cut p b e m h =
@@ -57,12 +57,12 @@ part_done found more rest part behind n a total cut p b e m h =
     same : parts_of [] (lexemes_in rest) ≡ lexemes_in part ∷ parts_from behind
     same = rw (p, b) cut
 
-pub parts_behind : (behind : List code.Lexeme) → 1 ≤ length behind → parts_from behind ≡ parts_of [] (lexemes_in (drop 1 behind))
+pub parts_behind : (behind : List code.CommandLexeme) → 1 ≤ length behind → parts_from behind ≡ parts_of [] (lexemes_in (drop 1 behind))
 parts_behind [] le = absurd (omega (arith, le))
 parts_behind (word ∷ words) le = refl
 
 -- the words after the `;`
-pub part_next : (found more : List Action) (rest part : List code.Lexeme) (m n : ℕ) (a : Action) (total : Option (List Action))
+pub part_next : (found more : List Action) (rest part : List code.CommandLexeme) (m n : ℕ) (a : Action) (total : Option (List Action))
     → parts_of [] (lexemes_in rest) ≡ lexemes_in (take n rest) ∷ parts_from (drop n rest) → part ≡ take n rest → Some a ≡ action_of (lexemes_in part)
     → more ≡ found ++ a ∷ [] → option_map (λ o. found ++ o) (actions_of_words (lexemes_in rest)) ≡ total → m ≡ length rest → n < length rest
     → option_map (λ o. more ++ o) (actions_of_words (lexemes_in (take (m - (n + 1)) (drop (n + 1) rest)))) ≡ total
@@ -76,5 +76,5 @@ part_next found more rest part m n a total cut p e is h all lt =
     same : take (m - (n + 1)) (drop (n + 1) rest) ≡ drop (n + 1) rest
     same = take_all (m - (n + 1)) (drop (n + 1) rest) (omega (arith, all, length-drop (n + 1) rest))
 
-pub next_within : (words rest : List code.Lexeme) (m k : ℕ) → length rest ≤ length words → length (take m (drop k rest)) ≤ length words
+pub next_within : (words rest : List code.CommandLexeme) (m k : ℕ) → length rest ≤ length words → length (take m (drop k rest)) ≤ length words
 next_within words rest m k le = omega (arith, le, length-drop k rest, length-take m (drop k rest))

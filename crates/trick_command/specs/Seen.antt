@@ -2,7 +2,7 @@
 use Rattle.std.specs.Prelude.{ℕ, ◌≤◌, ℤ, pos, neg_ℤ, Bool, true, false, List, [], ◌∷◌, drop, length, Option, Some, None, IfSome, map, option_map}
 use Rattle.trick_model.specs.Forms.{Bytes, Number, Is, Quoted, Whole, Time, Literal, Path, Read, Value, Piece}
 use Rattle.trick_model.specs.Words.{Lexeme}
-use Rattle.trick_command.specs.declared.lexeme.Lexeme as code_lexeme
+use Rattle.trick_command.specs.declared.lexeme.CommandLexeme as code_lexeme
 use Rattle.trick_command.specs.declared.piece.Piece as code_piece
 use Rattle.trick_command.specs.declared.piece.Piece.TheVariants as pieces
 use Rattle.trick_command.specs.declared.value.Value as code_value
@@ -10,10 +10,10 @@ use Rattle.trick_command.specs.declared.value.Value.TheVariants as values
 use Rattle.trick_command.specs.declared.read.Read as code_read
 
 -- the token with its bytes
-abbrev pub lexeme_in : code_lexeme.Lexeme → Lexeme
+abbrev pub lexeme_in : code_lexeme.CommandLexeme → Lexeme
 lexeme_in l = record { kind = l.kind; bytes = l.bytes.now }
 
-abbrev pub lexemes_in : List code_lexeme.Lexeme → List Lexeme
+abbrev pub lexemes_in : List code_lexeme.CommandLexeme → List Lexeme
 lexemes_in ls = map lexeme_in ls
 
 -- a number by its sign and its size
@@ -45,14 +45,14 @@ abbrev pub pieces_in : List code_piece.Piece → List Piece
 pieces_in ps = map piece_in ps
 
 -- what a piece read of these words
-abbrev pub read_in : List code_lexeme.Lexeme → code_read.Read → Read
+abbrev pub read_in : List code_lexeme.CommandLexeme → code_read.Read → Read
 read_in words r = record { values = value_if_any r.value; behind = lexemes_in (drop r.len words) }
 
-abbrev pub read_if_any : List code_lexeme.Lexeme → Option code_read.Read → Option Read
+abbrev pub read_if_any : List code_lexeme.CommandLexeme → Option code_read.Read → Option Read
 read_if_any words r = option_map (read_in words) r
 
 -- it read no more words than there are
-abbrev pub IsWithin : Option code_read.Read → List code_lexeme.Lexeme → Type 0
+abbrev pub IsWithin : Option code_read.Read → List code_lexeme.CommandLexeme → Type 0
 IsWithin read words = IfSome read (λ r. r.len ≤ length words)
 
 -- a number of so many words, where there is one

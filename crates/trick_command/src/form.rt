@@ -6,7 +6,7 @@ ghost use Rattle.trick_command.specs.Seen.{IsWithin, lexemes_in, piece_in, piece
 ghost use Rattle.trick_model.specs.Commands.{action_of, flag_at, integer_at, text_at, whole_at};
 ghost use Rattle.trick_model.specs.Forms.{read_piece, read_pieces};
 
-use crate::lexeme::Lexeme;
+use crate::lexeme::CommandLexeme;
 use crate::path::read_path;
 use crate::piece::Piece;
 use crate::read::{Read, read_literal, read_quoted, read_time, read_whole, read_word};
@@ -16,7 +16,7 @@ use std::alloc::{AllocError, Global};
 use trick_base::{Items, Word};
 use trick_model::Action;
 
-fn read_piece(alloc: Global, piece: Piece, words: &[Lexeme]) -> Result<Option<Read>, AllocError>
+fn read_piece(alloc: Global, piece: Piece, words: &[CommandLexeme]) -> Result<Option<Read>, AllocError>
     ensures read { IfOk result (λ read. read_if_any words.now read
         ≡ read_piece (piece_in piece) (lexemes_in words.now)) }
     ensures within { IfOk result (λ read. IsWithin read words.now) }
@@ -45,7 +45,7 @@ fn keep(values: &mut Vec<Value>, value: Option<Value>) -> Result<(), AllocError>
 pub fn read_pieces(
     alloc: Global,
     pieces: &[Piece],
-    words: &[Lexeme],
+    words: &[CommandLexeme],
 ) -> Result<Option<Vec<Value>>, AllocError>
     ensures { IfOk result (λ found. option_map (λ v. values_in v.items) found
         ≡ read_pieces (pieces_in pieces.now) (lexemes_in words.now)) }
@@ -149,7 +149,7 @@ fn set_job(name: Word, values: &[Value]) -> Action
 }
 
 /// The action that words say.
-pub fn action_of(alloc: Global, words: &[Lexeme]) -> Result<Option<Action>, AllocError>
+pub fn action_of(alloc: Global, words: &[CommandLexeme]) -> Result<Option<Action>, AllocError>
     ensures { IfOk result (λ action. action ≡ action_of (lexemes_in words.now)) }
 {
     for row in rows() {

@@ -9,7 +9,7 @@ use trick_text::{Token, TokenKind, seconds, whole};
 
 /// A token with its bytes, and the number that it stands for.
 #[derive(Clone, Copy, Debug)]
-pub struct Lexeme<'a> {
+pub struct CommandLexeme<'a> {
     pub kind: TokenKind,
     pub bytes: &'a [u8],
     /// Of a whole number its value, at most 2^63.
@@ -41,12 +41,12 @@ fn time_of(text: &[u8], token: &Token) -> Option<u64>
 }
 
 /// A token of this text with its bytes.
-pub fn lexeme_of<'a>(text: &'a [u8], token: &Token) -> Lexeme<'a>
+pub fn lexeme_of<'a>(text: &'a [u8], token: &Token) -> CommandLexeme<'a>
     requires { ReadsAsToken text.now token.now }
     ensures kind { result.kind ≡ token.now.kind }
     ensures bytes { result.bytes.now ≡ spelling text.now token.now }
 {
-    Lexeme {
+    CommandLexeme {
         kind: token.kind,
         bytes: token.spelling(text),
         whole: whole_of(text, token),

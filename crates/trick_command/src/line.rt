@@ -7,7 +7,7 @@ ghost use Rattle.trick_model.specs.Commands.{command_forms, command_in, command_
 ghost use Rattle.trick_model.specs.Forms.{read_forms};
 
 use crate::form::{action_of, read_pieces, text_at, whole_at};
-use crate::lexeme::Lexeme;
+use crate::lexeme::CommandLexeme;
 use crate::line_row::{LineRow, line_pieces, line_rows};
 use crate::value::Value;
 use std::alloc::{AllocError, Global};
@@ -59,7 +59,7 @@ fn command(alloc: Global, row: LineRow, values: &[Value]) -> Result<Command, All
 }
 
 // What words say that are no action.
-fn other_command(alloc: Global, words: &[Lexeme]) -> Result<Command, AllocError>
+fn other_command(alloc: Global, words: &[CommandLexeme]) -> Result<Command, AllocError>
     ensures { IfOk result (λ command. command ≡ command_or_bad (read_forms command_forms (lexemes_in words.now))) }
 {
     for row in line_rows() {
@@ -71,7 +71,7 @@ fn other_command(alloc: Global, words: &[Lexeme]) -> Result<Command, AllocError>
 }
 
 /// What words say that are one line of a client.
-pub fn command_in(alloc: Global, words: &[Lexeme]) -> Result<Command, AllocError>
+pub fn command_in(alloc: Global, words: &[CommandLexeme]) -> Result<Command, AllocError>
     ensures { IfOk result (λ command. command ≡ command_in (lexemes_in words.now)) }
 {
     match action_of(alloc, words)? {

@@ -5,7 +5,7 @@ ghost use Rattle.trick_command.specs.Paths.{AreThere, going_on};
 ghost use Rattle.trick_command.specs.Seen.{IsWithin, lexeme_in, lexemes_in, read_if_any};
 ghost use Rattle.trick_model.specs.Forms.{is_word, name_of, read_index, read_member, read_members, read_path};
 
-use crate::lexeme::Lexeme;
+use crate::lexeme::CommandLexeme;
 use crate::read::{Read, is_word};
 use crate::value::Value;
 use itoa::Buffer;
@@ -29,7 +29,7 @@ fn push_index(name: &mut Vec<u8>, index: u64) -> Result<(), AllocError>
 }
 
 // The bytes of a name.
-fn name_of<'t>(word: &Lexeme<'t>) -> Option<&'t [u8]>
+fn name_of<'t>(word: &CommandLexeme<'t>) -> Option<&'t [u8]>
     ensures { option_map (λ b. b.now) result ≡ name_of (lexeme_in word.now) }
 {
     match word.kind {
@@ -51,7 +51,7 @@ fn begin_name(alloc: Global, front: &[u8]) -> Result<Vec<u8>, AllocError>
 }
 
 // Adds the member at the front of words to a name, and tells how many words it has.
-fn take_member(name: &mut Vec<u8>, words: &[Lexeme]) -> Result<Option<usize>, AllocError>
+fn take_member(name: &mut Vec<u8>, words: &[CommandLexeme]) -> Result<Option<usize>, AllocError>
     ensures read { IfOk result (λ len. going_on name.new.items words.now len
         ≡ read_member name.old.items (lexemes_in words.now)) }
     ensures there { IfOk result (λ len. AreThere len words.now) }
@@ -67,7 +67,7 @@ fn take_member(name: &mut Vec<u8>, words: &[Lexeme]) -> Result<Option<usize>, Al
 }
 
 // Adds the index at the front of words to a name, and tells how many words it has with its bracket.
-fn take_index(name: &mut Vec<u8>, words: &[Lexeme]) -> Result<Option<usize>, AllocError>
+fn take_index(name: &mut Vec<u8>, words: &[CommandLexeme]) -> Result<Option<usize>, AllocError>
     ensures read { IfOk result (λ len. going_on name.new.items words.now len
         ≡ read_index name.old.items (lexemes_in words.now)) }
     ensures there { IfOk result (λ len. AreThere len words.now) }
@@ -88,8 +88,8 @@ fn take_index(name: &mut Vec<u8>, words: &[Lexeme]) -> Result<Option<usize>, All
 // Adds what this word begins, a member after `.` and else an index, and tells how many words follow.
 fn take_part(
     name: &mut Vec<u8>,
-    word: &Lexeme,
-    words: &[Lexeme],
+    word: &CommandLexeme,
+    words: &[CommandLexeme],
 ) -> Result<Option<usize>, AllocError>
     ensures read { IfOk result (λ len. going_on name.new.items words.now len
         ≡ (if is_word (codes ".") (lexeme_in word.now)
@@ -105,7 +105,7 @@ fn take_part(
 }
 
 // The full name that begins with these bytes.
-fn read_members(name: Vec<u8>, words: &[Lexeme]) -> Result<Option<Read>, AllocError>
+fn read_members(name: Vec<u8>, words: &[CommandLexeme]) -> Result<Option<Read>, AllocError>
     ensures read { IfOk result (λ read. read_if_any words.now read
         ≡ read_members name.items (lexemes_in words.now)) }
     ensures within { IfOk result (λ read. IsWithin read words.now) }
@@ -135,7 +135,7 @@ fn whole_path(name: Vec<u8>, len: usize) -> Read
 }
 
 /// A full name.
-pub fn read_path(alloc: Global, words: &[Lexeme]) -> Result<Option<Read>, AllocError>
+pub fn read_path(alloc: Global, words: &[CommandLexeme]) -> Result<Option<Read>, AllocError>
     ensures read { IfOk result (λ read. read_if_any words.now read ≡ read_path (lexemes_in words.now)) }
     ensures within { IfOk result (λ read. IsWithin read words.now) }
 {

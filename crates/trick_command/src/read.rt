@@ -4,7 +4,7 @@ ghost use Rattle.std.specs.Prelude.{◌≡◌, IfOk, option_map};
 ghost use Rattle.trick_command.specs.Seen.{IsWithin, lexeme_in, lexemes_in, number_read, read_if_any};
 ghost use Rattle.trick_model.specs.Forms.{Is, Quoted, Time, Whole, is_word, literal_of, quoted_of, read_literal, read_piece};
 
-use crate::lexeme::Lexeme;
+use crate::lexeme::CommandLexeme;
 use crate::value::Value;
 use std::alloc::{AllocError, Global};
 use trick_base::Word;
@@ -18,14 +18,14 @@ pub struct Read {
 }
 
 /// Whether the word has these bytes.
-pub fn is_word(bytes: &[u8], word: &Lexeme) -> bool
+pub fn is_word(bytes: &[u8], word: &CommandLexeme) -> bool
     ensures { result ≡ is_word bytes.now (lexeme_in word.now) }
 {
     bytes == word.bytes
 }
 
 /// A word that stands for nothing but itself.
-pub fn read_word(bytes: &[u8], words: &[Lexeme]) -> Option<Read>
+pub fn read_word(bytes: &[u8], words: &[CommandLexeme]) -> Option<Read>
     ensures read { read_if_any words.now result ≡ read_piece (Is bytes.now) (lexemes_in words.now) }
     ensures within { IsWithin result words.now }
 {
@@ -49,7 +49,7 @@ fn number(negative: bool, size: Option<u64>, len: usize) -> Option<Read>
     Some(Read { value, len })
 }
 
-pub fn read_whole(words: &[Lexeme]) -> Option<Read>
+pub fn read_whole(words: &[CommandLexeme]) -> Option<Read>
     ensures read { read_if_any words.now result ≡ read_piece Whole (lexemes_in words.now) }
     ensures within { IsWithin result words.now }
 {
@@ -59,7 +59,7 @@ pub fn read_whole(words: &[Lexeme]) -> Option<Read>
     }
 }
 
-pub fn read_time(words: &[Lexeme]) -> Option<Read>
+pub fn read_time(words: &[CommandLexeme]) -> Option<Read>
     ensures read { read_if_any words.now result ≡ read_piece Time (lexemes_in words.now) }
     ensures within { IsWithin result words.now }
 {
@@ -70,7 +70,7 @@ pub fn read_time(words: &[Lexeme]) -> Option<Read>
 }
 
 // `True` is 1 and `False` is 0.
-fn literal_of(word: &Lexeme) -> Option<u64>
+fn literal_of(word: &CommandLexeme) -> Option<u64>
     ensures { result ≡ literal_of (lexeme_in word.now) }
 {
     if is_word(b"True", word) {
@@ -82,7 +82,7 @@ fn literal_of(word: &Lexeme) -> Option<u64>
     }
 }
 
-pub fn read_literal(words: &[Lexeme]) -> Option<Read>
+pub fn read_literal(words: &[CommandLexeme]) -> Option<Read>
     ensures read { read_if_any words.now result ≡ read_literal (lexemes_in words.now) }
     ensures within { IsWithin result words.now }
 {
@@ -97,7 +97,7 @@ pub fn read_literal(words: &[Lexeme]) -> Option<Read>
 }
 
 // The bytes between the quotes of a string.
-fn quoted_of<'t>(word: &Lexeme<'t>) -> Option<&'t [u8]>
+fn quoted_of<'t>(word: &CommandLexeme<'t>) -> Option<&'t [u8]>
     ensures { option_map (λ b. b.now) result ≡ quoted_of (lexeme_in word.now) }
 {
     match word.kind {
@@ -109,7 +109,7 @@ fn quoted_of<'t>(word: &Lexeme<'t>) -> Option<&'t [u8]>
     }
 }
 
-pub fn read_quoted(alloc: Global, words: &[Lexeme]) -> Result<Option<Read>, AllocError>
+pub fn read_quoted(alloc: Global, words: &[CommandLexeme]) -> Result<Option<Read>, AllocError>
     ensures read { IfOk result (λ read. read_if_any words.now read ≡ read_piece Quoted (lexemes_in words.now)) }
     ensures within { IfOk result (λ read. IsWithin read words.now) }
 {

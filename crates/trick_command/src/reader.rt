@@ -10,7 +10,7 @@ ghost use Rattle.trick_text.specs.Tokens.{ReadsAsToken, text_limit};
 
 use crate::fault::ActionFault;
 use crate::form::action_of;
-use crate::lexeme::{Lexeme, lexeme_of};
+use crate::lexeme::{CommandLexeme, lexeme_of};
 use crate::line::command_in;
 use crate::read::is_word;
 use std::alloc::{AllocError, Global};
@@ -23,7 +23,7 @@ fn lexemes<'a>(
     alloc: Global,
     text: &'a [u8],
     tokens: &[Token],
-) -> Result<Vec<Lexeme<'a>>, AllocError>
+) -> Result<Vec<CommandLexeme<'a>>, AllocError>
     requires { All (ReadsAsToken text.now) tokens.now }
     ensures { IfOk result (λ found. lexemes_in found.items ≡ lexemes_of text.now tokens.now) }
 {
@@ -35,7 +35,7 @@ fn lexemes<'a>(
 }
 
 // How many words stand before the first `;`.
-fn part_len(words: &[Lexeme]) -> usize
+fn part_len(words: &[CommandLexeme]) -> usize
     ensures parts { parts_of [] (lexemes_in words.now)
         ≡ lexemes_in (take result words.now) ∷ parts_from (drop result words.now) }
     ensures within { result ≤ length words.now }
@@ -53,7 +53,7 @@ fn part_len(words: &[Lexeme]) -> usize
 }
 
 // The actions of words with `;` between.
-fn read_parts(alloc: Global, words: &[Lexeme]) -> Result<Vec<Action>, ActionFault>
+fn read_parts(alloc: Global, words: &[CommandLexeme]) -> Result<Vec<Action>, ActionFault>
     ensures { Answers (actions_of_words (lexemes_in words.now)) result }
 {
     let mut found = Vec::new(alloc);

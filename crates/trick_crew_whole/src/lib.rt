@@ -9,4 +9,4 @@ mod whole;
 
 pub use clerks::Clerks;
 pub use nobody::Nobody;
-pub use whole::{Ended, WholeCrew};
+pub use whole::{CrewEnd, WholeCrew};

@@ -43,7 +43,7 @@ pub struct WholeCrew<
 /// What is left of a crew that has ended: its hall, by the chief, and the post of its clerks, if it had any. Both were
 /// shut.
 #[derive(Drop)]
-pub struct Ended<M: Cells + Drop, P: Planned> {
+pub struct CrewEnd<M: Cells + Drop, P: Planned> {
     pub hall: Chief<M, P>,
     pub post: Option<ShutPost<P>>,
 }
@@ -90,7 +90,7 @@ impl<
 
     /// Ends the crew, also after an error of a run: the post of the clerks and the hall of the team are shut, each
     /// thread is waited for, and all clerks and hands are taken in.
-    pub fn finish(self) -> Ended<M, P>
+    pub fn finish(self) -> CrewEnd<M, P>
         ensures shut { has_shut (own result.hall.pass) ≡ true }
         ensures share { IsPrefix (seen self.phases.share.hand.pass) (seen result.hall.pass) }
         ensures members { All (IsTakenIn result.hall.pass) self.phases.members.items }
@@ -99,6 +99,6 @@ impl<
         let WholeCrew { phases, posts } = self;
         let post = posts.close();
         let hall = Crew { phases }.finish();
-        Ended { hall, post }
+        CrewEnd { hall, post }
     }
 }

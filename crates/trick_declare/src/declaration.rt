@@ -12,7 +12,7 @@ use crate::SpelledDeclaration;
 use std::alloc::{AllocError, Global};
 use trick_base::{Items, Word};
 use trick_body::{NAMES, Symbol, Token, lexemes, name_of, read_basic};
-use trick_grammar::{Stop, next_is, take, take_one_of};
+use trick_grammar::{GrammarStop, next_is, take, take_one_of};
 use trick_lang::Scalar;
 use trick_text::{Style, TextFault, tokens};
 
@@ -29,7 +29,7 @@ pub struct Declaration {
 const COUNTS: [Symbol; 4] = [Symbol::One, Symbol::Small, Symbol::Large, Symbol::Huge];
 
 // "[" WHOLE "]"
-fn read_length(rest: &[Token]) -> Result<(u64, &[Token]), Stop<Symbol>>
+fn read_length(rest: &[Token]) -> Result<(u64, &[Token]), GrammarStop<Symbol>>
     ensures { Gives (λ x. (x.0, x.1.now)) result (read number_of class_of [] length rest.now) }
 {
     let (_, rest) = take(rest, Symbol::OpenBracket)?;
@@ -42,7 +42,7 @@ fn read_length(rest: &[Token]) -> Result<(u64, &[Token]), Stop<Symbol>>
 fn read_lengths<'a>(
     alloc: Global,
     rest: &'a [Token],
-) -> Result<(Items<u64>, &'a [Token]), Stop<'a, Symbol>>
+) -> Result<(Items<u64>, &'a [Token]), GrammarStop<'a, Symbol>>
     ensures { Gives (λ x. (x.0, x.1.now)) result (read number_of class_of [] lengths rest.now) }
 {
     let mut found = Items::new(alloc);
@@ -64,7 +64,7 @@ fn read_front<'a>(
     alloc: Global,
     text: &[u8],
     rest: &'a [Token],
-) -> Result<(Declaration, &'a [Token]), Stop<'a, Symbol>>
+) -> Result<(Declaration, &'a [Token]), GrammarStop<'a, Symbol>>
     ensures { Gives (λ x. (x.0, x.1.now)) result (read number_of class_of [] (declaration text.now) rest.now) }
 {
     let ((_, scalar), rest) = read_basic(rest)?;
@@ -91,8 +91,8 @@ fn read_all(alloc: Global, text: &[u8], tokens: &[Token]) -> Result<Option<Decla
                 Ok(None)
             }
         }
-        Err(Stop::Memory) => Err(AllocError),
-        Err(Stop::At(_, _)) => Ok(None),
+        Err(GrammarStop::Memory) => Err(AllocError),
+        Err(GrammarStop::At(_, _)) => Ok(None),
     }
 }
 

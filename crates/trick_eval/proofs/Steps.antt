@@ -23,7 +23,7 @@ use Rattle.trick_lang.specs.Value.{Sight, value}
 use Rattle.trick_eval.specs.declared.stack.Frame.{Frame}
 use Rattle.trick_eval.specs.declared.stack.Frame.TheVariants.{Rest, Turns}
 use Rattle.trick_lang.specs.declared.fault.FaultKind.{FaultKind}
-use Rattle.trick_lang.specs.declared.fault.Stop.{Stop}
+use Rattle.trick_lang.specs.declared.fault.StatementFault.{StatementFault}
 use Rattle.trick_lang.specs.declared.program.Program.{Program}
 use Rattle.trick_lang.specs.declared.tree.Block.{Block}
 use Rattle.trick_lang.specs.declared.tree.Stmt.{Stmt}
@@ -138,15 +138,15 @@ turn_left p base memory slot number end block fs s h =
     ∙ rest_all p base memory block (Turns slot (number + 1) end block ∷ fs) (with_local s slot (pos number))
 
 -- what an `if` does is what the block that it picks does
-abbrev pub entered : Setting → State → Option ℕ → Result State Stop
+abbrev pub entered : Setting → State → Option ℕ → Result State StatementFault
 entered x s None = Ok s
 entered x s (Some k) = x.blocks k s
 
-line_then : (line : ℕ) (r : Result ℤ FaultKind) (f : ℤ → Result (Option ℕ) Stop) (g : ℤ → Result State Stop) (go : Option ℕ → Result State Stop) → ((n : ℤ) → g n ≡ and_then (f n) go) → at_line line r g ≡ and_then (at_line line r f) go
+line_then : (line : ℕ) (r : Result ℤ FaultKind) (f : ℤ → Result (Option ℕ) StatementFault) (g : ℤ → Result State StatementFault) (go : Option ℕ → Result State StatementFault) → ((n : ℤ) → g n ≡ and_then (f n) go) → at_line line r g ≡ and_then (at_line line r f) go
 line_then line (Ok n) f g go h = h n
 line_then line (Err z) f g go h = refl
 
-if_then : (t : Bool) (q : Result (Option ℕ) Stop) (a b : Result State Stop) (k : ℕ) (go : Option ℕ → Result State Stop) → a ≡ go (Some k) → b ≡ and_then q go → (if t then a else b) ≡ and_then (if t then Ok (Some k) else q) go
+if_then : (t : Bool) (q : Result (Option ℕ) StatementFault) (a b : Result State StatementFault) (k : ℕ) (go : Option ℕ → Result State StatementFault) → a ≡ go (Some k) → b ≡ and_then q go → (if t then a else b) ≡ and_then (if t then Ok (Some k) else q) go
 if_then true q a b k go e f = e
 if_then false q a b k go e f = f
 
@@ -165,22 +165,22 @@ module _ (p : Program) (base : ℕ) (memory : List ℤ) (b : Branches) (fs : Lis
   pub if_none : picked b (seen base memory s) ≡ Ok None → and_then (run (If b) (setting_of p base memory) s) (left p base memory fs) ≡ left p base memory fs s
   if_none is = ap (λ r. and_then r (left p base memory fs)) (picks b (setting_of p base memory) s ∙ ap (λ r. and_then r (entered (setting_of p base memory) s)) is)
 
-  pub if_stop : (stop : Stop) → picked b (seen base memory s) ≡ Err stop → and_then (run (If b) (setting_of p base memory) s) (left p base memory fs) ≡ Err stop
+  pub if_stop : (stop : StatementFault) → picked b (seen base memory s) ≡ Err stop → and_then (run (If b) (setting_of p base memory) s) (left p base memory fs) ≡ Err stop
   if_stop stop is = ap (λ r. and_then r (left p base memory fs)) (picks b (setting_of p base memory) s ∙ ap (λ r. and_then r (entered (setting_of p base memory) s)) is)
 
 -- what a statement does at once
-pub ran_went : {U : Type 0} (result : Result U Stop) (t : State) (r : Result State Stop) (go : State → Result State Stop) → Ran result t r → Went result (and_then r go) (go t)
+pub ran_went : {U : Type 0} (result : Result U StatementFault) (t : State) (r : Result State StatementFault) (go : State → Result State StatementFault) → Ran result t r → Went result (and_then r go) (go t)
 ran_went (Ok u) t r go h = ap (λ q. and_then q go) h
 ran_went (Err stop) t r go h = ap (λ q. and_then q go) h
 
 pub begin : (p : Program) (base : ℕ) (memory : List ℤ) (block : ℕ) (s : State) → left p base memory (Rest block 0 ∷ []) s ≡ ran p base block memory s
 begin p base memory block s = sym (rest_all p base memory block [] s) ∙ then_ok (ran p base block memory s)
   where
-    then_ok : (r : Result State Stop) → and_then r (λ t. Ok t) ≡ r
+    then_ok : (r : Result State StatementFault) → and_then r (λ t. Ok t) ≡ r
     then_ok (Ok t) = refl
     then_ok (Err e) = refl
 
-pick_case : (line block : ℕ) (r : Result ℤ FaultKind) (q : Result (Option ℕ) Stop) (k : ℕ) (Q : Type 0) → at_line line r (λ n. if is_true n then Ok (Some block) else q) ≡ Ok (Some k) → (block ≡ k → Q) → (q ≡ Ok (Some k) → Q) → Q
+pick_case : (line block : ℕ) (r : Result ℤ FaultKind) (q : Result (Option ℕ) StatementFault) (k : ℕ) (Q : Type 0) → at_line line r (λ n. if is_true n then Ok (Some block) else q) ≡ Ok (Some k) → (block ≡ k → Q) → (q ≡ Ok (Some k) → Q) → Q
 pick_case line block (Err z) q k Q h here later = cc
 pick_case line block (Ok n) q k Q h here later = by_test (is_true n) h
   where

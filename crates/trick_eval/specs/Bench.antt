@@ -8,7 +8,7 @@ use Rattle.trick_lang.specs.Effect.{body_of, effect, reads}
 use Rattle.trick_lang.specs.Run.{State}
 use Rattle.trick_lang.specs.Valid.{deep_at}
 use Rattle.trick_lang.specs.declared.fault.JobFault.{JobFault}
-use Rattle.trick_lang.specs.declared.fault.Stop.{Stop}
+use Rattle.trick_lang.specs.declared.fault.StatementFault.{StatementFault}
 use Rattle.trick_lang.specs.declared.job.JobId.{JobId}
 use Rattle.trick_lang.specs.declared.program.Program.{Program}
 use Rattle.trick_lang.specs.declared.range.CellRange.{CellRange}
@@ -27,7 +27,7 @@ pub record BenchView : Type 0 where
   pub phase : ℕ
   pub job : Option JobId
   pub inputs : List ℤ
-  pub outcome : Option (Result (List (Option ℤ)) Stop)
+  pub outcome : Option (Result (List (Option ℤ)) StatementFault)
   pub parts : Parts
 
 -- the buffers are those of a bench for the program
@@ -54,7 +54,7 @@ abbrev pub IsEvaluated : Program → BenchView → Type 0
 IsEvaluated p bench = bench.outcome ≡ Some (effect p (the_job bench.job) bench.inputs)
 
 -- the fault of an evaluated job; its tic is 0, and whoever lists it sets that
-abbrev pub fault_of : Option JobId → Option (Result (List (Option ℤ)) Stop) → Option JobFault
+abbrev pub fault_of : Option JobId → Option (Result (List (Option ℤ)) StatementFault) → Option JobFault
 fault_of None outcome = None
 fault_of (Some job) None = None
 fault_of (Some job) (Some (Ok stored)) = None
@@ -63,25 +63,25 @@ fault_of (Some job) (Some (Err stop)) = Some (record { tic = 0; job = job; kind 
 -- ---- how the fields of a bench make it
 
 -- the outcome, where what was stored stands in the buffer
-abbrev pub outcome_of : {U : Type 0} → Option (Result U Stop) → List (Option ℤ) → Option (Result (List (Option ℤ)) Stop)
+abbrev pub outcome_of : {U : Type 0} → Option (Result U StatementFault) → List (Option ℤ) → Option (Result (List (Option ℤ)) StatementFault)
 outcome_of None stored = None
 outcome_of (Some (Ok u)) stored = Some (Ok stored)
 outcome_of (Some (Err stop)) stored = Some (Err stop)
 
 -- the buffer is empty but where it holds an effect
-abbrev pub IsKept : {U : Type 0} → Option (Result U Stop) → ℕ → List (Option ℤ) → Type 0
+abbrev pub IsKept : {U : Type 0} → Option (Result U StatementFault) → ℕ → List (Option ℤ) → Type 0
 IsKept None cells stored = stored ≡ replicate cells None
 IsKept (Some (Ok u)) cells stored = length stored ≡ cells
 IsKept (Some (Err stop)) cells stored = stored ≡ replicate cells None
 
 -- an empty bench has the number 0 and no outcome
-abbrev pub IsEmpty : {U : Type 0} → Option JobId → ℕ → Option (Result U Stop) → Type 0
+abbrev pub IsEmpty : {U : Type 0} → Option JobId → ℕ → Option (Result U StatementFault) → Type 0
 IsEmpty None phase outcome = (phase ≡ 0) × (outcome ≡ None)
 IsEmpty (Some job) phase outcome = Unit
 
 -- the fields of a bench fit one another: the stack is empty, no local variable has a number, and the
 -- buffer of the cells is empty but where it holds an effect
-pub record IsClean {U : Type 0} (outcome : Option (Result U Stop)) (cells : ℕ) (working : State)
+pub record IsClean {U : Type 0} (outcome : Option (Result U StatementFault)) (cells : ℕ) (working : State)
     (frames : List Frame) : Type 0 where
   pub empty : frames ≡ []
   pub begun : working.locals ≡ replicate (length working.locals) None

@@ -4,7 +4,7 @@ use Rattle.std.specs.Prelude.{◌≡◌, ℕ, ℤ, pos, List, length, None, unwr
 use Rattle.trick_lang.specs.Effect.{ran, scalars_of}
 use Rattle.trick_lang.specs.Run.{State, Setting, local_of}
 use Rattle.trick_lang.specs.Value.{Sight}
-use Rattle.trick_lang.specs.declared.fault.Stop.{Stop}
+use Rattle.trick_lang.specs.declared.fault.StatementFault.{StatementFault}
 use Rattle.trick_lang.specs.declared.program.Program.{Program}
 
 -- what an expression sees, from the first cell of the job's object, the memory, and how far the body
@@ -26,7 +26,7 @@ setting_of p base memory = record {
 }
 
 -- the run ended in this state, or stopped so
-abbrev pub Ran : {U : Type 0} → Result U Stop → State → Result State Stop → Type 0
+abbrev pub Ran : {U : Type 0} → Result U StatementFault → State → Result State StatementFault → Type 0
 Ran (Ok u) s r = r ≡ Ok s
 Ran (Err stop) s r = r ≡ Err stop
 

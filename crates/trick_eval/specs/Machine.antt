@@ -10,33 +10,33 @@ use Rattle.trick_lang.specs.Valid.{deep_at}
 use Rattle.trick_lang.specs.Value.{Sight, value}
 use Rattle.trick_eval.specs.declared.stack.Frame.{Frame}
 use Rattle.trick_eval.specs.declared.stack.Frame.TheVariants.{Rest, Turns}
-use Rattle.trick_lang.specs.declared.fault.Stop.{Stop}
+use Rattle.trick_lang.specs.declared.fault.StatementFault.{StatementFault}
 use Rattle.trick_lang.specs.declared.program.Program.{Program}
 use Rattle.trick_lang.specs.declared.tree.Block.{Block}
 
 -- the block that an `if` runs, if it runs one
-abbrev pub picked : Branches → Sight → Result (Option ℕ) Stop
+abbrev pub picked : Branches → Sight → Result (Option ℕ) StatementFault
 picked NoElse s = Ok None
 picked (Else block) s = Ok (Some block)
 picked (Test line test block rest) s =
     at_line line (value test s) (λ n. if is_true n then Ok (Some block) else picked rest s)
 
 -- a frame is the rest of a block, or the turns of a loop that are left
-abbrev pub frame_run : List (List Code) → Setting → Frame → State → Result State Stop
+abbrev pub frame_run : List (List Code) → Setting → Frame → State → Result State StatementFault
 frame_run blocks x (Rest block at) s = run_all (drop at (block_at blocks block)) x s
 frame_run blocks x (Turns slot number end block) s = turns (turn x slot block) number (end - number) s
 
 -- the frames of a stack one after another, from the top
-abbrev pub stack_run : List (List Code) → Setting → List Frame → State → Result State Stop
+abbrev pub stack_run : List (List Code) → Setting → List Frame → State → Result State StatementFault
 stack_run blocks x [] s = Ok s
 stack_run blocks x (f ∷ fs) s = and_then (frame_run blocks x f s) (stack_run blocks x fs)
 
 -- what the frames of a program still do
-abbrev pub left : Program → ℕ → List ℤ → List Frame → State → Result State Stop
+abbrev pub left : Program → ℕ → List ℤ → List Frame → State → Result State StatementFault
 left p base memory = stack_run (codes_of p.blocks) (setting_of p base memory)
 
 -- a step went on to a place from which the same comes, or stopped
-abbrev pub Went : {U : Type 0} → Result U Stop → Result State Stop → Result State Stop → Type 0
+abbrev pub Went : {U : Type 0} → Result U StatementFault → Result State StatementFault → Result State StatementFault → Type 0
 Went (Ok u) before after = before ≡ after
 Went (Err stop) before after = before ≡ Err stop
 

@@ -19,7 +19,7 @@ use std::marker::Model;
 use trick_access::{Access, base, body, ranges_of, reads_in, reads_of_jobs};
 use trick_base::Items;
 use trick_lang::laws::{length_law, range_law};
-use trick_lang::{Block, Cell, CellRange, Cells, JobFault, JobId, Program, Stop};
+use trick_lang::{Block, Cell, CellRange, Cells, JobFault, JobId, Program, StatementFault};
 
 /// Where a job is evaluated: all buffers of one worker, which are made once. It is empty; or filled
 /// with the numbers that a job reads; or done, and then it holds what the job does to them.
@@ -27,7 +27,7 @@ use trick_lang::{Block, Cell, CellRange, Cells, JobFault, JobId, Program, Stop};
 pub struct Bench {
     phase: u64,
     job: Option<JobId>,
-    outcome: Option<Result<(), Stop>>,
+    outcome: Option<Result<(), StatementFault>>,
     inputs: Vec<i64>,
     working: Working,
     stack: Stack,

@@ -15,7 +15,7 @@ use crate::expression::{apply, find, value_of};
 use crate::stack::{Frame, Stack};
 use crate::working::Working;
 use trick_lang::{
-    Arithmetic, Bound, Branch, Change, Expr, FaultKind, Place, Program, Scalar, Stmt, Stop,
+    Arithmetic, Bound, Branch, Change, Expr, FaultKind, Place, Program, Scalar, Stmt, StatementFault,
     Variable, wrap,
 };
 
@@ -26,14 +26,14 @@ fn test_holds(
     base: u32,
     memory: &[i64],
     working: &Working,
-) -> Result<bool, Stop>
+) -> Result<bool, StatementFault>
     requires { IsTrue (term_passes span_test (term_of test.now)) }
     ensures { result ≡ at_line line (value (term_of test.now) (seen base memory.now working.now))
         (λ n. Ok (is_true n)) }
 {
     match value_of(test, base, memory, working) {
         Ok(number) => Ok(number != 0),
-        Err(kind) => Err(Stop { kind, line }),
+        Err(kind) => Err(StatementFault { kind, line }),
     }
 }
 
@@ -97,7 +97,7 @@ fn assign(
     base: u32,
     memory: &[i64],
     working: &mut Working,
-) -> Result<(), Stop>
+) -> Result<(), StatementFault>
     requires place { IsTrue (place_passes span_test (spot_of place.now)) }
     requires change { IsTrue (change_passes span_test (change_of change.now)) }
     ensures ran { Ran result working.new (at_line line
@@ -112,7 +112,7 @@ fn assign(
             working.store(cell, wrap(scalar, number as i128));
             Ok(())
         }
-        Err(kind) => Err(Stop { kind, line }),
+        Err(kind) => Err(StatementFault { kind, line }),
     }
 }
 
@@ -124,7 +124,7 @@ fn set_local(
     base: u32,
     memory: &[i64],
     working: &mut Working,
-) -> Result<(), Stop>
+) -> Result<(), StatementFault>
     requires passes { IsTrue (change_passes span_test (change_of change.now)) }
     ensures ran { Ran result working.new (at_line line
         (changed (change_of change.now) (local_of working.old slot)
@@ -138,7 +138,7 @@ fn set_local(
             working.set_local(slot, wrap(scalar, number as i128));
             Ok(())
         }
-        Err(kind) => Err(Stop { kind, line }),
+        Err(kind) => Err(StatementFault { kind, line }),
     }
 }
 
@@ -166,7 +166,7 @@ fn declare(
     base: u32,
     memory: &[i64],
     working: &mut Working,
-) -> Result<(), Stop>
+) -> Result<(), StatementFault>
     requires passes { IsTrue (first_passes span_test (first_value_of value.now)) }
     ensures ran { Ran result working.new (at_line line
         (first_value (first_value_of value.now)
@@ -180,7 +180,7 @@ fn declare(
             working.set_local(slot, wrap(scalar, number as i128));
             Ok(())
         }
-        Err(kind) => Err(Stop { kind, line }),
+        Err(kind) => Err(StatementFault { kind, line }),
     }
 }
 
@@ -202,7 +202,7 @@ fn pick(
     base: u32,
     memory: &[i64],
     working: &Working,
-) -> Result<Option<u32>, Stop>
+) -> Result<Option<u32>, StatementFault>
     requires { IsTrue (branch_passes span_test (branches_of branches.now (else_of otherwise))) }
     ensures { result ≡ picked_of (branches_of branches.now (else_of otherwise))
         (seen base memory.now working.now) }
@@ -225,7 +225,7 @@ fn perform(
     memory: &[i64],
     working: &mut Working,
     stack: &mut Stack,
-) -> Result<(), Stop>
+) -> Result<(), StatementFault>
     requires passes { IsTrue (code_passes span_test (code_of statement.now)) }
     requires room { IsTrue (code_fits program.now.blocks (length stack.old.frames) stack.old.room
         (code_of statement.now)) }
@@ -303,7 +303,7 @@ fn go_on(
     memory: &[i64],
     working: &mut Working,
     stack: &mut Stack,
-) -> Result<(), Stop>
+) -> Result<(), StatementFault>
     requires fits { Fits program.now.blocks stack.old.room
         (Rest block at ∷ stack.old.frames) }
     ensures ran { Went result
@@ -368,7 +368,7 @@ fn step(
     memory: &[i64],
     working: &mut Working,
     stack: &mut Stack,
-) -> Result<(), Stop>
+) -> Result<(), StatementFault>
     requires fits { Fits program.now.blocks stack.old.room (frame ∷ stack.old.frames) }
     ensures ran { Went result
         (left program.now base memory.now (frame ∷ stack.old.frames) working.old)
@@ -401,7 +401,7 @@ pub fn run(
     memory: &[i64],
     working: &mut Working,
     stack: &mut Stack,
-) -> Result<(), Stop>
+) -> Result<(), StatementFault>
     requires empty { stack.old.frames ≡ [] }
     requires room { deep_at program.now.blocks block ≤ stack.old.room }
     requires some { 0 < stack.old.room }

@@ -6,7 +6,7 @@ use Rattle.std.specs.Prelude.{◌⊎◌, Option, Result, nat_le}
 use Rattle.trick_exec.specs.CameTo.{CameTo}
 use Rattle.trick_exec.specs.Known.{AreKnown}
 use Rattle.trick_exec.specs.Worlds.{world_of}
-use Rattle.trick_exec.specs.declared.world.World.{World as WorldValue}
+use Rattle.trick_model.specs.declared.world.World.{World as WorldValue}
 use Rattle.trick_model.specs.Plan.{Plan}
 use Rattle.trick_model.specs.Run.{is_shut}
 use Rattle.trick_model.specs.State.{State, World}

@@ -3,7 +3,7 @@ use Rattle.std.proofs.Common.{◌≡◌, ◌∙◌, ℕ, ℤ, List, [], ◌∷�
 use Rattle.trick_exec.specs.CameTo.{CameTo}
 use Rattle.trick_exec.specs.Known.{AreKnown}
 use Rattle.trick_exec.specs.Worlds.{world_of}
-use Rattle.trick_exec.specs.declared.world.World.{World as WorldValue}
+use Rattle.trick_model.specs.declared.world.World.{World as WorldValue}
 use Rattle.std.specs.Prelude.{Result}
 use Rattle.trick_model.specs.Files.{turn_writes}
 use Rattle.trick_model.specs.Plan.{Plan, threads_beside}

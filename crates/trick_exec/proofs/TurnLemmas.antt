@@ -8,7 +8,7 @@ use Rattle.trick_exec.proofs.SessionLemmas.{AreAlong, all_entries, along_all, al
 use Rattle.trick_exec.specs.CameTo.{CameTo, HasGiven}
 use Rattle.trick_exec.specs.Known.{AreKnown}
 use Rattle.trick_exec.specs.Worlds.{world_of}
-use Rattle.trick_exec.specs.declared.world.World.{World as WorldValue}
+use Rattle.trick_model.specs.declared.world.World.{World as WorldValue}
 use Rattle.trick_hear.specs.Sessions.{AreHeard, numbers_of}
 use Rattle.trick_job.specs.Belongs.{IsMemoryOf}
 use Rattle.trick_lang.specs.declared.scalar.Scalar.{Scalar}

@@ -3,7 +3,7 @@ use Rattle.std.specs.Prelude.{◌≡◌, ◌⊎◌, ℕ, ℤ, Bool, false, not, 
 use Rattle.std.specs.List.{list_any}
 use Rattle.trick_exec.specs.Known.{AreKnown}
 use Rattle.trick_exec.specs.Worlds.{world_of}
-use Rattle.trick_exec.specs.declared.world.World.{World as WorldValue}
+use Rattle.trick_model.specs.declared.world.World.{World as WorldValue}
 use Rattle.trick_model.specs.Journal.{is_of_session}
 use Rattle.trick_model.specs.Plan.{Plan}
 use Rattle.trick_model.specs.State.{World}

@@ -15,9 +15,8 @@ mod source;
 mod start;
 mod turn;
 mod whole;
-mod world;
 
 pub use ended::Ended;
 pub use start::Start;
 pub use whole::run;
-pub use world::World;
+pub use trick_model::World;

@@ -7,20 +7,20 @@ ghost use Rattle.trick_grammar.specs.StartsWith.{next_in, repeats};
 
 use crate::lexeme::{Class, Lexeme};
 use crate::refusal::Refusal;
-use crate::stop::Stop;
+use crate::stop::GrammarStop;
 
 /// The next token, if it is of this class, and the tokens after it.
-pub fn take<C: Class>(rest: &[Lexeme<C>], class: C) -> Result<(&Lexeme<C>, &[Lexeme<C>]), Stop<C>>
+pub fn take<C: Class>(rest: &[Lexeme<C>], class: C) -> Result<(&Lexeme<C>, &[Lexeme<C>]), GrammarStop<C>>
     ensures { Gives (λ x. (x.0.now, x.1.now)) result
         (read_token C.number class_of (class ∷ []) rest.now) }
 {
     match rest {
-        [] => Err(Stop::At(Refusal::Expected, rest)),
+        [] => Err(GrammarStop::At(Refusal::Expected, rest)),
         [next, after @ ..] => {
             if next.class.is(class) {
                 Ok((next, after))
             } else {
-                Err(Stop::At(Refusal::Expected, rest))
+                Err(GrammarStop::At(Refusal::Expected, rest))
             }
         }
     }
@@ -30,17 +30,17 @@ pub fn take<C: Class>(rest: &[Lexeme<C>], class: C) -> Result<(&Lexeme<C>, &[Lex
 pub fn take_one_of<'a, C: Class>(
     rest: &'a [Lexeme<C>],
     classes: &[C],
-) -> Result<(&'a Lexeme<C>, &'a [Lexeme<C>]), Stop<'a, C>>
+) -> Result<(&'a Lexeme<C>, &'a [Lexeme<C>]), GrammarStop<'a, C>>
     ensures { Gives (λ x. (x.0.now, x.1.now)) result
         (read_token C.number class_of classes.now rest.now) }
 {
     match rest {
-        [] => Err(Stop::At(Refusal::Expected, rest)),
+        [] => Err(GrammarStop::At(Refusal::Expected, rest)),
         [next, after @ ..] => {
             if is_one_of(next.class, classes) {
                 Ok((next, after))
             } else {
-                Err(Stop::At(Refusal::Expected, rest))
+                Err(GrammarStop::At(Refusal::Expected, rest))
             }
         }
     }
@@ -97,14 +97,14 @@ pub fn take_hinted<C: Class>(
     rest: &[Lexeme<C>],
     class: C,
     reason: Refusal,
-) -> Result<(&Lexeme<C>, &[Lexeme<C>]), Stop<C>>
+) -> Result<(&Lexeme<C>, &[Lexeme<C>]), GrammarStop<C>>
     ensures { Gives (λ x. (x.0.now, x.1.now)) result
         (with_hint reason (read_token C.number class_of (class ∷ []) rest.now)) }
 {
     match take(rest, class) {
         Ok(taken) => Ok(taken),
-        Err(Stop::Memory) => Err(Stop::Memory),
-        Err(Stop::At(kind, at)) => Err(Stop::At(hinted(reason, kind), at)),
+        Err(GrammarStop::Memory) => Err(GrammarStop::Memory),
+        Err(GrammarStop::At(kind, at)) => Err(GrammarStop::At(hinted(reason, kind), at)),
     }
 }
 
@@ -162,17 +162,17 @@ pub fn take_again<'a, C: Class>(
     classes: &[C],
     scope: &[Lexeme<C>],
     rest: &'a [Lexeme<C>],
-) -> Result<(&'a Lexeme<C>, &'a [Lexeme<C>]), Stop<'a, C>>
+) -> Result<(&'a Lexeme<C>, &'a [Lexeme<C>]), GrammarStop<'a, C>>
     ensures { Gives (λ x. (x.0.now, x.1.now)) result
         (read_again C.number class_of (text_of text.now) classes.now scope.now rest.now) }
 {
     match rest {
-        [] => Err(Stop::At(Refusal::Expected, rest)),
+        [] => Err(GrammarStop::At(Refusal::Expected, rest)),
         [next, after @ ..] => {
             if is_one_of(next.class, classes) && repeats(text, classes, scope, next) {
                 Ok((next, after))
             } else {
-                Err(Stop::At(Refusal::Expected, rest))
+                Err(GrammarStop::At(Refusal::Expected, rest))
             }
         }
     }

@@ -14,4 +14,4 @@ pub use cursor::{
 };
 pub use lexeme::{Class, Lexeme};
 pub use refusal::Refusal;
-pub use stop::Stop;
+pub use stop::GrammarStop;

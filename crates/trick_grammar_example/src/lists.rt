@@ -10,7 +10,7 @@ ghost use Rattle.trick_grammar_example.specs.Words.{number_of};
 use crate::tree::Stmt;
 use crate::word::{Token, Word};
 use std::alloc::Global;
-use trick_grammar::{Refusal, Stop, next_is, take};
+use trick_grammar::{Refusal, GrammarStop, next_is, take};
 
 /// list = "enum" NAME "{" items "}" ";"
 #[tactic(auto, unfolding(crate::specs::Statements::list_body))]
@@ -18,7 +18,7 @@ pub fn read_list(
     alloc: Global,
     limit: usize,
     rest: &[Token],
-) -> Result<(Stmt, &[Token]), Stop<Word>>
+) -> Result<(Stmt, &[Token]), GrammarStop<Word>>
     ensures { Gives (λ x. (statement_of x.0, x.1.now)) result
         (read number_of class_of [] (list_statement limit) rest.now) }
 {
@@ -37,7 +37,7 @@ fn read_items(
     alloc: Global,
     limit: usize,
     rest: &[Token],
-) -> Result<(Vec<Token>, &[Token]), Stop<Word>>
+) -> Result<(Vec<Token>, &[Token]), GrammarStop<Word>>
     ensures { Gives (λ x. (x.0.items, x.1.now)) result
         (read number_of class_of [] (items limit) rest.now) }
 {
@@ -51,7 +51,7 @@ fn read_more_items(
     limit: usize,
     first: Token,
     rest: &[Token],
-) -> Result<(Vec<Token>, &[Token]), Stop<Word>>
+) -> Result<(Vec<Token>, &[Token]), GrammarStop<Word>>
     ensures { Gives (λ x. (x.0.items, x.1.now)) result
         (prefixed (first ∷ []) (read number_of class_of [] (items_behind (limit - 1)) rest.now)) }
 {
@@ -64,7 +64,7 @@ fn read_more_items(
             return Ok((found, after));
         }
         if found.len() >= limit {
-            return Err(Stop::At(Refusal::TooLong, after));
+            return Err(GrammarStop::At(Refusal::TooLong, after));
         }
         let (item, after) = take(after, Word::Name)?;
         found.push(*item)?;

@@ -15,7 +15,7 @@ use crate::telling::told_line;
 use crate::tree::Stmt;
 use crate::word::{Token, Word};
 use std::alloc::Global;
-use trick_grammar::{Refusal, Stop};
+use trick_grammar::{Refusal, GrammarStop};
 
 /// Why a text is no program.
 #[derive(Clone, Copy, Debug, PartialEq, Eq)]
@@ -42,8 +42,8 @@ pub fn read_program(alloc: Global, cut: Cut, limit: usize, depth: usize) -> Resu
 {
     match read_to_end(alloc, cut, limit, depth) {
         Ok(statements) => Ok(statements),
-        Err(Stop::Memory) => Err(Fault::OutOfMemory),
-        Err(Stop::At(kind, rest)) => Err(Fault::Refused {
+        Err(GrammarStop::Memory) => Err(Fault::OutOfMemory),
+        Err(GrammarStop::At(kind, rest)) => Err(Fault::Refused {
             kind,
             line: told_at(cut, kind, rest),
         }),
@@ -64,7 +64,7 @@ fn read_to_end<'t>(
     cut: Cut<'t>,
     limit: usize,
     depth: usize,
-) -> Result<Vec<Stmt>, Stop<'t, Word>>
+) -> Result<Vec<Stmt>, GrammarStop<'t, Word>>
     ensures { Gives (λ v. map statement_of v.items) result
         (read_all number_of class_of (program cut.entry.text.now limit depth) cut.entry.tokens.now) }
 {
@@ -76,6 +76,6 @@ fn read_to_end<'t>(
     let (statements, rest) = read_statements(alloc, source, depth, cut.tokens)?;
     match rest {
         [] => Ok(statements),
-        [_, ..] => Err(Stop::At(Refusal::Expected, rest)),
+        [_, ..] => Err(GrammarStop::At(Refusal::Expected, rest)),
     }
 }

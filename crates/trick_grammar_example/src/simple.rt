@@ -13,7 +13,7 @@ use crate::sums::read_sum;
 use crate::tree::{Expr, Stmt};
 use crate::word::{Token, Word};
 use std::alloc::Global;
-use trick_grammar::{Refusal, Stop, is_in_scope, next_is, reason_at, take, take_hinted};
+use trick_grammar::{Refusal, GrammarStop, is_in_scope, next_is, reason_at, take, take_hinted};
 
 /// What a simple statement does to its name.
 #[derive(Drop)]
@@ -25,7 +25,7 @@ pub enum Deed {
 
 /// called = "(" ")" ";"
 #[tactic(auto, unfolding(crate::specs::Statements::called_body))]
-fn read_called(rest: &[Token]) -> Result<(Deed, &[Token]), Stop<Word>>
+fn read_called(rest: &[Token]) -> Result<(Deed, &[Token]), GrammarStop<Word>>
     ensures { Gives (λ x. (deed_of x.0, x.1.now)) result (read number_of class_of [] called rest.now) }
 {
     let (_, rest) = take(rest, Word::OpenParen)?;
@@ -36,7 +36,7 @@ fn read_called(rest: &[Token]) -> Result<(Deed, &[Token]), Stop<Word>>
 
 /// free = called | ( "=" sum | "++" ) ";"
 #[tactic(auto, unfolding(crate::specs::Statements::free_body))]
-fn read_free(alloc: Global, depth: usize, rest: &[Token]) -> Result<(Deed, &[Token]), Stop<Word>>
+fn read_free(alloc: Global, depth: usize, rest: &[Token]) -> Result<(Deed, &[Token]), GrammarStop<Word>>
     ensures { Gives (λ x. (deed_of x.0, x.1.now)) result
         (read number_of class_of [] (free depth) rest.now) }
 {
@@ -56,13 +56,13 @@ fn read_free(alloc: Global, depth: usize, rest: &[Token]) -> Result<(Deed, &[Tok
 
 /// What may stand after the name of a loop round it: that name may be called, and is not assigned.
 #[tactic(auto, unfolding(crate::specs::Statements::bound_body))]
-fn read_bound(rest: &[Token]) -> Result<(Deed, &[Token]), Stop<Word>>
+fn read_bound(rest: &[Token]) -> Result<(Deed, &[Token]), GrammarStop<Word>>
     ensures { Gives (λ x. (deed_of x.0, x.1.now)) result (read number_of class_of [] bound rest.now) }
 {
     if next_is(rest, Word::OpenParen) {
         return read_called(rest);
     }
-    Err(Stop::At(
+    Err(GrammarStop::At(
         reason_at(rest, Refusal::BadLoop, &[Word::Assign, Word::Increment]),
         rest,
     ))
@@ -85,7 +85,7 @@ pub fn read_simple<'a>(
     source: Source,
     depth: usize,
     rest: &'a [Token],
-) -> Result<(Stmt, &'a [Token]), Stop<'a, Word>>
+) -> Result<(Stmt, &'a [Token]), GrammarStop<'a, Word>>
     ensures { Gives (λ x. (statement_of x.0, x.1.now)) result
         (read number_of class_of source.entry.scope.now (simple source.entry.text.now depth) rest.now) }
 {

@@ -16,7 +16,7 @@ use crate::tree::{Link, Stmt};
 use crate::word::{Token, Word};
 use std::alloc::Global;
 use trick_grammar::{
-    Refusal, Stop, hinted, next_is, next_is_one_of, take, take_again, take_hinted,
+    Refusal, GrammarStop, hinted, next_is, next_is_one_of, take, take_again, take_hinted,
 };
 
 // What a statement begins with.
@@ -30,7 +30,7 @@ fn read_block<'a>(
     source: Source,
     depth: usize,
     rest: &'a [Token],
-) -> Result<(Vec<Stmt>, &'a [Token]), Stop<'a, Word>>
+) -> Result<(Vec<Stmt>, &'a [Token]), GrammarStop<'a, Word>>
     ensures { Gives (λ x. (statements_of (map statement_of x.0.items), x.1.now)) result
         (read number_of class_of source.entry.scope.now
         (block_with source.entry.text.now source.entry.limit
@@ -49,7 +49,7 @@ pub fn read_statements<'a>(
     source: Source,
     depth: usize,
     rest: &'a [Token],
-) -> Result<(Vec<Stmt>, &'a [Token]), Stop<'a, Word>>
+) -> Result<(Vec<Stmt>, &'a [Token]), GrammarStop<'a, Word>>
     ensures { Gives (λ x. (map statement_of x.0.items, x.1.now)) result
         (read number_of class_of source.entry.scope.now
         (repetition source.entry.limit (statement source.entry.text.now source.entry.limit depth)) rest.now) }
@@ -58,7 +58,7 @@ pub fn read_statements<'a>(
     let mut rest = rest;
     while next_is_one_of(rest, &STATEMENTS) {
         if found.len() >= source.limit {
-            return Err(Stop::At(Refusal::TooLong, rest));
+            return Err(GrammarStop::At(Refusal::TooLong, rest));
         }
         let (statement, after) = read_statement(alloc, source, depth, rest)?;
         found.push(statement)?;
@@ -75,7 +75,7 @@ fn read_when<'a>(
     source: Source,
     depth: usize,
     rest: &'a [Token],
-) -> Result<(Stmt, &'a [Token]), Stop<'a, Word>>
+) -> Result<(Stmt, &'a [Token]), GrammarStop<'a, Word>>
     ensures { Gives (λ x. (statement_of x.0, x.1.now)) result
         (read number_of class_of source.entry.scope.now
         (when_with source.entry.text.now source.entry.limit depth
@@ -97,7 +97,7 @@ fn read_choice<'a>(
     source: Source,
     depth: usize,
     rest: &'a [Token],
-) -> Result<(Stmt, &'a [Token]), Stop<'a, Word>>
+) -> Result<(Stmt, &'a [Token]), GrammarStop<'a, Word>>
     ensures { Gives (λ x. (statement_of x.0, x.1.now)) result
         (read number_of class_of source.entry.scope.now
         (choice_with source.entry.text.now source.entry.limit depth
@@ -124,7 +124,7 @@ fn read_links<'a>(
     source: Source,
     depth: usize,
     rest: &'a [Token],
-) -> Result<((Vec<Stmt>, Option<Stmt>), &'a [Token]), Stop<'a, Word>>
+) -> Result<((Vec<Stmt>, Option<Stmt>), &'a [Token]), GrammarStop<'a, Word>>
     ensures { Gives (λ x. ((map statement_of x.0.0.items, option_map statement_of x.0.1), x.1.now)) result
         (read number_of class_of source.entry.scope.now
         (nearest (link source.entry.text.now source.entry.limit depth)) rest.now) }
@@ -150,7 +150,7 @@ fn read_link<'a>(
     source: Source,
     depth: usize,
     rest: &'a [Token],
-) -> Result<(Link, &'a [Token]), Stop<'a, Word>>
+) -> Result<(Link, &'a [Token]), GrammarStop<'a, Word>>
     ensures { Gives (λ x. (link_of x.0, x.1.now)) result
         (read number_of class_of source.entry.scope.now
         (link source.entry.text.now source.entry.limit depth) rest.now) }
@@ -172,7 +172,7 @@ fn read_loop<'a>(
     source: Source,
     depth: usize,
     rest: &'a [Token],
-) -> Result<(Stmt, &'a [Token]), Stop<'a, Word>>
+) -> Result<(Stmt, &'a [Token]), GrammarStop<'a, Word>>
     ensures { Gives (λ x. (statement_of x.0, x.1.now)) result
         (read number_of class_of source.entry.scope.now
         (loop_with source.entry.text.now (statement source.entry.text.now source.entry.limit depth)) rest.now) }
@@ -190,7 +190,7 @@ fn read_scoped<'a>(
     source: Source,
     depth: usize,
     rest: &'a [Token],
-) -> Result<((&'a Token, (&'a Token, &'a Token), Stmt), &'a [Token]), Stop<'a, Word>>
+) -> Result<((&'a Token, (&'a Token, &'a Token), Stmt), &'a [Token]), GrammarStop<'a, Word>>
     ensures { Gives (λ x. ((x.0.0.now, ((x.0.1.0.now, x.0.1.1.now), statement_of x.0.2)), x.1.now)) result
         (read number_of class_of source.entry.scope.now
         (scoped_with source.entry.text.now (statement source.entry.text.now source.entry.limit depth))
@@ -214,7 +214,7 @@ fn read_turns<'a>(
     source: Source,
     depth: usize,
     rest: &'a [Token],
-) -> Result<(((&'a Token, &'a Token), Stmt), &'a [Token]), Stop<'a, Word>>
+) -> Result<(((&'a Token, &'a Token), Stmt), &'a [Token]), GrammarStop<'a, Word>>
     ensures { Gives (λ x. (((x.0.0.0.now, x.0.0.1.now), statement_of x.0.1), x.1.now)) result
         (read number_of class_of source.entry.scope.now
         (turns_with source.entry.text.now (statement source.entry.text.now source.entry.limit depth))
@@ -230,14 +230,14 @@ fn read_turns<'a>(
 fn read_header<'a>(
     source: Source,
     rest: &'a [Token],
-) -> Result<((&'a Token, &'a Token), &'a [Token]), Stop<'a, Word>>
+) -> Result<((&'a Token, &'a Token), &'a [Token]), GrammarStop<'a, Word>>
     ensures { Gives (λ x. ((x.0.0.now, x.0.1.now), x.1.now)) result
         (read number_of class_of source.entry.scope.now (header source.entry.text.now) rest.now) }
 {
     match read_plain_header(source, rest) {
         Ok(read) => Ok(read),
-        Err(Stop::Memory) => Err(Stop::Memory),
-        Err(Stop::At(kind, at)) => Err(Stop::At(hinted(Refusal::BadHeader, kind), at)),
+        Err(GrammarStop::Memory) => Err(GrammarStop::Memory),
+        Err(GrammarStop::At(kind, at)) => Err(GrammarStop::At(hinted(Refusal::BadHeader, kind), at)),
     }
 }
 
@@ -245,7 +245,7 @@ fn read_header<'a>(
 fn read_plain_header<'a>(
     source: Source,
     rest: &'a [Token],
-) -> Result<((&'a Token, &'a Token), &'a [Token]), Stop<'a, Word>>
+) -> Result<((&'a Token, &'a Token), &'a [Token]), GrammarStop<'a, Word>>
     ensures { Gives (λ x. ((x.0.0.now, x.0.1.now), x.1.now)) result
         (read number_of class_of source.entry.scope.now (plain_header source.entry.text.now) rest.now) }
 {
@@ -270,7 +270,7 @@ fn read_other<'a>(
     source: Source,
     depth: usize,
     rest: &'a [Token],
-) -> Result<(Stmt, &'a [Token]), Stop<'a, Word>>
+) -> Result<(Stmt, &'a [Token]), GrammarStop<'a, Word>>
     ensures { Gives (λ x. (statement_of x.0, x.1.now)) result
         (read number_of class_of source.entry.scope.now
         (other_with source.entry.text.now source.entry.limit depth
@@ -296,7 +296,7 @@ fn read_statement<'a>(
     source: Source,
     depth: usize,
     rest: &'a [Token],
-) -> Result<(Stmt, &'a [Token]), Stop<'a, Word>>
+) -> Result<(Stmt, &'a [Token]), GrammarStop<'a, Word>>
     ensures { Gives (λ x. (statement_of x.0, x.1.now)) result
         (read number_of class_of source.entry.scope.now
         (statement source.entry.text.now source.entry.limit depth) rest.now) }
@@ -314,7 +314,7 @@ fn read_nested<'a>(
     source: Source,
     depth: usize,
     rest: &'a [Token],
-) -> Result<(Stmt, &'a [Token]), Stop<'a, Word>>
+) -> Result<(Stmt, &'a [Token]), GrammarStop<'a, Word>>
     ensures { Gives (λ x. (statement_of x.0, x.1.now)) result
         (read number_of class_of source.entry.scope.now
         (statement source.entry.text.now source.entry.limit (suc depth)) rest.now) }
@@ -330,13 +330,13 @@ fn read_flat<'a>(
     alloc: Global,
     source: Source,
     rest: &'a [Token],
-) -> Result<(Stmt, &'a [Token]), Stop<'a, Word>>
+) -> Result<(Stmt, &'a [Token]), GrammarStop<'a, Word>>
     ensures { Gives (λ x. (statement_of x.0, x.1.now)) result
         (read number_of class_of source.entry.scope.now
         (statement source.entry.text.now source.entry.limit 0) rest.now) }
 {
     if next_is_one_of(rest, &[Word::OpenBrace, Word::If, Word::For]) {
-        return Err(Stop::At(Refusal::TooDeep, rest));
+        return Err(GrammarStop::At(Refusal::TooDeep, rest));
     }
     if next_is(rest, Word::Enum) {
         return read_list(alloc, source.limit, rest);

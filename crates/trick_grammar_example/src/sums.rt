@@ -11,7 +11,7 @@ ghost use Rattle.trick_grammar_example.specs.Words.{number_of};
 use crate::tree::Expr;
 use crate::word::{Token, Word};
 use std::alloc::Global;
-use trick_grammar::{Refusal, Stop, next_is, next_is_one_of, reason_at, take, take_one_of};
+use trick_grammar::{Refusal, GrammarStop, next_is, next_is_one_of, reason_at, take, take_one_of};
 
 /// The operators of a level of precedence, from the tightest.
 fn marks(level: usize) -> &'static [Word]
@@ -25,7 +25,7 @@ fn marks(level: usize) -> &'static [Word]
 }
 
 /// sum: all levels
-pub fn read_sum(alloc: Global, depth: usize, rest: &[Token]) -> Result<(Expr, &[Token]), Stop<Word>>
+pub fn read_sum(alloc: Global, depth: usize, rest: &[Token]) -> Result<(Expr, &[Token]), GrammarStop<Word>>
     ensures { Gives (λ x. (expression_of x.0, x.1.now)) result
         (read number_of class_of [] (sum depth) rest.now) }
 {
@@ -39,7 +39,7 @@ fn read_binary(
     depth: usize,
     level: usize,
     rest: &[Token],
-) -> Result<(Expr, &[Token]), Stop<Word>>
+) -> Result<(Expr, &[Token]), GrammarStop<Word>>
     ensures { Gives (λ x. (expression_of x.0, x.1.now)) result
         (read number_of class_of [] (binary level (operand depth)) rest.now) }
 {
@@ -56,7 +56,7 @@ fn read_level(
     depth: usize,
     level: usize,
     rest: &[Token],
-) -> Result<(Expr, &[Token]), Stop<Word>>
+) -> Result<(Expr, &[Token]), GrammarStop<Word>>
     ensures { Gives (λ x. (expression_of x.0, x.1.now)) result
         (read number_of class_of [] (binary (suc level) (operand depth)) rest.now) }
 {
@@ -75,7 +75,7 @@ fn read_links(
     depth: usize,
     level: usize,
     rest: &[Token],
-) -> Result<(Vec<Expr>, &[Token]), Stop<Word>>
+) -> Result<(Vec<Expr>, &[Token]), GrammarStop<Word>>
     ensures { Gives (λ x. (map expression_of x.0.items, x.1.now)) result
         (read number_of class_of [] (any_number (link_at level (binary level (operand depth))))
         rest.now) }
@@ -97,7 +97,7 @@ fn read_link(
     depth: usize,
     level: usize,
     rest: &[Token],
-) -> Result<(Expr, &[Token]), Stop<Word>>
+) -> Result<(Expr, &[Token]), GrammarStop<Word>>
     ensures { Gives (λ x. (expression_of x.0, x.1.now)) result
         (read number_of class_of [] (link_at level (binary level (operand depth))) rest.now) }
 {
@@ -109,7 +109,7 @@ fn read_link(
 /// operand = NAME | WHOLE | "(" sum ")"
 #[cycle(sums)]
 #[tactic(auto, unfolding(crate::specs::Statements::operand_body))]
-fn read_operand(alloc: Global, depth: usize, rest: &[Token]) -> Result<(Expr, &[Token]), Stop<Word>>
+fn read_operand(alloc: Global, depth: usize, rest: &[Token]) -> Result<(Expr, &[Token]), GrammarStop<Word>>
     ensures { Gives (λ x. (expression_of x.0, x.1.now)) result
         (read number_of class_of [] (operand depth) rest.now) }
 {
@@ -130,7 +130,7 @@ fn read_operand(alloc: Global, depth: usize, rest: &[Token]) -> Result<(Expr, &[
 /// inner = "(" sum ")"
 #[cycle(sums)]
 #[tactic(auto, unfolding(crate::specs::Statements::inner_body))]
-fn read_inner(alloc: Global, depth: usize, rest: &[Token]) -> Result<(Expr, &[Token]), Stop<Word>>
+fn read_inner(alloc: Global, depth: usize, rest: &[Token]) -> Result<(Expr, &[Token]), GrammarStop<Word>>
     ensures { Gives (λ x. (expression_of x.0, x.1.now)) result
         (read number_of class_of [] (inner (suc depth)) rest.now) }
 {
@@ -141,9 +141,9 @@ fn read_inner(alloc: Global, depth: usize, rest: &[Token]) -> Result<(Expr, &[To
 }
 
 #[tactic(auto, unfolding(crate::specs::Statements::inner_body))]
-fn read_no_inner(rest: &[Token]) -> Result<(Expr, &[Token]), Stop<Word>>
+fn read_no_inner(rest: &[Token]) -> Result<(Expr, &[Token]), GrammarStop<Word>>
     ensures { Gives (λ x. (expression_of x.0, x.1.now)) result
         (read number_of class_of [] (inner 0) rest.now) }
 {
-    Err(Stop::At(reason_at(rest, Refusal::TooDeep, &[Word::OpenParen]), rest))
+    Err(GrammarStop::At(reason_at(rest, Refusal::TooDeep, &[Word::OpenParen]), rest))
 }

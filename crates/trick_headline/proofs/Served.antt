@@ -22,7 +22,7 @@ use Rattle.trick_serve_clients.specs.Tended.{HasNoMore, HasTended, IsTendedSeat}
 use Rattle.trick_serve_clients.specs.declared.closing.Closed.{Closed}
 use Rattle.trick_serve_door.specs.Taking.{Hosts}
 use Rattle.trick_serve_door.specs.Told.{refused_of}
-use Rattle.trick_serve_door.specs.declared.ending.Ended.{Ended}
+use Rattle.trick_serve_door.specs.declared.ending.SessionEnd.{SessionEnd}
 use Rattle.trick_serve_facts.specs.Clients.{HasServed}
 use Rattle.trick_serve_facts.specs.IsServed.{RunsAreServed}
 use Rattle.trick_serve_facts.specs.Joins.{FirstClientsJoin}
@@ -83,7 +83,7 @@ module _ {D I O S : Type 0} (laws : Laws) (h : Hosts D I O S) (door : D) (spawne
       ended = λ waited stays bytes tells. said_all waited stays bytes tells;
     }
 
-  seated : (k : ℕ) (links : I × O) (back : Ended I O) → IsClient h door spawner new closed tended k links back → k < length new.seats
+  seated : (k : ℕ) (links : I × O) (back : SessionEnd I O) → IsClient h door spawner new closed tended k links back → k < length new.seats
       → IsClientServed p s lists (has_waited p s lists) (k + 1) (tale_between h.input h.output links back)
   seated k links back is less =
       let seat = tended.seated k less in

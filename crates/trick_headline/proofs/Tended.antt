@@ -17,7 +17,7 @@ use Rattle.trick_serve_clients.specs.Tended.{HasTended, IsTended, IsTendedSeat}
 use Rattle.trick_serve_clients.specs.declared.closing.Closed.{Closed}
 use Rattle.trick_serve_door.specs.Taking.{Hosts}
 use Rattle.trick_serve_door.specs.Told.{IsOpen, links_of}
-use Rattle.trick_serve_door.specs.declared.ending.Ended.{Ended}
+use Rattle.trick_serve_door.specs.declared.ending.SessionEnd.{SessionEnd}
 use Rattle.trick_serve_facts.proofs.Tales.{end_says}
 use Rattle.trick_serve_facts.specs.Clients.{EndSays}
 use Rattle.trick_serve_facts.specs.Sent.{ClientsAreSent, HasBeenSent}
@@ -49,18 +49,18 @@ module _ {D I O S : Type 0} (h : Hosts D I O S) (door : D) (spawner : S) (v : Vi
   -- ---- one client
 
   -- The links of the client at this place, as the door gave them, and its end.
-  pub record IsClient (k : ℕ) (links : I × O) (back : Ended I O) : Type 0 where
+  pub record IsClient (k : ℕ) (links : I × O) (back : SessionEnd I O) : Type 0 where
     pub given : slice_get (clients asks_of) k ≡ Some links
     pub goes : slice_get tended.sessions k ≡ Some back
 
   -- what its links tell is what they tell by its arrival
-  pub same_tale : (k : ℕ) (links : I × O) (back : Ended I O) (s : Side) (client : IsTended h.input h.output tended.arrivals tended.sessions k s) → IsClient k links back
+  pub same_tale : (k : ℕ) (links : I × O) (back : SessionEnd I O) (s : Side) (client : IsTended h.input h.output tended.arrivals tended.sessions k s) → IsClient k links back
       → tale_of h.input h.output client.arrival client.ended ≡ tale_between h.input h.output links back
   same_tale k links back s client is =
       let there : Some (client.arrival.input.value, client.arrival.output.value) ≡ Some links =
       sym (links_get tended.arrivals k client.arrival client.comes) ∙ ap (λ (l : List (I × O)). slice_get l k) (sym gave) ∙ is.given in
       ap (λ (l : I × O). tale_between h.input h.output l client.ended) (same_Some _ _ there)
-      ∙ ap (λ (e : Ended I O). tale_between h.input h.output links e) (same_Some _ _ (sym client.goes ∙ is.goes))
+      ∙ ap (λ (e : SessionEnd I O). tale_between h.input h.output links e) (same_Some _ _ (sym client.goes ∙ is.goes))
 
   -- what is said of the end of the client of a seat
   pub seat_says : (k : ℕ) (seat : IsTendedSeat h.input h.output tended.arrivals tended.sessions k (side v.seats k))
@@ -70,7 +70,7 @@ module _ {D I O S : Type 0} (h : Hosts D I O S) (door : D) (spawner : S) (v : Vi
       end_says h.input h.output client.arrival client.past client.ended (side v.seats k) client.end
 
   -- a client that came too late to join was sent nothing
-  pub sent_late : (k : ℕ) (links : I × O) (back : Ended I O) → IsClient k links back → length v.seats ≤ k
+  pub sent_late : (k : ℕ) (links : I × O) (back : SessionEnd I O) → IsClient k links back → length v.seats ≤ k
       → IsSentOf [] (tale_between h.input h.output links back)
   sent_late k links back is past =
       let within : k < length tended.arrivals = omega (arith, slice_get_within tended.sessions k back is.goes, tended.count) in
@@ -83,7 +83,7 @@ module _ {D I O S : Type 0} (h : Hosts D I O S) (door : D) (spawner : S) (v : Vi
   -- ---- what was handed over in a run, to its end or not
 
   module _ (law : ClientsAreSent) (old : View) (answers : List Answer) (said : List Message) (none : old.seats ≡ []) (went : Went old v answers said) where
-    sent_seated : (k : ℕ) (links : I × O) (back : Ended I O) → IsClient k links back → k < length v.seats
+    sent_seated : (k : ℕ) (links : I × O) (back : SessionEnd I O) → IsClient k links back → k < length v.seats
         → IsSentOf (messages_to (k + 1) said) (tale_between h.input h.output links back)
     sent_seated k links back is less =
         let seat = tended.seated k less in
@@ -95,7 +95,7 @@ module _ {D I O S : Type 0} (h : Hosts D I O S) (door : D) (spawner : S) (v : Vi
         (sent_more was.kept was.dropped (messages_to (k + 1) said) tale was.messages_are
         (record { part = sent.part; rest = sent.rest; text_is = sent.text_is; took = sent.took }))
 
-    sent_each : (k : ℕ) (links : I × O) (back : Ended I O) → IsClient k links back
+    sent_each : (k : ℕ) (links : I × O) (back : SessionEnd I O) → IsClient k links back
         → IsSentOf (messages_to (k + 1) said) (tale_between h.input h.output links back)
     sent_each k links back is = ⊎_elim
         (λ less. sent_seated k links back is less)

@@ -17,7 +17,7 @@ use Rattle.trick_outside.specs.declared.link_out.LinkOut.{Ghosts as OutGhosts}
 use Rattle.trick_serve.specs.Sides.{Queues}
 use Rattle.trick_serve_door.specs.Returns.{backs_of}
 use Rattle.trick_serve_door.specs.Taking.{Hosts}
-use Rattle.trick_serve_door.specs.declared.ending.Ended.{Ended}
+use Rattle.trick_serve_door.specs.declared.ending.SessionEnd.{SessionEnd}
 use Rattle.trick_serve_facts.specs.Clients.{HasServed, IsAbsent, LinkTale}
 use Rattle.trick_serve_facts.specs.IsServed.{FreezeHasEntries}
 use Rattle.trick_serve_facts.specs.Joins.{JoinsFirst, numbers_from}
@@ -49,7 +49,7 @@ module _ {I O : Type 0} where
   EndsOver (Back number input output ∷ visits) = EndsOver visits
 
   -- what the links of a client tell, as the door gave them and as it got them back
-  abbrev pub tale_between : InGhosts I → OutGhosts O → I × O → Ended I O → LinkTale
+  abbrev pub tale_between : InGhosts I → OutGhosts O → I × O → SessionEnd I O → LinkTale
   tale_between input output links ended = record {
     told = input.holds links.0;
     read_before = input.failures links.0;
@@ -64,7 +64,7 @@ module _ {I O : Type 0} where
 -- A run asked its door for clients, and then gave the links of each client back, once, under its number.
 pub record Visits {D I O S : Type 0} (h : Hosts D I O S) (before now : D) : Type 0 where
   pub asks : List (Visit I O)
-  pub ended : List (Ended I O)
+  pub ended : List (SessionEnd I O)
   pub visited : h.visited before (asks ++ backs_of 1 ended) now
   pub asked : All IsAsk asks
   pub each : length ended ≡ length (clients asks)
@@ -73,7 +73,7 @@ pub record Visits {D I O S : Type 0} (h : Hosts D I O S) (before now : D) : Type
 abbrev pub EachClient : {D I O S : Type 0} {h : Hosts D I O S} {before now : D} → Visits h before now
     → (ℕ → LinkTale → Type 0) → Type 0
 EachClient {I = I} {O = O} {h = h} visits Holds =
-    (k : ℕ) (links : I × O) (end : Ended I O) → slice_get (clients visits.asks) k ≡ Some links
+    (k : ℕ) (links : I × O) (end : SessionEnd I O) → slice_get (clients visits.asks) k ≡ Some links
     → slice_get visits.ended k ≡ Some end → Holds k (tale_between h.input h.output links end)
 
 -- ---- what clients were sent

@@ -15,7 +15,7 @@ use trick_text::{Token, TokenKind, seconds, whole};
 
 /// A token of an input.
 #[derive(Clone, Copy)]
-pub struct Lexeme<'a> {
+pub struct InputLexeme<'a> {
     pub class: Class,
     pub bytes: &'a [u8],
     /// Of a whole number its value, and else 0.
@@ -197,11 +197,11 @@ fn time_of(text: &[u8], token: &Token) -> Time
     }
 }
 
-fn lexeme_of<'a>(text: &'a [u8], token: &Token) -> Lexeme<'a>
+fn lexeme_of<'a>(text: &'a [u8], token: &Token) -> InputLexeme<'a>
     requires { ReadsAsToken text.now token.now }
     ensures { seen result ≡ lexeme_of text.now token.now }
 {
-    Lexeme {
+    InputLexeme {
         class: class_of(text, token),
         bytes: token.spelling(text),
         number: whole_of(text, token),
@@ -214,7 +214,7 @@ pub fn lexemes<'a>(
     alloc: Global,
     text: &'a [u8],
     tokens: &[Token],
-) -> Result<Vec<Lexeme<'a>>, AllocError>
+) -> Result<Vec<InputLexeme<'a>>, AllocError>
     requires { All (ReadsAsToken text.now) tokens.now }
     ensures { IfOk result (λ found. all_seen found.items ≡ lexemes_of text.now tokens.now) }
 {

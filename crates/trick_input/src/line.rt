@@ -7,7 +7,7 @@ ghost use Rattle.trick_input.specs.Seen.{all_seen};
 
 use crate::class::Class;
 use crate::form::{Piece, Row, Sort, fits, pieces, rows};
-use crate::lexeme::Lexeme;
+use crate::lexeme::InputLexeme;
 
 /// Where a form stands: how many tokens are left, and whether a literal is due.
 #[derive(Clone, Copy, PartialEq, Eq)]
@@ -76,7 +76,7 @@ fn at_end(inside: Inside, form: &[Piece]) -> Option<Place>
 }
 
 /// How far a form goes on with a line; none where it goes on to its end.
-pub fn walk(form: &[Piece], line: &[Lexeme]) -> Option<Place>
+pub fn walk(form: &[Piece], line: &[InputLexeme]) -> Option<Place>
     ensures { walk_of result ≡ walk form.now (classes (all_seen line.now)) }
 {
     let mut inside = Inside::Nowhere;
@@ -112,7 +112,7 @@ fn further(place: Place, other: Place) -> Place
 }
 
 /// The row that a line has the form of, or the place from which no row goes on.
-pub fn row_of(line: &[Lexeme]) -> Result<Row, Place>
+pub fn row_of(line: &[InputLexeme]) -> Result<Row, Place>
     ensures { result ≡ outcome_of (classes (all_seen line.now)) }
 {
     let mut place = Place {

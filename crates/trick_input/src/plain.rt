@@ -5,18 +5,18 @@ ghost use Rattle.trick_input.specs.Lexemes.{is_services, plain};
 ghost use Rattle.trick_input.specs.Seen.{all_seen, seen};
 
 use crate::class::Class;
-use crate::lexeme::Lexeme;
+use crate::lexeme::InputLexeme;
 use std::alloc::{AllocError, Global};
 
 // Whether the words are `trick.sim_services`.
-fn is_services(trick: &Lexeme, dot: &Lexeme, services: &Lexeme) -> bool
+fn is_services(trick: &InputLexeme, dot: &InputLexeme, services: &InputLexeme) -> bool
     ensures { result ≡ is_services (seen trick.now) (seen dot.now) (seen services.now) }
 {
     trick.class.is(Class::Trick) && dot.class.is(Class::Dot) && services.class.is(Class::Services)
 }
 
 // How many words of the front count, and how many were looked at.
-fn front(cut: bool, line: &[Lexeme]) -> (usize, usize)
+fn front(cut: bool, line: &[InputLexeme]) -> (usize, usize)
     requires { 0 < length line.now }
     ensures plain { plain cut (all_seen line.now)
         ≡ all_seen (take result.0 line.now) ++ plain cut (all_seen (drop result.1 line.now)) }
@@ -47,8 +47,8 @@ fn front(cut: bool, line: &[Lexeme]) -> (usize, usize)
 pub fn plain<'t>(
     alloc: Global,
     cut: bool,
-    line: &[Lexeme<'t>],
-) -> Result<Vec<Lexeme<'t>>, AllocError>
+    line: &[InputLexeme<'t>],
+) -> Result<Vec<InputLexeme<'t>>, AllocError>
     ensures { IfOk result (λ found. all_seen found.items ≡ plain cut (all_seen line.now)) }
 {
     let mut found = Vec::new(alloc);

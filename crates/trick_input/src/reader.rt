@@ -12,7 +12,7 @@ ghost use Rattle.trick_text.specs.declared.token.Style.TheVariants as style;
 use crate::call::Call;
 use crate::class::Class;
 use crate::fault::InputFault;
-use crate::lexeme::{Lexeme, lexemes};
+use crate::lexeme::{InputLexeme, lexemes};
 use crate::line::{Place, row_of};
 use crate::plain::plain;
 use crate::says::form_of;
@@ -20,7 +20,7 @@ use std::alloc::{AllocError, Global};
 use trick_text::{FirstFault, Style, TextFault, Token, cut};
 
 // Whether the line begins with a word, or with `trick.` and a name, that is left out, and stands there.
-fn is_left_out(line: &[Lexeme], left: usize) -> bool
+fn is_left_out(line: &[InputLexeme], left: usize) -> bool
     ensures { result ≡ is_left_out (classes (all_seen line.now)) left }
 {
     match line {
@@ -38,7 +38,7 @@ fn is_left_out(line: &[Lexeme], left: usize) -> bool
 }
 
 // How a line of this number is refused at a place.
-fn fault_at(number: u32, line: &[Lexeme], place: Place) -> InputFault
+fn fault_at(number: u32, line: &[InputLexeme], place: Place) -> InputFault
     ensures { result ≡ fault_at number (classes (all_seen line.now)) place }
 {
     if is_left_out(line, place.left) {
@@ -66,7 +66,7 @@ fn words<'t>(
     text: &'t [u8],
     cut: bool,
     tokens: &[Token],
-) -> Result<Vec<Lexeme<'t>>, AllocError>
+) -> Result<Vec<InputLexeme<'t>>, AllocError>
     requires { All (ReadsAsToken text.now) tokens.now }
     ensures { IfOk result (λ words. all_seen words.items ≡ line_of_words text.now cut tokens.now) }
 {

@@ -8,13 +8,13 @@ ghost use Rattle.trick_text.specs.Tokens.{inner};
 use crate::call::{EventForm, Form, GroupForm, JobForm, RunForm, TextForm, Time, VariableForm};
 use crate::class::Class;
 use crate::form::{Row, Sort, fits};
-use crate::lexeme::Lexeme;
+use crate::lexeme::InputLexeme;
 use itoa::Buffer;
 use std::alloc::{AllocError, Global};
 use trick_base::{Items, Word};
 use trick_model::Process;
 
-fn bytes_at<'t>(line: &[Lexeme<'t>], at: usize) -> &'t [u8]
+fn bytes_at<'t>(line: &[InputLexeme<'t>], at: usize) -> &'t [u8]
     ensures { result.now ≡ bytes_at (all_seen line.now) at }
 {
     match line.get(at) {
@@ -23,7 +23,7 @@ fn bytes_at<'t>(line: &[Lexeme<'t>], at: usize) -> &'t [u8]
     }
 }
 
-fn class_at(line: &[Lexeme], at: usize) -> Class
+fn class_at(line: &[InputLexeme], at: usize) -> Class
     ensures { result ≡ (lexeme_at (all_seen line.now) at).class }
 {
     match line.get(at) {
@@ -32,7 +32,7 @@ fn class_at(line: &[Lexeme], at: usize) -> Class
     }
 }
 
-fn number_at(line: &[Lexeme], at: usize) -> u64
+fn number_at(line: &[InputLexeme], at: usize) -> u64
     ensures { result ≡ number_at (all_seen line.now) at }
 {
     match line.get(at) {
@@ -41,7 +41,7 @@ fn number_at(line: &[Lexeme], at: usize) -> u64
     }
 }
 
-fn time_at(line: &[Lexeme], at: usize) -> Time
+fn time_at(line: &[InputLexeme], at: usize) -> Time
     ensures { result ≡ time_at (all_seen line.now) at }
 {
     match line.get(at) {
@@ -51,7 +51,7 @@ fn time_at(line: &[Lexeme], at: usize) -> Time
 }
 
 // A literal without `-`: `True` is 1 and `False` is 0.
-fn literal_at(line: &[Lexeme], at: usize) -> u64
+fn literal_at(line: &[InputLexeme], at: usize) -> u64
     ensures { result ≡ literal_at (all_seen line.now) at }
 {
     if class_at(line, at).is(Class::True) {
@@ -62,7 +62,7 @@ fn literal_at(line: &[Lexeme], at: usize) -> u64
 }
 
 // The place of the last token.
-fn last_of(line: &[Lexeme]) -> usize
+fn last_of(line: &[InputLexeme]) -> usize
     ensures { result ≡ last_of (all_seen line.now) }
 {
     line.len().saturating_sub(1)
@@ -77,21 +77,21 @@ fn inner(bytes: &[u8]) -> &[u8]
     }
 }
 
-fn word_at(alloc: Global, line: &[Lexeme], at: usize) -> Result<Word, AllocError>
+fn word_at(alloc: Global, line: &[InputLexeme], at: usize) -> Result<Word, AllocError>
     ensures { IfOk result (λ word. word ≡ bytes_at (all_seen line.now) at) }
 {
     Word::from_bytes(alloc, bytes_at(line, at))
 }
 
 // What stands between the quotes of a string.
-fn text_at(alloc: Global, line: &[Lexeme], at: usize) -> Result<Word, AllocError>
+fn text_at(alloc: Global, line: &[InputLexeme], at: usize) -> Result<Word, AllocError>
     ensures { IfOk result (λ word. word ≡ text_at (all_seen line.now) at) }
 {
     Word::from_bytes(alloc, inner(bytes_at(line, at)))
 }
 
 // Adds what a token of a path is in a full name.
-fn push_shown(name: &mut Vec<u8>, lexeme: &Lexeme) -> Result<(), AllocError>
+fn push_shown(name: &mut Vec<u8>, lexeme: &InputLexeme) -> Result<(), AllocError>
     ensures { OnOk result (name.new.items ≡ name.old.items ++ shown (seen lexeme.now)) }
 {
     if fits(Sort::Number, lexeme.class) {
@@ -102,7 +102,7 @@ fn push_shown(name: &mut Vec<u8>, lexeme: &Lexeme) -> Result<(), AllocError>
 }
 
 // The full name that a line begins with, up to its `=`.
-fn path_name(alloc: Global, line: &[Lexeme]) -> Result<Word, AllocError>
+fn path_name(alloc: Global, line: &[InputLexeme]) -> Result<Word, AllocError>
     ensures { IfOk result (λ name. name ≡ path_name (all_seen line.now)) }
 {
     let mut name = Vec::new(alloc);
@@ -128,7 +128,7 @@ fn process_of(class: Class) -> Process
 }
 
 // A cell gets a number, by the last token of a line.
-fn assign(alloc: Global, line: &[Lexeme]) -> Result<Form, AllocError>
+fn assign(alloc: Global, line: &[InputLexeme]) -> Result<Form, AllocError>
     ensures { IfOk result (λ form. form ≡ Form.Assign (path_name (all_seen line.now))
         (pos (literal_at (all_seen line.now) (last_of (all_seen line.now))))) }
 {
@@ -139,7 +139,7 @@ fn assign(alloc: Global, line: &[Lexeme]) -> Result<Form, AllocError>
 }
 
 // The same with a `-`.
-fn assign_minus(alloc: Global, line: &[Lexeme]) -> Result<Form, AllocError>
+fn assign_minus(alloc: Global, line: &[InputLexeme]) -> Result<Form, AllocError>
     ensures { IfOk result (λ form. form ≡ Form.Assign (path_name (all_seen line.now))
         (neg_ℤ (pos (number_at (all_seen line.now) (last_of (all_seen line.now)))))) }
 {
@@ -149,7 +149,7 @@ fn assign_minus(alloc: Global, line: &[Lexeme]) -> Result<Form, AllocError>
     })
 }
 
-fn depends_on(alloc: Global, line: &[Lexeme]) -> Result<Form, AllocError>
+fn depends_on(alloc: Global, line: &[InputLexeme]) -> Result<Form, AllocError>
     ensures { IfOk result (λ form. form ≡ form_of Row.DependsOn (all_seen line.now)) }
 {
     Ok(Form::Job(JobForm::DependsOn {
@@ -160,7 +160,7 @@ fn depends_on(alloc: Global, line: &[Lexeme]) -> Result<Form, AllocError>
     }))
 }
 
-fn this_own(alloc: Global, line: &[Lexeme]) -> Result<Form, AllocError>
+fn this_own(alloc: Global, line: &[InputLexeme]) -> Result<Form, AllocError>
     ensures { IfOk result (λ form. form ≡ form_of Row.ThisOwn (all_seen line.now)) }
 {
     Ok(Form::Variable(VariableForm::ThisOwn {
@@ -168,7 +168,7 @@ fn this_own(alloc: Global, line: &[Lexeme]) -> Result<Form, AllocError>
     }))
 }
 
-fn set_job(alloc: Global, line: &[Lexeme], on: bool) -> Result<Form, AllocError>
+fn set_job(alloc: Global, line: &[InputLexeme], on: bool) -> Result<Form, AllocError>
     ensures { IfOk result (λ form. form ≡ Form.Job (JobForm.SetJob (text_at (all_seen line.now) 4)
         (number_at (all_seen line.now) 6) on)) }
 {
@@ -179,7 +179,7 @@ fn set_job(alloc: Global, line: &[Lexeme], on: bool) -> Result<Form, AllocError>
     }))
 }
 
-fn declare(alloc: Global, line: &[Lexeme]) -> Result<Form, AllocError>
+fn declare(alloc: Global, line: &[InputLexeme]) -> Result<Form, AllocError>
     ensures { IfOk result (λ form. form ≡ form_of Row.Declare (all_seen line.now)) }
 {
     Ok(Form::Declare {
@@ -187,7 +187,7 @@ fn declare(alloc: Global, line: &[Lexeme]) -> Result<Form, AllocError>
     })
 }
 
-fn add_read(alloc: Global, line: &[Lexeme]) -> Result<Form, AllocError>
+fn add_read(alloc: Global, line: &[InputLexeme]) -> Result<Form, AllocError>
     ensures { IfOk result (λ form. form ≡ form_of Row.AddRead (all_seen line.now)) }
 {
     Ok(Form::Text(TextForm::AddRead {
@@ -196,7 +196,7 @@ fn add_read(alloc: Global, line: &[Lexeme]) -> Result<Form, AllocError>
     }))
 }
 
-fn new_group(alloc: Global, line: &[Lexeme]) -> Result<Form, AllocError>
+fn new_group(alloc: Global, line: &[InputLexeme]) -> Result<Form, AllocError>
     ensures { IfOk result (λ form. form ≡ form_of Row.NewGroup (all_seen line.now)) }
 {
     Ok(Form::Group(GroupForm::NewGroup {
@@ -205,7 +205,7 @@ fn new_group(alloc: Global, line: &[Lexeme]) -> Result<Form, AllocError>
     }))
 }
 
-fn new_event(alloc: Global, line: &[Lexeme]) -> Result<Form, AllocError>
+fn new_event(alloc: Global, line: &[InputLexeme]) -> Result<Form, AllocError>
     ensures { IfOk result (λ form. form ≡ form_of Row.NewEvent (all_seen line.now)) }
 {
     Ok(Form::Event(EventForm::NewEvent {
@@ -214,7 +214,7 @@ fn new_event(alloc: Global, line: &[Lexeme]) -> Result<Form, AllocError>
     }))
 }
 
-fn set_cycle(alloc: Global, line: &[Lexeme]) -> Result<Form, AllocError>
+fn set_cycle(alloc: Global, line: &[InputLexeme]) -> Result<Form, AllocError>
     ensures { IfOk result (λ form. form ≡ form_of Row.SetCycle (all_seen line.now)) }
 {
     Ok(Form::Variable(VariableForm::SetCycle {
@@ -223,7 +223,7 @@ fn set_cycle(alloc: Global, line: &[Lexeme]) -> Result<Form, AllocError>
     }))
 }
 
-fn add_variable(alloc: Global, line: &[Lexeme]) -> Result<Form, AllocError>
+fn add_variable(alloc: Global, line: &[InputLexeme]) -> Result<Form, AllocError>
     ensures { IfOk result (λ form. form ≡ form_of Row.AddVariable (all_seen line.now)) }
 {
     Ok(Form::Group(GroupForm::AddVariable {
@@ -232,7 +232,7 @@ fn add_variable(alloc: Global, line: &[Lexeme]) -> Result<Form, AllocError>
     }))
 }
 
-fn set_group(alloc: Global, line: &[Lexeme], on: bool) -> Result<Form, AllocError>
+fn set_group(alloc: Global, line: &[InputLexeme], on: bool) -> Result<Form, AllocError>
     ensures { IfOk result (λ form. form ≡ Form.Group (GroupForm.SetGroup (bytes_at (all_seen line.now) 0) on)) }
 {
     Ok(Form::Group(GroupForm::SetGroup {
@@ -241,7 +241,7 @@ fn set_group(alloc: Global, line: &[Lexeme], on: bool) -> Result<Form, AllocErro
     }))
 }
 
-fn set_changes(alloc: Global, line: &[Lexeme]) -> Result<Form, AllocError>
+fn set_changes(alloc: Global, line: &[InputLexeme]) -> Result<Form, AllocError>
     ensures { IfOk result (λ form. form ≡ form_of Row.SetChanges (all_seen line.now)) }
 {
     Ok(Form::Group(GroupForm::SetChanges {
@@ -250,7 +250,7 @@ fn set_changes(alloc: Global, line: &[Lexeme]) -> Result<Form, AllocError>
     }))
 }
 
-fn add_group(alloc: Global, line: &[Lexeme]) -> Result<Form, AllocError>
+fn add_group(alloc: Global, line: &[InputLexeme]) -> Result<Form, AllocError>
     ensures { IfOk result (λ form. form ≡ form_of Row.AddGroup (all_seen line.now)) }
 {
     Ok(Form::Group(GroupForm::AddGroup {
@@ -258,7 +258,7 @@ fn add_group(alloc: Global, line: &[Lexeme]) -> Result<Form, AllocError>
     }))
 }
 
-fn set_condition(alloc: Global, line: &[Lexeme]) -> Result<Form, AllocError>
+fn set_condition(alloc: Global, line: &[InputLexeme]) -> Result<Form, AllocError>
     ensures { IfOk result (λ form. form ≡ form_of Row.SetCondition (all_seen line.now)) }
 {
     Ok(Form::Text(TextForm::SetCondition {
@@ -267,7 +267,7 @@ fn set_condition(alloc: Global, line: &[Lexeme]) -> Result<Form, AllocError>
     }))
 }
 
-fn set_action(alloc: Global, line: &[Lexeme]) -> Result<Form, AllocError>
+fn set_action(alloc: Global, line: &[InputLexeme]) -> Result<Form, AllocError>
     ensures { IfOk result (λ form. form ≡ form_of Row.SetAction (all_seen line.now)) }
 {
     Ok(Form::Text(TextForm::SetAction {
@@ -277,7 +277,7 @@ fn set_action(alloc: Global, line: &[Lexeme]) -> Result<Form, AllocError>
     }))
 }
 
-fn activate(alloc: Global, line: &[Lexeme]) -> Result<Form, AllocError>
+fn activate(alloc: Global, line: &[InputLexeme]) -> Result<Form, AllocError>
     ensures { IfOk result (λ form. form ≡ form_of Row.Activate (all_seen line.now)) }
 {
     Ok(Form::Event(EventForm::Activate {
@@ -285,7 +285,7 @@ fn activate(alloc: Global, line: &[Lexeme]) -> Result<Form, AllocError>
     }))
 }
 
-fn add_event(alloc: Global, line: &[Lexeme]) -> Result<Form, AllocError>
+fn add_event(alloc: Global, line: &[InputLexeme]) -> Result<Form, AllocError>
     ensures { IfOk result (λ form. form ≡ form_of Row.AddEvent (all_seen line.now)) }
 {
     Ok(Form::Event(EventForm::AddEvent {
@@ -294,7 +294,7 @@ fn add_event(alloc: Global, line: &[Lexeme]) -> Result<Form, AllocError>
 }
 
 /// What a line of this form says.
-pub fn form_of(alloc: Global, row: Row, line: &[Lexeme]) -> Result<Form, AllocError>
+pub fn form_of(alloc: Global, row: Row, line: &[InputLexeme]) -> Result<Form, AllocError>
     ensures { IfOk result (λ form. form ≡ form_of row (all_seen line.now)) }
 {
     match row {

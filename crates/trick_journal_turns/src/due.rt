@@ -15,12 +15,12 @@ use trick_model::Entry;
 
 /// Entries with their turns, the next one first, and how many joins, lines and leaves are among them.
 #[derive(Drop)]
-pub(crate) struct Due {
+pub(crate) struct DueEntries {
     entries: VecDeque<(u64, Entry)>,
     lines: usize,
 }
 
-impl Model for Due {
+impl Model for DueEntries {
     ghost Value = { List Noted };
 
     ghost view = { λ due. due.entries.items };
@@ -67,13 +67,13 @@ fn count_lines(entries: &[(u64, Entry)]) -> usize
     lines
 }
 
-impl Due {
+impl DueEntries {
     /// All these entries are left.
-    pub fn new(entries: Vec<(u64, Entry)>) -> Due
+    pub fn new(entries: Vec<(u64, Entry)>) -> DueEntries
         ensures { result ≡ entries.items }
     {
         let lines = count_lines(&entries);
-        Due {
+        DueEntries {
             entries: VecDeque::from_vec(entries),
             lines,
         }

@@ -7,7 +7,7 @@ ghost use Rattle.trick_journal_turns.specs.Due.{before, is_line, may_go_on, sess
 ghost use Rattle.trick_model.specs.Time.{last_turn};
 ghost use Rattle.trick_model.specs.Turn.{is_frozen as is_frozen_of};
 
-use crate::due::{Due, has_line};
+use crate::due::{DueEntries, has_line};
 use crate::sessions::resume;
 use std::alloc::{AllocError, Global};
 use std::snapshot::Snapshot;
@@ -24,8 +24,8 @@ use trick_turns::{Next, Turns};
 #[derive(Drop)]
 pub struct JournalTurns {
     // What is left, and what was left at first: only proofs read that.
-    due: Due,
-    whole: Snapshot<Due>,
+    due: DueEntries,
+    whole: Snapshot<DueEntries>,
     // The first turn, and the one that comes next.
     start: u64,
     at: u64,

@@ -4,7 +4,7 @@ ghost use Rattle.std.specs.Prelude.{◌≡◌, ◌++◌, [], IsTrue, IfOk, OnOk}
 ghost use Rattle.trick_journal_turns.specs.Due.{joins_at, live_with, MayCome, resumed, since};
 ghost use Rattle.trick_model.specs.Journal.{are_joined, are_rising, live_before};
 
-use crate::due::Due;
+use crate::due::DueEntries;
 use std::alloc::{AllocError, Global};
 use std::collections::BTreeSet;
 use trick_model::Entry;
@@ -27,7 +27,7 @@ fn pass(live: &mut BTreeSet<u32>, entry: Entry) -> Result<(), AllocError>
 }
 
 // Skips the entries of turns before the start, and gives the sessions that are there then.
-fn skip(alloc: Global, due: &mut Due, start: u64) -> Result<BTreeSet<u32>, AllocError>
+fn skip(alloc: Global, due: &mut DueEntries, start: u64) -> Result<BTreeSet<u32>, AllocError>
     requires rising { IsTrue (are_rising due.old) }
     requires joined { IsTrue (are_joined 0 [] due.old) }
     ensures live { IfOk result (λ live. live.keys ≡ live_before start due.old []) }
@@ -41,7 +41,7 @@ fn skip(alloc: Global, due: &mut Due, start: u64) -> Result<BTreeSet<u32>, Alloc
 }
 
 // Puts the joins of sessions in front, in rising number.
-fn join_all(due: &mut Due, turn: u64, live: BTreeSet<u32>) -> Result<(), AllocError>
+fn join_all(due: &mut DueEntries, turn: u64, live: BTreeSet<u32>) -> Result<(), AllocError>
     ensures { OnOk result (due.new ≡ joins_at turn live.keys ++ due.old) }
 {
     let mut live = live;
@@ -59,12 +59,12 @@ pub(crate) fn resume(
     start: u64,
     end: u64,
     frozen: bool,
-) -> Result<Due, AllocError>
+) -> Result<DueEntries, AllocError>
     requires rising { IsTrue (are_rising entries.items) }
     requires joined { IsTrue (are_joined 0 [] entries.items) }
     ensures { IfOk result (λ due. due ≡ resumed start end frozen entries.items) }
 {
-    let mut due = Due::new(entries);
+    let mut due = DueEntries::new(entries);
     let live = skip(alloc, &mut due, start)?;
     if end <= start || frozen && !due.has_line() {
         return Ok(due);

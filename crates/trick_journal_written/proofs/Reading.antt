@@ -15,7 +15,7 @@ use Rattle.trick_model.specs.declared.entry.Entry.{Entry}
 use Rattle.trick_outside.specs.declared.shelf.Shelf.{Ghosts}
 use Rattle.trick_replay.specs.Replay.{lists_for}
 use Rattle.trick_replay.specs.declared.replayed.Replayed.TheVariants as replayed
-use Rattle.trick_serial.specs.Serial.{ended_by}
+use Rattle.trick_serial.specs.Serial.{summary_of}
 
 -- what holds of entries and an end holds of the same ones
 read_same : (p : Plan) (s : State) (lists : List (List Entry)) (one other : List Noted) (end last : ℕ) → one ≡ other → end ≡ last
@@ -43,7 +43,7 @@ runs_again shelf reads p s lists journal old new (replayed.Ended ended joins) wr
     let back = reads p s lists journal wrote is in
     record {
       joins = joins;
-      ended = ap (λ e. replayed.Ended e joins) (did.ended_so ∙ ap ended_by back.last);
+      ended = ap (λ e. replayed.Ended e joins) (did.ended_so ∙ ap summary_of back.last);
       files = λ before told. (let now = did.files before told in (now.0, now.1, λ name. now.2 name ∙ back.same name (get before name)));
     }
 runs_again shelf reads p s lists journal old new (replayed.Length kept given) wrote is did =

@@ -14,7 +14,7 @@ use Rattle.trick_outside.specs.declared.shelf.Shelf.{Ghosts}
 use Rattle.trick_replay.specs.Replay.{RunsReplay, lists_for}
 use Rattle.trick_replay.specs.declared.replayed.Replayed.TheVariants.{Ended}
 use Rattle.trick_replay.specs.declared.replayed.Replayed.{Replayed}
-use Rattle.trick_serial.specs.Serial.{ended_by}
+use Rattle.trick_serial.specs.Serial.{summary_of}
 
 -- Whatever journal is read from the text that a run wrote, it fits the run's first state, and its run writes the same
 -- files.
@@ -33,7 +33,7 @@ WrittenTextsReadBack =
 pub record RunsAgain {S : Type 0} (shelf : Ghosts S) (p : Plan) (s : State) (lists : List (List Entry)) (old new : S)
     (replayed : Replayed) : Type 0 where
   pub joins : ℕ
-  pub ended : replayed ≡ Ended (ended_by (final p s lists)) joins
+  pub ended : replayed ≡ Ended (summary_of (final p s lists)) joins
   pub files : (before : Files) → shelf.holds old ≡ Some before
       → (now : Files) × (shelf.holds new ≡ Some now)
       × ((name : List ℕ) → get now name ≡ file name p s lists (get before name))

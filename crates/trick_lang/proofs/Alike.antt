@@ -16,21 +16,21 @@ use Rattle.trick_lang.specs.Tree.{Code, Empty, Declare, SetLocal, Assign, If, Fo
 use Rattle.trick_lang.specs.Passes.{term_passes, code_blocks, branch_blocks, all_blocks}
 use Rattle.trick_lang.specs.Valid.{are_in_order}
 use Rattle.trick_lang.specs.Value.{value}
-use Rattle.trick_lang.specs.declared.fault.Stop.{Stop}
+use Rattle.trick_lang.specs.declared.fault.StatementFault.{StatementFault}
 use Rattle.trick_lang.specs.declared.range.CellRange.{CellRange}
 use Rattle.trick_lang.specs.declared.scalar.Scalar.{Scalar}
 use mathlib.Core.Path.{fun_ext}
 
-pub turns_same : (f g : ℕ → State → Result State Stop) (k n : ℕ) (s : State) → ((j : ℕ) (t : State) → f j t ≡ g j t) → turns f k n s ≡ turns g k n s
+pub turns_same : (f g : ℕ → State → Result State StatementFault) (k n : ℕ) (s : State) → ((j : ℕ) (t : State) → f j t ≡ g j t) → turns f k n s ≡ turns g k n s
 turns_same f g k zero s same = refl
 turns_same f g k (suc n) s same = and_then-same _ _ _ _ (same k s) (λ t _. turns_same f g (k + 1) n t same)
 
-abbrev pub setting : List Scalar → ℕ → (ℕ → ℤ) → (ℕ → State → Result State Stop) → Setting
+abbrev pub setting : List Scalar → ℕ → (ℕ → ℤ) → (ℕ → State → Result State StatementFault) → Setting
 setting scalars base memory blocks = record { scalars = scalars; base = base; memory = memory; blocks = blocks }
 
 -- ---- what a body does
 
-module _ (scalars : List Scalar) (base : ℕ) (memory : ℕ → ℤ) (f g : ℕ → State → Result State Stop) (n : ℕ)
+module _ (scalars : List Scalar) (base : ℕ) (memory : ℕ → ℤ) (f g : ℕ → State → Result State StatementFault) (n : ℕ)
     (same : (j : ℕ) → j < n → (s : State) → f j s ≡ g j s) where
   branch_alike : (b : Branches) (s : State) → IsTrue (branch_blocks (below n) b) → run_branch b (setting scalars base memory f) s ≡ run_branch b (setting scalars base memory g) s
   branch_alike NoElse s h = refl
@@ -53,18 +53,18 @@ module _ (scalars : List Scalar) (base : ℕ) (memory : ℕ → ℤ) (f g : ℕ 
   all_alike (first ∷ rest) s h =
       and_then-same _ _ _ _ (code_alike first s (first_holds _ _ h)) (λ t _. all_alike rest t (second_holds (code_blocks (below n) first) _ h))
 
-abbrev runs_rule : List Scalar → ℕ → (ℕ → ℤ) → List Code → (ℕ → State → Result State Stop) → State → Result State Stop
+abbrev runs_rule : List Scalar → ℕ → (ℕ → ℤ) → List Code → (ℕ → State → Result State StatementFault) → State → Result State StatementFault
 runs_rule scalars base memory b f s = run_all b (setting scalars base memory f) s
 
 runs_local : (scalars : List Scalar) (base : ℕ) (memory : ℕ → ℤ) → IsLocal (runs_rule scalars base memory) (λ s. Ok s)
 runs_local scalars base memory = record {
-  alike = λ b n f g h same. fun_ext (λ s. all_alike scalars base memory f g n (λ j lt t. ap (λ (q : State → Result State Stop). q t) (same j lt)) b s h);
+  alike = λ b n f g h same. fun_ext (λ s. all_alike scalars base memory f g n (λ j lt t. ap (λ (q : State → Result State StatementFault). q t) (same j lt)) b s h);
   nil = λ f. refl;
 }
 
 -- a block runs its statements
 pub runs_is : (scalars : List Scalar) (base : ℕ) (memory : ℕ → ℤ) (bs : List (List Code)) → IsTrue (are_in_order 0 bs) → (k : ℕ) (s : State) → block_runs scalars base memory bs k s ≡ run_all (block_at bs k) (setting scalars base memory (block_runs scalars base memory bs)) s
-runs_is scalars base memory bs h k s = ap (λ (q : State → Result State Stop). q s) (each_is (runs_rule scalars base memory) (λ s. Ok s) (runs_local scalars base memory) bs h k)
+runs_is scalars base memory bs h k s = ap (λ (q : State → Result State StatementFault). q s) (each_is (runs_rule scalars base memory) (λ s. Ok s) (runs_local scalars base memory) bs h k)
 
 -- ---- the cells of a body
 

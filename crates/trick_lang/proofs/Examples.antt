@@ -9,7 +9,7 @@ use Rattle.trick_lang.specs.Tree.{Term, Number, Local, Cell, Chain, NoLink, Link
 use Rattle.trick_lang.specs.Value.{Sight, value}
 use Rattle.trick_lang.specs.declared.bound.Bound.TheVariants.{Below, UpTo}
 use Rattle.trick_lang.specs.declared.fault.FaultKind.TheVariants.{DivideByZero, IndexOutOfRange}
-use Rattle.trick_lang.specs.declared.fault.Stop.{Stop}
+use Rattle.trick_lang.specs.declared.fault.StatementFault.{StatementFault}
 use Rattle.trick_lang.specs.declared.operator.Arithmetic.TheVariants.{Divide, Minus, Remainder, Plus}
 use Rattle.trick_lang.specs.declared.operator.Operator.TheVariants.{Arithmetic, And, Or}
 use Rattle.trick_lang.specs.declared.scalar.Scalar.{Scalar}
@@ -29,7 +29,7 @@ abbrev fresh : State
 fresh = record { stored = None ∷ None ∷ []; locals = None ∷ [] }
 
 -- what was stored in the first cell
-abbrev stores : ℤ → Result State Stop
+abbrev stores : ℤ → Result State StatementFault
 stores n = Ok (record { stored = Some n ∷ None ∷ []; locals = None ∷ [] })
 
 abbrev first : Spot
@@ -135,7 +135,7 @@ index_first = refl
 
 -- ---- blocks
 
-abbrev runs : List (List Code) → ℕ → List ℤ → Result State Stop
+abbrev runs : List (List Code) → ℕ → List ℤ → Result State StatementFault
 runs blocks k memory = block_runs (Long ∷ Long ∷ []) 0 (λ c. slice_index_or memory c (pos 0)) blocks k fresh
 
 -- { a = 1; b = 1 / 0; } of line 4 is a fault of that line

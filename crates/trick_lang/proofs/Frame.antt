@@ -18,7 +18,7 @@ use Rattle.trick_lang.specs.Tree.{Term, Number, Local, Cell, Prefixed, Chain, Ch
 use Rattle.trick_lang.specs.Passes.{term_passes, link_passes, choice_passes, place_passes, step_passes, change_passes, first_passes, code_passes, branch_passes, all_pass, code_blocks, branch_blocks, all_blocks}
 use Rattle.trick_lang.specs.Valid.{is_in_span, span_test, stay_in_span, are_in_order}
 use Rattle.trick_lang.specs.Value.{Sight, value, linked, chosen, cell_of, led, origin}
-use Rattle.trick_lang.specs.declared.fault.Stop.{Stop}
+use Rattle.trick_lang.specs.declared.fault.StatementFault.{StatementFault}
 use Rattle.trick_lang.specs.declared.range.CellRange.{CellRange}
 use Rattle.trick_lang.specs.declared.scalar.Scalar.{Scalar}
 
@@ -78,7 +78,7 @@ module _ (base : ℕ) (local f g : ℕ → ℤ) where
 
 -- ---- statements
 
-module _ (scalars : List Scalar) (base : ℕ) (m n : ℕ → ℤ) (before after : ℕ → State → Result State Stop) (blocks : ℕ → List CellRange) (top : ℕ)
+module _ (scalars : List Scalar) (base : ℕ) (m n : ℕ → ℤ) (before after : ℕ → State → Result State StatementFault) (blocks : ℕ → List CellRange) (top : ℕ)
     (blocks_same : (k : ℕ) → k < top → Alike (blocks k) m n → (s : State) → before k s ≡ after k s) where
   seen_same : (ranges : List CellRange) (s : State) → Alike ranges m n → Alike ranges (sight (setting scalars base m before) s).cell (sight (setting scalars base n after) s).cell
   seen_same ranges s h c k = ap (unwrap_or (slice_index_or s.stored c None)) (h c k)

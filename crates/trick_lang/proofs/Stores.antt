@@ -24,7 +24,7 @@ use Rattle.trick_lang.specs.Valid.{span_test, stay_in_span, are_in_order}
 use Rattle.trick_lang.specs.Value.{value, cell_of}
 use Rattle.trick_lang.specs.Wrap.{wrap, scalar_at, IsInRange}
 use Rattle.trick_lang.specs.declared.fault.FaultKind.{FaultKind}
-use Rattle.trick_lang.specs.declared.fault.Stop.{Stop}
+use Rattle.trick_lang.specs.declared.fault.StatementFault.{StatementFault}
 use Rattle.trick_lang.specs.declared.job.JobId.{JobId}
 use Rattle.trick_lang.specs.declared.program.Program.{Program}
 use Rattle.trick_lang.specs.declared.range.CellRange.{CellRange}
@@ -37,13 +37,13 @@ Covers ws rs = (c : ℕ) → IsTrue (is_in rs c) → IsTrue (is_in ws c)
 abbrev KeptByStores : (List (Option ℤ) → Type 0) → List CellRange → List Scalar → Type 0
 KeptByStores K ws scalars = (xs : List (Option ℤ)) (c : ℕ) (n : ℤ) → IsTrue (is_in ws c) → K xs → K (slice_set xs c (Some (wrap (scalar_at scalars c) n)))
 
-turns_keep : (K : List (Option ℤ) → Type 0) (f : ℕ → State → Result State Stop) (k n : ℕ) (s t : State) → ((j : ℕ) (s t : State) → f j s ≡ Ok t → K s.stored → K t.stored) → turns f k n s ≡ Ok t → K s.stored → K t.stored
+turns_keep : (K : List (Option ℤ) → Type 0) (f : ℕ → State → Result State StatementFault) (k n : ℕ) (s t : State) → ((j : ℕ) (s t : State) → f j s ≡ Ok t → K s.stored → K t.stored) → turns f k n s ≡ Ok t → K s.stored → K t.stored
 turns_keep K f k zero s t each h old = subst (λ (u : State). K u.stored) (ok_same s t h) old
 turns_keep K f k (suc n) s t each h old =
     let step = went (f k s) (turns f (k + 1) n) t h in
     turns_keep K f (k + 1) n step.0 t each step.2 (each k s step.0 step.1 old)
 
-if_keeps : (K : List (Option ℤ) → Type 0) (b : Bool) (r q : Result State Stop) (t : State) → (if b then r else q) ≡ Ok t → (r ≡ Ok t → K t.stored) → (q ≡ Ok t → K t.stored) → K t.stored
+if_keeps : (K : List (Option ℤ) → Type 0) (b : Bool) (r q : Result State StatementFault) (t : State) → (if b then r else q) ≡ Ok t → (r ≡ Ok t → K t.stored) → (q ≡ Ok t → K t.stored) → K t.stored
 if_keeps K true r q t h f g = f h
 if_keeps K false r q t h f g = g h
 
@@ -57,9 +57,9 @@ module _ (K : List (Option ℤ) → Type 0) (ws : List CellRange) (x : Setting) 
       subst (λ (q : ℕ × ℤ). IsTrue (is_in (range_of p x.base ∷ []) q.0)) pair
       (cell_is p (sight x s) [] first.0 fit first.1)
 
-  local_keeps : (line slot : ℕ) (scalar : Scalar) (r : Result ℤ FaultKind) (s t : State) → Rattle.trick_lang.specs.Run.at_line line r (λ n. (let q : Result State Stop = Ok (with_local s slot (wrap scalar n)) in q)) ≡ Ok t → K s.stored → K t.stored
+  local_keeps : (line slot : ℕ) (scalar : Scalar) (r : Result ℤ FaultKind) (s t : State) → Rattle.trick_lang.specs.Run.at_line line r (λ n. (let q : Result State StatementFault = Ok (with_local s slot (wrap scalar n)) in q)) ≡ Ok t → K s.stored → K t.stored
   local_keeps line slot scalar r s t h old =
-      let w = went_line line r (λ n. (let q : Result State Stop = Ok (with_local s slot (wrap scalar n)) in q)) t h in
+      let w = went_line line r (λ n. (let q : Result State StatementFault = Ok (with_local s slot (wrap scalar n)) in q)) t h in
       subst (λ (u : State). K u.stored) (ok_same (with_local s slot (wrap scalar w.0)) t w.2) old
 
   run_branch_keeps : (b : Branches) (s t : State) → IsTrue (branch_blocks (below top) b) → Covers ws (branch_writes b blocks) → run_branch b x s ≡ Ok t → K s.stored → K t.stored
@@ -76,7 +76,7 @@ module _ (K : List (Option ℤ) → Type 0) (ws : List CellRange) (x : Setting) 
   run_keeps (Declare line slot scalar e) s t fit ok in_ws h old = local_keeps line slot scalar _ (with_local s slot (pos 0)) t h old
   run_keeps (SetLocal line slot scalar change) s t fit ok in_ws h old = local_keeps line slot scalar _ s t h old
   run_keeps (Assign line place change) s t fit ok in_ws h old =
-      let w = went_line line (assigned place change (sight x s)) (λ w. (let r : Result State Stop = Ok (with_stored s w.0 (wrap (scalar_at x.scalars w.0) w.1)) in r)) t h in
+      let w = went_line line (assigned place change (sight x s)) (λ w. (let r : Result State StatementFault = Ok (with_stored s w.0 (wrap (scalar_at x.scalars w.0) w.1)) in r)) t h in
       subst (λ (u : State). K u.stored) (ok_same (with_stored s (w.0).0 (wrap (scalar_at x.scalars (w.0).0) (w.0).1)) t w.2)
       (stores s.stored (w.0).0 (w.0).1 (in_ws (w.0).0 (assigned_in place change s w.0 (first_holds _ _ fit) w.1)) old)
   run_keeps (If branches) s t fit ok in_ws h old = run_branch_keeps branches s t ok in_ws h old
@@ -101,7 +101,7 @@ runs_keep K scalars bs ws stores base m fit ok =
 -- an effect is what stores to the writes keep
 effect_keeps : (K : List (Option ℤ) → Type 0) (p : Program) (job : JobId) (m : List ℤ) (stored : List (Option ℤ)) → KeptByStores K (writes p job) (scalars_of p.cells) → K (replicate (length p.cells) None) → effect p job m ≡ Ok stored → K stored
 effect_keeps K p job m stored stores none h =
-    let w = went (ran p (base_of p job) (body_of p job) m (begun p)) (λ s. (let r : Result (List (Option ℤ)) Stop = Ok s.stored in r)) stored h in
+    let w = went (ran p (base_of p job) (body_of p job) m (begun p)) (λ s. (let r : Result (List (Option ℤ)) StatementFault = Ok s.stored in r)) stored h in
     subst K (ok_same (w.0).stored stored w.2)
     (runs_keep K (scalars_of p.cells) (codes_of p.blocks) (writes p job) stores (base_of p job) (λ c. slice_index_or m c (pos 0)) p.in_span p.in_order (body_of p job) (begun p) w.0 (λ c i. i) w.1 none)
 

@@ -7,7 +7,7 @@ use Rattle.trick_lang.specs.Numbers.{and_then}
 use Rattle.trick_lang.specs.Run.{State, block_runs}
 use Rattle.trick_lang.specs.TreeOf.{codes_of}
 use Rattle.trick_lang.specs.Valid.{block_of, method_of}
-use Rattle.trick_lang.specs.declared.fault.Stop.{Stop}
+use Rattle.trick_lang.specs.declared.fault.StatementFault.{StatementFault}
 use Rattle.trick_lang.specs.declared.job.Job.{Job}
 use Rattle.trick_lang.specs.declared.job.JobId.{JobId}
 use Rattle.trick_lang.specs.declared.object.Object.{Object}
@@ -43,12 +43,12 @@ abbrev pub begun : Program → State
 begun p = record { stored = replicate (length p.cells) None; locals = replicate p.slots None }
 
 -- what a block does to a memory, on an object, from a state on
-abbrev pub ran : Program → ℕ → ℕ → List ℤ → State → Result State Stop
+abbrev pub ran : Program → ℕ → ℕ → List ℤ → State → Result State StatementFault
 ran p base block memory =
     block_runs (scalars_of p.cells) base (λ c. slice_index_or memory c (pos 0)) (codes_of p.blocks) block
 
 -- the effect of a job on a memory: by cell, the last number that it stored there, or its first fault
-abbrev pub effect : Program → JobId → List ℤ → Result (List (Option ℤ)) Stop
+abbrev pub effect : Program → JobId → List ℤ → Result (List (Option ℤ)) StatementFault
 effect p job memory = and_then (ran p (base_of p job) (body_of p job) memory (begun p)) (λ s. Ok s.stored)
 
 -- the cells that a job may read
@@ -70,6 +70,6 @@ overwritten [] (n ∷ ns) = n ∷ ns
 overwritten (v ∷ stored) (n ∷ ns) = unwrap_or v n ∷ overwritten stored ns
 
 -- the memory after a job: overwritten by its effect, or as it was where that is a fault
-abbrev pub after_effect : Result (List (Option ℤ)) Stop → List ℤ → List ℤ
+abbrev pub after_effect : Result (List (Option ℤ)) StatementFault → List ℤ → List ℤ
 after_effect (Ok stored) memory = overwritten stored memory
 after_effect (Err stop) memory = memory

@@ -21,7 +21,7 @@ mod variable;
 pub use bound::{BOUND_LIMIT, Bound};
 pub use cells::{Cell, Cells};
 pub use class::Class;
-pub use fault::{FaultKind, JobFault, Stop};
+pub use fault::{FaultKind, JobFault, StatementFault};
 pub use job::{Job, JobId};
 pub use method::Method;
 pub use object::Object;

@@ -14,7 +14,7 @@ use crate::read_groups::read_groups;
 use crate::read_records::read_records;
 use std::alloc::Global;
 use trick_base::TIC_LIMIT;
-use trick_codes::{LoadFault, Stop, end_line, number_line, whole, word_line};
+use trick_codes::{LoadFault, LineStop, end_line, number_line, whole, word_line};
 use trick_lang::Cells;
 use trick_model::{LAST_TURN, Mode, Plan, State};
 
@@ -32,7 +32,7 @@ fn mode_of_word(place: usize) -> Mode
 }
 
 #[tactic(auto, unfolding(crate::specs::CheckpointLines::mode_line))]
-fn read_mode(rest: &[u8]) -> Result<(Mode, &[u8]), Stop>
+fn read_mode(rest: &[u8]) -> Result<(Mode, &[u8]), LineStop>
     ensures { Gives beside result (read_lines mode_line rest.now) }
 {
     let (place, rest) = word_line(b"mode", &[b"Run;", b"Freeze;", b"Shutdown;"], rest)?;
@@ -49,7 +49,7 @@ struct Head {
 }
 
 #[tactic(auto, unfolding(crate::specs::CheckpointLines::head_lines))]
-fn read_head(rest: &[u8]) -> Result<(Head, &[u8]), Stop>
+fn read_head(rest: &[u8]) -> Result<(Head, &[u8]), LineStop>
     ensures { Gives (λ x. ((x.0.turn, (x.0.tic, (x.0.limit, x.0.mode))), x.1.now)) result
         (read_lines head_lines rest.now) }
 {
@@ -74,7 +74,7 @@ fn read_state<'a, M: Cells + Drop>(
     plan: &Plan,
     into: M,
     rest: &'a [u8],
-) -> Result<(State<M>, &'a [u8]), Stop<'a>>
+) -> Result<(State<M>, &'a [u8]), LineStop<'a>>
     requires { M.scalars into ≡ scalars_of plan.now.program.cells }
     ensures told { Gives (λ x. (seen M.numbers x.0, x.1.now)) result (read_lines (checkpoint plan.now) rest.now) }
     ensures scalars { IfOk result (λ x. M.scalars x.0.memory ≡ scalars_of plan.now.program.cells) }

@@ -12,13 +12,13 @@ ghost use Rattle.trick_lang.specs.Wrap.{IsOf};
 use crate::ranges::{range_at, range_of};
 use std::alloc::Global;
 use trick_base::Items;
-use trick_codes::{Stop, integer_line, number_line, set_indexed};
+use trick_codes::{LineStop, integer_line, number_line, set_indexed};
 use trick_lang::{Cell, Cells, JobId, Variable};
 use trick_model::{Flags, Plan, cell_name};
 
 // Reads the line of a cell.
 #[tactic(auto, using(crate::proofs::Within::of_type))]
-fn read_variable<'a>(variable: &Variable, rest: &'a [u8]) -> Result<(i64, &'a [u8]), Stop<'a>>
+fn read_variable<'a>(variable: &Variable, rest: &'a [u8]) -> Result<(i64, &'a [u8]), LineStop<'a>>
     ensures told { Gives beside result
         (read_lines (integer_line_of variable.now.name (range_of_type variable.now.scalar)) rest.now) }
     ensures range { IfOk result (λ x. IsOf variable.now.scalar x.0) }
@@ -32,7 +32,7 @@ pub(crate) fn read_memory<'a, M: Cells + Drop>(
     plan: &Plan,
     mut memory: M,
     rest: &'a [u8],
-) -> Result<(M, &'a [u8]), Stop<'a>>
+) -> Result<(M, &'a [u8]), LineStop<'a>>
     requires { M.scalars memory ≡ scalars_of plan.now.program.cells }
     ensures told { Gives (λ x. (M.numbers x.0, x.1.now)) result (read_lines (memory_of plan.now) rest.now) }
     ensures scalars { IfOk result (λ x. M.scalars x.0 ≡ scalars_of plan.now.program.cells) }
@@ -55,7 +55,7 @@ fn read_cell<'a>(
     front: &[u8],
     cell: Cell,
     rest: &'a [u8],
-) -> Result<(i64, &'a [u8]), Stop<'a>>
+) -> Result<(i64, &'a [u8]), LineStop<'a>>
     ensures { Gives beside result
         (read_lines (integer_line_of (front.now ++ full_name plan.now cell) (range_at_of plan.now cell)) rest.now) }
 {
@@ -73,7 +73,7 @@ pub(crate) fn read_cells<'a>(
     front: &[u8],
     cells: &[Cell],
     rest: &'a [u8],
-) -> Result<(Items<i64>, &'a [u8]), Stop<'a>>
+) -> Result<(Items<i64>, &'a [u8]), LineStop<'a>>
     ensures { Gives beside result (read_lines (cells_of plan.now front.now cells.now) rest.now) }
 {
     let mut found = Items::new(alloc);
@@ -94,7 +94,7 @@ pub(crate) fn read_flag<'a>(
     stem: &[u8],
     index: usize,
     rest: &'a [u8],
-) -> Result<(bool, &'a [u8]), Stop<'a>>
+) -> Result<(bool, &'a [u8]), LineStop<'a>>
     ensures { Gives beside result (read_lines (flag_line (indexed stem.now index)) rest.now) }
 {
     set_indexed(name, stem, index)?;
@@ -112,7 +112,7 @@ fn read_flags<'a>(
     stem: &[u8],
     count: usize,
     rest: &'a [u8],
-) -> Result<(Flags, &'a [u8]), Stop<'a>>
+) -> Result<(Flags, &'a [u8]), LineStop<'a>>
     ensures { Gives (λ x. (x.0.on, x.1.now)) result (read_lines (flags_of stem.now count) rest.now) }
 {
     let mut on = Items::new(alloc);
@@ -131,7 +131,7 @@ pub(crate) fn read_jobs<'a>(
     alloc: Global,
     plan: &Plan,
     rest: &'a [u8],
-) -> Result<(Flags, &'a [u8]), Stop<'a>>
+) -> Result<(Flags, &'a [u8]), LineStop<'a>>
     ensures { Gives (λ x. (x.0.on, x.1.now)) result
         (read_lines (flags_of (codes "job") (length plan.now.program.jobs)) rest.now) }
 {
@@ -143,7 +143,7 @@ pub(crate) fn read_events<'a>(
     alloc: Global,
     plan: &Plan,
     rest: &'a [u8],
-) -> Result<(Flags, &'a [u8]), Stop<'a>>
+) -> Result<(Flags, &'a [u8]), LineStop<'a>>
     ensures { Gives (λ x. (x.0.on, x.1.now)) result
         (read_lines (flags_of (codes "event") (length plan.now.events)) rest.now) }
 {
@@ -157,7 +157,7 @@ pub(crate) fn read_job_flags<'a>(
     stem: &[u8],
     jobs: &[JobId],
     rest: &'a [u8],
-) -> Result<(Flags, &'a [u8]), Stop<'a>>
+) -> Result<(Flags, &'a [u8]), LineStop<'a>>
     ensures { Gives (λ x. (x.0.on, x.1.now)) result (read_lines (job_flags_of stem.now jobs.now) rest.now) }
 {
     let mut on = Items::new(alloc);

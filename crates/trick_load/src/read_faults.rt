@@ -12,7 +12,7 @@ use crate::fault_kind::fault_kind;
 use crate::job_texts::{job_texts, slices};
 use std::alloc::Global;
 use trick_base::TIC_LIMIT;
-use trick_codes::{Miss, Stop, feed, number, number_line, one_of, set_indexed, title};
+use trick_codes::{Miss, LineStop, feed, number, number_line, one_of, set_indexed, title};
 use trick_lang::{FaultKind, JobFault, JobId};
 use trick_model::{Faults, KEPT_FAULTS, Plan};
 
@@ -89,15 +89,15 @@ fn read_fault<'a>(
     words: &[&[u8]],
     index: usize,
     rest: &'a [u8],
-) -> Result<(JobFault, &'a [u8]), Stop<'a>>
+) -> Result<(JobFault, &'a [u8]), LineStop<'a>>
     requires { length words.now ≤ 512 }
     ensures { Gives beside result (read_lines (fault_line (bytes_of words.now) index) rest.now) }
 {
     set_indexed(name, b"fault", index)?;
     match fault_bytes(name, words, rest) {
         Ok((fault, after)) => Ok((fault, after)),
-        Err(Miss::Ends) => Err(Stop::Cut),
-        Err(Miss::Differs) => Err(Stop::Wrong(fault_kind(words, name, rest), rest)),
+        Err(Miss::Ends) => Err(LineStop::Cut),
+        Err(Miss::Differs) => Err(LineStop::Wrong(fault_kind(words, name, rest), rest)),
     }
 }
 
@@ -108,7 +108,7 @@ fn read_fault_lines<'a>(
     words: &[&[u8]],
     keep: usize,
     rest: &'a [u8],
-) -> Result<(Faults, &'a [u8]), Stop<'a>>
+) -> Result<(Faults, &'a [u8]), LineStop<'a>>
     requires words { length words.now ≤ 512 }
     requires kept { keep ≤ kept }
     ensures told { Gives (λ x. (x.0.first, x.1.now)) result
@@ -145,7 +145,7 @@ fn read_kept<'a>(
     words: &[&[u8]],
     count: u64,
     rest: &'a [u8],
-) -> Result<(Faults, &'a [u8]), Stop<'a>>
+) -> Result<(Faults, &'a [u8]), LineStop<'a>>
     requires { length words.now ≤ 512 }
     ensures told { Gives (λ x. (x.0.first, x.1.now)) result
         (read_lines (faults_of (bytes_of words.now) count) rest.now) }
@@ -169,7 +169,7 @@ fn read_faults_of<'a>(
     alloc: Global,
     words: &[&[u8]],
     rest: &'a [u8],
-) -> Result<(Faults, &'a [u8]), Stop<'a>>
+) -> Result<(Faults, &'a [u8]), LineStop<'a>>
     requires { length words.now ≤ 512 }
     ensures { Gives beside result (read_lines (faults_lines (bytes_of words.now)) rest.now) }
 {
@@ -183,7 +183,7 @@ pub(crate) fn read_faults<'a>(
     alloc: Global,
     plan: &Plan,
     rest: &'a [u8],
-) -> Result<(Faults, &'a [u8]), Stop<'a>>
+) -> Result<(Faults, &'a [u8]), LineStop<'a>>
     ensures { Gives beside result (read_lines (faults_lines (job_texts_of plan.now)) rest.now) }
 {
     let texts = job_texts(alloc, plan)?;

@@ -13,7 +13,7 @@ use crate::ranges::ranges_at;
 use crate::read_cells::read_flag;
 use std::alloc::Global;
 use trick_base::Items;
-use trick_codes::{Miss, Range, Stop, feed, kind_of, row_or_none, set_indexed, title};
+use trick_codes::{Miss, Range, LineStop, feed, kind_of, row_or_none, set_indexed, title};
 use trick_model::{Flags, Group, Plan};
 
 // The last row of one group, where there is one.
@@ -41,7 +41,7 @@ fn read_last_row<'a>(
     name: &[u8],
     ranges: &[Range],
     rest: &'a [u8],
-) -> Result<(LastRow, &'a [u8]), Stop<'a>>
+) -> Result<(LastRow, &'a [u8]), LineStop<'a>>
     ensures { Gives beside result (read_lines (line (kind_of_line name.now (length ranges.now))
         (named name.now (none_or (row_code ranges.now)))) rest.now) }
 {
@@ -49,8 +49,8 @@ fn read_last_row<'a>(
     match last_bytes(name, ranges, &mut row, rest) {
         Ok((true, after)) => Ok((Some(Items::from_vec(row)), after)),
         Ok((false, after)) => Ok((None, after)),
-        Err(Miss::Ends) => Err(Stop::Cut),
-        Err(Miss::Differs) => Err(Stop::Wrong(kind_of(name, ranges.len(), rest), rest)),
+        Err(Miss::Ends) => Err(LineStop::Cut),
+        Err(Miss::Differs) => Err(LineStop::Wrong(kind_of(name, ranges.len(), rest), rest)),
     }
 }
 
@@ -61,7 +61,7 @@ fn read_last_line<'a>(
     index: usize,
     group: &Group,
     rest: &'a [u8],
-) -> Result<(LastRow, &'a [u8]), Stop<'a>>
+) -> Result<(LastRow, &'a [u8]), LineStop<'a>>
     ensures { Gives beside result (read_lines (last_line plan.now index group.now) rest.now) }
 {
     let mut name = Vec::new(alloc);
@@ -78,7 +78,7 @@ fn read_last<'a>(
     index: usize,
     group: &Group,
     rest: &'a [u8],
-) -> Result<(LastRow, &'a [u8]), Stop<'a>>
+) -> Result<(LastRow, &'a [u8]), LineStop<'a>>
     ensures { Gives beside result (read_lines (last_of plan.now index group.now) rest.now) }
 {
     if group.changes {
@@ -95,7 +95,7 @@ fn read_group<'a>(
     index: usize,
     group: &Group,
     rest: &'a [u8],
-) -> Result<((bool, LastRow), &'a [u8]), Stop<'a>>
+) -> Result<((bool, LastRow), &'a [u8]), LineStop<'a>>
     ensures { Gives beside result (read_lines (group_of plan.now (index, group.now)) rest.now) }
 {
     let mut name = Vec::new(alloc);
@@ -110,7 +110,7 @@ fn read_groups_of<'a>(
     plan: &Plan,
     groups: &[Group],
     rest: &'a [u8],
-) -> Result<((Flags, Items<LastRow>), &'a [u8]), Stop<'a>>
+) -> Result<((Flags, Items<LastRow>), &'a [u8]), LineStop<'a>>
     ensures told { Gives (λ x. (zip (x.0.0).on x.0.1, x.1.now)) result
         (read_lines (each (false, None) (group_of plan.now) (enumerate_from 0 groups.now)) rest.now) }
     ensures sizes { IfOk result (λ x. length (x.0.0).on ≡ length x.0.1) }
@@ -134,7 +134,7 @@ pub(crate) fn read_groups<'a>(
     alloc: Global,
     plan: &Plan,
     rest: &'a [u8],
-) -> Result<((Flags, Items<LastRow>), &'a [u8]), Stop<'a>>
+) -> Result<((Flags, Items<LastRow>), &'a [u8]), LineStop<'a>>
     ensures told { Gives (λ x. (zip (x.0.0).on x.0.1, x.1.now)) result (read_lines (groups_of plan.now) rest.now) }
     ensures sizes { IfOk result (λ x. length (x.0.0).on ≡ length x.0.1) }
 {

@@ -9,7 +9,7 @@ use crate::read_cells::{read_cells, read_job_flags};
 use std::alloc::{AllocError, Global};
 use trick_base::Items;
 use trick_chkpt::{jobs_of, scope, threads_beside};
-use trick_codes::{Stop, set_indexed, word_line};
+use trick_codes::{LineStop, set_indexed, word_line};
 use trick_lang::{Cell, JobId};
 use trick_model::{Flags, Plan, Taken, Thread};
 
@@ -42,7 +42,7 @@ fn read_held<'a>(
     plan: &Plan,
     thread: Thread,
     rest: &'a [u8],
-) -> Result<(Taken, &'a [u8]), Stop<'a>>
+) -> Result<(Taken, &'a [u8]), LineStop<'a>>
     ensures told { Gives (λ x. ((x.0.cells, x.0.on.on), x.1.now)) result
         (read_lines (held_of plan.now thread) rest.now) }
     ensures held { IfOk result (λ x. x.0.held ≡ true) }
@@ -68,7 +68,7 @@ fn read_record<'a>(
     plan: &Plan,
     thread: Thread,
     rest: &'a [u8],
-) -> Result<(Taken, &'a [u8]), Stop<'a>>
+) -> Result<(Taken, &'a [u8]), LineStop<'a>>
     ensures { Gives beside result (read_lines (record_of plan.now thread) rest.now) }
 {
     let mut name = Vec::new(alloc);
@@ -93,7 +93,7 @@ pub(crate) fn read_records<'a>(
     alloc: Global,
     plan: &Plan,
     rest: &'a [u8],
-) -> Result<(Items<Taken>, &'a [u8]), Stop<'a>>
+) -> Result<(Items<Taken>, &'a [u8]), LineStop<'a>>
     ensures { Gives beside result (read_lines (records_of plan.now) rest.now) }
 {
     let mut found = Items::new(alloc);

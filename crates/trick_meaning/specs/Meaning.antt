@@ -11,7 +11,7 @@ use Rattle.trick_lang.specs.SyntaxTree.{Name, Expression, Whole, Truth, Named, P
 use Rattle.trick_lang.specs.Wrap.{wrap}
 use Rattle.trick_lang.specs.declared.fault.FaultKind.{FaultKind}
 use Rattle.trick_lang.specs.declared.fault.FaultKind.TheVariants.{IndexOutOfRange}
-use Rattle.trick_lang.specs.declared.fault.Stop.{Stop}
+use Rattle.trick_lang.specs.declared.fault.StatementFault.{StatementFault}
 use Rattle.trick_lang.specs.declared.operator.Arithmetic.TheVariants.{Plus, Minus}
 use Rattle.trick_lang.specs.declared.scalar.Scalar.{Scalar}
 use Rattle.trick_lang.specs.declared.scalar.Scalar.TheVariants.{Long}
@@ -28,7 +28,7 @@ use Rattle.trick_names.specs.declared.tables.Lengths.{Lengths}
 use Rattle.trick_names.specs.declared.tables.Lengths.TheVariants.{Plain, One, Two}
 use Rattle.trick_names.specs.declared.tables.Member.{Member as InGroup}
 use Rattle.trick_names.specs.declared.tables.Member.TheVariants.{Variable, Method}
-use Rattle.trick_names.specs.declared.world.World.{World}
+use Rattle.trick_names.specs.declared.scope.FileScope.{FileScope}
 
 -- ---- where a body has come to
 
@@ -49,10 +49,10 @@ pub record State : Type 0 where
 -- what stays while a body runs: what its file declares and which class it is of, the name of its
 -- object, the memory at its start, and what each method of the class does to what was stored
 pub record Setting : Type 0 where
-  pub world : World
+  pub scope : FileScope
   pub object : Name
   pub memory : Name → ℤ
-  pub calls : Name → Stored → Result Stored Stop
+  pub calls : Name → Stored → Result Stored StatementFault
 
 -- a full name has the number last stored to it, or else the memory's
 abbrev pub number_at : Name → Setting → State → ℤ
@@ -84,8 +84,8 @@ local_meant object name (Some local) member global = OfLocal local
 local_meant object name None member global = member_meant object name member global
 
 abbrev pub meant : Name → Setting → State → Meant
-meant name x s = local_meant x.object name (meaning_of name s.locals) (own_member name x.world)
-    (meaning_of name x.world.tables.names)
+meant name x s = local_meant x.object name (meaning_of name s.locals) (own_member name x.scope)
+    (meaning_of name x.scope.tables.names)
 
 -- ---- expressions and places
 
@@ -143,7 +143,7 @@ abbrev mutual
   -- each index is evaluated and checked before the next one, from left to right
   pub led : Parts → Name → Reach → Setting → State → Result Place FaultKind
   led NoPart full there x s = Ok (record { full = full; there = there })
-  led (Member line name rest) full there x s = led rest (full ++ dotted name) (to_member name x.world there) x s
+  led (Member line name rest) full there x s = led rest (full ++ dotted name) (to_member name x.scope there) x s
   led (Index e rest) full there x s =
       and_then (value e x s) (λ n. and_then (checked (length_there there) n)
       (λ k. led rest (full ++ bracket k) (to_element None there) x s))
@@ -189,7 +189,7 @@ assigned full there parts change x s =
     and_then (led parts full there x s) (λ p. and_then (changed change (number_at p.full x s) x s) (λ n. Ok (p, n)))
 
 -- a store wraps to the type of the variable; an item is not assigned
-abbrev pub assign : Meant → ℕ → Name → Parts → Change → Setting → State → Result State Stop
+abbrev pub assign : Meant → ℕ → Name → Parts → Change → Setting → State → Result State StatementFault
 assign (OfLocal local) line name parts change x s =
     at_line line (changed change local.number x s) (λ n. Ok (with_local name (wrap local.scalar n) s))
 assign (OfItem value) line name parts change x s = Ok s
@@ -204,12 +204,12 @@ first_value None x s = Ok (pos 0)
 first_value (Some e) x s = value e x s
 
 -- a local variable is 0 where its declaration is reached, also in its own first value, which it then gets
-abbrev pub declare : ℕ → Scalar → Name → Option Expression → Setting → State → Result State Stop
+abbrev pub declare : ℕ → Scalar → Name → Option Expression → Setting → State → Result State StatementFault
 declare line scalar name e x s =
     let t = with_new name scalar (pos 0) s in
     at_line line (first_value e x t) (λ n. Ok (with_local name (wrap scalar n) t))
 
-abbrev pub path_assign : Path → ℕ → Change → Setting → State → Result State Stop
+abbrev pub path_assign : Path → ℕ → Change → Setting → State → Result State StatementFault
 path_assign (path at name parts) line change x s = assign (meant name x s) line name parts change x s
 
 -- ---- statements
@@ -218,21 +218,21 @@ path_assign (path at name parts) line change x s = assign (meant name x s) line 
 abbrev pub ended : State → State → State
 ended before s = record { stored = s.stored; locals = take (length before.locals) s.locals }
 
-abbrev pub within : State → Result State Stop → Result State Stop
+abbrev pub within : State → Result State StatementFault → Result State StatementFault
 within before after = and_then after (λ s. Ok (ended before s))
 
 -- a loop is the list of its turns, from number k on
-abbrev pub turns : (ℕ → State → Result State Stop) → ℕ → ℕ → State → Result State Stop
+abbrev pub turns : (ℕ → State → Result State StatementFault) → ℕ → ℕ → State → Result State StatementFault
 turns turn k zero s = Ok s
 turns turn k (suc n) s = and_then (turn k s) (turns turn (k + 1) n)
 
 -- a called method sees what was stored, and none of the local variables
-abbrev pub called : Name → Setting → State → Result State Stop
+abbrev pub called : Name → Setting → State → Result State StatementFault
 called name x s = and_then (x.calls name s.stored) (λ stored. Ok (record { stored = stored; locals = s.locals }))
 
 abbrev mutual
   -- a statement runs to a new state or to its first fault, which has the statement's line
-  pub run : Statement → Setting → State → Result State Stop
+  pub run : Statement → Setting → State → Result State StatementFault
   run Empty x s = Ok s
   run (Block all) x s = within s (run_all all x s)
   run (Declare line written name e) x s = declare line (scalar_of written) name e x s
@@ -244,12 +244,12 @@ abbrev mutual
   run (Call line name) x s = called name x s
 
   -- the first branch whose test is true, or else what stands after the last `else`
-  pub run_branch : Branches → Setting → State → Result State Stop
+  pub run_branch : Branches → Setting → State → Result State StatementFault
   run_branch NoElse x s = Ok s
   run_branch (Else body) x s = within s (run body x s)
   run_branch (Test line test body rest) x s =
       at_line line (value test x s) (λ n. if is_true n then within s (run body x s) else run_branch rest x s)
 
-  pub run_all : Statements → Setting → State → Result State Stop
+  pub run_all : Statements → Setting → State → Result State StatementFault
   run_all NoStatement x s = Ok s
   run_all (Then b rest) x s = and_then (run b x s) (λ t. run_all rest x t)

@@ -5,7 +5,7 @@ use Rattle.trick_lang.specs.SyntaxTree as text
 use Rattle.trick_lang.specs.SyntaxTree.{Name, Expression, Whole, Truth, Named, path, Parts, NoPart, Member, Index, Basic, Custom, Set, Update, Increase, Statement, Statements, NoStatement, Then, Part, HasMembers, HasMethod, SDefine, Enum, Struct, ClassOf, Object, NoElse, Else, Test, Link, NoLink, Choice, Last}
 use Rattle.trick_lang.specs.declared.bound.Bound.TheVariants.{Below, UpTo}
 use Rattle.trick_lang.specs.declared.fault.FaultKind.TheVariants.{DivideByZero, IndexOutOfRange}
-use Rattle.trick_lang.specs.declared.fault.Stop.{Stop}
+use Rattle.trick_lang.specs.declared.fault.StatementFault.{StatementFault}
 use Rattle.trick_lang.specs.declared.operator.Arithmetic.TheVariants.{Plus, Minus, Divide}
 use Rattle.trick_lang.specs.declared.operator.Operator.TheVariants.{Arithmetic, And}
 use Rattle.trick_lang.specs.declared.operator.Prefix.TheVariants.{Negate}
@@ -86,21 +86,21 @@ abbrev pub memory : Name → ℤ
 memory name = if bytes_eq name (codes "o.v") then pos 2 else pos 0
 
 -- what `o.m` does, where the class has these methods
-abbrev pub done : List Part → Result Stored Stop
+abbrev pub done : List Part → Result Stored StatementFault
 done methods = does (file methods) o m memory
 
 -- and where it has the method m alone, with that body
-abbrev pub gives : List Statement → Result Stored Stop
+abbrev pub gives : List Statement → Result Stored StatementFault
 gives body = done (method m body ∷ [])
 
 -- these stores, the last first
-abbrev pub stores : Stored → Result Stored Stop
+abbrev pub stores : Stored → Result Stored StatementFault
 stores all = Ok all
 
-abbrev pub divides_by_0 : ℕ → Result Stored Stop
+abbrev pub divides_by_0 : ℕ → Result Stored StatementFault
 divides_by_0 line = Err (record { kind = DivideByZero; line = line })
 
-abbrev pub is_out_of_range : ℕ → Result Stored Stop
+abbrev pub is_out_of_range : ℕ → Result Stored StatementFault
 is_out_of_range line = Err (record { kind = IndexOutOfRange; line = line })
 
 -- ---- text

@@ -8,7 +8,7 @@ use Rattle.std.specs.List.{list_all}
 use Rattle.std.specs.Str.{bytes_eq}
 use Rattle.trick_blocks.specs.Places as by_cell
 use Rattle.trick_blocks.specs.declared.spot.Spot.{Spot}
-use Rattle.trick_blocks.specs.declared.world.World.{World}
+use Rattle.trick_blocks.specs.declared.scope.ClassScope.{ClassScope}
 use Rattle.trick_cells.specs.Cells.{base_cells, bracket, cells_at, dotted, each, member_cells, members_cells, place_cells, under}
 use Rattle.trick_lang.specs.Effect.{scalars_of}
 use Rattle.trick_lang.specs.Names.{are_apart, of_one_name}
@@ -144,7 +144,7 @@ among_has all first part v h at = subst (λ us. IsAmong us v) (sym h.is) (among_
 
 -- ---- what a path means is among the cells
 
-module _ (w : World) (done : List (List Variable)) (memory : List Variable) (x : Setting) (s : State) (same : AreSameTables x.world.tables w.layout done) where
+module _ (w : ClassScope) (done : List (List Variable)) (memory : List Variable) (x : Setting) (s : State) (same : AreSameTables x.scope.tables w.layout done) where
   -- the cells of what is there have the full name in front
   abbrev pub Stand : Name → Shape → Type 0
   Stand full shape = (v : Variable) → IsAmong (place_cells done shape.lengths shape.base) v → IsAmong memory (named_under full v)
@@ -152,13 +152,13 @@ module _ (w : World) (done : List (List Variable)) (memory : List Variable) (x :
   longer : (p q : Name) (v : Variable) → IsAmong memory (named_under p (named_under q v)) → IsAmong memory (named_under (p ++ q) v)
   longer p q v h = subst (λ n. IsAmong memory (record { name = n; scalar = v.scalar })) (sym (append_assoc p q v.name)) h
 
-  pub member_stands : (ls : Lengths) (base : Base) (name full : Name) (shape : Shape) → member_in ls base name x.world ≡ Stands shape → Stand full (record { lengths = ls; base = base }) → Stand (full ++ dotted name) shape
-  member_stands Plain (Group k) name full shape is stand v at = by (meaning_of name (by_name.members_at x.world.tables.groups k)) refl is where
-    by : (o : Option InGroup) → meaning_of name (by_name.members_at x.world.tables.groups k) ≡ o → member_of o ≡ Stands shape → IsAmong memory (named_under (full ++ dotted name) v)
+  pub member_stands : (ls : Lengths) (base : Base) (name full : Name) (shape : Shape) → member_in ls base name x.scope ≡ Stands shape → Stand full (record { lengths = ls; base = base }) → Stand (full ++ dotted name) shape
+  member_stands Plain (Group k) name full shape is stand v at = by (meaning_of name (by_name.members_at x.scope.tables.groups k)) refl is where
+    by : (o : Option InGroup) → meaning_of name (by_name.members_at x.scope.tables.groups k) ≡ o → member_of o ≡ Stands shape → IsAmong memory (named_under (full ++ dotted name) v)
     by (Some (Holds other)) known i =
         let one : other ≡ shape = cc i in
-        let cells : cells_at done k ≡ members_cells done (by_name.members_at x.world.tables.groups k) = same.unfolds k ∙ ap (members_cells done) (groups_same x.world.tables.groups k) in
-        let here = among_member done (by_name.members_at x.world.tables.groups k) name other v known (subst (λ (q : Shape). IsAmong (place_cells done q.lengths q.base) v) (sym one) at) in
+        let cells : cells_at done k ≡ members_cells done (by_name.members_at x.scope.tables.groups k) = same.unfolds k ∙ ap (members_cells done) (groups_same x.scope.tables.groups k) in
+        let here = among_member done (by_name.members_at x.scope.tables.groups k) name other v known (subst (λ (q : Shape). IsAmong (place_cells done q.lengths q.base) v) (sym one) at) in
         longer full (dotted name) v (stand (named_under (dotted name) v) (subst (λ cs. IsAmong cs (named_under (dotted name) v)) (sym cells) here))
     by (Some (Method j)) known i = absurd (cc i)
     by None known i = absurd (cc i)
@@ -185,7 +185,7 @@ module _ (w : World) (done : List (List Variable)) (memory : List Variable) (x :
     by true is h = f n is h
     by false is h = absurd (cc h)
 
-  pub parts_stand : (parts : Parts) (shape : Shape) (from at : Spot) (scalar : Scalar) (full : Name) (p : Place) → Walks w x.world done same parts shape from scalar at → Stand full shape → led parts full (Stands shape) x s ≡ Ok p → Stand p.full (single scalar)
+  pub parts_stand : (parts : Parts) (shape : Shape) (from at : Spot) (scalar : Scalar) (full : Name) (p : Place) → Walks w x.scope done same parts shape from scalar at → Stand full shape → led parts full (Stands shape) x s ≡ Ok p → Stand p.full (single scalar)
   parts_stand NoPart shape from at scalar full p walks stand is =
       let one : record { full = full; there = Stands shape } ≡ p = cc is in
       subst (λ (q : Place). Stand q.full (single scalar)) one (subst (λ q. Stand full q) walks.0 stand)

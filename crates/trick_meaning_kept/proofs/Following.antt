@@ -9,7 +9,7 @@ use Rattle.trick_blocks.specs.Places as by_cell
 use Rattle.trick_blocks.specs.Places.{field_in, moved, loosened, on_element, on_field}
 use Rattle.trick_blocks.specs.declared.spot.Element.{Element}
 use Rattle.trick_blocks.specs.declared.spot.Spot.{Spot}
-use Rattle.trick_blocks.specs.declared.world.World.{World}
+use Rattle.trick_blocks.specs.declared.scope.ClassScope.{ClassScope}
 use Rattle.trick_cells.proofs.Lists.{length_each, length_under}
 use Rattle.trick_cells.specs.Cells.{base_cells, cells_at, dotted, each, member_cells, members_cells, under}
 use Rattle.trick_cells.specs.Tables.{has_elements}
@@ -36,7 +36,7 @@ use Rattle.trick_names.specs.declared.tables.Lengths.TheVariants.{Plain, One, Tw
 use Rattle.trick_names.specs.declared.tables.Member.{Member as InGroup}
 use Rattle.trick_names.specs.declared.tables.Member.TheVariants.{Variable as Holds, Method}
 use Rattle.trick_names.specs.declared.tables.Shape.{Shape}
-use Rattle.trick_names.specs.declared.world.World.{World as ByName}
+use Rattle.trick_names.specs.declared.scope.FileScope.{FileScope as ByName}
 
 -- ---- how many cells there are
 
@@ -109,7 +109,7 @@ pub on_one_own : (literal : Option ℕ) (el : Element) (s : Spot) → (on_one li
 on_one_own None el s = refl
 on_one_own (Some k) el s = refl
 
-module _ (w : World) (x : ByName) (done : List (List Variable)) (same : AreSameTables x.tables w.layout done) where
+module _ (w : ClassScope) (x : ByName) (done : List (List Variable)) (same : AreSameTables x.tables w.layout done) where
   pub group_many : (k : ℕ) (name : Name) (shape : Shape) → meaning_of name (by_name.members_at x.tables.groups k) ≡ Some (Holds shape) → many done shape ≤ length (cells_at done k)
   group_many k name shape known =
       let all : length (cells_at done k) ≡ length (members_cells done (by_name.members_at x.tables.groups k)) = ap length (same.unfolds k) ∙ ap (λ ms. length (members_cells done ms)) (groups_same x.tables.groups k) in

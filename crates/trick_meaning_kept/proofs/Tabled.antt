@@ -42,7 +42,7 @@ use Rattle.trick_names.specs.declared.tables.Member.{Member}
 use Rattle.trick_names.specs.declared.tables.Member.TheVariants.{Variable as Holds, Method}
 use Rattle.trick_names.specs.declared.tables.Shape.{Shape}
 use Rattle.trick_names.specs.declared.tables.Tables.{Tables}
-use Rattle.trick_names.specs.declared.world.World.{World}
+use Rattle.trick_names.specs.declared.scope.FileScope.{FileScope}
 
 -- ---- names that stand once
 
@@ -314,7 +314,7 @@ object_right line (Some (the.Item value)) none scalar h = absurd (cc none)
 object_right line (Some (the.Object base)) none scalar h = absurd (cc none)
 object_right line None none scalar h = absurd (cc none)
 
-definition_right : (d : text.Definition) (w : World) → definition_mistakes d w ≡ [] → NoneSingle w.names → NoneSingle (names_behind d w.own w.names)
+definition_right : (d : text.Definition) (w : FileScope) → definition_mistakes d w ≡ [] → NoneSingle w.names → NoneSingle (names_behind d w.own w.names)
 definition_right text.Include w none right = right
 definition_right (text.Enum name items) w none right = items_right items (pos 0) (with_name name the.Enum w.names) (right_with name the.Enum w.names (λ scalar h. absurd (cc h)) right)
 definition_right (text.Struct name members) w none right = right_with name (the.Struct w.own) w.names (λ scalar h. absurd (cc h)) right
@@ -322,7 +322,7 @@ definition_right (text.ClassOf name parts) w none right = right_with name (the.C
 definition_right (text.Object line class name) w none right =
     right_with name (the.Object (object_base (meaning_of class w.names))) w.names (object_right line (meaning_of class w.names) (none_left (unless_class line (meaning_of class w.names)) _ none)) right
 
-file_right : (ds : SDefine) (t : Tables) (w : World) → w.names ≡ t.names → w.own ≡ length t.groups → definitions_mistakes ds w ≡ [] → NoneSingle w.names → NoneSingle (behind_definitions ds t).names
+file_right : (ds : SDefine) (t : Tables) (w : FileScope) → w.names ≡ t.names → w.own ≡ length t.groups → definitions_mistakes ds w ≡ [] → NoneSingle w.names → NoneSingle (behind_definitions ds t).names
 file_right [] t w names own none right = subst NoneSingle names right
 file_right (d ∷ ds) t w names own none right =
     let next_names : names_behind d w.own w.names ≡ names_behind d (length t.groups) t.names = ap (λ k. names_behind d k w.names) own ∙ ap (names_behind d (length t.groups)) names in

@@ -12,7 +12,7 @@ use Rattle.trick_blocks.specs.declared.spot.Spot.{Spot}
 use Rattle.trick_blocks.specs.declared.start.Local.{Local as InSlot}
 use Rattle.trick_blocks.specs.declared.start.Meaning.{Meaning}
 use Rattle.trick_blocks.specs.declared.start.Meaning.TheVariants as means
-use Rattle.trick_blocks.specs.declared.world.World.{World}
+use Rattle.trick_blocks.specs.declared.scope.ClassScope.{ClassScope}
 use Rattle.trick_cells.specs.Cells.{bracket, cells_at, dotted, under}
 use Rattle.trick_lang.specs.Laws.{WrapsRight}
 use Rattle.trick_lang.specs.Numbers.{and_then, is_true, joined, prefixed}
@@ -104,20 +104,20 @@ further_step st text from n length stride e full scalar (Err a) (Err b) below h 
 
 module _ (x : Setting) (declared : Names Declared) where
   -- what has no mistake does not go astray
-  not_lost : (parts : Parts) (r : Reach) → astray 0 r ≡ [] → part_mistakes parts x.world declared r ≡ [] → astray 0 (by_name.followed parts x.world r) ≡ []
+  not_lost : (parts : Parts) (r : Reach) → astray 0 r ≡ [] → part_mistakes parts x.scope declared r ≡ [] → astray 0 (by_name.followed parts x.scope r) ≡ []
   not_lost NoPart r here none = here
   not_lost (Member line name rest) Astray here none = absurd (cc here)
   not_lost (Member line name rest) Misfit here none = not_lost rest Misfit refl none
-  not_lost (Member line name rest) (Stands shape) here none = by (by_name.to_member name x.world (Stands shape)) (λ r i. not_lost rest r i) none where
-    by : (next : Reach) → ((r : Reach) → astray 0 r ≡ [] → part_mistakes rest x.world declared r ≡ [] → astray 0 (by_name.followed rest x.world r) ≡ []) → astray line next ++ part_mistakes rest x.world declared next ≡ [] → astray 0 (by_name.followed rest x.world next) ≡ []
+  not_lost (Member line name rest) (Stands shape) here none = by (by_name.to_member name x.scope (Stands shape)) (λ r i. not_lost rest r i) none where
+    by : (next : Reach) → ((r : Reach) → astray 0 r ≡ [] → part_mistakes rest x.scope declared r ≡ [] → astray 0 (by_name.followed rest x.scope r) ≡ []) → astray line next ++ part_mistakes rest x.scope declared next ≡ [] → astray 0 (by_name.followed rest x.scope next) ≡ []
     by (Stands other) further none = further (Stands other) refl none
     by Misfit further none = further Misfit refl none
     by Astray further none = absurd (cc none)
   not_lost (Index e rest) Astray here none = absurd (cc here)
-  not_lost (Index e rest) Misfit here none = not_lost rest Misfit refl (none_right (expression_mistakes e x.world declared) _ none)
+  not_lost (Index e rest) Misfit here none = not_lost rest Misfit refl (none_right (expression_mistakes e x.scope declared) _ none)
   not_lost (Index e rest) (Stands shape) here none =
-      by (by_name.to_element (by_name.literal_of e) (Stands shape)) (λ r i. not_lost rest r i) (none_right (expression_mistakes e x.world declared) _ none) where
-        by : (next : Reach) → ((r : Reach) → astray 0 r ≡ [] → part_mistakes rest x.world declared r ≡ [] → astray 0 (by_name.followed rest x.world r) ≡ []) → astray (Rattle.trick_names.specs.BodyMistakes.line_of e) next ++ part_mistakes rest x.world declared next ≡ [] → astray 0 (by_name.followed rest x.world next) ≡ []
+      by (by_name.to_element (by_name.literal_of e) (Stands shape)) (λ r i. not_lost rest r i) (none_right (expression_mistakes e x.scope declared) _ none) where
+        by : (next : Reach) → ((r : Reach) → astray 0 r ≡ [] → part_mistakes rest x.scope declared r ≡ [] → astray 0 (by_name.followed rest x.scope r) ≡ []) → astray (Rattle.trick_names.specs.BodyMistakes.line_of e) next ++ part_mistakes rest x.scope declared next ≡ [] → astray 0 (by_name.followed rest x.scope next) ≡ []
         by (Stands other) further none = further (Stands other) refl none
         by Misfit further none = further Misfit refl none
         by Astray further none = absurd (cc none)
@@ -140,8 +140,8 @@ module _ (x : Setting) (declared : Names Declared) where
   not_astray_at line Misfit h = refl
   not_astray_at line Astray h = absurd (cc h)
 
-module _ (w : World) (done : List (List Variable)) (memory : List Variable) (slots : Names InSlot) (declared : Names Declared) (sight : Sight) (x : Setting) (s : State)
-    (named : AreNamed w.layout done memory) (same : AreSameTables x.world.tables w.layout done) (see : SeeTheSame w slots declared memory sight x s)
+module _ (w : ClassScope) (done : List (List Variable)) (memory : List Variable) (slots : Names InSlot) (declared : Names Declared) (sight : Sight) (x : Setting) (s : State)
+    (named : AreNamed w.layout done memory) (same : AreSameTables x.scope.tables w.layout done) (see : SeeTheSame w slots declared memory sight x s)
     (places : LeadToTheirNames) (objects : ObjectsHoldNames) (wraps : WrapsRight) where
   -- ---- indexes
 
@@ -186,27 +186,27 @@ module _ (w : World) (done : List (List Variable)) (memory : List Variable) (slo
   -- ---- whole paths
 
   abbrev LeadsAll : Parts → Type 0
-  LeadsAll parts = (shape : Shape) (from : Spot) (scalar : Scalar) (at : Spot) → Walks w x.world done same parts shape from scalar at → part_mistakes parts x.world declared (Stands shape) ≡ [] → Leads parts shape from scalar
+  LeadsAll parts = (shape : Shape) (from : Spot) (scalar : Scalar) (at : Spot) → Walks w x.scope done same parts shape from scalar at → part_mistakes parts x.scope declared (Stands shape) ≡ [] → Leads parts shape from scalar
 
   member_leads : (line : ℕ) (name : Name) (rest : Parts) → LeadsAll rest → LeadsAll (Member line name rest)
   member_leads line name rest further shape at scalar end walks none = λ from full.
       let next = Rattle.trick_blocks.specs.Places.moved walks.0.field.offset walks.0.field.extent at in
-      let no_more : part_mistakes rest x.world declared (Stands walks.0.shape) ≡ [] = subst (λ r. part_mistakes rest x.world declared r ≡ []) walks.0.by_names (none_right _ _ none) in
+      let no_more : part_mistakes rest x.scope declared (Stands walks.0.shape) ≡ [] = subst (λ r. part_mistakes rest x.scope declared r ≡ []) walks.0.by_names (none_right _ _ none) in
       let told = further walks.0.shape next scalar end walks.1 no_more from (full ++ dotted name) in
-      subst (λ o. IsLed (steps rest w slots (by_cell.on_field o at)) (path_text (Member line name rest)) from full scalar (resolved.led (steps rest w slots (by_cell.on_field o at)) sight from) (led rest (full ++ dotted name) (by_name.member_in shape.lengths shape.base name x.world) x s)) (sym walks.0.by_cells)
+      subst (λ o. IsLed (steps rest w slots (by_cell.on_field o at)) (path_text (Member line name rest)) from full scalar (resolved.led (steps rest w slots (by_cell.on_field o at)) sight from) (led rest (full ++ dotted name) (by_name.member_in shape.lengths shape.base name x.scope) x s)) (sym walks.0.by_cells)
       (subst (λ r. IsLed (steps rest w slots (Some next)) (path_text (Member line name rest)) from full scalar (resolved.led (steps rest w slots (Some next)) sight from) (led rest (full ++ dotted name) r x s)) (sym walks.0.by_names)
       (further_text (steps rest w slots (Some next)) (path_text rest) (path_text (Member line name rest)) from full (dotted name) scalar (resolved.led (steps rest w slots (Some next)) sight from) (led rest (full ++ dotted name) (Stands walks.0.shape) x s) (λ ns. refl) told))
 
-  index_leads : (e : Expression) (rest : Parts) → (expression_mistakes e x.world declared ≡ [] → resolved.value (term e w slots) sight ≡ value e x s) → LeadsAll rest → LeadsAll (Index e rest)
+  index_leads : (e : Expression) (rest : Parts) → (expression_mistakes e x.scope declared ≡ [] → resolved.value (term e w slots) sight ≡ value e x s) → LeadsAll rest → LeadsAll (Index e rest)
   index_leads e rest value_is further shape at scalar end walks none = λ from full.
       let step = walks.0 in
       let next = on_one (by_cell.literal_of e) step.element at in
       let on_next : by_cell.on_element (by_cell.literal_of e) (Some step.element) at ≡ Some next = on_one_is (by_cell.literal_of e) step.element at step.below in
-      let behind = none_right (expression_mistakes e x.world declared) _ none in
+      let behind = none_right (expression_mistakes e x.scope declared) _ none in
       let at_element : by_name.element_in shape.lengths shape.base (by_name.literal_of e) ≡ Stands step.shape = ap (by_name.element_in shape.lengths shape.base) (same_literal e) ∙ step.by_literal in
-      let no_more : part_mistakes rest x.world declared (Stands step.shape) ≡ [] = subst (λ r. part_mistakes rest x.world declared r ≡ []) at_element (none_right _ _ behind) in
+      let no_more : part_mistakes rest x.scope declared (Stands step.shape) ≡ [] = subst (λ r. part_mistakes rest x.scope declared r ≡ []) at_element (none_right _ _ behind) in
       let told : Leads rest step.shape next scalar = further step.shape next scalar end walks.1 no_more in
-      let there = index_kept (by_cell.literal_of e) (steps rest w slots (Some next)) (path_text rest) scalar step.element (term e w slots) (value e x s) (λ q. led rest q (Stands step.shape) x s) from full (value_is (none_left (expression_mistakes e x.world declared) _ none)) (λ k is small. literal_value e k is small) step.short step.below told in
+      let there = index_kept (by_cell.literal_of e) (steps rest w slots (Some next)) (path_text rest) scalar step.element (term e w slots) (value e x s) (λ q. led rest q (Stands step.shape) x s) from full (value_is (none_left (expression_mistakes e x.scope declared) _ none)) (λ k is small. literal_value e k is small) step.short step.below told in
       subst (λ o. IsLed (terms.stepped (computed (by_cell.literal_of e) o) (term e w slots) (steps rest w slots (by_cell.on_element (by_cell.literal_of e) o at))) (path_text (Index e rest)) from full scalar (resolved.led (terms.stepped (computed (by_cell.literal_of e) o) (term e w slots) (steps rest w slots (by_cell.on_element (by_cell.literal_of e) o at))) sight from) (led (Index e rest) full (Stands shape) x s)) (sym step.by_cells)
       (subst (λ q. IsLed (terms.stepped (computed (by_cell.literal_of e) (Some step.element)) (term e w slots) (steps rest w slots q)) (path_text (Index e rest)) from full scalar (resolved.led (terms.stepped (computed (by_cell.literal_of e) (Some step.element)) (term e w slots) (steps rest w slots q)) sight from) (led (Index e rest) full (Stands shape) x s)) (sym on_next)
       (subst (λ r. IsLed (terms.stepped (computed (by_cell.literal_of e) (Some step.element)) (term e w slots) (steps rest w slots (Some next))) (path_text (Index e rest)) from full scalar (resolved.led (terms.stepped (computed (by_cell.literal_of e) (Some step.element)) (term e w slots) (steps rest w slots (Some next))) sight from) (and_then (value e x s) (λ n. and_then (checked (length_of shape.lengths) n) (λ k. led rest (full ++ bracket k) r x s)))) (sym step.by_names)
@@ -239,18 +239,18 @@ module _ (w : World) (done : List (List Variable)) (memory : List Variable) (slo
   scalar_at : (at : Spot) (scalar : Scalar) → at.extent ≡ record { dims = dims.Plain; base = Single scalar } → by_cell.scalar_there (Some at) ≡ Some at
   scalar_at at scalar h = ap (λ (e : Extent). by_cell.scalar_in e.dims e.base at) h
 
-  place_kept : (line : ℕ) (name : Name) (parts : Parts) (from : Spot) (shape : Shape) (scalar : Scalar) (full : Name) → LeadsAll parts → by_cell.named name w slots ≡ means.Stands from → Stage w x.world done same shape from.extent → Reaches w x.world done same parts (Stands shape) scalar → part_mistakes parts x.world declared (Stands shape) ≡ [] → Begins name from full → by_cells parts (means.Stands from) ≡ by_full_names parts (OfVariable full (Stands shape))
+  place_kept : (line : ℕ) (name : Name) (parts : Parts) (from : Spot) (shape : Shape) (scalar : Scalar) (full : Name) → LeadsAll parts → by_cell.named name w slots ≡ means.Stands from → Stage w x.scope done same shape from.extent → Reaches w x.scope done same parts (Stands shape) scalar → part_mistakes parts x.scope declared (Stands shape) ≡ [] → Begins name from full → by_cells parts (means.Stands from) ≡ by_full_names parts (OfVariable full (Stands shape))
   place_kept line name parts from shape scalar full leads is stage reaches none begins =
-      let whole : Walk w x.world done same parts shape from scalar = walk w x.world done same parts shape from scalar stage reaches in
+      let whole : Walk w x.scope done same parts shape from scalar = walk w x.scope done same parts shape from scalar stage reaches in
       let at = whole.0 in
       let st = steps parts w slots (Some from) in
       let count = by_cell.literal_count parts in
       let place : Tree.Spot = spot at.own at.first (span_of at.loose) (offset_of at.loose) count st in
-      let there : by_cell.scalar_there (by_cell.followed parts w (Some from)) ≡ Some at = ap by_cell.scalar_there (followed_is w x.world done same parts shape from scalar at whole.1) ∙ scalar_at at scalar (number_is w x.world done same parts shape from scalar at whole.1) in
+      let there : by_cell.scalar_there (by_cell.followed parts w (Some from)) ≡ Some at = ap by_cell.scalar_there (followed_is w x.scope done same parts shape from scalar at whole.1) ∙ scalar_at at scalar (number_is w x.scope done same parts shape from scalar at whole.1) in
       let goal_is : path_goal (path line name parts) w slots ≡ OfPlace place =
       ap (λ m. goal_of m (by_cell.scalar_there (by_cell.followed parts w (by_cell.start_of m))) count (steps parts w slots (by_cell.start_of m))) is ∙ ap (λ o. place_goal o count st) there in
       let start = origin at.own sight.base + at.first + offset_of at.loose in
-      let own = own_is w x.world done same parts shape from scalar at whole.1 in
+      let own = own_is w x.scope done same parts shape from scalar at whole.1 in
       let at_base : origin at.own sight.base ≡ origin from.own sight.base = ap (λ b. origin b sight.base) own in
       ap (λ o. resolved.value (goal_term (place_goal o count st)) sight) there
       ∙ read_kept st (path_text parts) start full scalar (resolved.led st sight start) (led parts full (Stands shape) x s)
@@ -265,21 +265,21 @@ module _ (w : World) (done : List (List Variable)) (memory : List Variable) (slo
   -- ---- first names
 
   abbrev NoMistake : ℕ → Parts → Reach → Type 0
-  NoMistake line parts r = ends line (unless_fixed false (by_name.followed parts x.world r)) ++ (astray line r ++ part_mistakes parts x.world declared r) ≡ []
+  NoMistake line parts r = ends line (unless_fixed false (by_name.followed parts x.scope r)) ++ (astray line r ++ part_mistakes parts x.scope declared r) ≡ []
 
-  no_part : (line : ℕ) (parts : Parts) (r : Reach) → NoMistake line parts r → part_mistakes parts x.world declared r ≡ []
-  no_part line parts r h = none_right (astray line r) _ (none_right (ends line (unless_fixed false (by_name.followed parts x.world r))) _ h)
+  no_part : (line : ℕ) (parts : Parts) (r : Reach) → NoMistake line parts r → part_mistakes parts x.scope declared r ≡ []
+  no_part line parts r h = none_right (astray line r) _ (none_right (ends line (unless_fixed false (by_name.followed parts x.scope r))) _ h)
 
   no_stray : (line : ℕ) (parts : Parts) (r : Reach) → NoMistake line parts r → astray line r ≡ []
-  no_stray line parts r h = none_left (astray line r) _ (none_right (ends line (unless_fixed false (by_name.followed parts x.world r))) _ h)
+  no_stray line parts r h = none_left (astray line r) _ (none_right (ends line (unless_fixed false (by_name.followed parts x.scope r))) _ h)
 
-  reaches_of : (line : ℕ) (parts : Parts) (r : Reach) → NoMistake line parts r → (scalar : Scalar) × Reaches w x.world done same parts r scalar
+  reaches_of : (line : ℕ) (parts : Parts) (r : Reach) → NoMistake line parts r → (scalar : Scalar) × Reaches w x.scope done same parts r scalar
   reaches_of line parts r h =
-      reached x declared line (by_name.followed parts x.world r)
+      reached x declared line (by_name.followed parts x.scope r)
       (not_lost x declared parts r (not_astray_at x declared line r (no_stray line parts r h)) (no_part line parts r h))
-      (none_left (ends line (unless_fixed false (by_name.followed parts x.world r))) _ h)
+      (none_left (ends line (unless_fixed false (by_name.followed parts x.scope r))) _ h)
 
-  global_kept : (line : ℕ) (name : Name) (parts : Parts) → LeadsAll parts → (g : Option Global) (q : Option Site) → meaning_of name x.world.tables.names ≡ g → IsSameGlobal g q → NoMistake line parts (global_state g) → by_cell.named name w slots ≡ by_cell.site_meaning q → by_cells parts (by_cell.site_meaning q) ≡ by_full_names parts (global_meant name g)
+  global_kept : (line : ℕ) (name : Name) (parts : Parts) → LeadsAll parts → (g : Option Global) (q : Option Site) → meaning_of name x.scope.tables.names ≡ g → IsSameGlobal g q → NoMistake line parts (global_state g) → by_cell.named name w slots ≡ by_cell.site_meaning q → by_cells parts (by_cell.site_meaning q) ≡ by_full_names parts (global_meant name g)
   global_kept line name parts leads (Some (the.Item value)) (Some (site.Item other)) known agree none is = ap Ok agree
   global_kept line name parts leads (Some (the.Item value)) (Some (site.Object first class)) known agree none is = absurd agree
   global_kept line name parts leads (Some (the.Item value)) None known agree none is = absurd agree
@@ -296,72 +296,72 @@ module _ (w : World) (done : List (List Variable)) (memory : List Variable) (slo
   global_kept line name parts leads (Some (the.Class k)) q known agree none is = absurd (cc (no_stray line parts Astray none))
   global_kept line name parts leads None q known agree none is = absurd (cc (no_stray line parts Astray none))
 
-  member_kept : (line : ℕ) (name : Name) (parts : Parts) → LeadsAll parts → (m : Option InGroup) (f : Option Field) → meaning_of name (by_name.members_at x.world.tables.groups w.class) ≡ m → IsSameMember done m f → NoMistake line parts (member_state m (meaning_of name x.world.tables.names)) → by_cell.named name w slots ≡ by_cell.field_meaning f (meaning_of name w.layout.sites) → by_cells parts (by_cell.field_meaning f (meaning_of name w.layout.sites)) ≡ by_full_names parts (member_meant x.object name m (meaning_of name x.world.tables.names))
+  member_kept : (line : ℕ) (name : Name) (parts : Parts) → LeadsAll parts → (m : Option InGroup) (f : Option Field) → meaning_of name (by_name.members_at x.scope.tables.groups w.class) ≡ m → IsSameMember done m f → NoMistake line parts (member_state m (meaning_of name x.scope.tables.names)) → by_cell.named name w slots ≡ by_cell.field_meaning f (meaning_of name w.layout.sites) → by_cells parts (by_cell.field_meaning f (meaning_of name w.layout.sites)) ≡ by_full_names parts (member_meant x.object name m (meaning_of name x.scope.tables.names))
   member_kept line name parts leads (Some (Holds shape)) None known agree none is =
       let reach = reaches_of line parts (Stands shape) none in
-      absurd (agree (has_cell w x.world done same parts shape.lengths shape.base reach.0 (same.elements w.class name shape known) reach.1))
+      absurd (agree (has_cell w x.scope done same parts shape.lengths shape.base reach.0 (same.elements w.class name shape known) reach.1))
   member_kept line name parts leads (Some (Holds shape)) (Some field) known agree none is =
       let reach = reaches_of line parts (Stands shape) none in
       let some = same.elements w.class name shape known in
       let small = same.small x.object w.class see.known in
       place_kept line name parts (record { own = true; first = field.offset; loose = None; extent = field.extent }) shape reach.0 (x.object ++ dotted name) leads is
       (record {
-        is_same = agree (has_cell w x.world done same parts shape.lengths shape.base reach.0 some reach.1);
+        is_same = agree (has_cell w x.scope done same parts shape.lengths shape.base reach.0 some reach.1);
         some = some;
-        small = omega (arith, small, group_many w x.world done same w.class name shape known);
+        small = omega (arith, small, group_many w x.scope done same w.class name shape known);
       }) reach.1 (no_part line parts (Stands shape) none)
       (λ cell text h.
       subst (λ q. IsNamed memory (sight.base + cell) q) (sym (append_assoc x.object (dotted name) text)) (objects w.layout done memory named x.object sight.base w.class see.object cell (dotted name ++ text) h))
   member_kept line name parts leads (Some (Method k)) (Some field) known agree none is = absurd agree
   member_kept line name parts leads (Some (Method k)) None known agree none is =
-      global_kept line name parts leads (meaning_of name x.world.tables.names) (meaning_of name w.layout.sites) refl (same.globals name) none is
+      global_kept line name parts leads (meaning_of name x.scope.tables.names) (meaning_of name w.layout.sites) refl (same.globals name) none is
   member_kept line name parts leads None (Some field) known agree none is = absurd agree
   member_kept line name parts leads None None known agree none is =
-      global_kept line name parts leads (meaning_of name x.world.tables.names) (meaning_of name w.layout.sites) refl (same.globals name) none is
+      global_kept line name parts leads (meaning_of name x.scope.tables.names) (meaning_of name w.layout.sites) refl (same.globals name) none is
 
-  own_known : (name : Name) → by_name.own_member name x.world ≡ meaning_of name (by_name.members_at x.world.tables.groups w.class)
-  own_known name = ap (λ k. meaning_of name (by_name.members_at x.world.tables.groups k)) see.class
+  own_known : (name : Name) → by_name.own_member name x.scope ≡ meaning_of name (by_name.members_at x.scope.tables.groups w.class)
+  own_known name = ap (λ k. meaning_of name (by_name.members_at x.scope.tables.groups k)) see.class
 
-  local_kept : (line : ℕ) (name : Name) (parts : Parts) → LeadsAll parts → (a : Option InSlot) (b : Option Declared) (c : Option ByName) → meaning_of name slots ≡ a → IsSameLocal sight.local a b c → NoMistake line parts (local_state b (meaning_of name (by_name.members_at x.world.tables.groups w.class)) (meaning_of name x.world.tables.names)) → by_cells parts (by_cell.local_meaning a (meaning_of name (fields_at w.layout.groups w.class)) (meaning_of name w.layout.sites)) ≡ by_full_names parts (local_meant x.object name c (meaning_of name (by_name.members_at x.world.tables.groups w.class)) (meaning_of name x.world.tables.names))
+  local_kept : (line : ℕ) (name : Name) (parts : Parts) → LeadsAll parts → (a : Option InSlot) (b : Option Declared) (c : Option ByName) → meaning_of name slots ≡ a → IsSameLocal sight.local a b c → NoMistake line parts (local_state b (meaning_of name (by_name.members_at x.scope.tables.groups w.class)) (meaning_of name x.scope.tables.names)) → by_cells parts (by_cell.local_meaning a (meaning_of name (fields_at w.layout.groups w.class)) (meaning_of name w.layout.sites)) ≡ by_full_names parts (local_meant x.object name c (meaning_of name (by_name.members_at x.scope.tables.groups w.class)) (meaning_of name x.scope.tables.names))
   local_kept line name parts leads (Some a) (Some b) (Some c) known agree none = ap Ok agree.0
   local_kept line name parts leads (Some a) (Some b) None known agree none = absurd agree
   local_kept line name parts leads (Some a) None c known agree none = absurd agree
   local_kept line name parts leads None (Some b) c known agree none = absurd agree
   local_kept line name parts leads None None (Some c) known agree none = absurd agree
   local_kept line name parts leads None None None known agree none =
-      member_kept line name parts leads (meaning_of name (by_name.members_at x.world.tables.groups w.class)) (meaning_of name (fields_at w.layout.groups w.class)) refl (same.members w.class name (same.small x.object w.class see.known)) none
+      member_kept line name parts leads (meaning_of name (by_name.members_at x.scope.tables.groups w.class)) (meaning_of name (fields_at w.layout.groups w.class)) refl (same.members w.class name (same.small x.object w.class see.known)) none
       (ap (λ o. by_cell.local_meaning o (meaning_of name (fields_at w.layout.groups w.class)) (meaning_of name w.layout.sites)) known)
 
-  first_kept : (line : ℕ) (name : Name) (parts : Parts) → LeadsAll parts → path_mistakes (path line name parts) false x.world declared ≡ [] → by_cells parts (by_cell.named name w slots) ≡ by_full_names parts (meant name x s)
+  first_kept : (line : ℕ) (name : Name) (parts : Parts) → LeadsAll parts → path_mistakes (path line name parts) false x.scope declared ≡ [] → by_cells parts (by_cell.named name w slots) ≡ by_full_names parts (meant name x s)
   first_kept line name parts leads none =
-      let none' = subst (λ m. NoMistake line parts (local_state (meaning_of name declared) m (meaning_of name x.world.tables.names))) (own_known name) none in
+      let none' = subst (λ m. NoMistake line parts (local_state (meaning_of name declared) m (meaning_of name x.scope.tables.names))) (own_known name) none in
       local_kept line name parts leads (meaning_of name slots) (meaning_of name declared) (meaning_of name s.locals) refl (see.locals name) none'
-      ∙ ap (λ m. by_full_names parts (local_meant x.object name (meaning_of name s.locals) m (meaning_of name x.world.tables.names))) (sym (own_known name))
+      ∙ ap (λ m. by_full_names parts (local_meant x.object name (meaning_of name s.locals) m (meaning_of name x.scope.tables.names))) (sym (own_known name))
 
   -- ---- expressions
 
   mutual
-    pub value_kept : (e : Expression) → expression_mistakes e x.world declared ≡ [] → resolved.value (term e w slots) sight ≡ value e x s
+    pub value_kept : (e : Expression) → expression_mistakes e x.scope declared ≡ [] → resolved.value (term e w slots) sight ≡ value e x s
     value_kept (Whole line n) none = refl
     value_kept (Truth line b) none = refl
     value_kept (Named p) none = path_kept p none
     value_kept (Prefixed o e) none = ap (λ r. and_then r (λ n. (let q : Result ℤ FaultKind = Ok (prefixed o n) in q))) (value_kept e none)
     value_kept (Chain e links) none =
-        then_same (resolved.value (term e w slots) sight) (value e x s) (λ n. resolved.linked (link_terms links w slots) n sight) (λ n. linked links n x s) (value_kept e (none_left (expression_mistakes e x.world declared) _ none)) (λ n. link_kept links n (none_right (expression_mistakes e x.world declared) _ none))
+        then_same (resolved.value (term e w slots) sight) (value e x s) (λ n. resolved.linked (link_terms links w slots) n sight) (λ n. linked links n x s) (value_kept e (none_left (expression_mistakes e x.scope declared) _ none)) (λ n. link_kept links n (none_right (expression_mistakes e x.scope declared) _ none))
     value_kept (Choose choices) none = choice_kept choices none
 
-    pub link_kept : (links : Links) (n : ℤ) → link_mistakes links x.world declared ≡ [] → resolved.linked (link_terms links w slots) n sight ≡ linked links n x s
+    pub link_kept : (links : Links) (n : ℤ) → link_mistakes links x.scope declared ≡ [] → resolved.linked (link_terms links w slots) n sight ≡ linked links n x s
     link_kept NoLink n none = refl
     link_kept (Link o e rest) n none =
-        then_same (joined o n (resolved.value (term e w slots) sight)) (joined o n (value e x s)) (λ m. resolved.linked (link_terms rest w slots) m sight) (λ m. linked rest m x s) (ap (joined o n) (value_kept e (none_left (expression_mistakes e x.world declared) _ none))) (λ m. link_kept rest m (none_right (expression_mistakes e x.world declared) _ none))
+        then_same (joined o n (resolved.value (term e w slots) sight)) (joined o n (value e x s)) (λ m. resolved.linked (link_terms rest w slots) m sight) (λ m. linked rest m x s) (ap (joined o n) (value_kept e (none_left (expression_mistakes e x.scope declared) _ none))) (λ m. link_kept rest m (none_right (expression_mistakes e x.scope declared) _ none))
 
-    pub choice_kept : (choices : Choices) → choice_mistakes choices x.world declared ≡ [] → resolved.chosen (choice_terms choices w slots) sight ≡ chosen choices x s
+    pub choice_kept : (choices : Choices) → choice_mistakes choices x.scope declared ≡ [] → resolved.chosen (choice_terms choices w slots) sight ≡ chosen choices x s
     choice_kept (Last e) none = value_kept e none
     choice_kept (Choice test e rest) none =
-        let behind = none_right (expression_mistakes test x.world declared) _ none in
-        then_same (resolved.value (term test w slots) sight) (value test x s) (λ t. if is_true t then resolved.value (term e w slots) sight else resolved.chosen (choice_terms rest w slots) sight) (λ t. if is_true t then value e x s else chosen rest x s) (value_kept test (none_left (expression_mistakes test x.world declared) _ none)) (λ t. if_same (is_true t) (resolved.value (term e w slots) sight) (resolved.chosen (choice_terms rest w slots) sight) (value e x s) (chosen rest x s) (value_kept e (none_left (expression_mistakes e x.world declared) _ behind)) (choice_kept rest (none_right (expression_mistakes e x.world declared) _ behind)))
+        let behind = none_right (expression_mistakes test x.scope declared) _ none in
+        then_same (resolved.value (term test w slots) sight) (value test x s) (λ t. if is_true t then resolved.value (term e w slots) sight else resolved.chosen (choice_terms rest w slots) sight) (λ t. if is_true t then value e x s else chosen rest x s) (value_kept test (none_left (expression_mistakes test x.scope declared) _ none)) (λ t. if_same (is_true t) (resolved.value (term e w slots) sight) (resolved.chosen (choice_terms rest w slots) sight) (value e x s) (chosen rest x s) (value_kept e (none_left (expression_mistakes e x.scope declared) _ behind)) (choice_kept rest (none_right (expression_mistakes e x.scope declared) _ behind)))
 
-    pub path_kept : (p : Path) → path_mistakes p false x.world declared ≡ [] → resolved.value (goal_term (path_goal p w slots)) sight ≡ path_value p x s
+    pub path_kept : (p : Path) → path_mistakes p false x.scope declared ≡ [] → resolved.value (goal_term (path_goal p w slots)) sight ≡ path_value p x s
     path_kept (path line name parts) none = first_kept line name parts (parts_lead parts) none
 
     pub parts_lead : (parts : Parts) → LeadsAll parts
@@ -386,18 +386,18 @@ module _ (w : World) (done : List (List Variable)) (memory : List Variable) (slo
     pub names : (ns : List ℕ) (more : ℕ) → led_by steps_are ns ≡ Some more → IsNamed memory (from + more) (full ++ path_text parts ns)
     pub types : (p : Place) → led parts full (Stands shape) x s ≡ Ok p → Stand w done memory x s same p.full (single scalar)
 
-  place_view : (line : ℕ) (name : Name) (parts : Parts) (from : Spot) (shape : Shape) (scalar : Scalar) (full : Name) → LeadsAll parts → by_cell.named name w slots ≡ means.Stands from → meant name x s ≡ OfVariable full (Stands shape) → Stage w x.world done same shape from.extent → Reaches w x.world done same parts (Stands shape) scalar → part_mistakes parts x.world declared (Stands shape) ≡ [] → Begins name from full → Stand w done memory x s same full shape → PlaceView line name parts
+  place_view : (line : ℕ) (name : Name) (parts : Parts) (from : Spot) (shape : Shape) (scalar : Scalar) (full : Name) → LeadsAll parts → by_cell.named name w slots ≡ means.Stands from → meant name x s ≡ OfVariable full (Stands shape) → Stage w x.scope done same shape from.extent → Reaches w x.scope done same parts (Stands shape) scalar → part_mistakes parts x.scope declared (Stands shape) ≡ [] → Begins name from full → Stand w done memory x s same full shape → PlaceView line name parts
   place_view line name parts from shape scalar full leads is means_is stage reaches none begins stands =
-      let whole : Walk w x.world done same parts shape from scalar = walk w x.world done same parts shape from scalar stage reaches in
+      let whole : Walk w x.scope done same parts shape from scalar = walk w x.scope done same parts shape from scalar stage reaches in
       let at = whole.0 in
       let st = steps parts w slots (Some from) in
       let count = by_cell.literal_count parts in
       let place : Tree.Spot = spot at.own at.first (span_of at.loose) (offset_of at.loose) count st in
-      let there : by_cell.scalar_there (by_cell.followed parts w (Some from)) ≡ Some at = ap by_cell.scalar_there (followed_is w x.world done same parts shape from scalar at whole.1) ∙ scalar_at at scalar (number_is w x.world done same parts shape from scalar at whole.1) in
+      let there : by_cell.scalar_there (by_cell.followed parts w (Some from)) ≡ Some at = ap by_cell.scalar_there (followed_is w x.scope done same parts shape from scalar at whole.1) ∙ scalar_at at scalar (number_is w x.scope done same parts shape from scalar at whole.1) in
       let goal_is : path_goal (path line name parts) w slots ≡ OfPlace place =
       ap (λ m. goal_of m (by_cell.scalar_there (by_cell.followed parts w (by_cell.start_of m))) count (steps parts w slots (by_cell.start_of m))) is ∙ ap (λ o. place_goal o count st) there in
       let start = origin at.own sight.base + at.first + offset_of at.loose in
-      let own = own_is w x.world done same parts shape from scalar at whole.1 in
+      let own = own_is w x.scope done same parts shape from scalar at whole.1 in
       let at_base : origin at.own sight.base ≡ origin from.own sight.base = ap (λ b. origin b sight.base) own in
       record {
         spot_is = place;
@@ -422,8 +422,8 @@ module _ (w : World) (done : List (List Variable)) (memory : List Variable) (slo
   -- a path of which nothing is wrong is a local variable, an item or a place
   module _ (line : ℕ) (name : Name) (parts : Parts) (leads : LeadsAll parts) (P : Type 0)
       (on_local : (a : InSlot) (b : Declared) (c : ByName) → meaning_of name slots ≡ Some a → meaning_of name declared ≡ Some b → meaning_of name s.locals ≡ Some c → IsSameLocal sight.local (Some a) (Some b) (Some c) → P)
-      (on_item : by_name.is_fixed name x.world declared ≡ true → P) (on_place : PlaceView line name parts → P) where
-    global_view : (g : Option Global) (q : Option Site) → meaning_of name x.world.tables.names ≡ g → IsSameGlobal g q → NoMistake line parts (global_state g) → by_cell.named name w slots ≡ by_cell.site_meaning q → meaning_of name w.layout.sites ≡ q → meant name x s ≡ global_meant name g → (g ≡ meaning_of name x.world.tables.names → by_name.is_fixed name x.world declared ≡ by_name.is_fixed_global g) → P
+      (on_item : by_name.is_fixed name x.scope declared ≡ true → P) (on_place : PlaceView line name parts → P) where
+    global_view : (g : Option Global) (q : Option Site) → meaning_of name x.scope.tables.names ≡ g → IsSameGlobal g q → NoMistake line parts (global_state g) → by_cell.named name w slots ≡ by_cell.site_meaning q → meaning_of name w.layout.sites ≡ q → meant name x s ≡ global_meant name g → (g ≡ meaning_of name x.scope.tables.names → by_name.is_fixed name x.scope declared ≡ by_name.is_fixed_global g) → P
     global_view (Some (the.Item value)) q known agree none is at means_is fixed = on_item (fixed (sym known))
     global_view (Some (the.Object (Single scalar))) q known agree none is at means_is fixed = absurd agree
     global_view (Some (the.Object (Group k))) None known agree none is at means_is fixed = absurd agree
@@ -439,60 +439,60 @@ module _ (w : World) (done : List (List Variable)) (memory : List Variable) (slo
     global_view (Some (the.Class k)) q known agree none is at means_is fixed = absurd (cc (no_stray line parts Astray none))
     global_view None q known agree none is at means_is fixed = absurd (cc (no_stray line parts Astray none))
 
-    member_view : (m : Option InGroup) (f : Option Field) → meaning_of name (by_name.members_at x.world.tables.groups w.class) ≡ m → IsSameMember done m f → NoMistake line parts (member_state m (meaning_of name x.world.tables.names)) → by_cell.named name w slots ≡ by_cell.field_meaning f (meaning_of name w.layout.sites) → meant name x s ≡ member_meant x.object name m (meaning_of name x.world.tables.names) → by_name.is_fixed name x.world declared ≡ by_name.is_fixed_member m (meaning_of name x.world.tables.names) → P
+    member_view : (m : Option InGroup) (f : Option Field) → meaning_of name (by_name.members_at x.scope.tables.groups w.class) ≡ m → IsSameMember done m f → NoMistake line parts (member_state m (meaning_of name x.scope.tables.names)) → by_cell.named name w slots ≡ by_cell.field_meaning f (meaning_of name w.layout.sites) → meant name x s ≡ member_meant x.object name m (meaning_of name x.scope.tables.names) → by_name.is_fixed name x.scope declared ≡ by_name.is_fixed_member m (meaning_of name x.scope.tables.names) → P
     member_view (Some (Holds shape)) None known agree none is means_is fixed =
         let reach = reaches_of line parts (Stands shape) none in
-        absurd (agree (has_cell w x.world done same parts shape.lengths shape.base reach.0 (same.elements w.class name shape known) reach.1))
+        absurd (agree (has_cell w x.scope done same parts shape.lengths shape.base reach.0 (same.elements w.class name shape known) reach.1))
     member_view (Some (Holds shape)) (Some field) known agree none is means_is fixed =
         let reach = reaches_of line parts (Stands shape) none in
         let some = same.elements w.class name shape known in
         let small = same.small x.object w.class see.known in
         on_place (place_view line name parts (record { own = true; first = field.offset; loose = None; extent = field.extent }) shape reach.0 (x.object ++ dotted name) leads is means_is
         (record {
-          is_same = agree (has_cell w x.world done same parts shape.lengths shape.base reach.0 some reach.1);
+          is_same = agree (has_cell w x.scope done same parts shape.lengths shape.base reach.0 some reach.1);
           some = some;
-          small = omega (arith, small, group_many w x.world done same w.class name shape known);
+          small = omega (arith, small, group_many w x.scope done same w.class name shape known);
         }) reach.1 (no_part line parts (Stands shape) none)
         (λ cell text h.
         subst (λ q. IsNamed memory (sight.base + cell) q) (sym (append_assoc x.object (dotted name) text)) (objects w.layout done memory named x.object sight.base w.class see.object cell (dotted name ++ text) h))
         (member_stands w done memory x s same Plain (Group w.class) name x.object shape (ap by_name.member_of known) (group_stands w done memory x s same x.object sight.base w.class (named.objects x.object sight.base w.class see.object))))
     member_view (Some (Method k)) (Some field) known agree none is means_is fixed = absurd agree
     member_view (Some (Method k)) None known agree none is means_is fixed =
-        global_view (meaning_of name x.world.tables.names) (meaning_of name w.layout.sites) refl (same.globals name) none is refl means_is (λ e. fixed)
+        global_view (meaning_of name x.scope.tables.names) (meaning_of name w.layout.sites) refl (same.globals name) none is refl means_is (λ e. fixed)
     member_view None (Some field) known agree none is means_is fixed = absurd agree
     member_view None None known agree none is means_is fixed =
-        global_view (meaning_of name x.world.tables.names) (meaning_of name w.layout.sites) refl (same.globals name) none is refl means_is (λ e. fixed)
+        global_view (meaning_of name x.scope.tables.names) (meaning_of name w.layout.sites) refl (same.globals name) none is refl means_is (λ e. fixed)
 
-    local_view : (a : Option InSlot) (b : Option Declared) (c : Option ByName) → meaning_of name slots ≡ a → meaning_of name declared ≡ b → meaning_of name s.locals ≡ c → IsSameLocal sight.local a b c → NoMistake line parts (local_state b (meaning_of name (by_name.members_at x.world.tables.groups w.class)) (meaning_of name x.world.tables.names)) → P
+    local_view : (a : Option InSlot) (b : Option Declared) (c : Option ByName) → meaning_of name slots ≡ a → meaning_of name declared ≡ b → meaning_of name s.locals ≡ c → IsSameLocal sight.local a b c → NoMistake line parts (local_state b (meaning_of name (by_name.members_at x.scope.tables.groups w.class)) (meaning_of name x.scope.tables.names)) → P
     local_view (Some a) (Some b) (Some c) known told has agree none = on_local a b c known told has agree
     local_view (Some a) (Some b) None known told has agree none = absurd agree
     local_view (Some a) None c known told has agree none = absurd agree
     local_view None (Some b) c known told has agree none = absurd agree
     local_view None None (Some c) known told has agree none = absurd agree
     local_view None None None known told has agree none =
-        member_view (meaning_of name (by_name.members_at x.world.tables.groups w.class)) (meaning_of name (fields_at w.layout.groups w.class)) refl (same.members w.class name (same.small x.object w.class see.known)) none
+        member_view (meaning_of name (by_name.members_at x.scope.tables.groups w.class)) (meaning_of name (fields_at w.layout.groups w.class)) refl (same.members w.class name (same.small x.object w.class see.known)) none
         (ap (λ o. by_cell.local_meaning o (meaning_of name (fields_at w.layout.groups w.class)) (meaning_of name w.layout.sites)) known)
-        (ap (λ m. local_meant x.object name (meaning_of name s.locals) m (meaning_of name x.world.tables.names)) (own_known name)
-        ∙ ap (λ o. local_meant x.object name o (meaning_of name (by_name.members_at x.world.tables.groups w.class)) (meaning_of name x.world.tables.names)) has)
-        (ap (λ m. by_name.is_fixed_local (meaning_of name declared) m (meaning_of name x.world.tables.names)) (own_known name)
-        ∙ ap (λ o. by_name.is_fixed_local o (meaning_of name (by_name.members_at x.world.tables.groups w.class)) (meaning_of name x.world.tables.names)) told)
+        (ap (λ m. local_meant x.object name (meaning_of name s.locals) m (meaning_of name x.scope.tables.names)) (own_known name)
+        ∙ ap (λ o. local_meant x.object name o (meaning_of name (by_name.members_at x.scope.tables.groups w.class)) (meaning_of name x.scope.tables.names)) has)
+        (ap (λ m. by_name.is_fixed_local (meaning_of name declared) m (meaning_of name x.scope.tables.names)) (own_known name)
+        ∙ ap (λ o. by_name.is_fixed_local o (meaning_of name (by_name.members_at x.scope.tables.groups w.class)) (meaning_of name x.scope.tables.names)) told)
 
-    pub path_view : path_mistakes (path line name parts) false x.world declared ≡ [] → P
+    pub path_view : path_mistakes (path line name parts) false x.scope declared ≡ [] → P
     path_view none =
-        let none' = subst (λ m. NoMistake line parts (local_state (meaning_of name declared) m (meaning_of name x.world.tables.names))) (own_known name) none in
+        let none' = subst (λ m. NoMistake line parts (local_state (meaning_of name declared) m (meaning_of name x.scope.tables.names))) (own_known name) none in
         local_view (meaning_of name slots) (meaning_of name declared) (meaning_of name s.locals) refl refl refl (see.locals name) none'
 
   -- what is assigned without a mistake is not fixed, and is read without one
-  fixed_case : (line : ℕ) (parts : Parts) (r : Reach) (fixed : Bool) → ends line (unless_fixed fixed (by_name.followed parts x.world r)) ++ (astray line r ++ part_mistakes parts x.world declared r) ≡ [] → (fixed ≡ false) × NoMistake line parts r
+  fixed_case : (line : ℕ) (parts : Parts) (r : Reach) (fixed : Bool) → ends line (unless_fixed fixed (by_name.followed parts x.scope r)) ++ (astray line r ++ part_mistakes parts x.scope declared r) ≡ [] → (fixed ≡ false) × NoMistake line parts r
   fixed_case line parts r false none = (refl, none)
   fixed_case line parts r true none =
-      let behind = none_right (ends line (unless_fixed true (by_name.followed parts x.world r))) _ none in
+      let behind = none_right (ends line (unless_fixed true (by_name.followed parts x.scope r))) _ none in
       let there = not_lost x declared parts r (not_astray_at x declared line r (none_left (astray line r) _ behind)) (none_right (astray line r) _ behind) in
-      absurd (by (by_name.followed parts x.world r) there (none_left (ends line (unless_fixed true (by_name.followed parts x.world r))) _ none)) where
+      absurd (by (by_name.followed parts x.scope r) there (none_left (ends line (unless_fixed true (by_name.followed parts x.scope r))) _ none)) where
         by : (r : Reach) → astray 0 r ≡ [] → ends line (unless_fixed true r) ≡ [] → ⊥
         by (Stands shape) there h = cc h
         by Misfit there h = cc h
         by Astray there h = cc there
 
-  pub assigned_path : (line : ℕ) (name : Name) (parts : Parts) → path_mistakes (path line name parts) true x.world declared ≡ [] → (by_name.is_fixed name x.world declared ≡ false) × (path_mistakes (path line name parts) false x.world declared ≡ [])
-  assigned_path line name parts none = fixed_case line parts (by_name.named name x.world declared) (by_name.is_fixed name x.world declared) none
+  pub assigned_path : (line : ℕ) (name : Name) (parts : Parts) → path_mistakes (path line name parts) true x.scope declared ≡ [] → (by_name.is_fixed name x.scope declared ≡ false) × (path_mistakes (path line name parts) false x.scope declared ≡ [])
+  assigned_path line name parts none = fixed_case line parts (by_name.named name x.scope declared) (by_name.is_fixed name x.scope declared) none

@@ -3,7 +3,7 @@
 use Rattle.std.specs.List.{slice_index_or}
 use Rattle.std.specs.Prelude.{◌≡◌, ℕ, suc, ◌+◌, ℤ, ◌≤◌, Bool, true, nat_le, nat_lt, List, [], ◌∷◌, length, Option, Some, None, is_some, Result, Ok, Err}
 use Rattle.trick_blocks.specs.declared.start.Local.{Local as InSlot}
-use Rattle.trick_blocks.specs.declared.world.World.{World}
+use Rattle.trick_blocks.specs.declared.scope.ClassScope.{ClassScope}
 use Rattle.trick_cells.specs.Cells.{cells_at, place_cells}
 use Rattle.trick_cells.specs.Tables.{has_elements}
 use Rattle.trick_cells.specs.Unfolding.{Unfolds}
@@ -16,7 +16,7 @@ use Rattle.trick_lang.specs.SyntaxTree as text
 use Rattle.trick_lang.specs.SyntaxTree.{Name}
 use Rattle.trick_lang.specs.Tree.{Code, Empty, Declare, SetLocal, Assign, If, For, Run}
 use Rattle.trick_lang.specs.Value.{Sight}
-use Rattle.trick_lang.specs.declared.fault.Stop.{Stop}
+use Rattle.trick_lang.specs.declared.fault.StatementFault.{StatementFault}
 use Rattle.trick_lang.specs.declared.variable.Variable.{Variable}
 use Rattle.trick_layout.specs.Laid.{fields_at}
 use Rattle.trick_layout.specs.declared.layout.Dims.{Dims}
@@ -122,11 +122,11 @@ IsSameLocal number None None None = Unit {0}
 
 -- what an expression sees is the same by cells and slots and by names: the object is there, each cell has
 -- the number of its full name, and each local variable has its own
-pub record SeeTheSame (w : World) (slots : Names InSlot) (declared : Names Declared) (memory : List Variable)
+pub record SeeTheSame (w : ClassScope) (slots : Names InSlot) (declared : Names Declared) (memory : List Variable)
     (sight : Sight) (x : Setting) (s : State) : Type 0 where
-  pub class : x.world.own ≡ w.class
+  pub class : x.scope.own ≡ w.class
   pub object : meaning_of x.object w.layout.sites ≡ Some (site.Object sight.base w.class)
-  pub known : meaning_of x.object x.world.tables.names ≡ Some (the.Object (Group w.class))
+  pub known : meaning_of x.object x.scope.tables.names ≡ Some (the.Object (Group w.class))
   pub cells : (cell : ℕ) (full : Name) → IsNamed memory cell full → sight.cell cell ≡ number_at full x s
   pub locals : (name : Name)
       → IsSameLocal sight.local (meaning_of name slots) (meaning_of name declared) (meaning_of name s.locals)
@@ -152,7 +152,7 @@ AreRows slot number (a ∷ rest) (b ∷ bs) (c ∷ cs) = IsRow slot number a b c
 
 -- two states say the same: each cell has what was stored under its full name, and each local variable has its
 -- number in its slot; there are so many slots, and the method has those below `top`
-pub record AreAlike (w : World) (size top : ℕ) (slots : Names InSlot) (declared : Names Declared)
+pub record AreAlike (w : ClassScope) (size top : ℕ) (slots : Names InSlot) (declared : Names Declared)
     (memory : List Variable) (by_number : Resolved) (by_name : State) : Type 0 where
   pub cells : length by_number.stored ≡ length memory
   pub stored : (cell : ℕ) (full : Name) → IsNamed memory cell full
@@ -166,8 +166,8 @@ abbrev pub KeepsFrom : ℕ → Resolved → Resolved → Type 0
 KeepsFrom top before after = (slot : ℕ) → top ≤ slot → local_of after slot ≡ local_of before slot
 
 -- both runs end alike, or at the same fault
-abbrev pub EndAlike : World → ℕ → ℕ → Names InSlot → Names Declared → List Variable → Resolved → Result Resolved Stop
-    → Result State Stop → Type 0
+abbrev pub EndAlike : ClassScope → ℕ → ℕ → Names InSlot → Names Declared → List Variable → Resolved → Result Resolved StatementFault
+    → Result State StatementFault → Type 0
 EndAlike w size top slots declared memory before (Ok a) (Ok b) =
     AreAlike w size top slots declared memory a b × KeepsFrom top before a
 EndAlike w size top slots declared memory before (Ok a) (Err d) = ⊥
@@ -175,7 +175,7 @@ EndAlike w size top slots declared memory before (Err c) (Ok b) = ⊥
 EndAlike w size top slots declared memory before (Err c) (Err d) = c ≡ d
 
 -- a method that is called by one with slots from `from` on leaves those as they are
-abbrev pub CallAlike : World → ℕ → ℕ → List Variable → Resolved → Result Resolved Stop → Result Stored Stop → Type 0
+abbrev pub CallAlike : ClassScope → ℕ → ℕ → List Variable → Resolved → Result Resolved StatementFault → Result Stored StatementFault → Type 0
 CallAlike w size top memory before (Ok a) (Ok stored) =
     AreAlike w size top [] [] memory a (record { stored = stored; locals = [] }) × KeepsFrom w.slots before a
 CallAlike w size top memory before (Ok a) (Err d) = ⊥
@@ -186,15 +186,15 @@ CallAlike w size top memory before (Err c) (Err d) = c ≡ d
 
 -- no two cells have one name, the object and its class are there, cells have the types and numbers of their full
 -- names, and what is called does the same
-pub record AreInOnePlace (w : World) (done : List (List Variable)) (memory : List Variable) (size top : ℕ) (x : InCells)
+pub record AreInOnePlace (w : ClassScope) (done : List (List Variable)) (memory : List Variable) (size top : ℕ) (x : InCells)
     (y : Setting) : Type 0 where
   pub room : top ≤ size
   pub named : AreNamed w.layout done memory
-  pub same : AreSameTables y.world.tables w.layout done
+  pub same : AreSameTables y.scope.tables w.layout done
   pub apart : are_apart of_one_name memory ≡ true
-  pub class : y.world.own ≡ w.class
+  pub class : y.scope.own ≡ w.class
   pub object : meaning_of y.object w.layout.sites ≡ Some (site.Object x.base w.class)
-  pub known : meaning_of y.object y.world.tables.names ≡ Some (the.Object (Group w.class))
+  pub known : meaning_of y.object y.scope.tables.names ≡ Some (the.Object (Group w.class))
   pub scalars : x.scalars ≡ scalars_of memory
   pub numbers : (cell : ℕ) (full : Name) → IsNamed memory cell full → x.memory cell ≡ y.memory full
   pub calls : (name : Name) (block : ℕ) (a : Resolved) (stored : Stored) → meaning_of name w.methods ≡ Some block
@@ -234,7 +234,7 @@ BlocksAreBelow top (b ∷ bs) = AreBelow top b × BlocksAreBelow top bs
 
 -- each loop ends at 1,000,000 at most, as a reader sees to, and each call is of a method that is made
 abbrev mutual
-  pub CanRun : World → text.Statement → Type 0
+  pub CanRun : ClassScope → text.Statement → Type 0
   CanRun w text.Empty = Unit {0}
   CanRun w (text.Block all) = CanRunAll w all
   CanRun w (text.Declare line written name e) = Unit {0}
@@ -243,11 +243,11 @@ abbrev mutual
   CanRun w (text.For name from bound body) = (nat_le (bound_number bound) 1000000 ≡ true) × CanRun w body
   CanRun w (text.Call line name) = is_some (meaning_of name w.methods) ≡ true
 
-  pub CanBranch : World → text.Branches → Type 0
+  pub CanBranch : ClassScope → text.Branches → Type 0
   CanBranch w text.NoElse = Unit {0}
   CanBranch w (text.Else body) = CanRun w body
   CanBranch w (text.Test line test body rest) = CanRun w body × CanBranch w rest
 
-  pub CanRunAll : World → text.Statements → Type 0
+  pub CanRunAll : ClassScope → text.Statements → Type 0
   CanRunAll w text.NoStatement = Unit {0}
   CanRunAll w (text.Then b rest) = CanRun w b × CanRunAll w rest

@@ -3,7 +3,7 @@ use Rattle.std.specs.Prelude.{◌≡◌, ◌≤◌, ℕ, List, []}
 use Rattle.trick_blocks.specs.Codes.{after_all, all_codes, all_inner}
 use Rattle.trick_blocks.specs.Terms.{term}
 use Rattle.trick_blocks.specs.declared.start.Local.{Local as InSlot}
-use Rattle.trick_blocks.specs.declared.world.World.{World}
+use Rattle.trick_blocks.specs.declared.scope.ClassScope.{ClassScope}
 use Rattle.trick_cells.specs.Counts.{counts, names_count}
 use Rattle.trick_cells.specs.Tables.{layout_of}
 use Rattle.trick_cells.specs.Unfolding.{Unfolds}
@@ -36,20 +36,20 @@ TablesKeep =
 -- the tables tell where the cells are, and the cells and slots have the numbers of their names.
 abbrev pub ExpressionsKeep : Type 0
 ExpressionsKeep =
-    (w : World) (done : List (List Variable)) (memory : List Variable) (slots : Names InSlot)
+    (w : ClassScope) (done : List (List Variable)) (memory : List Variable) (slots : Names InSlot)
     (declared : Names Declared) (sight : Sight) (x : Setting) (s : State) → AreNamed w.layout done memory →
-    AreSameTables x.world.tables w.layout done → SeeTheSame w slots declared memory sight x s →
-    (e : Expression) → expression_mistakes e x.world declared ≡ [] → resolved.value (term e w slots) sight ≡ value e x s
+    AreSameTables x.scope.tables w.layout done → SeeTheSame w slots declared memory sight x s →
+    (e : Expression) → expression_mistakes e x.scope declared ≡ [] → resolved.value (term e w slots) sight ≡ value e x s
 
 -- Statements without a mistake in their names that are resolved end in the state that they mean, or at the same
 -- fault: where the blocks in them stand among all blocks, and the states before are alike. The method's slots
 -- are those below `top`, and slots from there on keep their numbers.
 abbrev pub StatementsKeep : Type 0
 StatementsKeep =
-    (w : World) (done : List (List Variable)) (memory : List Variable) (size top : ℕ) (x : InCells) (y : Setting)
+    (w : ClassScope) (done : List (List Variable)) (memory : List Variable) (size top : ℕ) (x : InCells) (y : Setting)
     (blocks : List (List Code)) → AreInOnePlace w done memory size top x y → RunBlocks blocks x →
     (all : Statements) (n : ℕ) (slots : Names InSlot) (declared : Names Declared) (a : Resolved) (b : State) →
-    all_mistakes all y.world declared ≡ [] → CanRunAll w all → HasBlocks blocks n (all_inner all w slots n) →
+    all_mistakes all y.scope declared ≡ [] → CanRunAll w all → HasBlocks blocks n (all_inner all w slots n) →
     AreBelow top (all_codes all w slots n) → BlocksAreBelow top (all_inner all w slots n) →
     AreAlike w size top slots declared memory a b →
     EndAlike w size top (after_all all w slots) (names.after_all all declared) memory a

@@ -7,7 +7,7 @@ use Rattle.trick_blocks.specs.Codes.{all_codes, all_count, all_inner}
 use Rattle.trick_blocks.specs.Kept.{codes_in}
 use Rattle.trick_blocks.specs.Methods.{Progress, block_slots, body_blocks, with_method, with_part, with_parts}
 use Rattle.trick_blocks.specs.declared.start.Local.{Local as InSlot}
-use Rattle.trick_blocks.specs.declared.world.World.{World}
+use Rattle.trick_blocks.specs.declared.scope.ClassScope.{ClassScope}
 use Rattle.trick_lang.specs.Blocks.{block_at}
 use Rattle.trick_lang.specs.Effect.{scalars_of}
 use Rattle.trick_lang.specs.Laws.{WrapsRight}
@@ -18,7 +18,7 @@ use Rattle.trick_lang.specs.Run.{Setting as InCells, State as Resolved}
 use Rattle.trick_lang.specs.SyntaxTree as tree
 use Rattle.trick_lang.specs.SyntaxTree.{HasMethod, Name, Part}
 use Rattle.trick_lang.specs.Tree.{Code}
-use Rattle.trick_lang.specs.declared.fault.Stop.{Stop}
+use Rattle.trick_lang.specs.declared.fault.StatementFault.{StatementFault}
 use Rattle.trick_lang.specs.declared.variable.Variable.{Variable}
 use Rattle.trick_layout.specs.declared.layout.Site.TheVariants as site
 use Rattle.trick_meaning.specs.Meaning as meaning
@@ -41,14 +41,14 @@ use Rattle.trick_names.specs.declared.tables.Base.TheVariants.{Group}
 use Rattle.trick_names.specs.declared.tables.Global.TheVariants as the
 use Rattle.trick_names.specs.declared.tables.Local.{Local as Declared}
 use Rattle.trick_names.specs.declared.tables.Member.TheVariants.{Method}
-use Rattle.trick_names.specs.declared.world.World as by_name
+use Rattle.trick_names.specs.declared.scope.FileScope as by_name
 use Rattle.trick_order.specs.Calls.{all_in, callees, has, stand_after}
 use Rattle.trick_places.specs.Named.{AreNamed, IsNamed, LeadToTheirNames, ObjectsHoldNames}
 
 -- In one object of a class: the parts of the class, what the file declares, the name of the object, the memory by
 -- names, the cells of each struct and class and of all objects, how many slots there are, all blocks, and where they
 -- run.
-module _ (parts : List Part) (world : by_name.World) (object : Name) (memory : Name → ℤ) (done : List (List Variable))
+module _ (parts : List Part) (scope : by_name.FileScope) (object : Name) (memory : Name → ℤ) (done : List (List Variable))
     (cells : List Variable) (size : ℕ) (blocks : List (List Code)) (x : InCells) where
   -- ---- what was stored
 
@@ -60,13 +60,13 @@ module _ (parts : List Part) (world : by_name.World) (object : Name) (memory : N
     pub room : size ≤ length a.locals
 
   -- a method ends with the same stored, or at the same fault, and keeps the numbers of slots from that one on
-  abbrev pub EndAsMeant : ℕ → Resolved → Result Resolved Stop → Result Stored Stop → Type 0
+  abbrev pub EndAsMeant : ℕ → Resolved → Result Resolved StatementFault → Result Stored StatementFault → Type 0
   EndAsMeant slots before (Ok a) (Ok stored) = StoreAlike a stored × KeepsFrom slots before a
   EndAsMeant slots before (Ok a) (Err d) = ⊥
   EndAsMeant slots before (Err c) (Ok stored) = ⊥
   EndAsMeant slots before (Err c) (Err d) = c ≡ d
 
-  ends_from_more : (slots more : ℕ) (before : Resolved) (q : Result Resolved Stop) (r : Result Stored Stop)
+  ends_from_more : (slots more : ℕ) (before : Resolved) (q : Result Resolved StatementFault) (r : Result Stored StatementFault)
       → slots ≤ more → EndAsMeant slots before q r → EndAsMeant more before q r
   ends_from_more slots more before (Ok a) (Ok stored) low h = (h.0, λ slot far. h.1 slot (omega (arith, low, far)))
   ends_from_more slots more before (Ok a) (Err d) low h = h
@@ -74,39 +74,39 @@ module _ (parts : List Part) (world : by_name.World) (object : Name) (memory : N
   ends_from_more slots more before (Err c) (Err d) low h = h
 
   -- what a method's text says, where calls are nested less deep than so much
-  abbrev pub says : ℕ → Name → Stored → Result Stored Stop
-  says deep = method_does deep parts world object memory
+  abbrev pub says : ℕ → Name → Stored → Result Stored StatementFault
+  says deep = method_does deep parts scope object memory
 
   -- the methods that are made do so
-  abbrev pub AreMeant : World → ℕ → Type 0
+  abbrev pub AreMeant : ClassScope → ℕ → Type 0
   AreMeant w deep =
       (name : Name) (block : ℕ) (a : Resolved) (stored : Stored) → meaning_of name w.methods ≡ Some block
       → StoreAlike a stored → EndAsMeant w.slots a (x.blocks block a) (says deep name stored)
 
   -- the tables tell of this object
-  pub record IsThere (w : World) : Type 0 where
+  pub record IsThere (w : ClassScope) : Type 0 where
     pub named : AreNamed w.layout done cells
-    pub same : AreSameTables world.tables w.layout done
-    pub class : world.own ≡ w.class
+    pub same : AreSameTables scope.tables w.layout done
+    pub class : scope.own ≡ w.class
     pub object_is : meaning_of object w.layout.sites ≡ Some (site.Object x.base w.class)
-    pub known : meaning_of object world.tables.names ≡ Some (the.Object (Group w.class))
+    pub known : meaning_of object scope.tables.names ≡ Some (the.Object (Group w.class))
 
   -- what is known of each method of the class: its body has no mistake and short loops, and its name stands for it
   pub record IsRight (m : tree.Method) : Type 0 where
-    pub none : all_mistakes m.body world [] ≡ []
+    pub none : all_mistakes m.body scope [] ≡ []
     pub found : body_in m.name parts ≡ m.body
     pub short : are_short_loops m.body ≡ true
 
   -- the methods of these parts are made
-  abbrev AreSeen : List ℕ → World → Type 0
+  abbrev AreSeen : List ℕ → ClassScope → Type 0
   AreSeen seen w =
       (k : ℕ) (m : tree.Method) → has seen k ≡ true → slice_get parts k ≡ Some (HasMethod m) → is_some
       (meaning_of m.name w.methods) ≡ true
 
   pub record IsAlong (seen : List ℕ) (p : Progress) : Type 0 where
-    pub there : IsThere p.world
-    pub are_seen : AreSeen seen p.world
-    pub are_meant : (deep : ℕ) → length seen ≤ deep → AreMeant p.world deep
+    pub there : IsThere p.scope
+    pub are_seen : AreSeen seen p.scope
+    pub are_meant : (deep : ℕ) → length seen ≤ deep → AreMeant p.scope deep
 
   module _ (runs : RunBlocks blocks x) (apart : are_apart of_one_name cells ≡ true)
       (scalars : x.scalars ≡ scalars_of cells)
@@ -114,8 +114,8 @@ module _ (parts : List Part) (world : by_name.World) (object : Name) (memory : N
       (places : LeadToTheirNames) (objects : ObjectsHoldNames) (wraps : WrapsRight) where
     -- ---- one body
 
-    call_alike : (w : World) (top : ℕ) → w.slots ≤ top
-        → (a : Resolved) (q : Result Resolved Stop) (r : Result Stored Stop) → EndAsMeant w.slots a q r
+    call_alike : (w : ClassScope) (top : ℕ) → w.slots ≤ top
+        → (a : Resolved) (q : Result Resolved StatementFault) (r : Result Stored StatementFault) → EndAsMeant w.slots a q r
         → CallAlike w size top cells a q r
     call_alike w top low a (Ok c) (Ok stored) h =
         (record { cells = h.0.many; stored = h.0.same; room = h.0.room; fits = omega (arith, low); rows = tt }, h.1)
@@ -124,9 +124,9 @@ module _ (parts : List Part) (world : by_name.World) (object : Name) (memory : N
     call_alike w top low a (Err c) (Err d) h = h
 
     abbrev setting : ℕ → Setting
-    setting deep = record { world = world; object = object; memory = memory; calls = says deep }
+    setting deep = record { scope = scope; object = object; memory = memory; calls = says deep }
 
-    in_one_place : (w : World) (top deep : ℕ) → IsThere w → w.slots ≤ top → top ≤ size → AreMeant w deep
+    in_one_place : (w : ClassScope) (top deep : ℕ) → IsThere w → w.slots ≤ top → top ≤ size → AreMeant w deep
         → AreInOnePlace w done cells size top x (setting deep)
     in_one_place w top deep there low room meant = record {
       room = room;
@@ -143,8 +143,8 @@ module _ (parts : List Part) (world : by_name.World) (object : Name) (memory : N
           (meant name block a stored is (record { many = h.cells; same = h.stored; room = h.room }));
     }
 
-    ends_are : (w : World) (top : ℕ) (slots : Names InSlot) (declared : Names Declared) (a : Resolved)
-        (q : Result Resolved Stop) (r : Result State Stop)
+    ends_are : (w : ClassScope) (top : ℕ) (slots : Names InSlot) (declared : Names Declared) (a : Resolved)
+        (q : Result Resolved StatementFault) (r : Result State StatementFault)
         → EndAlike w size top slots declared cells a q r → EndAsMeant top a q (and_then r (λ s. Ok s.stored))
     ends_are w top slots declared a (Ok c) (Ok d) h =
         (record { many = h.0.cells; same = h.0.stored; room = h.0.room }, h.1)
@@ -152,11 +152,11 @@ module _ (parts : List Part) (world : by_name.World) (object : Name) (memory : N
     ends_are w top slots declared a (Err c) (Ok d) h = h
     ends_are w top slots declared a (Err c) (Err d) h = h
 
-    body_ends : (body : tree.Statements) (w : World) (n top deep : ℕ) → IsThere w → w.slots ≤ top → top ≤ size
-        → AreMeant w deep → all_mistakes body world [] ≡ [] → CanRunAll w body
+    body_ends : (body : tree.Statements) (w : ClassScope) (n top deep : ℕ) → IsThere w → w.slots ≤ top → top ≤ size
+        → AreMeant w deep → all_mistakes body scope [] ≡ [] → CanRunAll w body
         → HasBlocks blocks n (body_blocks body w n) → BlocksAreBelow top (body_blocks body w n)
         → (a : Resolved) (stored : Stored) → StoreAlike a stored
-        → EndAsMeant top a (x.blocks (n + all_count body) a) (body_does body world object memory (says deep) stored)
+        → EndAsMeant top a (x.blocks (n + all_count body) a) (body_does body scope object memory (says deep) stored)
     body_ends body w n top deep there low room meant none can has below a stored h =
         let begun : State = record { stored = stored; locals = [] } in
         let last = has_behind blocks (all_inner body w [] n) (all_codes body w [] n ∷ []) n has in
@@ -168,7 +168,7 @@ module _ (parts : List Part) (world : by_name.World) (object : Name) (memory : N
         (has_front blocks (all_inner body w [] n) (all_codes body w [] n ∷ []) n has) own.0
         (below_front top (all_inner body w [] n) (all_codes body w [] n ∷ []) below)
         (record { cells = h.many; stored = h.same; room = h.room; fits = omega (arith, low); rows = tt }) in
-        subst (λ q. EndAsMeant top a q (body_does body world object memory (says deep) stored))
+        subst (λ q. EndAsMeant top a q (body_does body scope object memory (says deep) stored))
         (sym (runs (n + all_count body) a ∙ ap (λ cs. resolved.run_all cs x a) here))
         (ends_are w top (codes.after_all body w []) (names.after_all body []) a
         (resolved.run_all (all_codes body w [] n) x a) (meaning.run_all body (setting deep) begun) ends)
@@ -180,48 +180,48 @@ module _ (parts : List Part) (world : by_name.World) (object : Name) (memory : N
 
     -- a method that is made does what its text says
     method_meant : (m : tree.Method) (p : Progress) (top d : ℕ)
-        → top ≡ block_slots (body_blocks m.body p.world (length p.bodies)) p.world.slots → top ≤ size → IsRight m
-        → IsThere p.world → AreMeant p.world d → AreMeant p.world (suc d) → CanRunAll p.world m.body
+        → top ≡ block_slots (body_blocks m.body p.scope (length p.bodies)) p.scope.slots → top ≤ size → IsRight m
+        → IsThere p.scope → AreMeant p.scope d → AreMeant p.scope (suc d) → CanRunAll p.scope m.body
         → Begin blocks (codes_in (with_method m p).bodies) → (name : Name) (block : ℕ) (a : Resolved) (stored : Stored)
-        → (meaning_of name p.world.methods ≡ Some block)
+        → (meaning_of name p.scope.methods ≡ Some block)
         ⊎ ((name ≡ m.name) × (length p.bodies + all_count m.body ≡ block))
         → StoreAlike a stored → EndAsMeant top a (x.blocks block a) (says (suc d) name stored)
     method_meant m p top d top_is room right there meant meant_more can begin name block a stored (inl old) h =
-        ends_from_more p.world.slots top a (x.blocks block a) (says (suc d) name stored)
-        (subst (λ k. p.world.slots ≤ k) (sym top_is)
-        (slots_grow (body_blocks m.body p.world (length p.bodies)) p.world.slots))
+        ends_from_more p.scope.slots top a (x.blocks block a) (says (suc d) name stored)
+        (subst (λ k. p.scope.slots ≤ k) (sym top_is)
+        (slots_grow (body_blocks m.body p.scope (length p.bodies)) p.scope.slots))
         (meant_more name block a stored old h)
     method_meant m p top d top_is room right there meant meant_more can begin name block a stored (inr new) h =
         let n = length p.bodies in
-        let made = body_blocks m.body p.world n in
-        let low : p.world.slots ≤ top = subst (λ k. p.world.slots ≤ k) (sym top_is) (slots_grow made p.world.slots) in
+        let made = body_blocks m.body p.scope n in
+        let low : p.scope.slots ≤ top = subst (λ k. p.scope.slots ≤ k) (sym top_is) (slots_grow made p.scope.slots) in
         let has = has_made blocks (codes_in p.bodies) made n (codes_many p.bodies)
-        (subst (Begin blocks) (codes_with p.world.class made p.bodies) begin) in
-        let below = blocks_below made p.world.slots top (omega (arith, top_is)) in
-        let ends = body_ends m.body p.world n top d there low room meant right.none can has below a stored h in
-        let body_is : says (suc d) name stored ≡ body_does m.body world object memory (says d) stored = ap
-        (λ q. body_does (body_in q parts) world object memory (says d) stored) new.0 ∙ ap
-        (λ b. body_does b world object memory (says d) stored) right.found in
+        (subst (Begin blocks) (codes_with p.scope.class made p.bodies) begin) in
+        let below = blocks_below made p.scope.slots top (omega (arith, top_is)) in
+        let ends = body_ends m.body p.scope n top d there low room meant right.none can has below a stored h in
+        let body_is : says (suc d) name stored ≡ body_does m.body scope object memory (says d) stored = ap
+        (λ q. body_does (body_in q parts) scope object memory (says d) stored) new.0 ∙ ap
+        (λ b. body_does b scope object memory (says d) stored) right.found in
         subst (λ k. EndAsMeant top a (x.blocks k a) (says (suc d) name stored)) new.1
         (subst (λ r. EndAsMeant top a (x.blocks (n + all_count m.body) a) r) (sym body_is) ends)
 
     module _ (calls : List (List ℕ))
         (right : (k : ℕ) (m : tree.Method) → slice_get parts k ≡ Some (HasMethod m) → IsRight m)
         (called : (k : ℕ) (m : tree.Method) → slice_get parts k ≡ Some (HasMethod m)
-        → callees calls k ≡ all_calls m.body (members_at world.tables.groups world.own))
-        (numbered : AreNumbered parts (members_at world.tables.groups world.own)) where
+        → callees calls k ≡ all_calls m.body (members_at scope.tables.groups scope.own))
+        (numbered : AreNumbered parts (members_at scope.tables.groups scope.own)) where
       -- what a method of the class calls is made before it
       can_run : (seen : List ℕ) (p : Progress) (i : ℕ) (m : tree.Method) → slice_get parts i ≡ Some (HasMethod m)
-          → all_in (callees calls i) seen ≡ true → AreSeen seen p.world → CanRunAll p.world m.body
+          → all_in (callees calls i) seen ≡ true → AreSeen seen p.scope → CanRunAll p.scope m.body
       can_run seen p i m is before are_seen =
           let r = right i m is in
-          all_run world p.world seen made m.body [] r.none
+          all_run scope p.scope seen made m.body [] r.none
           (subst (λ q. all_in q seen ≡ true) (called i m is) before) r.short where
-            made : (name : Name) (k : ℕ) → meaning_of name (members_at world.tables.groups world.own) ≡ Some (Method k)
-                → has seen k ≡ true → is_some (meaning_of name p.world.methods) ≡ true
+            made : (name : Name) (k : ℕ) → meaning_of name (members_at scope.tables.groups scope.own) ≡ Some (Method k)
+                → has seen k ≡ true → is_some (meaning_of name p.scope.methods) ≡ true
             made name k known in_seen =
                 let at = numbered name k known in
-                subst (λ q. is_some (meaning_of q p.world.methods) ≡ true) at.2 (are_seen k at.0 in_seen at.1)
+                subst (λ q. is_some (meaning_of q p.scope.methods) ≡ true) at.2 (are_seen k at.0 in_seen at.1)
 
       -- another part makes none
       passed : (seen : List ℕ) (i : ℕ) (p : Progress) → ((m : tree.Method) → slice_get parts i ≡ Some (HasMethod m) → ⊥)
@@ -232,13 +232,13 @@ module _ (parts : List Part) (world : by_name.World) (object : Name) (memory : N
         are_meant = λ deep low. along.are_meant deep (omega (arith, low, one_more seen i));
       } where
         by : (k : ℕ) (m : tree.Method) → slice_get parts k ≡ Some (HasMethod m) → (has seen k ≡ true) ⊎ (i ≡ k)
-            → is_some (meaning_of m.name p.world.methods) ≡ true
+            → is_some (meaning_of m.name p.scope.methods) ≡ true
         by k m is (inl old) = along.are_seen k m old is
         by k m is (inr new) = absurd (other m (ap (slice_get parts) new ∙ is))
 
       method_along : (seen : List ℕ) (i : ℕ) (p : Progress) (m : tree.Method) → slice_get parts i ≡ Some (HasMethod m)
           → all_in (callees calls i) seen ≡ true → Begin blocks (codes_in (with_method m p).bodies)
-          → (with_method m p).world.slots ≤ size → IsAlong seen p → IsAlong (seen ++ i ∷ []) (with_method m p)
+          → (with_method m p).scope.slots ≤ size → IsAlong seen p → IsAlong (seen ++ i ∷ []) (with_method m p)
       method_along seen i p m is before begin room along = record {
         there = record {
           named = along.there.named;
@@ -256,35 +256,35 @@ module _ (parts : List Part) (world : by_name.World) (object : Name) (memory : N
         by_seen : (k : ℕ) (other : tree.Method) → slice_get parts k ≡ Some (HasMethod other)
             → (has seen k ≡ true) ⊎ (i ≡ k)
             → is_some (meaning_of other.name
-            (with_name m.name (length p.bodies + all_count m.body) p.world.methods)) ≡ true
+            (with_name m.name (length p.bodies + all_count m.body) p.scope.methods)) ≡ true
         by_seen k other there (inl old) =
-            stays (meaning_of other.name p.world.methods) refl (along.are_seen k other old there) where
-              stays : (o : Option ℕ) → meaning_of other.name p.world.methods ≡ o
-                  → is_some (meaning_of other.name p.world.methods) ≡ true
+            stays (meaning_of other.name p.scope.methods) refl (along.are_seen k other old there) where
+              stays : (o : Option ℕ) → meaning_of other.name p.scope.methods ≡ o
+                  → is_some (meaning_of other.name p.scope.methods) ≡ true
                   → is_some (meaning_of other.name
-                  (with_name m.name (length p.bodies + all_count m.body) p.world.methods)) ≡ true
+                  (with_name m.name (length p.bodies + all_count m.body) p.scope.methods)) ≡ true
               stays None e h = absurd (cc (sym h ∙ ap (λ (o : Option ℕ). is_some o) e))
               stays (Some block) e h =
                   ap (λ (o : Option ℕ). is_some o)
-                  (grows_with m.name (length p.bodies + all_count m.body) p.world.methods other.name block e)
+                  (grows_with m.name (length p.bodies + all_count m.body) p.scope.methods other.name block e)
         by_seen k other there (inr new) =
             let same : m ≡ other = cc (sym is ∙ (ap (slice_get parts) new ∙ there)) in
             subst (λ (q : tree.Method). is_some
-            (meaning_of q.name (with_name m.name (length p.bodies + all_count m.body) p.world.methods)) ≡ true) same
-            (new_known m.name (length p.bodies + all_count m.body) p.world.methods)
+            (meaning_of q.name (with_name m.name (length p.bodies + all_count m.body) p.scope.methods)) ≡ true) same
+            (new_known m.name (length p.bodies + all_count m.body) p.scope.methods)
 
-        deeper : (deep : ℕ) → length (seen ++ i ∷ []) ≤ deep → AreMeant (with_method m p).world deep
+        deeper : (deep : ℕ) → length (seen ++ i ∷ []) ≤ deep → AreMeant (with_method m p).scope deep
         deeper zero low = absurd (omega (arith, low, one_more seen i))
         deeper (suc d) low = λ name block a stored known h.
-            method_meant m p (with_method m p).world.slots d refl room (right i m is) along.there
+            method_meant m p (with_method m p).scope.slots d refl room (right i m is) along.there
             (along.are_meant d (omega (arith, low, one_more seen i)))
             (along.are_meant (suc d) (omega (arith, low, one_more seen i)))
             (can_run seen p i m is before along.are_seen) begin name block a stored
-            (new_case name m.name (length p.bodies + all_count m.body) block p.world.methods known) h
+            (new_case name m.name (length p.bodies + all_count m.body) block p.scope.methods known) h
 
       part_along : (seen : List ℕ) (i : ℕ) (p : Progress) (o : Option Part) → slice_get parts i ≡ o
           → all_in (callees calls i) seen ≡ true → Begin blocks (codes_in (with_part o p).bodies)
-          → (with_part o p).world.slots ≤ size → IsAlong seen p → IsAlong (seen ++ i ∷ []) (with_part o p)
+          → (with_part o p).scope.slots ≤ size → IsAlong seen p → IsAlong (seen ++ i ∷ []) (with_part o p)
       part_along seen i p None is before begin room along =
           passed seen i p (λ m here. absurd (cc (sym is ∙ here))) along
       part_along seen i p (Some tree.Public) is before begin room along =
@@ -298,7 +298,7 @@ module _ (parts : List Part) (world : by_name.World) (object : Name) (memory : N
 
       -- so do all methods of the class
       pub parts_along : (order seen : List ℕ) (p : Progress) → stand_after calls seen order ≡ true
-          → Begin blocks (codes_in (with_parts order parts p).bodies) → (with_parts order parts p).world.slots ≤ size
+          → Begin blocks (codes_in (with_parts order parts p).bodies) → (with_parts order parts p).scope.slots ≤ size
           → IsAlong seen p → IsAlong (seen ++ order) (with_parts order parts p)
       parts_along [] seen p stands begin room along = subst (λ q. IsAlong q p) (sym (append-nil seen)) along
       parts_along (i ∷ is) seen p stands begin room along =

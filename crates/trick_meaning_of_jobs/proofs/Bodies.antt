@@ -1,7 +1,7 @@
 -- The bodies of a file without mistakes have none by all names of the file, and what they call is known.
 use Rattle.std.proofs.Common.{◌≡◌, ℕ, Bool, true, false, ◌&&◌, is_some, nat_le, List, [], ◌++◌, Option, Some, None, refl, ap, sym, ◌∙◌}
 use Rattle.std.proofs.lemmas.Bool.{and_parts}
-use Rattle.trick_blocks.specs.declared.world.World as blocks
+use Rattle.trick_blocks.specs.declared.scope.ClassScope as blocks
 use Rattle.trick_lang.specs.Locals.{bound_number}
 use Rattle.trick_lang.specs.SyntaxTree.{Name, Expression, Whole, Truth, Named, Prefixed, Chain, Choose, Links, NoLink, Link, Choices, Last, Choice, Path, path, Parts, NoPart, Member, Index, TypeName, Basic, Custom, Change, Set, Update, Increase, Decrease, Statement, Empty, Block, Declare, Assign, If, For, Call, Branches, NoElse, Else, Test, Statements, NoStatement, Then}
 use Rattle.trick_meaning_kept.proofs.Values.{none_left, none_right}
@@ -25,15 +25,15 @@ use Rattle.trick_names.specs.declared.tables.Lengths.TheVariants.{Plain, One, Tw
 use Rattle.trick_names.specs.declared.tables.Local.{Local}
 use Rattle.trick_names.specs.declared.tables.Member.{Member as InGroup}
 use Rattle.trick_names.specs.declared.tables.Member.TheVariants.{Variable, Method}
-use Rattle.trick_names.specs.declared.world.World.{World}
+use Rattle.trick_names.specs.declared.scope.FileScope.{FileScope}
 use Rattle.trick_order.specs.Calls.{all_in, has}
 
 -- ---- more names of types
 
 -- what a body says of places is the same wherever in the file it stands
-module _ (w : World) (names : Names Global) where
+module _ (w : FileScope) (names : Names Global) where
   -- what it sees where these names are known
-  abbrev pub whole : World
+  abbrev pub whole : FileScope
   whole = record w { names = names }
 
   member_in_same : (ls : Lengths) (base : Base) (name : Name) → member_in ls base name w ≡ member_in ls base name whole
@@ -157,7 +157,7 @@ module _ (w : World) (names : Names Global) where
 -- ---- what a body calls
 
 -- where each method of these numbers has a block
-module _ (y : World) (w : blocks.World) (seen : List ℕ)
+module _ (y : FileScope) (w : blocks.ClassScope) (seen : List ℕ)
     (made : (name : Name) (k : ℕ) → meaning_of name (members_at y.tables.groups y.own) ≡ Some (Method k)
     → has seen k ≡ true → is_some (meaning_of name w.methods) ≡ true) where
   abbrev own : Names InGroup

@@ -61,16 +61,16 @@ module _ (ds : SDefine) (objects : List Object) where
   pub record IsMade (method : program.Method) (n : ℕ) : Type 0 where
     pub low : method.class < n
     pub used : has_object objects method.class ≡ true
-    pub of_it : IsOfPart method.class (with_it method.class).world.methods (parts_at ds method.class) method
+    pub of_it : IsOfPart method.class (with_it method.class).scope.methods (parts_at ds method.class) method
 
   one_made : (class : ℕ) (method : program.Method) → has_object objects class ≡ true
-      → IsOfPart class (with_it class).world.methods (parts_at ds class) method → IsMade method (suc class)
+      → IsOfPart class (with_it class).scope.methods (parts_at ds class) method → IsMade method (suc class)
   one_made class method used h =
       let same : class ≡ method.class = sym (ap (λ (q : program.Method). q.class) h.3) in
       record {
         low = omega (arith, same);
         used = subst (λ k. has_object objects k ≡ true) same used;
-        of_it = subst (λ k. IsOfPart k (with_it k).world.methods (parts_at ds k) method) same h;
+        of_it = subst (λ k. IsOfPart k (with_it k).scope.methods (parts_at ds k) method) same h;
       }
 
   pub is_made : (n i : ℕ) (method : program.Method) → slice_get (made_of_first ds objects n).methods i ≡ Some method
@@ -82,12 +82,12 @@ module _ (ds : SDefine) (objects : List Object) where
 
     either : has_object objects n ≡ true
         → (slice_get (made_of_first ds objects n).methods i ≡ Some method) ⊎ ((j : ℕ) × (slice_get
-        (class_methods n (with_it n).world.methods (parts_at ds n)) j ≡ Some method))
+        (class_methods n (with_it n).scope.methods (parts_at ds n)) j ≡ Some method))
         → ((j : ℕ) → slice_get (made_of_first ds objects n).methods j ≡ Some method → IsMade method n)
         → IsMade method (suc n)
     either used (inl old) rest = more (rest i old)
     either used (inr new) rest =
-        one_made n method used (of_part n (with_it n).world.methods (parts_at ds n) new.0 method new.1)
+        one_made n method used (of_part n (with_it n).scope.methods (parts_at ds n) new.0 method new.1)
 
     by : (b : Bool) → has_object objects n ≡ b
         → slice_get (with_class_if b n (order_at ds n) (parts_at ds n)
@@ -97,19 +97,19 @@ module _ (ds : SDefine) (objects : List Object) where
     by false e h rest = more (rest i h)
     by true e h rest =
         either e (get_case (made_of_first ds objects n).methods
-        (class_methods n (with_it n).world.methods (parts_at ds n)) i method h) rest
+        (class_methods n (with_it n).scope.methods (parts_at ds n)) i method h) rest
 
   -- ---- what is made stays
 
   -- all blocks begin with what is made, and there are slots enough
   pub record IsWithin (all : List (List Code)) (size : ℕ) (p : Progress) : Type 0 where
     pub begin : Begin all (codes_in p.bodies)
-    pub room : p.world.slots ≤ size
+    pub room : p.scope.slots ≤ size
 
   class_within : (all : List (List Code)) (size class : ℕ) (p : Progress)
       → IsWithin all size (class_progress class (order_at ds class) (parts_at ds class) p) → IsWithin all size p
   class_within all size class p h =
-      let first = progress (record p.world { class = class; methods = [] }) p.bodies in
+      let first = progress (record p.scope { class = class; methods = [] }) p.bodies in
       let grown = parts_slots (order_at ds class) (parts_at ds class) first in
       let room = h.room in
       record {

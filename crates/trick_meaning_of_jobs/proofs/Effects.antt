@@ -26,7 +26,7 @@ use Rattle.trick_lang.specs.SyntaxTree.{HasMethod, Name, Part, SDefine}
 use Rattle.trick_lang.specs.Tree.{Code}
 use Rattle.trick_lang.specs.TreeOf.{code_list, codes_of}
 use Rattle.trick_lang.specs.Valid.{block_of, job_stands, method_of, of_one_class}
-use Rattle.trick_lang.specs.declared.fault.Stop.{Stop}
+use Rattle.trick_lang.specs.declared.fault.StatementFault.{StatementFault}
 use Rattle.trick_lang.specs.declared.job.Job.{Job}
 use Rattle.trick_lang.specs.declared.job.JobId.{JobId}
 use Rattle.trick_lang.specs.declared.method.Method.{Method}
@@ -57,7 +57,7 @@ use Rattle.trick_names.specs.declared.tables.Base.TheVariants.{Group}
 use Rattle.trick_names.specs.declared.tables.Global.TheVariants as the
 use Rattle.trick_names.specs.declared.tables.Member.{Member}
 use Rattle.trick_names.specs.declared.tables.Tables.{Tables}
-use Rattle.trick_names.specs.declared.world.World as by_name
+use Rattle.trick_names.specs.declared.scope.FileScope as by_name
 use Rattle.trick_order.specs.Calls.{AreCallees, IsOrderOf, ReachesItself, order_of}
 use Rattle.trick_places.specs.Named.{AreNamed, LeadToTheirNames, ObjectsHoldNames, TablesTell}
 
@@ -113,16 +113,16 @@ pub record Laws : Type 0 where
   pub order : (g : List (List ℕ)) → AreCallees g → ((k : ℕ) → ReachesItself g k → ⊥) → IsOrderOf g (order_of g)
 
 -- both end with the same stored, or at the same fault
-ends_as : (parts : List Part) (world : by_name.World) (object : Name) (memory : Name → ℤ) (done : List (List Variable))
+ends_as : (parts : List Part) (scope : by_name.FileScope) (object : Name) (memory : Name → ℤ) (done : List (List Variable))
     (cells : List Variable) (size : ℕ) (blocks : List (List Code)) (x : InCells) (slots : ℕ) (a : Resolved)
-    (q : Result Resolved Stop) (r : Result Stored Stop)
-    → EndAsMeant parts world object memory done cells size blocks x slots a q r
+    (q : Result Resolved StatementFault) (r : Result Stored StatementFault)
+    → EndAsMeant parts scope object memory done cells size blocks x slots a q r
     → and_then q (λ s. Ok s.stored) ≡ and_then r (λ stored. Ok (by_cell cells stored))
-ends_as parts world object memory done cells size blocks x slots a (Ok c) (Ok stored) h =
+ends_as parts scope object memory done cells size blocks x slots a (Ok c) (Ok stored) h =
     ap Ok (stored_is cells c.stored stored h.0.many h.0.same)
-ends_as parts world object memory done cells size blocks x slots a (Ok c) (Err d) h = absurd h
-ends_as parts world object memory done cells size blocks x slots a (Err c) (Ok stored) h = absurd h
-ends_as parts world object memory done cells size blocks x slots a (Err c) (Err d) h = ap Err h
+ends_as parts scope object memory done cells size blocks x slots a (Ok c) (Err d) h = absurd h
+ends_as parts scope object memory done cells size blocks x slots a (Err c) (Ok stored) h = absurd h
+ends_as parts scope object memory done cells size blocks x slots a (Err c) (Err d) h = ap Err h
 
 module _ (laws : Laws) (ds : SDefine) (p : Program) (named : IsNamed ds p) (readable : IsReadable ds) where
   -- ---- what the tables of the file tell
@@ -155,8 +155,8 @@ module _ (laws : Laws) (ds : SDefine) (p : Program) (named : IsNamed ds p) (read
     abbrev parts : List Part
     parts = parts_at ds class
 
-    abbrev world : by_name.World
-    world = world_of ds class
+    abbrev scope : by_name.FileScope
+    scope = world_of ds class
 
     abbrev memory : Name → ℤ
     memory = number_named p.cells numbers
@@ -184,13 +184,13 @@ module _ (laws : Laws) (ds : SDefine) (p : Program) (named : IsNamed ds p) (read
     -- before the first method of the class
     abbrev begins : Progress
     begins =
-        progress (record (made_of_first ds (objects_of ds) class).progress.world { class = class; methods = [] })
+        progress (record (made_of_first ds (objects_of ds) class).progress.scope { class = class; methods = [] })
         (made_of_first ds (objects_of ds) class).progress.bodies
 
-    layout_is : begins.world.layout ≡ file_layout ds
+    layout_is : begins.scope.layout ≡ file_layout ds
     layout_is = first_layout ds (objects_of ds) class
 
-    is_there : IsThere parts world object.name memory done p.cells p.slots blocks place begins.world
+    is_there : IsThere parts scope object.name memory done p.cells p.slots blocks place begins.scope
     is_there = record {
       named = subst (λ l. AreNamed l done p.cells) (sym layout_is) are_named;
       same = subst (λ l. AreSameTables (tables_of ds) l done) (sym layout_is) are_same;
@@ -225,10 +225,10 @@ module _ (laws : Laws) (ds : SDefine) (p : Program) (named : IsNamed ds p) (read
           room = (let slots = named.slots in omega (arith, slots));
         })
 
-    along : IsAlong parts world object.name memory done p.cells p.slots blocks place order
+    along : IsAlong parts scope object.name memory done p.cells p.slots blocks place order
         (with_parts order parts begins)
     along =
-        parts_along parts world object.name memory done p.cells p.slots blocks place
+        parts_along parts scope object.name memory done p.cells p.slots blocks place
         (λ block s. laws.blocks.runs (scalars_of p.cells) object.first
         (λ c. slice_index_or numbers c (pos 0)) blocks block s p.in_order)
         p.cell_names refl (λ cell full is. number_is p.cells numbers cell full p.cell_names is)
@@ -244,7 +244,7 @@ module _ (laws : Laws) (ds : SDefine) (p : Program) (named : IsNamed ds p) (read
           are_meant = λ deep low name block a stored known h. absurd (cc known);
         })
 
-    begun_alike : StoreAlike parts world object.name memory done p.cells p.slots blocks place (begun p) []
+    begun_alike : StoreAlike parts scope object.name memory done p.cells p.slots blocks place (begun p) []
     begun_alike = record {
       many = length-replicate (length p.cells) (let nothing : Option ℤ = None in nothing);
       same = λ cell full is. nothing_stored (length p.cells) cell;
@@ -252,14 +252,14 @@ module _ (laws : Laws) (ds : SDefine) (p : Program) (named : IsNamed ds p) (read
     }
 
     does_is : (name : Name)
-        → does ds object.name name memory ≡ method_does (length parts) parts world object.name memory name []
+        → does ds object.name name memory ≡ method_does (length parts) parts scope object.name memory name []
     does_is name =
         ap (λ o. class_does ds (class_of o) object.name name memory) told.0
-        ∙ ap (λ q. method_does (length q) q world object.name memory name []) (parts_are ds class)
+        ∙ ap (λ q. method_does (length q) q scope object.name memory name []) (parts_are ds class)
 
     -- a method of the class
     of_part : (k : ℕ) (m : tree.Method) → slice_get parts k ≡ Some (HasMethod m) → (o : Option ℕ)
-        → meaning_of m.name (with_parts order parts begins).world.methods ≡ o
+        → meaning_of m.name (with_parts order parts begins).scope.methods ≡ o
         → and_then (place.blocks (unwrap_or o 0) (begun p))
         (λ s. Ok s.stored) ≡ meant ds p.cells object.name m.name numbers
     of_part k m is None unknown =
@@ -269,9 +269,9 @@ module _ (laws : Laws) (ds : SDefine) (p : Program) (named : IsNamed ds p) (read
     of_part k m is (Some block) known =
         let short = order_short calls (length parts) order is_order.0
         (λ j h. let low = is_order.2 j h in omega (arith, low, many)) in
-        ends_as parts world object.name memory done p.cells p.slots blocks place
-        (with_parts order parts begins).world.slots (begun p) (place.blocks block (begun p))
-        (method_does (length parts) parts world object.name memory m.name [])
+        ends_as parts scope object.name memory done p.cells p.slots blocks place
+        (with_parts order parts begins).scope.slots (begun p) (place.blocks block (begun p))
+        (method_does (length parts) parts scope object.name memory m.name [])
         (along.are_meant (length parts) short m.name block (begun p) [] known begun_alike)
         ∙ ap (λ r. and_then r (λ stored. Ok (by_cell p.cells stored))) (sym (does_is m.name))
 
@@ -280,9 +280,9 @@ module _ (laws : Laws) (ds : SDefine) (p : Program) (named : IsNamed ds p) (read
         (λ s. Ok s.stored) ≡ meant ds p.cells object.name method.name numbers
     method_keeps method made same =
         let of_it = subst (λ k. Rattle.trick_meaning_of_jobs.proofs.Classes.IsOfPart k
-        (with_it ds (objects_of ds) k).world.methods (parts_at ds k) method) same made.of_it in
+        (with_it ds (objects_of ds) k).scope.methods (parts_at ds k) method) same made.of_it in
         let m = of_it.1 in
-        let known = meaning_of m.name (with_parts order parts begins).world.methods in
+        let known = meaning_of m.name (with_parts order parts begins).scope.methods in
         let block : method.block ≡ unwrap_or known 0 = ap (λ (q : Method). q.block) of_it.3 in
         let name : method.name ≡ m.name = ap (λ (q : Method). q.name) of_it.3 in
         ap (λ b. and_then (place.blocks b (begun p)) (λ s. Ok s.stored)) block

@@ -62,9 +62,9 @@ has_made all front bs n many h =
 part_codes : (o : Option tree.Part) (p : Progress)
     → (more : List (List Code)) × (codes_in (with_part o p).bodies ≡ codes_in p.bodies ++ more)
 part_codes (Some (tree.HasMethod m)) p = (
-  body_blocks m.body p.world (length p.bodies),
-  codes_with p.world.class
-      (body_blocks m.body p.world (length p.bodies)) p.bodies,
+  body_blocks m.body p.scope (length p.bodies),
+  codes_with p.scope.class
+      (body_blocks m.body p.scope (length p.bodies)) p.bodies,
 )
 part_codes o p = ([], sym (append-nil (codes_in p.bodies)))
 
@@ -118,12 +118,12 @@ blocks_below (b ∷ bs) so_far top h = (
       (all_slots b so_far) top h,
 )
 
-part_slots : (o : Option tree.Part) (p : Progress) → p.world.slots ≤ (with_part o p).world.slots
-part_slots (Some (tree.HasMethod m)) p = slots_grow (body_blocks m.body p.world (length p.bodies)) p.world.slots
+part_slots : (o : Option tree.Part) (p : Progress) → p.scope.slots ≤ (with_part o p).scope.slots
+part_slots (Some (tree.HasMethod m)) p = slots_grow (body_blocks m.body p.scope (length p.bodies)) p.scope.slots
 part_slots o p = omega arith
 
 pub parts_slots : (order : List ℕ) (parts : List tree.Part) (p : Progress)
-    → p.world.slots ≤ (with_parts order parts p).world.slots
+    → p.scope.slots ≤ (with_parts order parts p).scope.slots
 parts_slots [] parts p = omega arith
 parts_slots (i ∷ is) parts p =
     let here = part_slots (slice_get parts i) p in

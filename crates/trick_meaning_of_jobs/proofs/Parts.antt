@@ -31,7 +31,7 @@ use Rattle.trick_names.specs.declared.tables.Member.{Member}
 use Rattle.trick_names.specs.declared.tables.Member.TheVariants.{Variable as Holds, Method}
 use Rattle.trick_names.specs.declared.tables.Shape.{Shape}
 use Rattle.trick_names.specs.declared.tables.Tables.{Tables}
-use Rattle.trick_names.specs.declared.world.World.{World}
+use Rattle.trick_names.specs.declared.scope.FileScope.{FileScope}
 use Rattle.trick_order.specs.Calls.{callees}
 use Rattle.trick_lang.specs.PartTests.{anything, definition_passes, part_passes}
 
@@ -155,7 +155,7 @@ calls_are (part ∷ rest) own (suc k) m there = calls_are rest own k m there
 
 -- ---- bodies without mistakes
 
-module _ (class : Name) (w : World) where
+module _ (class : Name) (w : FileScope) where
   -- a method whose name was known before its part is given twice
   name_new : (parts : List Part) (number : ℕ) (inside : Inside) (k : ℕ) (m : tree.Method)
       → class_mistakes parts number class inside w ≡ [] → slice_get parts k ≡ Some (HasMethod m)
@@ -221,13 +221,13 @@ module _ (class : Name) (w : World) where
 -- a class that has no mistakes, and what is known before it
 record IsRight (ds : SDefine) (class : ℕ) (parts : List Part) : Type 0 where
   name : Name
-  world : World
-  tables : world.tables ≡ tables_of ds
-  own : world.own ≡ class
-  grow : Grow world.names (tables_of ds).names
-  none : class_mistakes parts 0 name nothing_inside world ≡ []
+  scope : FileScope
+  tables : scope.tables ≡ tables_of ds
+  own : scope.own ≡ class
+  grow : Grow scope.names (tables_of ds).names
+  none : class_mistakes parts 0 name nothing_inside scope ≡ []
 
-class_right : (all ds : SDefine) (t : Tables) (w : World) (k : ℕ) (name : Name) (parts : List Part)
+class_right : (all ds : SDefine) (t : Tables) (w : FileScope) (k : ℕ) (name : Name) (parts : List Part)
     → w.tables ≡ tables_of all → w.names ≡ t.names → w.own ≡ length t.groups → behind_definitions ds t ≡ tables_of all
     → definitions_mistakes ds w ≡ [] → slice_get ds k ≡ Some (ClassOf name parts) → IsRight all (w.own + k) parts
 class_right all [] t w k name parts tables names own end none there = absurd (cc there)
@@ -237,7 +237,7 @@ class_right all (d ∷ ds) t w zero name parts tables names own end none there =
     (none_left (definition_mistakes d w) _ none) in
     record {
       name = name;
-      world = w;
+      scope = w;
       tables = tables;
       own = omega arith;
       grow = λ q l h. subst (λ (e : Tables). meaning_of q e.names ≡ Some l) end
@@ -312,17 +312,17 @@ is_method ds class k m right short there =
     (parts_at ds class) refl refl refl refl right is.1) in
     record {
       none = here r;
-      found = body_found r.name r.world (parts_at ds class) 0 nothing_inside k m r.none there;
+      found = body_found r.name r.scope (parts_at ds class) 0 nothing_inside k m r.none there;
       short = definition_short ds class k m short there;
     } where
       here : IsRight ds class (parts_at ds class) → all_mistakes m.body (world_of ds class) [] ≡ []
       here r =
-          let known = all_none r.world (tables_of ds).names r.grow m.body []
-          (body_right r.name r.world (parts_at ds class) 0 nothing_inside k m r.none there) in
+          let known = all_none r.scope (tables_of ds).names r.grow m.body []
+          (body_right r.name r.scope (parts_at ds class) 0 nothing_inside k m r.none there) in
           subst (λ t. all_mistakes m.body
           (record { tables = t; names = (tables_of ds).names; own = class }) [] ≡ []) r.tables
           (subst (λ j. all_mistakes m.body
-          (record { tables = r.world.tables; names = (tables_of ds).names; own = j }) [] ≡ []) r.own known)
+          (record { tables = r.scope.tables; names = (tables_of ds).names; own = j }) [] ≡ []) r.own known)
 
 -- the same parts, by the definition of the class
 pub parts_are : (ds : SDefine) (class : ℕ) → meaning.parts_in (slice_get ds class) ≡ parts_at ds class

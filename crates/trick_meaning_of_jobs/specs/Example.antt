@@ -7,7 +7,7 @@ use Rattle.trick_lang.specs.SyntaxTree.{Basic, Decrease, HasMembers, JobLine, Na
 use Rattle.trick_lang.specs.declared.bound.Bound.TheVariants.{Below}
 use Rattle.trick_lang.specs.declared.class.Class.TheVariants.{Initialization}
 use Rattle.trick_lang.specs.declared.fault.FaultKind.TheVariants.{DivideByZero}
-use Rattle.trick_lang.specs.declared.fault.Stop.{Stop}
+use Rattle.trick_lang.specs.declared.fault.StatementFault.{StatementFault}
 use Rattle.trick_lang.specs.declared.job.Job.{Job}
 use Rattle.trick_lang.specs.declared.operator.Arithmetic.TheVariants.{Divide}
 use Rattle.trick_lang.specs.declared.program.Program.{Program}
@@ -51,7 +51,7 @@ file = text.ClassOf g (
     ) ∷ text.Object 1 g o ∷ []
 
 -- its one job stops in line 9, since the local variable `i` is 0 there: the loop made it so, and `n` left it alone
-abbrev pub stops : Result (List (Option ℤ)) Stop
+abbrev pub stops : Result (List (Option ℤ)) StatementFault
 stops = Err (record { kind = DivideByZero; line = 9 })
 
 -- a program that the file names

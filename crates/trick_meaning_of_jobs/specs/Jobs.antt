@@ -7,7 +7,7 @@ use Rattle.trick_lang.specs.Names.{method_name, object_name}
 use Rattle.trick_lang.specs.Numbers.{and_then}
 use Rattle.trick_lang.specs.SDefineOf.{sdefine_of}
 use Rattle.trick_lang.specs.SyntaxTree.{Name, SDefine}
-use Rattle.trick_lang.specs.declared.fault.Stop.{Stop}
+use Rattle.trick_lang.specs.declared.fault.StatementFault.{StatementFault}
 use Rattle.trick_lang.specs.declared.job.Job.{Job}
 use Rattle.trick_lang.specs.declared.job.JobId.{JobId}
 use Rattle.trick_lang.specs.declared.method.Method.{Method}
@@ -38,12 +38,12 @@ by_cell (v ∷ vs) stored = meaning_of v.name stored ∷ by_cell vs stored
 -- ---- what a text means
 
 -- what a method does to a memory in an object, as its text says, by the cells of a program
-abbrev pub meant : SDefine → List Variable → Name → Name → List ℤ → Result (List (Option ℤ)) Stop
+abbrev pub meant : SDefine → List Variable → Name → Name → List ℤ → Result (List (Option ℤ)) StatementFault
 meant ds cells object method numbers =
     and_then (does ds object method (number_named cells numbers)) (λ stored. Ok (by_cell cells stored))
 
 -- what a job does to a memory, as its text says: what its method does in its object
-abbrev pub meant_by : SDefine → Program → Job → List ℤ → Result (List (Option ℤ)) Stop
+abbrev pub meant_by : SDefine → Program → Job → List ℤ → Result (List (Option ℤ)) StatementFault
 meant_by ds p job =
     meant ds p.cells (object_name (slice_get p.objects job.object)) (method_name (slice_get p.methods job.method))
 

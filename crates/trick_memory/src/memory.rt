@@ -4,7 +4,7 @@ ghost use Rattle.trick_memory.specs.Stored.{cell_of, zeros};
 ghost use Rattle.trick_model.specs.NameAt.{cell_name};
 ghost use Rattle.trick_model.specs.Valid.{cell_names};
 
-use crate::names::Names;
+use crate::names::CellNames;
 use crate::packing::{pack_at, unpack_at, width};
 use std::alloc::{AllocError, Global};
 use std::marker::Model;
@@ -15,7 +15,7 @@ use trick_model::{Plan, cell_name};
 /// names. The numbers are kept as bytes, cell after cell and without gaps.
 #[derive(Drop)]
 pub struct Memory {
-    names: Names,
+    names: CellNames,
     scalars: Vec<Scalar>,
     // Where the bytes of each cell begin.
     offsets: Vec<u32>,
@@ -43,7 +43,7 @@ impl Memory {
     pub fn new(alloc: Global, plan: &Plan) -> Result<Self, AllocError>
         ensures { IfOk result (λ memory. memory ≡ zeros plan.now.program.cells) }
     {
-        let mut names = Names::new(alloc);
+        let mut names = CellNames::new(alloc);
         let mut scalars = Vec::new(alloc);
         let mut offsets = Vec::new(alloc);
         let mut bytes: Vec<u8> = Vec::new(alloc);

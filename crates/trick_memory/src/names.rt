@@ -6,13 +6,13 @@ use std::alloc::{AllocError, Global};
 use std::marker::Model;
 use trick_base::Word;
 
-/// Names in order, no name twice.
+/// CellNames in order, no name twice.
 #[derive(Drop)]
-pub(crate) struct Names {
+pub(crate) struct CellNames {
     set: IndexSet<Vec<u8>>,
 }
 
-impl Model for Names {
+impl Model for CellNames {
     ghost use Rattle.std.specs.Prelude.{map, List, ℕ};
 
     ghost Value = { List (List ℕ) };
@@ -20,12 +20,12 @@ impl Model for Names {
     ghost view = { λ names. map (λ name. name.items) names.set.keys };
 }
 
-impl Names {
+impl CellNames {
     /// No names. Takes no memory.
     pub(crate) fn new(alloc: Global) -> Self
         ensures { result ≡ [] }
     {
-        Names {
+        CellNames {
             set: IndexSet::new(alloc),
         }
     }

@@ -5,7 +5,7 @@ use Rattle.std.specs.Prelude.{◌≡◌, ℕ, ℤ, ◌+ℤ◌, Bool, cond, true,
 use Rattle.trick_lang.specs.declared.class.Class.{Class}
 use Rattle.trick_lang.specs.declared.class.Class.TheVariants as class
 use Rattle.trick_lang.specs.declared.fault.FaultKind.{FaultKind}
-use Rattle.trick_lang.specs.declared.fault.Stop.{Stop}
+use Rattle.trick_lang.specs.declared.fault.StatementFault.{StatementFault}
 use Rattle.trick_lang.specs.declared.job.Job.{Job}
 use Rattle.trick_lang.specs.declared.range.CellRange.{CellRange}
 use Rattle.trick_lang.specs.declared.scalar.Scalar.TheVariants as scalar
@@ -30,7 +30,7 @@ stored (one ∷ more) memory cells = stored more memory (slice_set cells one.0 (
 
 -- what a job does to a memory
 abbrev pub Effect : Type 0
-Effect = List ℤ → Result (List (Option ℤ)) Stop
+Effect = List ℤ → Result (List (Option ℤ)) StatementFault
 
 -- a job that stores numbers, each in its cell
 abbrev pub stores : List (ℕ × (List ℤ → ℤ)) → Effect

@@ -4,7 +4,7 @@ use Rattle.std.proofs.Common.{◌≡◌, ℕ, zero, suc, ◌+◌, ◌==◌, nat_
 use Rattle.trick_lang.specs.Effect.{overwritten}
 use Rattle.trick_lang.specs.declared.class.Class.{Class}
 use Rattle.trick_lang.specs.declared.class.Class.TheVariants as class
-use Rattle.trick_lang.specs.declared.fault.Stop.{Stop}
+use Rattle.trick_lang.specs.declared.fault.StatementFault.{StatementFault}
 use Rattle.trick_model.specs.Access.{may_write}
 use Rattle.trick_model.specs.Beside.{each_thread, ends_at, find_thread, has_round, held_work, must_finish, publish, published, publish_round, replaced, start_round, take, taken_from, where_ends, work}
 use Rattle.trick_model.specs.Events.{Asking, Between, InTic, Moment, act_all, do_deed, enter_freeze, event_acts, events_done, fire, fired, fires, leave_freeze, reads_done}
@@ -39,7 +39,7 @@ overwritten_length stored [] = refl
 overwritten_length [] (n ∷ ns) = refl
 overwritten_length (v ∷ stored) (n ∷ ns) = ap suc (overwritten_length stored ns)
 
-outcome_length : (tic k : ℕ) (memory : List ℤ) (effect : Result (List (Option ℤ)) Stop) → length (outcome tic k memory effect).memory ≡ length memory
+outcome_length : (tic k : ℕ) (memory : List ℤ) (effect : Result (List (Option ℤ)) StatementFault) → length (outcome tic k memory effect).memory ≡ length memory
 outcome_length tic k memory (Ok stored) = overwritten_length stored memory
 outcome_length tic k memory (Err stop) = refl
 

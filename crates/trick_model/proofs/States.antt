@@ -8,7 +8,7 @@ use Rattle.trick_lang.specs.Wrap.{IsInRange}
 use Rattle.trick_lang.specs.declared.class.Class.{Class}
 use Rattle.trick_lang.specs.declared.class.Class.TheVariants as class
 use Rattle.trick_lang.specs.declared.fault.JobFault.{JobFault}
-use Rattle.trick_lang.specs.declared.fault.Stop.{Stop}
+use Rattle.trick_lang.specs.declared.fault.StatementFault.{StatementFault}
 use Rattle.trick_model.proofs.Found.{found_among}
 use Rattle.trick_model.proofs.Ranges.{Below, filter_below, jobs_below, order_below, over_each, set_each}
 use Rattle.trick_model.proofs.Sizes.{deed_keeps, jobs_length, settled_keeps, taken_keeps}
@@ -192,7 +192,7 @@ pub record IsAfter (p : Plan) (after : After) : Type 0 where
   pub range : AreInRange p.scalars after.memory
   pub faults : Every p after.faults
 
-outcome_right : (p : Plan) → IsSound p → (tic k : ℕ) (memory : List ℤ) (effect : Result (List (Option ℤ)) Stop) → p.effect k memory ≡ effect
+outcome_right : (p : Plan) → IsSound p → (tic k : ℕ) (memory : List ℤ) (effect : Result (List (Option ℤ)) StatementFault) → p.effect k memory ≡ effect
     → tic ≤ tic_limit + 1 → k < length p.jobs → AreInRange p.scalars memory → IsAfter p (outcome tic k memory effect)
 outcome_right p sound tic k memory (Ok stored) e fits there range = record {
   range = over_each (IsInRange p.scalars) stored memory (λ cell n found. sound.effects k cell memory stored n e found) range;

@@ -3,7 +3,7 @@ use Rattle.std.specs.List.{slice_index_or, list_any}
 use Rattle.std.specs.Prelude.{ℕ, ℤ, Bool, true, false, ◌==◌, suc, List, [], ◌∷◌, Option, Result, filter}
 use Rattle.trick_lang.specs.declared.cells.Cell.{Cell}
 use Rattle.trick_lang.specs.declared.class.Class.TheVariants as class
-use Rattle.trick_lang.specs.declared.fault.Stop.{Stop}
+use Rattle.trick_lang.specs.declared.fault.StatementFault.{StatementFault}
 use Rattle.trick_lang.specs.declared.job.Job.{Job}
 use Rattle.trick_lang.specs.declared.range.CellRange.{CellRange}
 use Rattle.trick_lang.specs.declared.scalar.Scalar.{Scalar}
@@ -38,7 +38,7 @@ pub record Plan : Type 0 where
   pub jobs : List Job
   pub job_names : List (List ℕ)
   -- by cell what a job stores in a memory, or how it stops
-  pub effect : ℕ → List ℤ → Result (List (Option ℤ)) Stop
+  pub effect : ℕ → List ℤ → Result (List (Option ℤ)) StatementFault
   -- the cells that a job may read, and may write
   pub reads : ℕ → List CellRange
   pub writes : ℕ → List CellRange

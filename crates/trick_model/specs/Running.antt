@@ -3,7 +3,7 @@ use Rattle.std.specs.Prelude.{ℕ, ℤ, Bool, true, false, List, [], ◌∷◌, 
 use Rattle.trick_lang.specs.Effect.{overwritten}
 use Rattle.trick_lang.specs.declared.class.Class.{Class}
 use Rattle.trick_lang.specs.declared.fault.JobFault.{JobFault}
-use Rattle.trick_lang.specs.declared.fault.Stop.{Stop}
+use Rattle.trick_lang.specs.declared.fault.StatementFault.{StatementFault}
 use Rattle.trick_model.specs.FaultList.{with_faults}
 use Rattle.trick_model.specs.Order.{jobs_at, jobs_in}
 use Rattle.trick_model.specs.Plan.{Plan, is_on}
@@ -17,7 +17,7 @@ pub record After : Type 0 where
 
 -- A job whose body faults writes nothing, and one fault is added, with this tic. Otherwise the memory
 -- is overwritten by the effect.
-abbrev pub outcome : ℕ → ℕ → List ℤ → Result (List (Option ℤ)) Stop → After
+abbrev pub outcome : ℕ → ℕ → List ℤ → Result (List (Option ℤ)) StatementFault → After
 outcome tic k memory (Ok stored) = record { memory = overwritten stored memory; faults = [] }
 outcome tic k memory (Err stop) = record {
   memory = memory;

@@ -11,7 +11,7 @@ use Rattle.trick_lang.specs.declared.syntax.expression.Part.{Part, Member, Index
 use Rattle.trick_lang.specs.declared.syntax.statement.Branch.{Branch}
 use Rattle.trick_lang.specs.declared.syntax.statement.Stmt.{Stmt}
 use Rattle.trick_names.proofs.Weights.{part_weight}
-use Rattle.trick_names.specs.declared.world.World.{World}
+use Rattle.trick_names.specs.declared.scope.FileScope.{FileScope}
 use Rattle.trick_names.specs.BodyMistakes.{after, after_all, expression_mistakes, line_of, part_mistakes, strays}
 use Rattle.trick_names.specs.Names.{Names, meaning_of, with_name}
 use Rattle.trick_names.specs.Places.{to_member, to_element, literal_of, followed}
@@ -33,7 +33,7 @@ branches_next xs i item last h is = ap (λ bs. branches_of_list bs last) (next_i
 -- ---- parts of a path
 
 -- one part, and the rest from where it leads
-pub part_splits : (item : Part) (rest : List Part) (w : World) (locals : Names Local) (s : State) → part_mistakes (parts_of_list (item ∷ rest)) w locals s ≡ part_mistakes (parts_of_list (item ∷ [])) w locals s ++ part_mistakes (parts_of_list rest) w locals (followed (parts_of_list (item ∷ [])) w s)
+pub part_splits : (item : Part) (rest : List Part) (w : FileScope) (locals : Names Local) (s : State) → part_mistakes (parts_of_list (item ∷ rest)) w locals s ≡ part_mistakes (parts_of_list (item ∷ [])) w locals s ++ part_mistakes (parts_of_list rest) w locals (followed (parts_of_list (item ∷ [])) w s)
 part_splits (Member line name) rest w locals s =
     ap (λ ms. ms ++ part_mistakes (parts_of_list rest) w locals (to_member name w s)) (sym (append-nil (strays line s (to_member name w s))))
 part_splits (Index e) rest w locals s =

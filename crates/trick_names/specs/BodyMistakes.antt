@@ -17,7 +17,7 @@ use Rattle.trick_names.specs.declared.tables.Lengths.TheVariants.{Plain}
 use Rattle.trick_names.specs.declared.tables.Local.{Local}
 use Rattle.trick_names.specs.declared.tables.Member.{Member as InGroup}
 use Rattle.trick_names.specs.declared.tables.Member.TheVariants.{Method}
-use Rattle.trick_names.specs.declared.world.World.{World}
+use Rattle.trick_names.specs.declared.scope.FileScope.{FileScope}
 
 -- ---- places
 
@@ -56,7 +56,7 @@ unless_fixed fixed Misfit = Misfit
 -- ---- expressions
 
 abbrev mutual
-  pub expression_mistakes : Expression → World → Names Local → List Mistake
+  pub expression_mistakes : Expression → FileScope → Names Local → List Mistake
   expression_mistakes (Whole line n) w locals = []
   expression_mistakes (Truth line value) w locals = []
   expression_mistakes (Named p) w locals = path_mistakes p false w locals
@@ -64,24 +64,24 @@ abbrev mutual
   expression_mistakes (Chain e links) w locals = expression_mistakes e w locals ++ link_mistakes links w locals
   expression_mistakes (Choose choices) w locals = choice_mistakes choices w locals
 
-  pub link_mistakes : Links → World → Names Local → List Mistake
+  pub link_mistakes : Links → FileScope → Names Local → List Mistake
   link_mistakes NoLink w locals = []
   link_mistakes (Link o e rest) w locals = expression_mistakes e w locals ++ link_mistakes rest w locals
 
-  pub choice_mistakes : Choices → World → Names Local → List Mistake
+  pub choice_mistakes : Choices → FileScope → Names Local → List Mistake
   choice_mistakes (Last e) w locals = expression_mistakes e w locals
   choice_mistakes (Choice test e rest) w locals =
       expression_mistakes test w locals ++ (expression_mistakes e w locals ++ choice_mistakes rest w locals)
 
   -- A place, which may be assigned. That it is no scalar is a mistake at its first name, and so it
   -- stands before the mistakes of its parts.
-  pub path_mistakes : Path → Bool → World → Names Local → List Mistake
+  pub path_mistakes : Path → Bool → FileScope → Names Local → List Mistake
   path_mistakes (path line name parts) assigned w locals =
       ends line (unless_fixed (assigned && is_fixed name w locals) (followed parts w (named name w locals)))
       ++ (astray line (named name w locals) ++ part_mistakes parts w locals (named name w locals))
 
   -- The expression of an index is looked at wherever the place has come to.
-  pub part_mistakes : Parts → World → Names Local → State → List Mistake
+  pub part_mistakes : Parts → FileScope → Names Local → State → List Mistake
   part_mistakes NoPart w locals s = []
   part_mistakes (Member line name rest) w locals s =
       strays line s (to_member name w s) ++ part_mistakes rest w locals (to_member name w s)
@@ -90,13 +90,13 @@ abbrev mutual
       ++ (strays (line_of e) s (to_element (literal_of e) s)
       ++ part_mistakes rest w locals (to_element (literal_of e) s))
 
-abbrev pub change_mistakes : Change → World → Names Local → List Mistake
+abbrev pub change_mistakes : Change → FileScope → Names Local → List Mistake
 change_mistakes (Set e) w locals = expression_mistakes e w locals
 change_mistakes (Update o e) w locals = expression_mistakes e w locals
 change_mistakes Increase w locals = []
 change_mistakes Decrease w locals = []
 
-abbrev pub first_value_mistakes : Option Expression → World → Names Local → List Mistake
+abbrev pub first_value_mistakes : Option Expression → FileScope → Names Local → List Mistake
 first_value_mistakes None w locals = []
 first_value_mistakes (Some e) w locals = expression_mistakes e w locals
 
@@ -109,7 +109,7 @@ local_type_mistakes line (Some (the.Struct k)) = NotScalar line ∷ []
 local_type_mistakes line (Some (the.Class k)) = NotScalar line ∷ []
 local_type_mistakes line _ = Unknown line ∷ []
 
-abbrev pub type_mistakes : TypeName → World → List Mistake
+abbrev pub type_mistakes : TypeName → FileScope → List Mistake
 type_mistakes (Basic scalar) w = []
 type_mistakes (Custom line name) w = local_type_mistakes line (meaning_of name w.names)
 
@@ -142,7 +142,7 @@ call_mistakes line (Some (Method k)) = []
 call_mistakes line _ = Unknown line ∷ []
 
 abbrev mutual
-  pub statement_mistakes : Statement → World → Names Local → List Mistake
+  pub statement_mistakes : Statement → FileScope → Names Local → List Mistake
   statement_mistakes Empty w locals = []
   statement_mistakes (Block all) w locals = all_mistakes all w locals
   statement_mistakes (Declare line written name value) w locals =
@@ -153,12 +153,12 @@ abbrev mutual
       twice name locals ++ statement_mistakes body w (loop_in name locals)
   statement_mistakes (Call line name) w locals = call_mistakes line (own_member name w)
 
-  pub branch_mistakes : Branches → World → Names Local → List Mistake
+  pub branch_mistakes : Branches → FileScope → Names Local → List Mistake
   branch_mistakes NoElse w locals = []
   branch_mistakes (Else body) w locals = statement_mistakes body w locals
   branch_mistakes (Test line test body rest) w locals =
       expression_mistakes test w locals ++ (statement_mistakes body w locals ++ branch_mistakes rest w locals)
 
-  pub all_mistakes : Statements → World → Names Local → List Mistake
+  pub all_mistakes : Statements → FileScope → Names Local → List Mistake
   all_mistakes NoStatement w locals = []
   all_mistakes (Then s rest) w locals = statement_mistakes s w locals ++ all_mistakes rest w (after s locals)

@@ -14,7 +14,7 @@ use Rattle.trick_names.specs.declared.tables.Global.TheVariants as the
 use Rattle.trick_names.specs.declared.tables.Inside.{Inside}
 use Rattle.trick_names.specs.declared.tables.Member.{Member}
 use Rattle.trick_names.specs.declared.tables.Tables.{Tables}
-use Rattle.trick_names.specs.declared.world.World.{World}
+use Rattle.trick_names.specs.declared.scope.FileScope.{FileScope}
 
 -- ---- enums
 
@@ -66,19 +66,19 @@ declared_mistakes (HasMethod m) names inside = twice m.name inside.members
 declared_mistakes (Constructor line name jobs) names inside = if inside.constructed then Twice name ∷ [] else []
 
 -- a job calls a method of its class
-abbrev pub job_mistakes : List JobLine → World → List Mistake
+abbrev pub job_mistakes : List JobLine → FileScope → List Mistake
 job_mistakes [] w = []
 job_mistakes (job ∷ rest) w = call_mistakes job.line (own_member job.method w) ++ job_mistakes rest w
 
 -- in what a part of the class of that name does; a constructor has the name of its class
-abbrev pub done_mistakes : tree.Part → Name → World → List Mistake
+abbrev pub done_mistakes : tree.Part → Name → FileScope → List Mistake
 done_mistakes Public class w = []
 done_mistakes (HasMembers m) class w = []
 done_mistakes (HasMethod m) class w = all_mistakes m.body w []
 done_mistakes (Constructor line name jobs) class w =
     (if bytes_eq name class then [] else Unknown line ∷ []) ++ job_mistakes jobs w
 
-abbrev pub class_mistakes : List tree.Part → ℕ → Name → Inside → World → List Mistake
+abbrev pub class_mistakes : List tree.Part → ℕ → Name → Inside → FileScope → List Mistake
 class_mistakes [] number class inside w = []
 class_mistakes (part ∷ rest) number class inside w =
     declared_mistakes part w.names inside
@@ -91,7 +91,7 @@ abbrev pub unless_class : ℕ → Option Global → List Mistake
 unless_class line (Some (the.Class k)) = []
 unless_class line _ = Unknown line ∷ []
 
-abbrev pub definition_mistakes : tree.Definition → World → List Mistake
+abbrev pub definition_mistakes : tree.Definition → FileScope → List Mistake
 definition_mistakes Include w = []
 definition_mistakes (Enum name items) w =
     twice name w.names ++ item_mistakes items (pos 0) (with_name name the.Enum w.names)
@@ -100,15 +100,15 @@ definition_mistakes (ClassOf name parts) w = twice name w.names ++ class_mistake
 definition_mistakes (Object line class name) w = unless_class line (meaning_of class w.names) ++ twice name w.names
 
 -- The names that are known grow from definition to definition; what the whole file declares stays.
-abbrev pub past : tree.Definition → World → World
+abbrev pub past : tree.Definition → FileScope → FileScope
 past d w = record w { names = names_behind d w.own w.names; own = w.own + 1 }
 
-abbrev pub definitions_mistakes : SDefine → World → List Mistake
+abbrev pub definitions_mistakes : SDefine → FileScope → List Mistake
 definitions_mistakes [] w = []
 definitions_mistakes (d ∷ ds) w = definition_mistakes d w ++ definitions_mistakes ds (past d w)
 
 -- before the first definition, where a file declares this
-abbrev pub at_start : Tables → World
+abbrev pub at_start : Tables → FileScope
 at_start tables = record { tables = tables; names = []; own = 0 }
 
 -- the mistakes in the names of a file

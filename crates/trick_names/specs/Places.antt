@@ -16,7 +16,7 @@ use Rattle.trick_names.specs.declared.tables.Local.{Local}
 use Rattle.trick_names.specs.declared.tables.Member.{Member as InGroup}
 use Rattle.trick_names.specs.declared.tables.Member.TheVariants.{Variable, Method}
 use Rattle.trick_names.specs.declared.tables.Shape.{Shape}
-use Rattle.trick_names.specs.declared.world.World.{World}
+use Rattle.trick_names.specs.declared.scope.FileScope.{FileScope}
 
 -- the members of a struct or class, by its number
 abbrev pub members_at : List (Names InGroup) → ℕ → Names InGroup
@@ -25,7 +25,7 @@ members_at (g ∷ gs) zero = g
 members_at (g ∷ gs) (suc k) = members_at gs k
 
 -- what a name is in the class of the body
-abbrev pub own_member : Name → World → Option InGroup
+abbrev pub own_member : Name → FileScope → Option InGroup
 own_member name w = meaning_of name (members_at w.tables.groups w.own)
 
 -- ---- the first name
@@ -52,7 +52,7 @@ local_state None member global = member_state member global
 
 -- The first name of a place is a local, or else a member of the class, or else an item of an enum or
 -- an object of the file, wherever in the file that is declared.
-abbrev pub named : Name → World → Names Local → State
+abbrev pub named : Name → FileScope → Names Local → State
 named name w locals = local_state (meaning_of name locals) (own_member name w) (meaning_of name w.tables.names)
 
 abbrev pub is_fixed_global : Option Global → Bool
@@ -69,7 +69,7 @@ is_fixed_local (Some local) member global = local.is_loop
 is_fixed_local None member global = is_fixed_member member global
 
 -- the name is that of an item or of a loop, which cannot be assigned
-abbrev pub is_fixed : Name → World → Names Local → Bool
+abbrev pub is_fixed : Name → FileScope → Names Local → Bool
 is_fixed name w locals = is_fixed_local (meaning_of name locals) (own_member name w) (meaning_of name w.tables.names)
 
 -- ---- what follows it
@@ -79,12 +79,12 @@ member_of (Some (Variable shape)) = Stands shape
 member_of _ = Astray
 
 -- `.name`: only a struct and an object have members, and a method is none
-abbrev pub member_in : Lengths → Base → Name → World → State
+abbrev pub member_in : Lengths → Base → Name → FileScope → State
 member_in Plain (Group k) name w = member_of (meaning_of name (members_at w.tables.groups k))
 member_in _ _ name w = Astray
 
 -- a path stops at its first mistake
-abbrev pub to_member : Name → World → State → State
+abbrev pub to_member : Name → FileScope → State → State
 to_member name w (Stands shape) = member_in shape.lengths shape.base name w
 to_member name w Astray = Astray
 to_member name w Misfit = Misfit
@@ -112,7 +112,7 @@ literal_of (Truth line value) = Some (if value then 1 else 0)
 literal_of _ = None
 
 -- where the parts of a path lead
-abbrev pub followed : Parts → World → State → State
+abbrev pub followed : Parts → FileScope → State → State
 followed NoPart w s = s
 followed (Member line name rest) w s = followed rest w (to_member name w s)
 followed (Index e rest) w s = followed rest w (to_element (literal_of e) s)

@@ -9,7 +9,7 @@ ghost use Rattle.trick_names.specs.Places.{followed, own_member};
 use crate::follow::{State, element, fixed, follow, literal, member, start};
 use crate::found::{Found, declare};
 use crate::tables::Local;
-use crate::world::World;
+use crate::scope::FileScope;
 use crate::{Base, Global, Lengths, Member, Names};
 use std::alloc::AllocError;
 use trick_base::Word;
@@ -73,28 +73,28 @@ fn note_end(line: u32, fixed: bool, state: State, found: &mut Found)
 
 // Each level of the text's nesting, of which there are at most 64, is one or two calls deep.
 #[cycle(look)]
-fn look_expression(e: &Expr, world: &World, locals: &Names<Local>, found: &mut Found)
-    ensures { found.new ≡ noted (expression_mistakes (expression_of e.now) world.now locals.now) found.old }
+fn look_expression(e: &Expr, scope: &FileScope, locals: &Names<Local>, found: &mut Found)
+    ensures { found.new ≡ noted (expression_mistakes (expression_of e.now) scope.now locals.now) found.old }
 {
     match e {
         Expr::Whole { line: _, number: _ } => {}
         Expr::Truth { line: _, value: _ } => {}
-        Expr::Named(path) => look_path(path, false, world, locals, found),
-        Expr::Prefixed(_, operand) => look_expression(operand, world, locals, found),
+        Expr::Named(path) => look_path(path, false, scope, locals, found),
+        Expr::Prefixed(_, operand) => look_expression(operand, scope, locals, found),
         Expr::Chain(first, links) => {
-            look_expression(first, world, locals, found);
-            look_links(links, world, locals, found);
+            look_expression(first, scope, locals, found);
+            look_links(links, scope, locals, found);
         }
-        Expr::Choose(choices, last) => look_choices(choices, last, world, locals, found),
+        Expr::Choose(choices, last) => look_choices(choices, last, scope, locals, found),
     }
 }
 
 #[cycle(look)]
-fn look_links(links: &[Link], world: &World, locals: &Names<Local>, found: &mut Found)
-    ensures { found.new ≡ noted (link_mistakes (links_of_list links.now) world.now locals.now) found.old }
+fn look_links(links: &[Link], scope: &FileScope, locals: &Names<Local>, found: &mut Found)
+    ensures { found.new ≡ noted (link_mistakes (links_of_list links.now) scope.now locals.now) found.old }
 {
     for link in links {
-        look_expression(&link.operand, world, locals, found);
+        look_expression(&link.operand, scope, locals, found);
     }
 }
 
@@ -102,39 +102,39 @@ fn look_links(links: &[Link], world: &World, locals: &Names<Local>, found: &mut 
 fn look_choices(
     choices: &[Choice],
     last: &Expr,
-    world: &World,
+    scope: &FileScope,
     locals: &Names<Local>,
     found: &mut Found,
 )
     ensures { found.new ≡ noted
-        (choice_mistakes (choices_of_list choices.now (expression_of last.now)) world.now locals.now) found.old }
+        (choice_mistakes (choices_of_list choices.now (expression_of last.now)) scope.now locals.now) found.old }
 {
     for choice in choices {
-        look_expression(&choice.test, world, locals, found);
-        look_expression(&choice.value, world, locals, found);
+        look_expression(&choice.test, scope, locals, found);
+        look_expression(&choice.value, scope, locals, found);
     }
-    look_expression(last, world, locals, found);
+    look_expression(last, scope, locals, found);
 }
 
 #[cycle(look)]
-fn look_path(path: &Path, assigned: bool, world: &World, locals: &Names<Local>, found: &mut Found)
-    ensures { found.new ≡ noted (path_mistakes (path_of path.now) assigned world.now locals.now) found.old }
+fn look_path(path: &Path, assigned: bool, scope: &FileScope, locals: &Names<Local>, found: &mut Found)
+    ensures { found.new ≡ noted (path_mistakes (path_of path.now) assigned scope.now locals.now) found.old }
 {
-    let from = start(&path.name, world, locals);
-    let bound = assigned && fixed(&path.name, world, locals);
+    let from = start(&path.name, scope, locals);
+    let bound = assigned && fixed(&path.name, scope, locals);
     let parts = path.parts.as_slice();
-    note_end(path.line, bound, follow(parts, world, from), found);
+    note_end(path.line, bound, follow(parts, scope, from), found);
     note_astray(path.line, from, found);
-    look_parts(parts, from, world, locals, found);
+    look_parts(parts, from, scope, locals, found);
 }
 
 #[cycle(look)]
-fn look_parts(parts: &[Part], from: State, world: &World, locals: &Names<Local>, found: &mut Found)
-    ensures { found.new ≡ noted (part_mistakes (parts_of_list parts.now) world.now locals.now from) found.old }
+fn look_parts(parts: &[Part], from: State, scope: &FileScope, locals: &Names<Local>, found: &mut Found)
+    ensures { found.new ≡ noted (part_mistakes (parts_of_list parts.now) scope.now locals.now from) found.old }
 {
     let mut state = from;
     for part in parts {
-        state = look_part(part, state, world, locals, found);
+        state = look_part(part, state, scope, locals, found);
     }
 }
 
@@ -143,22 +143,22 @@ fn look_parts(parts: &[Part], from: State, world: &World, locals: &Names<Local>,
 fn look_part(
     part: &Part,
     from: State,
-    world: &World,
+    scope: &FileScope,
     locals: &Names<Local>,
     found: &mut Found,
 ) -> State
-    ensures next { result ≡ followed (parts_of_list (part.now ∷ [])) world.now from }
+    ensures next { result ≡ followed (parts_of_list (part.now ∷ [])) scope.now from }
     ensures found { found.new ≡ noted
-        (part_mistakes (parts_of_list (part.now ∷ [])) world.now locals.now from) found.old }
+        (part_mistakes (parts_of_list (part.now ∷ [])) scope.now locals.now from) found.old }
 {
     match part {
         Part::Member { line, name } => {
-            let next = member(name, world, from);
+            let next = member(name, scope, from);
             note_strays(*line, from, next, found);
             next
         }
         Part::Index(e) => {
-            look_expression(e, world, locals, found);
+            look_expression(e, scope, locals, found);
             let next = element(literal(e), from);
             note_strays(literal_line(e), from, next, found);
             next
@@ -168,23 +168,23 @@ fn look_part(
 
 // ---- statements
 
-fn look_change(change: &Change, world: &World, locals: &Names<Local>, found: &mut Found)
-    ensures { found.new ≡ noted (change_mistakes (change_of change.now) world.now locals.now) found.old }
+fn look_change(change: &Change, scope: &FileScope, locals: &Names<Local>, found: &mut Found)
+    ensures { found.new ≡ noted (change_mistakes (change_of change.now) scope.now locals.now) found.old }
 {
     match change {
-        Change::Set(e) => look_expression(e, world, locals, found),
-        Change::Update(_, e) => look_expression(e, world, locals, found),
+        Change::Set(e) => look_expression(e, scope, locals, found),
+        Change::Update(_, e) => look_expression(e, scope, locals, found),
         Change::Increase => {}
         Change::Decrease => {}
     }
 }
 
-fn look_type(written: &TypeName, world: &World, found: &mut Found)
-    ensures { found.new ≡ noted (type_mistakes (written_of written.now) world.now) found.old }
+fn look_type(written: &TypeName, scope: &FileScope, found: &mut Found)
+    ensures { found.new ≡ noted (type_mistakes (written_of written.now) scope.now) found.old }
 {
     match written {
         TypeName::Basic(_) => {}
-        TypeName::Custom { line, name } => match world.names.meaning(name) {
+        TypeName::Custom { line, name } => match scope.names.meaning(name) {
             Some(Global::Enum) => {}
             Some(Global::Struct(_)) => found.note_not_scalar(*line),
             Some(Global::Class(_)) => found.note_not_scalar(*line),
@@ -207,31 +207,31 @@ fn look_declare(
     written: &TypeName,
     name: &Word,
     value: &Option<Expr>,
-    world: &World,
+    scope: &FileScope,
     locals: &mut Names<Local>,
     found: &mut Found,
 ) -> Result<(), AllocError>
     ensures found { OnOk result (found.new ≡ noted (statement_mistakes
-        (Declare 0 (written_of written.now) name.now (first_value_of value.now)) world.now locals.old) found.old) }
+        (Declare 0 (written_of written.now) name.now (first_value_of value.now)) scope.now locals.old) found.old) }
     ensures locals { OnOk result (locals.new ≡ declared (written_of written.now) name.now locals.old) }
 {
-    look_type(written, world, found);
+    look_type(written, scope, found);
     let local = Local {
         scalar: scalar(written),
         is_loop: false,
     };
     declare(name, local, locals, found)?;
     if let Some(e) = value {
-        look_expression(e, world, locals, found);
+        look_expression(e, scope, locals, found);
     }
     Ok(())
 }
 
 /// Notes a call of what is no method of the class.
-pub fn look_call(line: u32, name: &Word, world: &World, found: &mut Found)
-    ensures { found.new ≡ noted (call_mistakes line (own_member name.now world.now)) found.old }
+pub fn look_call(line: u32, name: &Word, scope: &FileScope, found: &mut Found)
+    ensures { found.new ≡ noted (call_mistakes line (own_member name.now scope.now)) found.old }
 {
-    match world.own(name) {
+    match scope.own(name) {
         Some(Member::Method(_)) => {}
         _ => found.note_unknown(line),
     }
@@ -240,19 +240,19 @@ pub fn look_call(line: u32, name: &Word, world: &World, found: &mut Found)
 #[cycle(walk)]
 fn look_statement(
     s: &Stmt,
-    world: &World,
+    scope: &FileScope,
     locals: &mut Names<Local>,
     found: &mut Found,
 ) -> Result<(), AllocError>
     ensures found { OnOk result (found.new ≡ noted
-        (statement_mistakes (statement_of s.now) world.now locals.old) found.old) }
+        (statement_mistakes (statement_of s.now) scope.now locals.old) found.old) }
     ensures locals { OnOk result (locals.new ≡ after (statement_of s.now) locals.old) }
 {
     match s {
         Stmt::Empty => Ok(()),
         Stmt::Block(all) => {
             let mark = locals.len();
-            look_all(all, world, locals, found)?;
+            look_all(all, scope, locals, found)?;
             locals.forget(mark);
             Ok(())
         }
@@ -261,28 +261,28 @@ fn look_statement(
             written,
             name,
             value,
-        } => look_declare(written, name, value, world, locals, found),
+        } => look_declare(written, name, value, scope, locals, found),
         Stmt::Assign {
             line: _,
             path,
             change,
         } => {
-            look_path(path, true, world, locals, found);
-            look_change(change, world, locals, found);
+            look_path(path, true, scope, locals, found);
+            look_change(change, scope, locals, found);
             Ok(())
         }
         Stmt::If {
             branches,
             otherwise,
-        } => look_branches(branches, otherwise, world, locals, found),
+        } => look_branches(branches, otherwise, scope, locals, found),
         Stmt::For {
             name,
             from: _,
             bound: _,
             body,
-        } => look_for(name, body, world, locals, found),
+        } => look_for(name, body, scope, locals, found),
         Stmt::Call { line, name } => {
-            look_call(*line, name, world, found);
+            look_call(*line, name, scope, found);
             Ok(())
         }
     }
@@ -292,12 +292,12 @@ fn look_statement(
 fn look_for(
     name: &Word,
     body: &Stmt,
-    world: &World,
+    scope: &FileScope,
     locals: &mut Names<Local>,
     found: &mut Found,
 ) -> Result<(), AllocError>
     ensures found { OnOk result (found.new ≡ noted
-        (statement_mistakes (For name.now 0 (Below 0) (statement_of body.now)) world.now locals.old) found.old) }
+        (statement_mistakes (For name.now 0 (Below 0) (statement_of body.now)) scope.now locals.old) found.old) }
     ensures locals { OnOk result (locals.new ≡ locals.old) }
 {
     let mark = locals.len();
@@ -306,7 +306,7 @@ fn look_for(
         is_loop: true,
     };
     declare(name, local, locals, found)?;
-    look_statement(body, world, locals, found)?;
+    look_statement(body, scope, locals, found)?;
     locals.forget(mark);
     Ok(())
 }
@@ -315,16 +315,16 @@ fn look_for(
 #[cycle(walk)]
 fn look_alone(
     s: &Stmt,
-    world: &World,
+    scope: &FileScope,
     locals: &mut Names<Local>,
     found: &mut Found,
 ) -> Result<(), AllocError>
     ensures found { OnOk result (found.new ≡ noted
-        (statement_mistakes (statement_of s.now) world.now locals.old) found.old) }
+        (statement_mistakes (statement_of s.now) scope.now locals.old) found.old) }
     ensures locals { OnOk result (locals.new ≡ locals.old) }
 {
     let mark = locals.len();
-    look_statement(s, world, locals, found)?;
+    look_statement(s, scope, locals, found)?;
     locals.forget(mark);
     Ok(())
 }
@@ -333,21 +333,21 @@ fn look_alone(
 fn look_branches(
     branches: &[Branch],
     otherwise: &Option<Box<Stmt>>,
-    world: &World,
+    scope: &FileScope,
     locals: &mut Names<Local>,
     found: &mut Found,
 ) -> Result<(), AllocError>
     ensures found { OnOk result (found.new ≡ noted
-        (branch_mistakes (branches_of_list branches.now (else_of_option otherwise.now)) world.now locals.old)
+        (branch_mistakes (branches_of_list branches.now (else_of_option otherwise.now)) scope.now locals.old)
         found.old) }
     ensures locals { OnOk result (locals.new ≡ locals.old) }
 {
     for branch in branches {
-        look_expression(&branch.test, world, locals, found);
-        look_alone(&branch.body, world, locals, found)?;
+        look_expression(&branch.test, scope, locals, found);
+        look_alone(&branch.body, scope, locals, found)?;
     }
     match otherwise {
-        Some(body) => look_alone(body, world, locals, found),
+        Some(body) => look_alone(body, scope, locals, found),
         None => Ok(()),
     }
 }
@@ -357,16 +357,16 @@ fn look_branches(
 #[cycle(walk)]
 pub fn look_all(
     all: &[Stmt],
-    world: &World,
+    scope: &FileScope,
     locals: &mut Names<Local>,
     found: &mut Found,
 ) -> Result<(), AllocError>
     ensures found { OnOk result (found.new ≡ noted
-        (all_mistakes (statements_of_list all.now) world.now locals.old) found.old) }
+        (all_mistakes (statements_of_list all.now) scope.now locals.old) found.old) }
     ensures locals { OnOk result (locals.new ≡ after_all (statements_of_list all.now) locals.old) }
 {
     for s in all {
-        look_statement(s, world, locals, found)?;
+        look_statement(s, scope, locals, found)?;
     }
     Ok(())
 }

@@ -11,7 +11,7 @@ use crate::body::{look_all, look_call};
 use crate::found::{Found, declare};
 use crate::members::add_members;
 use crate::tables::Inside;
-use crate::world::World;
+use crate::scope::FileScope;
 use crate::{Global, Member, Names};
 use std::alloc::{AllocError, Global as Memory};
 use trick_base::Word;
@@ -80,11 +80,11 @@ pub fn read_class(
     Ok(inside.members)
 }
 
-fn look_jobs(jobs: &[JobLine], world: &World, found: &mut Found)
-    ensures { found.new ≡ noted (job_mistakes (jobs_of jobs.now) world.now) found.old }
+fn look_jobs(jobs: &[JobLine], scope: &FileScope, found: &mut Found)
+    ensures { found.new ≡ noted (job_mistakes (jobs_of jobs.now) scope.now) found.old }
 {
     for job in jobs {
-        look_call(job.line, &job.method, world, found);
+        look_call(job.line, &job.method, scope, found);
     }
 }
 
@@ -92,13 +92,13 @@ fn look_jobs(jobs: &[JobLine], world: &World, found: &mut Found)
 fn look_body(
     alloc: Memory,
     body: &[Stmt],
-    world: &World,
+    scope: &FileScope,
     found: &mut Found,
 ) -> Result<(), AllocError>
-    ensures { OnOk result (found.new ≡ noted (all_mistakes (statements_of_list body.now) world.now []) found.old) }
+    ensures { OnOk result (found.new ≡ noted (all_mistakes (statements_of_list body.now) scope.now []) found.old) }
 {
     let mut locals = Names::new(alloc);
-    look_all(body, world, &mut locals, found)
+    look_all(body, scope, &mut locals, found)
 }
 
 // Notes the mistakes in what a part of the class of that name does.
@@ -106,20 +106,20 @@ fn look_part(
     alloc: Memory,
     part: &ClassPart,
     class: &Word,
-    world: &World,
+    scope: &FileScope,
     found: &mut Found,
 ) -> Result<(), AllocError>
-    ensures { OnOk result (found.new ≡ noted (done_mistakes (class_part_of part.now) class.now world.now) found.old) }
+    ensures { OnOk result (found.new ≡ noted (done_mistakes (class_part_of part.now) class.now scope.now) found.old) }
 {
     match part {
         ClassPart::Public => Ok(()),
         ClassPart::Members(_) => Ok(()),
-        ClassPart::Method(method) => look_body(alloc, method.body.as_slice(), world, found),
+        ClassPart::Method(method) => look_body(alloc, method.body.as_slice(), scope, found),
         ClassPart::Constructor { line, name, jobs } => {
             if !name.is(class.as_slice()) {
                 found.note_unknown(*line);
             }
-            look_jobs(jobs.as_slice(), world, found);
+            look_jobs(jobs.as_slice(), scope, found);
             Ok(())
         }
     }
@@ -130,17 +130,17 @@ fn look_parts(
     alloc: Memory,
     parts: &[ClassPart],
     class: &Word,
-    world: &World,
+    scope: &FileScope,
     inside: &mut Inside,
     found: &mut Found,
 ) -> Result<(), AllocError>
     ensures { OnOk result (found.new ≡ noted
-        (class_mistakes (class_parts_of parts.now) 0 class.now inside.old world.now) found.old) }
+        (class_mistakes (class_parts_of parts.now) 0 class.now inside.old scope.now) found.old) }
 {
     for number in 0..parts.len() {
         let part = &parts[number];
-        add_part(part, number, &world.names, inside, found)?;
-        look_part(alloc, part, class, world, found)?;
+        add_part(part, number, &scope.names, inside, found)?;
+        look_part(alloc, part, class, scope, found)?;
     }
     Ok(())
 }
@@ -150,12 +150,12 @@ pub fn look_class(
     alloc: Memory,
     parts: &[ClassPart],
     class: &Word,
-    world: &World,
+    scope: &FileScope,
     found: &mut Found,
 ) -> Result<(), AllocError>
     ensures { OnOk result (found.new ≡ noted
-        (class_mistakes (class_parts_of parts.now) 0 class.now nothing_inside world.now) found.old) }
+        (class_mistakes (class_parts_of parts.now) 0 class.now nothing_inside scope.now) found.old) }
 {
     let mut inside = nothing(alloc);
-    look_parts(alloc, parts, class, world, &mut inside, found)
+    look_parts(alloc, parts, class, scope, &mut inside, found)
 }

@@ -11,7 +11,7 @@ ghost use Rattle.trick_names.specs.declared.tables.Global.TheVariants.{Class as 
 use crate::class::{look_class, read_class};
 use crate::found::{Found, declare};
 use crate::members::{add_all_members, add_items};
-use crate::world::World;
+use crate::scope::FileScope;
 use crate::{Base, Global, Member, NameFault, Names, Tables};
 use std::alloc::{AllocError, Global as Memory};
 use trick_base::{Items, Word};
@@ -180,17 +180,17 @@ fn look_struct(
     alloc: Memory,
     name: &Word,
     members: &[Members],
-    world: &mut World,
+    scope: &mut FileScope,
     found: &mut Found,
 ) -> Result<(), AllocError>
-    ensures world { OnOk result (world.new ≡
-        record world.old { names = with_name name.now (OfStruct world.old.own) world.old.names }) }
-    ensures found { OnOk result (found.new ≡ noted (twice name.now world.old.names
-        ++ all_members_mistakes (all_members_of members.now) world.old.names []) found.old) }
+    ensures scope { OnOk result (scope.new ≡
+        record scope.old { names = with_name name.now (OfStruct scope.old.own) scope.old.names }) }
+    ensures found { OnOk result (found.new ≡ noted (twice name.now scope.old.names
+        ++ all_members_mistakes (all_members_of members.now) scope.old.names []) found.old) }
 {
-    note_known(name, &world.names, found)?;
-    look_members(alloc, members, &world.names, found)?;
-    add_name(name, Global::Struct(world.own), &mut world.names)
+    note_known(name, &scope.names, found)?;
+    look_members(alloc, members, &scope.names, found)?;
+    add_name(name, Global::Struct(scope.own), &mut scope.names)
 }
 
 // Notes the mistakes of a class, and adds its name.
@@ -198,46 +198,46 @@ fn look_named_class(
     alloc: Memory,
     name: &Word,
     parts: &[ClassPart],
-    world: &mut World,
+    scope: &mut FileScope,
     found: &mut Found,
 ) -> Result<(), AllocError>
-    ensures world { OnOk result (world.new ≡
-        record world.old { names = with_name name.now (OfClass world.old.own) world.old.names }) }
-    ensures found { OnOk result (found.new ≡ noted (twice name.now world.old.names
-        ++ class_mistakes (class_parts_of parts.now) 0 name.now nothing_inside world.old) found.old) }
+    ensures scope { OnOk result (scope.new ≡
+        record scope.old { names = with_name name.now (OfClass scope.old.own) scope.old.names }) }
+    ensures found { OnOk result (found.new ≡ noted (twice name.now scope.old.names
+        ++ class_mistakes (class_parts_of parts.now) 0 name.now nothing_inside scope.old) found.old) }
 {
-    note_known(name, &world.names, found)?;
-    look_class(alloc, parts, name, world, found)?;
-    add_name(name, Global::Class(world.own), &mut world.names)
+    note_known(name, &scope.names, found)?;
+    look_class(alloc, parts, name, scope, found)?;
+    add_name(name, Global::Class(scope.own), &mut scope.names)
 }
 
 // Notes the mistakes of a definition, and adds its names.
 fn look_definition(
     alloc: Memory,
     definition: &Definition,
-    world: &mut World,
+    scope: &mut FileScope,
     found: &mut Found,
 ) -> Result<(), AllocError>
-    ensures world { OnOk result (world.new ≡
-        record world.old { names = names_behind (definition_of definition.now) world.old.own world.old.names }) }
+    ensures scope { OnOk result (scope.new ≡
+        record scope.old { names = names_behind (definition_of definition.now) scope.old.own scope.old.names }) }
     ensures found { OnOk result (found.new ≡ noted
-        (definition_mistakes (definition_of definition.now) world.old) found.old) }
+        (definition_mistakes (definition_of definition.now) scope.old) found.old) }
 {
     match definition {
         Definition::Include => Ok(()),
         Definition::Enum { name, items } => {
-            look_enum(name, items.as_slice(), &mut world.names, found)
+            look_enum(name, items.as_slice(), &mut scope.names, found)
         }
         Definition::Struct { name, members } => {
-            look_struct(alloc, name, members.as_slice(), world, found)
+            look_struct(alloc, name, members.as_slice(), scope, found)
         }
         Definition::Class { name, parts } => {
-            look_named_class(alloc, name, parts.as_slice(), world, found)
+            look_named_class(alloc, name, parts.as_slice(), scope, found)
         }
         Definition::Object { line, class, name } => {
-            let meaning = world.names.meaning(class);
+            let meaning = scope.names.meaning(class);
             note_object_type(*line, meaning, found);
-            declare(name, Global::Object(base(meaning)), &mut world.names, found)
+            declare(name, Global::Object(base(meaning)), &mut scope.names, found)
         }
     }
 }
@@ -246,31 +246,31 @@ fn look_definition(
 fn look_definitions(
     alloc: Memory,
     definitions: &[Definition],
-    world: &mut World,
+    scope: &mut FileScope,
     found: &mut Found,
 ) -> Result<(), AllocError>
-    requires start { world.old.own ≡ 0 }
-    ensures tables { OnOk result (world.new.tables ≡ world.old.tables) }
+    requires start { scope.old.own ≡ 0 }
+    ensures tables { OnOk result (scope.new.tables ≡ scope.old.tables) }
     ensures found { OnOk result (found.new ≡ noted
-        (definitions_mistakes (definitions_of definitions.now) world.old) found.old) }
+        (definitions_mistakes (definitions_of definitions.now) scope.old) found.old) }
 {
     for definition in definitions {
-        look_definition(alloc, definition, world, found)?;
-        world.own += 1;
+        look_definition(alloc, definition, scope, found)?;
+        scope.own += 1;
     }
     Ok(())
 }
 
 // Looks for the mistake that decides of all definitions.
-fn look(alloc: Memory, definitions: &[Definition], world: &mut World) -> Result<(), NameFault>
-    requires start { world.old.own ≡ 0 }
-    ensures tables { OnOk result (world.new.tables ≡ world.old.tables) }
-    ensures ok { OnOk result (fault_of (definitions_mistakes (definitions_of definitions.now) world.old) ≡ None) }
+fn look(alloc: Memory, definitions: &[Definition], scope: &mut FileScope) -> Result<(), NameFault>
+    requires start { scope.old.own ≡ 0 }
+    ensures tables { OnOk result (scope.new.tables ≡ scope.old.tables) }
+    ensures ok { OnOk result (fault_of (definitions_mistakes (definitions_of definitions.now) scope.old) ≡ None) }
     ensures err { IfErr result (λ fault. fault ≢ OutOfMemory →
-        fault_of (definitions_mistakes (definitions_of definitions.now) world.old) ≡ Some fault) }
+        fault_of (definitions_mistakes (definitions_of definitions.now) scope.old) ≡ Some fault) }
 {
     let mut found = Found::nothing();
-    look_definitions(alloc, definitions, world, &mut found)?;
+    look_definitions(alloc, definitions, scope, &mut found)?;
     match found.fault() {
         Some(fault) => Err(fault),
         None => Ok(()),
@@ -287,11 +287,11 @@ pub fn check(alloc: Memory, sdef: &SDefine) -> Result<Tables, NameFault>
         fault_of (mistakes (sdefine_of sdef.now)) ≡ Some fault) }
 {
     let definitions = sdef.definitions.as_slice();
-    let mut world = World {
+    let mut scope = FileScope {
         tables: read_tables(alloc, definitions)?,
         names: Names::new(alloc),
         own: 0,
     };
-    look(alloc, definitions, &mut world)?;
-    Ok(world.tables)
+    look(alloc, definitions, &mut scope)?;
+    Ok(scope.tables)
 }

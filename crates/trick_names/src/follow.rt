@@ -4,7 +4,7 @@ ghost use Rattle.trick_names.specs.Places.{element_in, followed, global_state, i
 ghost use Rattle.trick_names.specs.declared.follow.State.TheVariants.{Stands};
 
 use crate::tables::Local;
-use crate::world::World;
+use crate::scope::FileScope;
 use crate::{Base, Global, Lengths, Member, Names, Shape};
 use trick_base::Word;
 use trick_lang::Scalar;
@@ -42,16 +42,16 @@ fn global_start(global: Option<Global>) -> State
 }
 
 /// What the first name of a place stands for.
-pub fn start(name: &Word, world: &World, locals: &Names<Local>) -> State
-    ensures { result ≡ named name.now world.now locals.now }
+pub fn start(name: &Word, scope: &FileScope, locals: &Names<Local>) -> State
+    ensures { result ≡ named name.now scope.now locals.now }
 {
     if let Some(local) = locals.meaning(name) {
         return single(local.scalar);
     }
-    match world.own(name) {
+    match scope.own(name) {
         Some(Member::Variable(shape)) => State::Stands(shape),
-        Some(Member::Method(_)) => global_start(world.global(name)),
-        None => global_start(world.global(name)),
+        Some(Member::Method(_)) => global_start(scope.global(name)),
+        None => global_start(scope.global(name)),
     }
 }
 
@@ -65,26 +65,26 @@ fn is_item(global: Option<Global>) -> bool
 }
 
 /// Whether a name is that of an enum item or of a loop, which cannot be assigned.
-pub fn fixed(name: &Word, world: &World, locals: &Names<Local>) -> bool
-    ensures { result ≡ is_fixed name.now world.now locals.now }
+pub fn fixed(name: &Word, scope: &FileScope, locals: &Names<Local>) -> bool
+    ensures { result ≡ is_fixed name.now scope.now locals.now }
 {
     if let Some(local) = locals.meaning(name) {
         return local.is_loop;
     }
-    match world.own(name) {
+    match scope.own(name) {
         Some(Member::Variable(_)) => false,
-        Some(Member::Method(_)) => is_item(world.global(name)),
-        None => is_item(world.global(name)),
+        Some(Member::Method(_)) => is_item(scope.global(name)),
+        None => is_item(scope.global(name)),
     }
 }
 
 /// Where `.name` leads.
-pub fn member(name: &Word, world: &World, state: State) -> State
-    ensures { result ≡ to_member name.now world.now state }
+pub fn member(name: &Word, scope: &FileScope, state: State) -> State
+    ensures { result ≡ to_member name.now scope.now state }
 {
     match state {
         State::Stands(shape) => match (shape.lengths, shape.base) {
-            (Lengths::Plain, Base::Group(group)) => match world.member(group, name) {
+            (Lengths::Plain, Base::Group(group)) => match scope.member(group, name) {
                 Some(Member::Variable(found)) => State::Stands(found),
                 _ => State::Astray,
             },
@@ -145,13 +145,13 @@ pub fn literal(e: &Expr) -> Option<u64>
 }
 
 /// Where the parts of a path lead.
-pub fn follow(parts: &[Part], world: &World, from: State) -> State
-    ensures { result ≡ followed (parts_of_list parts.now) world.now from }
+pub fn follow(parts: &[Part], scope: &FileScope, from: State) -> State
+    ensures { result ≡ followed (parts_of_list parts.now) scope.now from }
 {
     let mut state = from;
     for part in parts {
         state = match part {
-            Part::Member { line: _, name } => member(name, world, state),
+            Part::Member { line: _, name } => member(name, scope, state),
             Part::Index(e) => element(literal(e), state),
         };
     }

@@ -13,7 +13,7 @@ pub mod laws;
 mod members;
 mod names;
 mod tables;
-mod world;
+mod scope;
 
 pub use calls::calls_of_class;
 pub use fault::NameFault;

@@ -10,7 +10,7 @@ use Rattle.trick_blocks.specs.declared.start.Meaning.TheVariants as means
 use Rattle.trick_blocks.specs.declared.spot.Element.{Element}
 use Rattle.trick_blocks.specs.declared.spot.Loose.{Loose}
 use Rattle.trick_blocks.specs.declared.spot.Spot.{Spot}
-use Rattle.trick_blocks.specs.declared.world.World.{World}
+use Rattle.trick_blocks.specs.declared.scope.ClassScope.{ClassScope}
 use Rattle.trick_cells.specs.Cells.{base_cells, bracket, cells_at, dotted, each, under}
 use Rattle.trick_lang.specs.SyntaxTree.{Name, Parts, NoPart, Member, Index}
 use Rattle.trick_lang.specs.Tree.{Steps, NoStep, Term, spot}
@@ -41,18 +41,18 @@ loosened_start : (cells : ℕ) (l : Option Loose) → offset_of (loosened cells 
 loosened_start cells None = refl
 loosened_start cells (Some l) = refl
 
-nowhere : (parts : Parts) (w : World) → followed parts w None ≡ None
+nowhere : (parts : Parts) (w : ClassScope) → followed parts w None ≡ None
 nowhere NoPart w = refl
 nowhere (Member line name rest) w = nowhere rest w
 nowhere (Index e rest) w = nowhere rest w
 
-no_place : (parts : Parts) (w : World) (at : Spot) → followed parts w None ≡ Some at → ⊥
+no_place : (parts : Parts) (w : ClassScope) (at : Spot) → followed parts w None ≡ Some at → ⊥
 no_place parts w at h = cc (sym (nowhere parts w) ∙ h)
 
 -- ---- members
 
 -- each variable of the tables stands in its struct or class
-abbrev Members : World → List (List Variable) → Type 0
+abbrev Members : ClassScope → List (List Variable) → Type 0
 Members w done = (group : ℕ) (name : Name) (f : Field) → meaning_of name (fields_at w.layout.groups group) ≡ Some f → IsHeld done group name f
 
 -- the cells of a place are there under a name, and its strides are the cells of its elements
@@ -73,7 +73,7 @@ field_stands done all group pre name f s by held outer =
     }
 
 -- `.name` leads from a struct to its variable
-member_stands : (dims : Dims) (base : Base) (w : World) (done : List (List Variable)) (all : List Variable) (pre name : Name) (s next : Spot) (by : ℕ) → Members w done → HasAt all (start s + by) (under pre (dims_cells dims (base_cells done base))) → on_field (field_in dims base name w) s ≡ Some next → StandAt done all by (pre ++ dotted name) next
+member_stands : (dims : Dims) (base : Base) (w : ClassScope) (done : List (List Variable)) (all : List Variable) (pre name : Name) (s next : Spot) (by : ℕ) → Members w done → HasAt all (start s + by) (under pre (dims_cells dims (base_cells done base))) → on_field (field_in dims base name w) s ≡ Some next → StandAt done all by (pre ++ dotted name) next
 member_stands Plain (Group k) w done all pre name s next by members outer is = by_field (meaning_of name (fields_at w.layout.groups k)) refl is where
   by_field : (o : Option Field) → meaning_of name (fields_at w.layout.groups k) ≡ o → on_field o s ≡ Some next → StandAt done all by (pre ++ dotted name) next
   by_field None known h = absurd (cc h)
@@ -111,7 +111,7 @@ one_stands done all cell k name el h less = record {
 -- ---- paths
 
 -- what a path's parts lead to from here, by these numbers in its computed indexes
-abbrev Leads : World → Names Local → List (List Variable) → List Variable → Parts → Spot → Spot → Type 0
+abbrev Leads : ClassScope → Names Local → List (List Variable) → List Variable → Parts → Spot → Spot → Type 0
 Leads w locals done all parts from at =
     (ns : List ℕ) (by more : ℕ) (pre : Name) → StandAt done all by pre from → followed parts w (Some from) ≡ Some at → led_by (steps parts w locals (Some from)) ns ≡ Some more → StandAt done all (by + more) (pre ++ path_text parts ns) at
 
@@ -124,7 +124,7 @@ append_none [] = refl
 append_none (x ∷ xs) = ap (λ ys. x ∷ ys) (append_none xs)
 
 -- at the end of a path
-end_leads : (w : World) (locals : Names Local) (done : List (List Variable)) (all : List Variable) (from at : Spot) → Leads w locals done all NoPart from at
+end_leads : (w : ClassScope) (locals : Names Local) (done : List (List Variable)) (all : List Variable) (from at : Spot) → Leads w locals done all NoPart from at
 end_leads w locals done all from at ns by more pre h is led =
     let same : from ≡ at = cc is in
     let none = led_nothing ns more led in
@@ -137,12 +137,12 @@ further : (done : List (List Variable)) (all : List Variable) (by : ℕ) (p q r 
 further done all by p q r s h = subst (λ n. StandAt done all by n s) (append_assoc p q r) h
 
 -- from what stands in a place's cells on
-from_there : (w : World) (locals : Names Local) (done : List (List Variable)) (all : List Variable) (parts : Parts) (o : Option Spot) (at : Spot) (ns : List ℕ) (by more : ℕ) (pre q : Name) → ((next : Spot) → o ≡ Some next → Leads w locals done all parts next at) → ((next : Spot) → o ≡ Some next → StandAt done all by (pre ++ q) next) → followed parts w o ≡ Some at → led_by (steps parts w locals o) ns ≡ Some more → StandAt done all (by + more) (pre ++ (q ++ path_text parts ns)) at
+from_there : (w : ClassScope) (locals : Names Local) (done : List (List Variable)) (all : List Variable) (parts : Parts) (o : Option Spot) (at : Spot) (ns : List ℕ) (by more : ℕ) (pre q : Name) → ((next : Spot) → o ≡ Some next → Leads w locals done all parts next at) → ((next : Spot) → o ≡ Some next → StandAt done all by (pre ++ q) next) → followed parts w o ≡ Some at → led_by (steps parts w locals o) ns ≡ Some more → StandAt done all (by + more) (pre ++ (q ++ path_text parts ns)) at
 from_there w locals done all parts None at ns by more pre q leads stands is led = absurd (no_place parts w at is)
 from_there w locals done all parts (Some next) at ns by more pre q leads stands is led =
     further done all (by + more) pre q (path_text parts ns) at (leads next refl ns by more (pre ++ q) (stands next refl) is led)
 
-literal_leads : (w : World) (locals : Names Local) (done : List (List Variable)) (all : List Variable) (rest : Parts) (from at : Spot) (k : ℕ) (el : Element) (ns : List ℕ) (by more : ℕ) (pre : Name) (b : Bool) → nat_lt k el.dim.length ≡ b → ((next : Spot) → Leads w locals done all rest next at) → Elements done all (start from + by) pre el → followed rest w (if b then Some (moved (k * el.dim.stride) el.inner from) else None) ≡ Some at → led_by (steps rest w locals (if b then Some (moved (k * el.dim.stride) el.inner from) else None)) ns ≡ Some more → StandAt done all (by + more) (pre ++ (bracket k ++ path_text rest ns)) at
+literal_leads : (w : ClassScope) (locals : Names Local) (done : List (List Variable)) (all : List Variable) (rest : Parts) (from at : Spot) (k : ℕ) (el : Element) (ns : List ℕ) (by more : ℕ) (pre : Name) (b : Bool) → nat_lt k el.dim.length ≡ b → ((next : Spot) → Leads w locals done all rest next at) → Elements done all (start from + by) pre el → followed rest w (if b then Some (moved (k * el.dim.stride) el.inner from) else None) ≡ Some at → led_by (steps rest w locals (if b then Some (moved (k * el.dim.stride) el.inner from) else None)) ns ≡ Some more → StandAt done all (by + more) (pre ++ (bracket k ++ path_text rest ns)) at
 literal_leads w locals done all rest from at k el ns by more pre false t leads h is led = absurd (no_place rest w at is)
 literal_leads w locals done all rest from at k el ns by more pre true t leads h is led =
     let next = moved (k * el.dim.stride) el.inner from in
@@ -154,7 +154,7 @@ led_case : (by more : ℕ) (o : Option ℕ) (P : Type 0) → led_on by o ≡ Som
 led_case by more None P h f = absurd (cc h)
 led_case by more (Some rest) P h f = f rest refl (cc h)
 
-computed_leads : (w : World) (locals : Names Local) (done : List (List Variable)) (all : List Variable) (rest : Parts) (from at : Spot) (el : Element) (next : Spot) (n : ℕ) (ns : List ℕ) (by more : ℕ) (pre : Name) (b : Bool) → nat_lt n el.dim.length ≡ b → start next ≡ start from → next.extent ≡ el.inner → Leads w locals done all rest next at → Elements done all (start from + by) pre el → followed rest w (Some next) ≡ Some at → (if b then led_on (n * el.dim.stride) (led_by (steps rest w locals (Some next)) ns) else None) ≡ Some more → StandAt done all (by + more) (pre ++ (bracket n ++ path_text rest ns)) at
+computed_leads : (w : ClassScope) (locals : Names Local) (done : List (List Variable)) (all : List Variable) (rest : Parts) (from at : Spot) (el : Element) (next : Spot) (n : ℕ) (ns : List ℕ) (by more : ℕ) (pre : Name) (b : Bool) → nat_lt n el.dim.length ≡ b → start next ≡ start from → next.extent ≡ el.inner → Leads w locals done all rest next at → Elements done all (start from + by) pre el → followed rest w (Some next) ≡ Some at → (if b then led_on (n * el.dim.stride) (led_by (steps rest w locals (Some next)) ns) else None) ≡ Some more → StandAt done all (by + more) (pre ++ (bracket n ++ path_text rest ns)) at
 computed_leads w locals done all rest from at el next n ns by more pre false t same inner leads h is led = absurd (cc led)
 computed_leads w locals done all rest from at el next n ns by more pre true t same inner leads h is led =
     led_case (n * el.dim.stride) more (led_by (steps rest w locals (Some next)) ns) (StandAt done all (by + more) (pre ++ (bracket n ++ path_text rest ns)) at) led
@@ -168,7 +168,7 @@ computed_leads w locals done all rest from at el next n ns by more pre true t sa
     (subst (λ b. StandAt done all b ((pre ++ bracket n) ++ path_text rest ns) at) total
     (leads ns (by + n * el.dim.stride) further_on (pre ++ bracket n) stands is known)))
 
-index_leads : (w : World) (locals : Names Local) (done : List (List Variable)) (all : List Variable) (rest : Parts) (from at : Spot) (literal : Option ℕ) (o : Option Element) (x : Term) (ns : List ℕ) (by more : ℕ) (pre : Name) → ((next : Spot) → Leads w locals done all rest next at) → ((el : Element) → o ≡ Some el → Elements done all (start from + by) pre el) → followed rest w (on_element literal o from) ≡ Some at → led_by (stepped (computed literal o) x (steps rest w locals (on_element literal o from))) ns ≡ Some more → StandAt done all (by + more) (pre ++ next_text literal (λ more. path_text rest more) ns) at
+index_leads : (w : ClassScope) (locals : Names Local) (done : List (List Variable)) (all : List Variable) (rest : Parts) (from at : Spot) (literal : Option ℕ) (o : Option Element) (x : Term) (ns : List ℕ) (by more : ℕ) (pre : Name) → ((next : Spot) → Leads w locals done all rest next at) → ((el : Element) → o ≡ Some el → Elements done all (start from + by) pre el) → followed rest w (on_element literal o from) ≡ Some at → led_by (stepped (computed literal o) x (steps rest w locals (on_element literal o from))) ns ≡ Some more → StandAt done all (by + more) (pre ++ next_text literal (λ more. path_text rest more) ns) at
 index_leads w locals done all rest from at literal None x ns by more pre leads h is led = absurd (no_place rest w at is)
 index_leads w locals done all rest from at (Some k) (Some el) x ns by more pre leads h is led =
     literal_leads w locals done all rest from at k el ns by more pre (nat_lt k el.dim.length) refl leads (h el refl) is led
@@ -177,7 +177,7 @@ index_leads w locals done all rest from at None (Some el) x (n ∷ ns) by more p
     let next : Spot = record { own = from.own; first = from.first; loose = loosened el.dim.cells from.loose; extent = el.inner } in
     computed_leads w locals done all rest from at el next n ns by more pre (nat_lt n el.dim.length) refl (ap (λ k. from.first + k) (loosened_start el.dim.cells from.loose)) refl (leads next) (h el refl) is led
 
-pub leads : (parts : Parts) (w : World) (locals : Names Local) (done : List (List Variable)) (all : List Variable) → Members w done → (from at : Spot) → Leads w locals done all parts from at
+pub leads : (parts : Parts) (w : ClassScope) (locals : Names Local) (done : List (List Variable)) (all : List Variable) → Members w done → (from at : Spot) → Leads w locals done all parts from at
 leads NoPart w locals done all members from at ns by more pre h is led = end_leads w locals done all from at ns by more pre h is led
 leads (Member line name rest) w locals done all members from at ns by more pre h is led =
     from_there w locals done all rest (on_field (field_in from.extent.dims from.extent.base name w) from) at ns by more pre (dotted name) (λ next known. leads rest w locals done all members next at)
@@ -203,11 +203,11 @@ element_own (Some k) (Some el) s at h = by_test (nat_lt k el.dim.length) h where
   by_test true h = let same : moved (k * el.dim.stride) el.inner s ≡ at = cc h in ap (λ (q : Spot). q.own) (sym same)
   by_test false h = absurd (cc h)
 
-own_from : (parts : Parts) (w : World) (o : Option Spot) (s at : Spot) → ((next : Spot) → o ≡ Some next → followed parts w (Some next) ≡ Some at → at.own ≡ next.own) → ((next : Spot) → o ≡ Some next → next.own ≡ s.own) → followed parts w o ≡ Some at → at.own ≡ s.own
+own_from : (parts : Parts) (w : ClassScope) (o : Option Spot) (s at : Spot) → ((next : Spot) → o ≡ Some next → followed parts w (Some next) ≡ Some at → at.own ≡ next.own) → ((next : Spot) → o ≡ Some next → next.own ≡ s.own) → followed parts w o ≡ Some at → at.own ≡ s.own
 own_from parts w None s at later here h = absurd (no_place parts w at h)
 own_from parts w (Some next) s at later here h = later next refl h ∙ here next refl
 
-own_same : (parts : Parts) (w : World) (s at : Spot) → followed parts w (Some s) ≡ Some at → at.own ≡ s.own
+own_same : (parts : Parts) (w : ClassScope) (s at : Spot) → followed parts w (Some s) ≡ Some at → at.own ≡ s.own
 own_same NoPart w s at h = let same : s ≡ at = cc h in ap (λ (q : Spot). q.own) (sym same)
 own_same (Member line name rest) w s at h =
     own_from rest w (on_field (field_in s.extent.dims s.extent.base name w) s) s at (λ next known there. own_same rest w next at there) (λ next known. field_own (field_in s.extent.dims s.extent.base name w) s next known) h
@@ -229,7 +229,7 @@ same_scalar (One d) base s at h = absurd (cc h)
 same_scalar (Two d e) base s at h = absurd (cc h)
 
 -- where a first name stands for a place, that is there under the name
-begins_own : (w : World) (done : List (List Variable)) (memory : List Variable) → AreNamed w.layout done memory → (name : Name) (f : Field) → meaning_of name (fields_at w.layout.groups w.class) ≡ Some f → StandAt done (cells_at done w.class) 0 (dotted name) (record { own = true; first = f.offset; loose = None; extent = f.extent })
+begins_own : (w : ClassScope) (done : List (List Variable)) (memory : List Variable) → AreNamed w.layout done memory → (name : Name) (f : Field) → meaning_of name (fields_at w.layout.groups w.class) ≡ Some f → StandAt done (cells_at done w.class) 0 (dotted name) (record { own = true; first = f.offset; loose = None; extent = f.extent })
 begins_own w done memory named name f known =
     let held = named.members w.class name f known in
     let sum : f.offset ≡ f.offset + 0 + 0 = omega arith in
@@ -240,10 +240,10 @@ begins_object layout done memory named name first class known =
     let sum : first ≡ first + 0 + 0 = omega arith in
     record { there = subst (λ i. HasAt memory i (under name (cells_at done class))) sum (named.objects name first class known); tied = tt }
 
-abbrev Begins : World → List (List Variable) → List Variable → Name → Spot → Type 0
+abbrev Begins : ClassScope → List (List Variable) → List Variable → Name → Spot → Type 0
 Begins w done memory name from = StandAt done (cells_from from.own done w.class memory) 0 (first_text from.own name) from
 
-site_begins : (w : World) (done : List (List Variable)) (memory : List Variable) → AreNamed w.layout done memory → (name : Name) (o : Option Site) (from : Spot) → meaning_of name w.layout.sites ≡ o → site_meaning o ≡ means.Stands from → Begins w done memory name from
+site_begins : (w : ClassScope) (done : List (List Variable)) (memory : List Variable) → AreNamed w.layout done memory → (name : Name) (o : Option Site) (from : Spot) → meaning_of name w.layout.sites ≡ o → site_meaning o ≡ means.Stands from → Begins w done memory name from
 site_begins w done memory named name None from known is = absurd (cc is)
 site_begins w done memory named name (Some (Item value)) from known is = absurd (cc is)
 site_begins w done memory named name (Some (Object first class)) from known is =
@@ -251,14 +251,14 @@ site_begins w done memory named name (Some (Object first class)) from known is =
     let same : start_here ≡ from = cc is in
     subst (Begins w done memory name) same (begins_object w.layout done memory named name first class known)
 
-field_begins : (w : World) (done : List (List Variable)) (memory : List Variable) → AreNamed w.layout done memory → (name : Name) (f : Option Field) (from : Spot) → meaning_of name (fields_at w.layout.groups w.class) ≡ f → field_meaning f (meaning_of name w.layout.sites) ≡ means.Stands from → Begins w done memory name from
+field_begins : (w : ClassScope) (done : List (List Variable)) (memory : List Variable) → AreNamed w.layout done memory → (name : Name) (f : Option Field) (from : Spot) → meaning_of name (fields_at w.layout.groups w.class) ≡ f → field_meaning f (meaning_of name w.layout.sites) ≡ means.Stands from → Begins w done memory name from
 field_begins w done memory named name None from known is = site_begins w done memory named name (meaning_of name w.layout.sites) from refl is
 field_begins w done memory named name (Some f) from known is =
     let start_here : Spot = record { own = true; first = f.offset; loose = None; extent = f.extent } in
     let same : start_here ≡ from = cc is in
     subst (Begins w done memory name) same (begins_own w done memory named name f known)
 
-local_begins : (w : World) (done : List (List Variable)) (memory : List Variable) → AreNamed w.layout done memory → (name : Name) (l : Option Local) (from : Spot) → local_meaning l (meaning_of name (fields_at w.layout.groups w.class)) (meaning_of name w.layout.sites) ≡ means.Stands from → Begins w done memory name from
+local_begins : (w : ClassScope) (done : List (List Variable)) (memory : List Variable) → AreNamed w.layout done memory → (name : Name) (l : Option Local) (from : Spot) → local_meaning l (meaning_of name (fields_at w.layout.groups w.class)) (meaning_of name w.layout.sites) ≡ means.Stands from → Begins w done memory name from
 local_begins w done memory named name None from is = field_begins w done memory named name (meaning_of name (fields_at w.layout.groups w.class)) from refl is
 local_begins w done memory named name (Some l) from is = absurd (cc is)
 
@@ -275,7 +275,7 @@ abbrev steps_in : Goal → Steps
 steps_in (OfPlace (spot own first span offset literals st)) = st
 steps_in _ = NoStep
 
-at_named : (w : World) (done : List (List Variable)) (memory : List Variable) → AreNamed w.layout done memory → (name : Name) (parts : Parts) (locals : Names Local) (from : Spot) → Begins w done memory name from → (there : Option Spot) → followed parts w (Some from) ≡ there → (at : Option Spot) → scalar_there there ≡ at → (own : Bool) (first span offset literals : ℕ) (st : Steps) → place_goal at (literal_count parts) (steps parts w locals (Some from)) ≡ OfPlace (spot own first span offset literals st) → (ns : List ℕ) (more : ℕ) → led_by st ns ≡ Some more → IsNamed (cells_from own done w.class memory) (first + offset + more) (first_text own name ++ path_text parts ns)
+at_named : (w : ClassScope) (done : List (List Variable)) (memory : List Variable) → AreNamed w.layout done memory → (name : Name) (parts : Parts) (locals : Names Local) (from : Spot) → Begins w done memory name from → (there : Option Spot) → followed parts w (Some from) ≡ there → (at : Option Spot) → scalar_there there ≡ at → (own : Bool) (first span offset literals : ℕ) (st : Steps) → place_goal at (literal_count parts) (steps parts w locals (Some from)) ≡ OfPlace (spot own first span offset literals st) → (ns : List ℕ) (more : ℕ) → led_by st ns ≡ Some more → IsNamed (cells_from own done w.class memory) (first + offset + more) (first_text own name ++ path_text parts ns)
 at_named w done memory named name parts locals from begins None known at is own first span offset literals st goal ns = λ more led. absurd (cc (ap (λ q. place_goal q (literal_count parts) (steps parts w locals (Some from))) is ∙ goal))
 at_named w done memory named name parts locals from begins (Some s) known None is own first span offset literals st goal ns = λ more led. absurd (cc goal)
 at_named w done memory named name parts locals from begins (Some s) known (Some at) is own first span offset literals st goal ns = λ more led.
@@ -290,7 +290,7 @@ at_named w done memory named name parts locals from begins (Some s) known (Some 
     (subst (λ i. IsNamed (cells_from from.own done w.class memory) i (first_text from.own name ++ path_text parts ns)) here
     (one_cell s.extent.dims s.extent.base done (cells_from from.own done w.class memory) (start s + (0 + more)) (first_text from.own name ++ path_text parts ns) s at is stands.there))
 
-meaning_named : (w : World) (done : List (List Variable)) (memory : List Variable) → AreNamed w.layout done memory → (name : Name) (parts : Parts) (locals : Names Local) (m : Meaning) → named name w locals ≡ m → (own : Bool) (first span offset literals : ℕ) (st : Steps) → goal_of m (scalar_there (followed parts w (start_of m))) (literal_count parts) (steps parts w locals (start_of m)) ≡ OfPlace (spot own first span offset literals st) → (ns : List ℕ) (more : ℕ) → led_by st ns ≡ Some more → IsNamed (cells_from own done w.class memory) (first + offset + more) (first_text own name ++ path_text parts ns)
+meaning_named : (w : ClassScope) (done : List (List Variable)) (memory : List Variable) → AreNamed w.layout done memory → (name : Name) (parts : Parts) (locals : Names Local) (m : Meaning) → named name w locals ≡ m → (own : Bool) (first span offset literals : ℕ) (st : Steps) → goal_of m (scalar_there (followed parts w (start_of m))) (literal_count parts) (steps parts w locals (start_of m)) ≡ OfPlace (spot own first span offset literals st) → (ns : List ℕ) (more : ℕ) → led_by st ns ≡ Some more → IsNamed (cells_from own done w.class memory) (first + offset + more) (first_text own name ++ path_text parts ns)
 meaning_named w done memory named_by name parts locals (means.Local l) is own first span offset literals st goal ns more led = absurd (cc goal)
 meaning_named w done memory named_by name parts locals (means.Number value) is own first span offset literals st goal ns more led = absurd (cc goal)
 meaning_named w done memory named_by name parts locals means.Nothing is own first span offset literals st goal ns more led = absurd (cc goal)

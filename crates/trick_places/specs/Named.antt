@@ -4,7 +4,7 @@ use Rattle.std.specs.Prelude.{◌≡◌, ℕ, ◌+◌, ◌*◌, ◌≤◌, Bool,
 use Rattle.trick_blocks.specs.Places.{literal_of}
 use Rattle.trick_blocks.specs.Terms.{OfPlace, path_goal}
 use Rattle.trick_blocks.specs.declared.start.Local.{Local}
-use Rattle.trick_blocks.specs.declared.world.World.{World}
+use Rattle.trick_blocks.specs.declared.scope.ClassScope.{ClassScope}
 use Rattle.trick_cells.specs.Cells.{base_cells, bracket, cells_at, dotted, each, objects_cells, under}
 use Rattle.trick_cells.specs.Counts.{counts, names_count}
 use Rattle.trick_cells.specs.Tables.{layout_of}
@@ -108,7 +108,7 @@ cells_from false done class memory = memory
 
 -- by any numbers that its indexes take, a place of such a path leads to the cell with the path's text
 -- as its name
-abbrev pub NamesItsCells : World → List (List Variable) → List Variable → Name → Parts → Spot → Type 0
+abbrev pub NamesItsCells : ClassScope → List (List Variable) → List Variable → Name → Parts → Spot → Type 0
 NamesItsCells w done memory name parts (spot own first span offset literals steps) =
     (ns : List ℕ) (more : ℕ) → led_by steps ns ≡ Some more →
     IsNamed (cells_from own done w.class memory) (first + offset + more) (first_text own name ++ path_text parts ns)
@@ -116,7 +116,7 @@ NamesItsCells w done memory name parts (spot own first span offset literals step
 -- the cell that a place leads to is the one whose full name is the text of its path
 abbrev pub LeadToTheirNames : Type 0
 LeadToTheirNames =
-    (w : World) (done : List (List Variable)) (memory : List Variable) → AreNamed w.layout done memory →
+    (w : ClassScope) (done : List (List Variable)) (memory : List Variable) → AreNamed w.layout done memory →
     (line : ℕ) (name : Name) (parts : Parts) (locals : Names Local) (place : Spot) →
     path_goal (path line name parts) w locals ≡ OfPlace place → NamesItsCells w done memory name parts place
 

@@ -14,7 +14,7 @@ use Rattle.trick_lang.specs.Numbers.{and_then}
 use Rattle.trick_lang.specs.Run.{State, block_runs}
 use Rattle.trick_lang.specs.Tree.{Term}
 use Rattle.trick_lang.specs.TreeOf.{codes_of}
-use Rattle.trick_lang.specs.declared.fault.Stop.{Stop}
+use Rattle.trick_lang.specs.declared.fault.StatementFault.{StatementFault}
 use Rattle.trick_lang.specs.declared.job.JobId.{JobId}
 use Rattle.trick_lang.specs.declared.program.Program.{Program}
 use Rattle.trick_lang.specs.declared.range.CellRange.{CellRange}
@@ -41,7 +41,7 @@ event_said draft = record {
 
 -- The effect of a job of a program on a memory of cells of these types, of which the input may have declared
 -- some: by cell, the last number that it stored there, or its first fault.
-abbrev pub effect_among : Program → List Scalar → JobId → List ℤ → Result (List (Option ℤ)) Stop
+abbrev pub effect_among : Program → List Scalar → JobId → List ℤ → Result (List (Option ℤ)) StatementFault
 effect_among p scalars job memory =
     let begun : State = record { stored = replicate (length scalars) None; locals = replicate p.slots None } in
     and_then

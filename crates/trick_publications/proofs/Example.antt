@@ -7,7 +7,7 @@ use Rattle.std.specs.Int.{int_wrap}
 use Rattle.std.specs.Prelude.{All, ℤ, pos, ◌+ℤ◌, true, false, List, [], ◌∷◌, codes, Option, Some, None, Result, Ok}
 use Rattle.trick_base.proofs.Truths.{first_holds, second_holds}
 use Rattle.trick_lang.specs.declared.class.Class.TheVariants.{Scheduled}
-use Rattle.trick_lang.specs.declared.fault.Stop.{Stop}
+use Rattle.trick_lang.specs.declared.fault.StatementFault.{StatementFault}
 use Rattle.trick_lang.specs.declared.job.Job.{Job}
 use Rattle.trick_lang.specs.declared.range.CellRange.{CellRange}
 use Rattle.trick_lang.specs.declared.scalar.Scalar.TheVariants.{Long}
@@ -48,7 +48,7 @@ abbrev cell : ℕ → List CellRange
 cell c = record { first = record { 0 = c }; last = record { 0 = c } } ∷ []
 
 -- job 0 counts n, job 1 copies y to z, and job 2 copies n to y
-abbrev effect_of : ℕ → List ℤ → Result (List (Option ℤ)) Stop
+abbrev effect_of : ℕ → List ℤ → Result (List (Option ℤ)) StatementFault
 effect_of zero m = Ok (Some (number_at m 0 +ℤ pos 1) ∷ None ∷ None ∷ [])
 effect_of (suc zero) m = Ok (None ∷ None ∷ Some (number_at m 1) ∷ [])
 effect_of (suc (suc k)) m = Ok (None ∷ Some (number_at m 0) ∷ None ∷ [])

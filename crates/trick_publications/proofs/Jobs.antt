@@ -4,7 +4,7 @@ use Rattle.std.proofs.lemmas.Bool.{cases_Bool}
 use Rattle.std.proofs.lemmas.Bool.Decides.{nat_tests}
 use Rattle.std.specs.Prelude.{filter, flat_map}
 use Rattle.trick_lang.specs.declared.class.Class.{Class}
-use Rattle.trick_lang.specs.declared.fault.Stop.{Stop}
+use Rattle.trick_lang.specs.declared.fault.StatementFault.{StatementFault}
 use Rattle.trick_model.specs.Access.{IsReached, Passed, Source, may_write, writes_cell}
 use Rattle.trick_model.specs.Beside.{tics_from, work}
 use Rattle.trick_model.specs.Order.{in_key_order, is_due, is_of_class, jobs_at, jobs_in}
@@ -62,19 +62,19 @@ module _ (p : Plan) (steady : IsSteady p) where
   not_both true none some = cc none
   not_both false none some = cc some
 
-  outcome_length : (tic k : ℕ) (m : List ℤ) (e : Result (List (Option ℤ)) Stop) → length (outcome tic k m e).memory ≡ length m
+  outcome_length : (tic k : ℕ) (m : List ℤ) (e : Result (List (Option ℤ)) StatementFault) → length (outcome tic k m e).memory ≡ length m
   outcome_length tic k m (Ok stored) = over_length stored m
   outcome_length tic k m (Err stop) = refl
 
   -- a cell that the job does not write
-  outcome_other : (tic k cell : ℕ) (m : List ℤ) (e : Result (List (Option ℤ)) Stop) → p.effect k m ≡ e → writes_cell p k cell ≡ false
+  outcome_other : (tic k cell : ℕ) (m : List ℤ) (e : Result (List (Option ℤ)) StatementFault) → p.effect k m ≡ e → writes_cell p k cell ≡ false
       → number_at (outcome tic k m e).memory cell ≡ number_at m cell
   outcome_other tic k cell m (Ok stored) e none =
       over_other stored m cell (λ n found. not_both (writes_cell p k cell) none (steady.stores k cell m stored n e found))
   outcome_other tic k cell m (Err stop) e none = refl
 
   -- a cell that it writes, by one effect
-  outcome_same : (tic k cell : ℕ) (m n : List ℤ) (e : Result (List (Option ℤ)) Stop) → length m ≡ length n → number_at m cell ≡ number_at n cell
+  outcome_same : (tic k cell : ℕ) (m n : List ℤ) (e : Result (List (Option ℤ)) StatementFault) → length m ≡ length n → number_at m cell ≡ number_at n cell
       → number_at (outcome tic k m e).memory cell ≡ number_at (outcome tic k n e).memory cell
   outcome_same tic k cell m n (Ok stored) many same = over_same stored m n cell many same
   outcome_same tic k cell m n (Err stop) many same = same
@@ -88,7 +88,7 @@ module _ (p : Plan) (steady : IsSteady p) where
           let e : p.effect k m ≡ p.effect k n =
           steady.effects k m n (λ d reads. h.same d (λ reached. out (Passed k d cell there reached reads writes))) in
           outcome_same tic k cell m n (p.effect k m) h.many (h.same cell out)
-          ∙ ap (λ (r : Result (List (Option ℤ)) Stop). number_at (outcome tic k n r).memory cell) e
+          ∙ ap (λ (r : Result (List (Option ℤ)) StatementFault). number_at (outcome tic k n r).memory cell) e
       | inr none ↦
           outcome_other tic k cell m (p.effect k m) refl none ∙ h.same cell out ∙ sym (outcome_other tic k cell n (p.effect k n) refl none)
     ];

@@ -22,8 +22,8 @@ use Rattle.trick_runs.specs.Hosts.{Hosts, Place}
 use Rattle.trick_runs.specs.Laws.{JournalsShow, told_by}
 use Rattle.trick_runs.specs.Ran.{Missed, Ran, Stopped, writes_so_far}
 use Rattle.trick_runs.specs.Stops.{StopsAt, before as at_start}
-use Rattle.trick_serial.specs.Serial.{ended_by}
-use Rattle.trick_serial.specs.declared.ended.Ended.{Ended}
+use Rattle.trick_serial.specs.Serial.{summary_of}
+use Rattle.trick_serial.specs.declared.summary.Summary.{Summary}
 use Rattle.trick_tic.specs.Steps.{steps_of}
 use Rattle.trick_turns.specs.Joins.{joins_of}
 use Rattle.trick_turns.specs.Turns.{Told}
@@ -56,9 +56,9 @@ stopped p s journal lists e f so decides tells at_first same =
     }
 
 -- the journal fits
-pub whole : {S U M Q : Type 0} {h : Hosts S U M Q} {old new : Place S U Q} (p : Plan) (s : State) (journal : Journal) (lists : List (List Entry)) (ended : Ended) (joins : ℕ)
+pub whole : {S U M Q : Type 0} {h : Hosts S U M Q} {old new : Place S U Q} (p : Plan) (s : State) (journal : Journal) (lists : List (List Entry)) (ended : Summary) (joins : ℕ)
     → JournalsShow → Ran h p s lists old new → h.turns.decided old.turns ≡ true → h.turns.journal old.turns ≡ Some (told_by journal.entries journal.end s)
-    → ended ≡ ended_by (final p s lists) → joins ≡ joins_of (lists_for journal s) → RunsWhole h.shelf p s journal old.shelf new.shelf ended joins
+    → ended ≡ summary_of (final p s lists) → joins ≡ joins_of (lists_for journal s) → RunsWhole h.shelf p s journal old.shelf new.shelf ended joins
 whole {h = h} {old = old} {new = new} p s journal lists ended joins show so decides tells is counts =
     let told = so.told decides (told_by journal.entries journal.end s) tells in
     let fits = show.fits p s journal.entries journal.end lists journal.end_right told.0 so.fits told.2 in
@@ -67,7 +67,7 @@ whole {h = h} {old = old} {new = new} p s journal lists ended joins show so deci
       does = subst (λ (l : List (List Entry)). Does {T = Unit {0}} h.shelf old.shelf new.shelf (Ok tt) (steps_of (run_writes p s l))) fits.1 so.does;
       files = subst (λ (l : List (List Entry)). (before : Files) → h.shelf.holds old.shelf ≡ Some before
           → (now : Files) × (h.shelf.holds new.shelf ≡ Some now) × ((name : List ℕ) → get now name ≡ file name p s l (get before name))) fits.1 so.files;
-      ended_so = is ∙ ap (λ (l : List (List Entry)). ended_by (final p s l)) fits.1;
+      ended_so = is ∙ ap (λ (l : List (List Entry)). summary_of (final p s l)) fits.1;
       joins_so = counts;
     }
 

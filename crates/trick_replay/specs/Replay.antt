@@ -19,8 +19,8 @@ use Rattle.trick_runs.specs.Follows.{Follows}
 use Rattle.trick_runs.specs.Laws.{told_by}
 use Rattle.trick_runs.specs.Ran.{writes_so_far}
 use Rattle.trick_runs.specs.Stops.{StopsAt}
-use Rattle.trick_serial.specs.Serial.{ended_by}
-use Rattle.trick_serial.specs.declared.ended.Ended.{Ended}
+use Rattle.trick_serial.specs.Serial.{summary_of}
+use Rattle.trick_serial.specs.declared.summary.Summary.{Summary}
 use Rattle.trick_tic.specs.Steps.{steps_of}
 use Rattle.trick_turns.specs.Joins.{joins_of}
 
@@ -35,14 +35,14 @@ lists_below turn journal s = take (turn - s.turn) (lists_for journal s)
 -- The journal fits, and the whole run under it was done. What is said is said of its last state, and how
 -- many sessions join in the journal that was written.
 pub record RunsWhole {S : Type 0} (shelf : Ghosts S) (p : Plan) (s : State) (journal : Journal) (old new : S)
-    (ended : Ended) (joins : ℕ) : Type 0 where
+    (ended : Summary) (joins : ℕ) : Type 0 where
   pub fits : JournalFits p s journal.entries journal.end
   pub does : Does {T = Unit {0}} shelf old new (Ok tt) (steps_of (run_writes p s (lists_for journal s)))
   -- each file is that of the run, where the shelf tells
   pub files : (before : Files) → shelf.holds old ≡ Some before
       → (now : Files) × (shelf.holds new ≡ Some now)
       × ((name : List ℕ) → get now name ≡ file name p s (lists_for journal s) (get before name))
-  pub ended_so : ended ≡ ended_by (final p s (lists_for journal s))
+  pub ended_so : ended ≡ summary_of (final p s (lists_for journal s))
   pub joins_so : joins ≡ joins_of (lists_for journal s)
 
 -- The journal does not fit. The turns were done up to that at which the run is over, or up to the journal's

@@ -20,7 +20,7 @@ use trick_outside::{Shelf, Stop};
 use trick_phase::Phases;
 use trick_post::Posts;
 use trick_runs::laws::journals_show;
-use trick_serial::{ended_by, first_state, one_thread};
+use trick_serial::{summary_of, first_state, one_thread};
 use trick_tic::Workers;
 
 // Replays a journal from a state by these workers.
@@ -50,7 +50,7 @@ fn replay_by<M: Cells + Drop, F: Shelf, H: Phases<M> + Drop, P: Posts + Drop>(
     let start = Start { alloc, state };
     match run(accepted, start, shelf, &mut workers, &mut turns)? {
         Ended::Done(world) => Ok(Replayed::Ended {
-            ended: ended_by(&world.state),
+            ended: summary_of(&world.state),
             joins,
         }),
         Ended::Length { kept, given } => Ok(Replayed::Length { kept, given }),

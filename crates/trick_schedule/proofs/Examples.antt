@@ -3,7 +3,7 @@ use Rattle.std.proofs.Common.{◌≡◌, ℕ, zero, suc, ◌+◌, true, false, L
 use Rattle.std.specs.Int.{int_wrap}
 use Rattle.std.specs.Prelude.{ℤ, pos, negsuc, ◌+ℤ◌, ◌*ℤ◌, replicate}
 use Rattle.trick_lang.specs.declared.class.Class.TheVariants.{Scheduled}
-use Rattle.trick_lang.specs.declared.fault.Stop.{Stop}
+use Rattle.trick_lang.specs.declared.fault.StatementFault.{StatementFault}
 use Rattle.trick_lang.specs.declared.job.Job.{Job}
 use Rattle.trick_lang.specs.declared.range.CellRange.{CellRange}
 use Rattle.trick_lang.specs.declared.scalar.Scalar.TheVariants.{Long}
@@ -44,7 +44,7 @@ abbrev cell : ℕ → List CellRange
 cell c = record { first = record { 0 = c }; last = record { 0 = c } } ∷ []
 
 -- a adds 1 to x, b stores ten times x in y, c takes 1 from z
-abbrev effect_of : ℕ → List ℤ → Result (List (Option ℤ)) Stop
+abbrev effect_of : ℕ → List ℤ → Result (List (Option ℤ)) StatementFault
 effect_of zero m = Ok (Some (number_at m 0 +ℤ pos 1) ∷ None ∷ None ∷ [])
 effect_of (suc zero) m = Ok (None ∷ Some (number_at m 0 *ℤ pos 10) ∷ None ∷ [])
 effect_of (suc (suc k)) m = Ok (None ∷ None ∷ Some (number_at m 2 +ℤ negsuc 0) ∷ [])

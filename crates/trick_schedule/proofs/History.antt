@@ -7,7 +7,7 @@ use Rattle.std.specs.Prelude.{ℤ, pos, replicate, slice_set}
 use Rattle.trick_lang.specs.Access.{is_in}
 use Rattle.trick_lang.specs.Laws.{AgreeOn}
 use Rattle.trick_lang.specs.declared.fault.JobFault.{JobFault}
-use Rattle.trick_lang.specs.declared.fault.Stop.{Stop}
+use Rattle.trick_lang.specs.declared.fault.StatementFault.{StatementFault}
 use Rattle.trick_lang.specs.declared.range.CellRange.{CellRange}
 use Rattle.trick_model.specs.Laws.{is_among}
 use Rattle.trick_model.specs.Plan.{is_on}
@@ -180,7 +180,7 @@ fresh_commit t s k right order flies fresh i flies_after = by_place (cases_eq i 
 one_fault : (t : Tic) (k : ℕ) (copy m : List ℤ) → option_to_list (first_fault (made t k copy m).faults) ≡ (made t k copy m).faults
 one_fault t k copy m = by_flag (is_on t.on k)
   where
-    by_effect : (e : Result (List (Option ℤ)) Stop) → option_to_list (first_fault (outcome t.number k m e).faults) ≡ (outcome t.number k m e).faults
+    by_effect : (e : Result (List (Option ℤ)) StatementFault) → option_to_list (first_fault (outcome t.number k m e).faults) ≡ (outcome t.number k m e).faults
     by_effect (Ok stored) = refl
     by_effect (Err stop) = refl
 

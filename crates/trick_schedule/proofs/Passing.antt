@@ -2,7 +2,7 @@
 use Rattle.std.proofs.Common.{◌≡◌, ℕ, List, Bool, true, false, Option, Result, Ok, Err, refl, sym, ◌∙◌, ap}
 use Rattle.std.specs.Prelude.{ℤ}
 use Rattle.trick_lang.specs.Laws.{AgreeOn}
-use Rattle.trick_lang.specs.declared.fault.Stop.{Stop}
+use Rattle.trick_lang.specs.declared.fault.StatementFault.{StatementFault}
 use Rattle.trick_model.specs.Acceptance.{AreIndependent}
 use Rattle.trick_model.specs.Plan.{is_on}
 use Rattle.trick_model.specs.Running.{After, apply, outcome}
@@ -28,14 +28,14 @@ pub made_same : (t : Tic) (k : ℕ) (copy other m : List ℤ) → IsRight t → 
 made_same t k copy other m right agree = by_flag (is_on t.on k)
   where
     by_flag : (b : Bool) → made_where b t k copy m ≡ made_where b t k other m
-    by_flag true = ap (λ (e : Result (List (Option ℤ)) Stop). outcome t.number k m e) (right.inputs k copy other agree)
+    by_flag true = ap (λ (e : Result (List (Option ℤ)) StatementFault). outcome t.number k m e) (right.inputs k copy other agree)
     by_flag false = refl
 
 -- the faults depend on the copy alone
 pub faults_same : (t : Tic) (k : ℕ) (copy m n : List ℤ) → (made t k copy m).faults ≡ (made t k copy n).faults
 faults_same t k copy m n = by_flag (is_on t.on k)
   where
-    by_effect : (e : Result (List (Option ℤ)) Stop) → (outcome t.number k m e).faults ≡ (outcome t.number k n e).faults
+    by_effect : (e : Result (List (Option ℤ)) StatementFault) → (outcome t.number k m e).faults ≡ (outcome t.number k n e).faults
     by_effect (Ok stored) = refl
     by_effect (Err stop) = refl
 
@@ -51,7 +51,7 @@ pub reads_kept : (t : Tic) (a b : ℕ) (copy m : List ℤ) → IsRight t → Are
     → AgreeOn (t.plan.reads a) (made t b copy m).memory m
 reads_kept t a b copy m right i = by_flag (is_on t.on b)
   where
-    by_effect : (e : Result (List (Option ℤ)) Stop) → t.plan.effect b copy ≡ e → AgreeOn (t.plan.reads a) (outcome t.number b m e).memory m
+    by_effect : (e : Result (List (Option ℤ)) StatementFault) → t.plan.effect b copy ≡ e → AgreeOn (t.plan.reads a) (outcome t.number b m e).memory m
     by_effect (Ok stored) is c reads = number_kept stored m c (λ n here. i.to c (right.outputs b copy stored c n is here) reads)
     by_effect (Err stop) is c reads = refl
 
@@ -59,7 +59,7 @@ reads_kept t a b copy m right i = by_flag (is_on t.on b)
     by_flag true c reads = by_effect (t.plan.effect b copy) refl c reads
     by_flag false c reads = refl
 
-outcome_swap : (tic a b : ℕ) (m : List ℤ) (e f : Result (List (Option ℤ)) Stop)
+outcome_swap : (tic a b : ℕ) (m : List ℤ) (e f : Result (List (Option ℤ)) StatementFault)
     → ((s u : List (Option ℤ)) → e ≡ Ok s → f ≡ Ok u → NeverBoth s u)
     → (outcome tic a (outcome tic b m f).memory e).memory ≡ (outcome tic b (outcome tic a m e).memory f).memory
 outcome_swap tic a b m (Ok s) (Ok u) apart = over_swap s u m (apart s u refl refl)

@@ -21,7 +21,7 @@ use trick_body::{
     NAMES, Source, Symbol, Token, UNSIGNED, name_of, read_int_inside, read_int_rest,
     read_void_rest, scalar_of, take_hinted, unsigned_of,
 };
-use trick_grammar::{Refusal, Stop, next_is, next_is_one_of, reason_at, take, take_one_of};
+use trick_grammar::{Refusal, GrammarStop, next_is, next_is_one_of, reason_at, take, take_one_of};
 use trick_lang::Scalar;
 use trick_lang::syntax::{
     ClassPart, Declarator, Definition, JobLine, Members, Method, Stmt, TypeName,
@@ -65,7 +65,7 @@ fn read_constructor_rest<'a>(
     alloc: Global,
     source: Source,
     rest: &'a [Token],
-) -> Result<(Vec<JobLine>, &'a [Token]), Stop<'a, Symbol>>
+) -> Result<(Vec<JobLine>, &'a [Token]), GrammarStop<'a, Symbol>>
     ensures { Gives (λ x. (map job_line_of x.0.items, x.1.now)) result
         (read number_of class_of [] (constructor_rest source.entry.text.now source.entry.limit) rest.now) }
 {
@@ -79,7 +79,7 @@ fn read_constructor_rest<'a>(
 
 // "bool" | "char" | "short" | "long" | "unsigned" [ "char" | "short" | "int" ]
 #[tactic(auto, unfolding(crate::specs::Files::other_type_body))]
-fn read_other_type(rest: &[Token]) -> Result<(Scalar, &[Token]), Stop<Symbol>>
+fn read_other_type(rest: &[Token]) -> Result<(Scalar, &[Token]), GrammarStop<Symbol>>
     ensures { Gives (λ x. (x.0, x.1.now)) result (read number_of class_of [] other_type rest.now) }
 {
     if next_is_one_of(rest, &OTHER_SCALARS) {
@@ -110,7 +110,7 @@ fn read_int_member<'a>(
     source: Source,
     name: &Token,
     rest: &'a [Token],
-) -> Result<(ClassPart, &'a [Token]), Stop<'a, Symbol>>
+) -> Result<(ClassPart, &'a [Token]), GrammarStop<'a, Symbol>>
     ensures { Gives (λ x. (class_part_of x.0, x.1.now)) result
         (read number_of class_of [] (act (λ v. int_part_of source.entry.text.now source.entry.limit name.now v)
         (int_member source.entry.text.now source.entry.limit)) rest.now) }
@@ -147,7 +147,7 @@ fn read_after_int<'a>(
     depth: usize,
     name: &Token,
     rest: &'a [Token],
-) -> Result<(ClassPart, &'a [Token]), Stop<'a, Symbol>>
+) -> Result<(ClassPart, &'a [Token]), GrammarStop<'a, Symbol>>
     ensures { Gives (λ x. (class_part_of x.0, x.1.now)) result
         (read number_of class_of [] (act (λ v. int_part_of source.entry.text.now source.entry.limit name.now v)
         (after_int source.entry.text.now source.entry.limit depth)) rest.now) }
@@ -165,7 +165,7 @@ fn read_trick_method<'a>(
     source: Source,
     depth: usize,
     rest: &'a [Token],
-) -> Result<(ClassPart, &'a [Token]), Stop<'a, Symbol>>
+) -> Result<(ClassPart, &'a [Token]), GrammarStop<'a, Symbol>>
     ensures { Gives (λ x. (class_part_of x.0, x.1.now)) result
         (read number_of class_of [] (trick_method source.entry.text.now source.entry.limit depth) rest.now) }
 {
@@ -182,14 +182,14 @@ fn read_int_part<'a>(
     source: Source,
     depth: usize,
     rest: &'a [Token],
-) -> Result<(ClassPart, &'a [Token]), Stop<'a, Symbol>>
+) -> Result<(ClassPart, &'a [Token]), GrammarStop<'a, Symbol>>
     ensures { Gives (λ x. (class_part_of x.0, x.1.now)) result
         (read number_of class_of [] (int_part source.entry.text.now source.entry.limit depth) rest.now) }
 {
     let pointers = [Symbol::Times, Symbol::BitAnd];
     if next_is_one_of(rest, &pointers) {
         let reason = reason_at(rest, Refusal::NotInProfile, &pointers);
-        return Err(Stop::At(reason, rest));
+        return Err(GrammarStop::At(reason, rest));
     }
     if next_is(rest, Symbol::LowerTrick) {
         return read_trick_method(alloc, source, depth, rest);
@@ -205,7 +205,7 @@ fn read_after_name<'a>(
     source: Source,
     name: &Token,
     rest: &'a [Token],
-) -> Result<(ClassPart, &'a [Token]), Stop<'a, Symbol>>
+) -> Result<(ClassPart, &'a [Token]), GrammarStop<'a, Symbol>>
     ensures { Gives (λ x. (class_part_of x.0, x.1.now)) result
         (read number_of class_of [] (act (λ v. named_part_of source.entry.text.now source.entry.limit name.now v)
         (after_name source.entry.text.now source.entry.limit)) rest.now) }
@@ -231,7 +231,7 @@ fn read_void_method<'a>(
     source: Source,
     depth: usize,
     rest: &'a [Token],
-) -> Result<(ClassPart, &'a [Token]), Stop<'a, Symbol>>
+) -> Result<(ClassPart, &'a [Token]), GrammarStop<'a, Symbol>>
     ensures { Gives (λ x. (class_part_of x.0, x.1.now)) result
         (read number_of class_of [] (void_method source.entry.text.now source.entry.limit depth) rest.now) }
 {
@@ -247,7 +247,7 @@ fn read_basic_part<'a>(
     alloc: Global,
     source: Source,
     rest: &'a [Token],
-) -> Result<(ClassPart, &'a [Token]), Stop<'a, Symbol>>
+) -> Result<(ClassPart, &'a [Token]), GrammarStop<'a, Symbol>>
     ensures { Gives (λ x. (class_part_of x.0, x.1.now)) result
         (read number_of class_of [] (basic_part source.entry.text.now source.entry.limit) rest.now) }
 {
@@ -261,7 +261,7 @@ fn read_named_part<'a>(
     alloc: Global,
     source: Source,
     rest: &'a [Token],
-) -> Result<(ClassPart, &'a [Token]), Stop<'a, Symbol>>
+) -> Result<(ClassPart, &'a [Token]), GrammarStop<'a, Symbol>>
     ensures { Gives (λ x. (class_part_of x.0, x.1.now)) result
         (read number_of class_of [] (named_part source.entry.text.now source.entry.limit) rest.now) }
 {
@@ -276,7 +276,7 @@ fn read_part<'a>(
     source: Source,
     depth: usize,
     rest: &'a [Token],
-) -> Result<(ClassPart, &'a [Token]), Stop<'a, Symbol>>
+) -> Result<(ClassPart, &'a [Token]), GrammarStop<'a, Symbol>>
     ensures { Gives (λ x. (class_part_of x.0, x.1.now)) result
         (read number_of class_of [] (part source.entry.text.now source.entry.limit depth) rest.now) }
 {
@@ -304,7 +304,7 @@ fn read_parts<'a>(
     source: Source,
     depth: usize,
     rest: &'a [Token],
-) -> Result<(Vec<ClassPart>, &'a [Token]), Stop<'a, Symbol>>
+) -> Result<(Vec<ClassPart>, &'a [Token]), GrammarStop<'a, Symbol>>
     ensures { Gives (λ x. (map class_part_of x.0.items, x.1.now)) result
         (read number_of class_of [] (repetition source.entry.limit
         (part source.entry.text.now source.entry.limit depth)) rest.now) }
@@ -314,7 +314,7 @@ fn read_parts<'a>(
     let mut rest = rest;
     while next_is_one_of(rest, &PART_BEGINNINGS) {
         if left == 0 {
-            return Err(Stop::At(Refusal::TooLong, rest));
+            return Err(GrammarStop::At(Refusal::TooLong, rest));
         }
         let (part, after) = read_part(alloc, source, depth, rest)?;
         found.push(part)?;
@@ -326,7 +326,7 @@ fn read_parts<'a>(
 
 // "class" NAME ":" "public" "Trick" "::" "SimObject" "{"
 #[tactic(auto, unfolding(crate::specs::Files::class_head_body))]
-fn read_class_head(rest: &[Token]) -> Result<(&Token, &[Token]), Stop<Symbol>>
+fn read_class_head(rest: &[Token]) -> Result<(&Token, &[Token]), GrammarStop<Symbol>>
     ensures { Gives (λ x. (x.0.now, x.1.now)) result (read number_of class_of [] class_head rest.now) }
 {
     let (_, rest) = take(rest, Symbol::Class)?;
@@ -364,7 +364,7 @@ pub fn read_class<'a>(
     source: Source,
     depth: usize,
     rest: &'a [Token],
-) -> Result<(Definition, &'a [Token]), Stop<'a, Symbol>>
+) -> Result<(Definition, &'a [Token]), GrammarStop<'a, Symbol>>
     ensures { Gives (λ x. (definition_of x.0, x.1.now)) result
         (read number_of class_of [] (class source.entry.text.now source.entry.limit depth) rest.now) }
 {

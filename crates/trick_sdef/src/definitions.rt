@@ -14,7 +14,7 @@ use crate::members::read_struct;
 use crate::names::take_free_name;
 use std::alloc::Global;
 use trick_body::{NAMES, Source, Symbol, Token, name_of};
-use trick_grammar::{Refusal, Stop, next_is, next_is_one_of, reason_at, take, take_one_of};
+use trick_grammar::{Refusal, GrammarStop, next_is, next_is_one_of, reason_at, take, take_one_of};
 use trick_lang::syntax::Definition;
 
 // What names another file than the one that may be included.
@@ -50,19 +50,19 @@ const BEGINNINGS: [Symbol; 12] = [
 ];
 
 // The file of an include.
-fn take_included(rest: &[Token]) -> Result<(&Token, &[Token]), Stop<Symbol>>
+fn take_included(rest: &[Token]) -> Result<(&Token, &[Token]), GrammarStop<Symbol>>
     ensures { Gives (λ x. (x.0.now, x.1.now)) result (read number_of class_of [] included rest.now) }
 {
     if next_is_one_of(rest, &OTHER_FILES) {
         let reason = reason_at(rest, Refusal::NotInProfile, &OTHER_FILES);
-        return Err(Stop::At(reason, rest));
+        return Err(GrammarStop::At(reason, rest));
     }
     take(rest, Symbol::KnownFile)
 }
 
 // include = "#" "include" "\"sim_objects/default_trick_sys.sm\""
 #[tactic(auto, unfolding(crate::specs::Files::include_body))]
-fn read_include<'a>(rest: &'a [Token]) -> Result<(Definition, &'a [Token]), Stop<'a, Symbol>>
+fn read_include<'a>(rest: &'a [Token]) -> Result<(Definition, &'a [Token]), GrammarStop<'a, Symbol>>
     ensures { Gives (λ x. (definition_of x.0, x.1.now)) result
         (read number_of class_of [] include rest.now) }
 {
@@ -78,7 +78,7 @@ fn read_object<'a>(
     alloc: Global,
     source: Source,
     rest: &'a [Token],
-) -> Result<(Definition, &'a [Token]), Stop<'a, Symbol>>
+) -> Result<(Definition, &'a [Token]), GrammarStop<'a, Symbol>>
     ensures { Gives (λ x. (definition_of x.0, x.1.now)) result
         (read number_of class_of [] (object source.entry.text.now source.entry.limit) rest.now) }
 {
@@ -100,7 +100,7 @@ fn read_definition<'a>(
     source: Source,
     depth: usize,
     rest: &'a [Token],
-) -> Result<(Definition, &'a [Token]), Stop<'a, Symbol>>
+) -> Result<(Definition, &'a [Token]), GrammarStop<'a, Symbol>>
     requires { 1 ≤ source.limit }
     ensures { Gives (λ x. (definition_of x.0, x.1.now)) result
         (read number_of class_of [] (definition source.entry.text.now source.entry.limit depth) rest.now) }
@@ -127,7 +127,7 @@ pub fn read_file<'a>(
     source: Source,
     depth: usize,
     rest: &'a [Token],
-) -> Result<(Vec<Definition>, &'a [Token]), Stop<'a, Symbol>>
+) -> Result<(Vec<Definition>, &'a [Token]), GrammarStop<'a, Symbol>>
     requires { 1 ≤ source.limit }
     ensures { Gives (λ x. (map definition_of x.0.items, x.1.now)) result
         (read number_of class_of [] (file source.entry.text.now source.entry.limit depth) rest.now) }
@@ -141,7 +141,7 @@ fn read_definitions<'a>(
     source: Source,
     depth: usize,
     rest: &'a [Token],
-) -> Result<(Vec<Definition>, &'a [Token]), Stop<'a, Symbol>>
+) -> Result<(Vec<Definition>, &'a [Token]), GrammarStop<'a, Symbol>>
     requires { 1 ≤ source.limit }
     ensures { Gives (λ x. (map definition_of x.0.items, x.1.now)) result
         (read number_of class_of [] (repetition source.entry.limit
@@ -152,7 +152,7 @@ fn read_definitions<'a>(
     let mut rest = rest;
     while next_is_one_of(rest, &BEGINNINGS) {
         if left == 0 {
-            return Err(Stop::At(Refusal::TooLong, rest));
+            return Err(GrammarStop::At(Refusal::TooLong, rest));
         }
         let (definition, after) = read_definition(alloc, source, depth, rest)?;
         found.push(definition)?;

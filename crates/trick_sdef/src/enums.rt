@@ -18,12 +18,12 @@ use crate::names::take_free_name;
 use std::alloc::{AllocError, Global};
 use trick_base::Items;
 use trick_body::{NAMES, Source, Symbol, Token, WHOLES, name_of};
-use trick_grammar::{Refusal, Stop, next_is, next_is_one_of, take, take_one_of};
+use trick_grammar::{Refusal, GrammarStop, next_is, next_is_one_of, take, take_one_of};
 use trick_lang::syntax::{Definition, EnumItem};
 
 // "=" [ "-" ] WHOLE
 #[tactic(auto, unfolding(crate::specs::Members::item_value_body))]
-fn read_value(rest: &[Token]) -> Result<(i128, &[Token]), Stop<Symbol>>
+fn read_value(rest: &[Token]) -> Result<(i128, &[Token]), GrammarStop<Symbol>>
     ensures { Gives (λ x. (x.0, x.1.now)) result (read number_of class_of [] item_value rest.now) }
 {
     let (_, rest) = take(rest, Symbol::Assign)?;
@@ -37,7 +37,7 @@ fn read_value(rest: &[Token]) -> Result<(i128, &[Token]), Stop<Symbol>>
 }
 
 // [ "=" [ "-" ] WHOLE ]
-fn read_written_value(rest: &[Token]) -> Result<(Option<i128>, &[Token]), Stop<Symbol>>
+fn read_written_value(rest: &[Token]) -> Result<(Option<i128>, &[Token]), GrammarStop<Symbol>>
     ensures { Gives (λ x. (x.0, x.1.now)) result
         (read number_of class_of [] (optional item_value) rest.now) }
 {
@@ -54,7 +54,7 @@ fn read_item<'a>(
     alloc: Global,
     source: Source,
     rest: &'a [Token],
-) -> Result<(EnumItem, &'a [Token]), Stop<'a, Symbol>>
+) -> Result<(EnumItem, &'a [Token]), GrammarStop<'a, Symbol>>
     ensures { Gives (λ x. (item_of x.0, x.1.now)) result
         (read number_of class_of [] (item source.entry.text.now) rest.now) }
 {
@@ -74,7 +74,7 @@ fn read_items<'a>(
     alloc: Global,
     source: Source,
     rest: &'a [Token],
-) -> Result<(Vec<EnumItem>, &'a [Token]), Stop<'a, Symbol>>
+) -> Result<(Vec<EnumItem>, &'a [Token]), GrammarStop<'a, Symbol>>
     requires { 1 ≤ source.limit }
     ensures { Gives (λ x. (map item_of x.0.items, x.1.now)) result
         (read number_of class_of [] (items source.entry.text.now source.entry.limit) rest.now) }
@@ -89,7 +89,7 @@ fn read_more_items<'a>(
     source: Source,
     first: EnumItem,
     rest: &'a [Token],
-) -> Result<(Vec<EnumItem>, &'a [Token]), Stop<'a, Symbol>>
+) -> Result<(Vec<EnumItem>, &'a [Token]), GrammarStop<'a, Symbol>>
     requires { 1 ≤ source.limit }
     ensures { Gives (λ x. (map item_of x.0.items, x.1.now)) result
         (prefixed (item_of first ∷ []) (read number_of class_of []
@@ -104,7 +104,7 @@ fn read_more_items<'a>(
             return Ok((found, after));
         }
         if found.len() == source.limit {
-            return Err(Stop::At(Refusal::TooLong, after));
+            return Err(GrammarStop::At(Refusal::TooLong, after));
         }
         let (item, after) = read_item(alloc, source, after)?;
         found.push(item)?;
@@ -136,7 +136,7 @@ pub fn read_enum<'a>(
     alloc: Global,
     source: Source,
     rest: &'a [Token],
-) -> Result<(Definition, &'a [Token]), Stop<'a, Symbol>>
+) -> Result<(Definition, &'a [Token]), GrammarStop<'a, Symbol>>
     requires { 1 ≤ source.limit }
     ensures { Gives (λ x. (definition_of x.0, x.1.now)) result
         (read number_of class_of [] (enum source.entry.text.now source.entry.limit) rest.now) }

@@ -11,7 +11,7 @@ ghost use Rattle.trick_sdef.specs.Trees.{job_line_of, times_of};
 use std::alloc::Global;
 use trick_base::TIC_LIMIT;
 use trick_body::{NAMES, PHASE_LIMIT, Source, Symbol, Token, name_of};
-use trick_grammar::{Refusal, Stop, next_is, next_is_one_of, reason_at, take, take_one_of};
+use trick_grammar::{Refusal, GrammarStop, next_is, next_is_one_of, reason_at, take, take_one_of};
 use trick_lang::Class;
 use trick_lang::syntax::JobLine;
 
@@ -140,62 +140,62 @@ fn tics_of(time: &Token) -> u64
 
 // TIME
 #[tactic(auto, unfolding(crate::specs::Jobs::time_body))]
-fn take_time(rest: &[Token]) -> Result<(&Token, &[Token]), Stop<Symbol>>
+fn take_time(rest: &[Token]) -> Result<(&Token, &[Token]), GrammarStop<Symbol>>
     ensures { Gives (λ x. (x.0.now, x.1.now)) result (read number_of class_of [] time rest.now) }
 {
     if next_is_one_of(rest, &BAD_TIMES) {
         let reason = reason_at(rest, Refusal::BadTime, &BAD_TIMES);
-        return Err(Stop::At(reason, rest));
+        return Err(GrammarStop::At(reason, rest));
     }
     take_one_of(rest, &TIMES)
 }
 
 // TIME, as a cycle: not 0.
 #[tactic(auto, unfolding(crate::specs::Jobs::cycle_body))]
-fn take_cycle(rest: &[Token]) -> Result<(&Token, &[Token]), Stop<Symbol>>
+fn take_cycle(rest: &[Token]) -> Result<(&Token, &[Token]), GrammarStop<Symbol>>
     ensures { Gives (λ x. (x.0.now, x.1.now)) result (read number_of class_of [] cycle rest.now) }
 {
     if next_is_one_of(rest, &BAD_TIMES) {
         let reason = reason_at(rest, Refusal::BadTime, &BAD_TIMES);
-        return Err(Stop::At(reason, rest));
+        return Err(GrammarStop::At(reason, rest));
     }
     if next_is_one_of(rest, &ZERO_TIMES) {
         let reason = reason_at(rest, Refusal::NotInProfile, &ZERO_TIMES);
-        return Err(Stop::At(reason, rest));
+        return Err(GrammarStop::At(reason, rest));
     }
     take_one_of(rest, &POSITIVE_TIMES)
 }
 
 // STRING, after times.
 #[tactic(auto, unfolding(crate::specs::Jobs::scheduled_class_body))]
-fn take_scheduled(rest: &[Token]) -> Result<(&Token, &[Token]), Stop<Symbol>>
+fn take_scheduled(rest: &[Token]) -> Result<(&Token, &[Token]), GrammarStop<Symbol>>
     ensures { Gives (λ x. (x.0.now, x.1.now)) result
         (read number_of class_of [] scheduled_class rest.now) }
 {
     if next_is_one_of(rest, &NOT_SCHEDULED) {
         let reason = reason_at(rest, Refusal::NotInProfile, &NOT_SCHEDULED);
-        return Err(Stop::At(reason, rest));
+        return Err(GrammarStop::At(reason, rest));
     }
     take(rest, Symbol::Scheduled)
 }
 
 // STRING, without times.
 #[tactic(auto, unfolding(crate::specs::Jobs::other_class_body))]
-fn take_other_class(rest: &[Token]) -> Result<(&Token, &[Token]), Stop<Symbol>>
+fn take_other_class(rest: &[Token]) -> Result<(&Token, &[Token]), GrammarStop<Symbol>>
     ensures { Gives (λ x. (x.0.now, x.1.now)) result
         (read number_of class_of [] other_class rest.now) }
 {
     let refused = [Symbol::Scheduled, Symbol::KnownFile, Symbol::Text];
     if next_is_one_of(rest, &refused) {
         let reason = reason_at(rest, Refusal::NotInProfile, &refused);
-        return Err(Stop::At(reason, rest));
+        return Err(GrammarStop::At(reason, rest));
     }
     take_one_of(rest, &OTHER_CLASSES)
 }
 
 // TIME ",", as a start or a stop.
 #[tactic(auto, unfolding(crate::specs::Jobs::timed_body))]
-fn read_timed(rest: &[Token]) -> Result<(u64, &[Token]), Stop<Symbol>>
+fn read_timed(rest: &[Token]) -> Result<(u64, &[Token]), GrammarStop<Symbol>>
     ensures { Gives (λ x. (x.0, x.1.now)) result (read number_of class_of [] timed rest.now) }
 {
     let (time, rest) = take_time(rest)?;
@@ -205,7 +205,7 @@ fn read_timed(rest: &[Token]) -> Result<(u64, &[Token]), Stop<Symbol>>
 
 // TIME ",", as a cycle.
 #[tactic(auto, unfolding(crate::specs::Jobs::every_body))]
-fn read_every(rest: &[Token]) -> Result<(u64, &[Token]), Stop<Symbol>>
+fn read_every(rest: &[Token]) -> Result<(u64, &[Token]), GrammarStop<Symbol>>
     ensures { Gives (λ x. (x.0, x.1.now)) result (read number_of class_of [] every rest.now) }
 {
     let (time, rest) = take_cycle(rest)?;
@@ -214,7 +214,7 @@ fn read_every(rest: &[Token]) -> Result<(u64, &[Token]), Stop<Symbol>>
 }
 
 // [ TIME "," [ TIME "," ] ]: the start and the stop.
-fn read_span(rest: &[Token]) -> Result<((u64, u64), &[Token]), Stop<Symbol>>
+fn read_span(rest: &[Token]) -> Result<((u64, u64), &[Token]), GrammarStop<Symbol>>
     ensures { Gives (λ x. (x.0, x.1.now)) result (read number_of class_of [] span rest.now) }
 {
     if !next_is_one_of(rest, &NUMBERS) {
@@ -230,7 +230,7 @@ fn read_span(rest: &[Token]) -> Result<((u64, u64), &[Token]), Stop<Symbol>>
 
 // [ times ] STRING
 #[tactic(auto, unfolding(crate::specs::Jobs::times_body))]
-fn read_times(rest: &[Token]) -> Result<(Times, &[Token]), Stop<Symbol>>
+fn read_times(rest: &[Token]) -> Result<(Times, &[Token]), GrammarStop<Symbol>>
     ensures { Gives (λ x. (times_of x.0, x.1.now)) result (read number_of class_of [] times rest.now) }
 {
     if next_is_one_of(rest, &STRINGS) {
@@ -257,30 +257,30 @@ fn read_times(rest: &[Token]) -> Result<(Times, &[Token]), Stop<Symbol>>
 
 // C<n>
 #[tactic(auto, unfolding(crate::specs::Jobs::thread_body))]
-fn take_thread(rest: &[Token]) -> Result<(&Token, &[Token]), Stop<Symbol>>
+fn take_thread(rest: &[Token]) -> Result<(&Token, &[Token]), GrammarStop<Symbol>>
     ensures { Gives (λ x. (x.0.now, x.1.now)) result (read number_of class_of [] thread rest.now) }
 {
     if next_is(rest, Symbol::OtherThread) {
         let reason = reason_at(rest, Refusal::NotInProfile, &[Symbol::OtherThread]);
-        return Err(Stop::At(reason, rest));
+        return Err(GrammarStop::At(reason, rest));
     }
     take(rest, Symbol::Thread)
 }
 
 // P<n>
 #[tactic(auto, unfolding(crate::specs::Jobs::phase_body))]
-fn take_phase(rest: &[Token]) -> Result<(&Token, &[Token]), Stop<Symbol>>
+fn take_phase(rest: &[Token]) -> Result<(&Token, &[Token]), GrammarStop<Symbol>>
     ensures { Gives (λ x. (x.0.now, x.1.now)) result (read number_of class_of [] phase rest.now) }
 {
     if next_is(rest, Symbol::OtherPhase) {
         let reason = reason_at(rest, Refusal::NotInProfile, &[Symbol::OtherPhase]);
-        return Err(Stop::At(reason, rest));
+        return Err(GrammarStop::At(reason, rest));
     }
     take(rest, Symbol::Phase)
 }
 
 // [ C<n> ]
-fn read_thread(rest: &[Token]) -> Result<(u8, &[Token]), Stop<Symbol>>
+fn read_thread(rest: &[Token]) -> Result<(u8, &[Token]), GrammarStop<Symbol>>
     ensures { Gives (λ x. (x.0, x.1.now)) result (read number_of class_of [] thread_part rest.now) }
 {
     if next_is_one_of(rest, &[Symbol::OtherThread, Symbol::Thread]) {
@@ -291,7 +291,7 @@ fn read_thread(rest: &[Token]) -> Result<(u8, &[Token]), Stop<Symbol>>
 }
 
 // [ P<n> ]
-fn read_phase(rest: &[Token]) -> Result<(u32, &[Token]), Stop<Symbol>>
+fn read_phase(rest: &[Token]) -> Result<(u32, &[Token]), GrammarStop<Symbol>>
     ensures { Gives (λ x. (x.0, x.1.now)) result (read number_of class_of [] phase_part rest.now) }
 {
     if next_is_one_of(rest, &[Symbol::OtherPhase, Symbol::Phase]) {
@@ -303,7 +303,7 @@ fn read_phase(rest: &[Token]) -> Result<(u32, &[Token]), Stop<Symbol>>
 
 // NAME "(" ")" ";"
 #[tactic(auto, unfolding(crate::specs::Jobs::called_body))]
-fn read_called(rest: &[Token]) -> Result<(&Token, &[Token]), Stop<Symbol>>
+fn read_called(rest: &[Token]) -> Result<(&Token, &[Token]), GrammarStop<Symbol>>
     ensures { Gives (λ x. (x.0.now, x.1.now)) result (read number_of class_of [] called rest.now) }
 {
     let (name, rest) = take_one_of(rest, &NAMES)?;
@@ -319,7 +319,7 @@ fn read_job<'a>(
     alloc: Global,
     source: Source,
     rest: &'a [Token],
-) -> Result<(JobLine, &'a [Token]), Stop<'a, Symbol>>
+) -> Result<(JobLine, &'a [Token]), GrammarStop<'a, Symbol>>
     ensures { Gives (λ x. (job_line_of x.0, x.1.now)) result
         (read number_of class_of [] (job source.entry.text.now) rest.now) }
 {
@@ -347,7 +347,7 @@ pub fn read_jobs<'a>(
     alloc: Global,
     source: Source,
     rest: &'a [Token],
-) -> Result<(Vec<JobLine>, &'a [Token]), Stop<'a, Symbol>>
+) -> Result<(Vec<JobLine>, &'a [Token]), GrammarStop<'a, Symbol>>
     ensures { Gives (λ x. (map job_line_of x.0.items, x.1.now)) result
         (read number_of class_of [] (repetition source.entry.limit (job source.entry.text.now)) rest.now) }
 {
@@ -356,7 +356,7 @@ pub fn read_jobs<'a>(
     let mut rest = rest;
     while next_is_one_of(rest, &JOB_BEGINNINGS) {
         if left == 0 {
-            return Err(Stop::At(Refusal::TooLong, rest));
+            return Err(GrammarStop::At(Refusal::TooLong, rest));
         }
         let (job, after) = read_job(alloc, source, rest)?;
         found.push(job)?;

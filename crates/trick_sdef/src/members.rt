@@ -14,7 +14,7 @@ use crate::names::take_free_name;
 use std::alloc::{AllocError, Global};
 use trick_base::Items;
 use trick_body::{NAMES, Source, Symbol, Token, name_of, read_basic};
-use trick_grammar::{Refusal, Stop, next_is, next_is_one_of, reason_at, take, take_one_of};
+use trick_grammar::{Refusal, GrammarStop, next_is, next_is_one_of, reason_at, take, take_one_of};
 use trick_lang::syntax::{Declarator, Definition, Members, TypeName};
 
 // `*` and `&`, which make a pointer or a reference.
@@ -49,7 +49,7 @@ const MEMBER_BEGINNINGS: [Symbol; 14] = [
 ];
 
 // WHOLE, as a length.
-fn take_length_number(rest: &[Token]) -> Result<(&Token, &[Token]), Stop<Symbol>>
+fn take_length_number(rest: &[Token]) -> Result<(&Token, &[Token]), GrammarStop<Symbol>>
     ensures { Gives (λ x. (x.0.now, x.1.now)) result
         (read number_of class_of [] length_number rest.now) }
 {
@@ -61,27 +61,27 @@ fn take_length_number(rest: &[Token]) -> Result<(&Token, &[Token]), Stop<Symbol>
     ];
     if next_is_one_of(rest, &refused) {
         let reason = reason_at(rest, Refusal::NotInProfile, &refused);
-        return Err(Stop::At(reason, rest));
+        return Err(GrammarStop::At(reason, rest));
     }
     let lengths = [Symbol::One, Symbol::Small, Symbol::Large, Symbol::Huge];
     take_one_of(rest, &lengths)
 }
 
 // "]", after a length.
-fn take_length_end(rest: &[Token]) -> Result<(&Token, &[Token]), Stop<Symbol>>
+fn take_length_end(rest: &[Token]) -> Result<(&Token, &[Token]), GrammarStop<Symbol>>
     ensures { Gives (λ x. (x.0.now, x.1.now)) result
         (read number_of class_of [] length_end rest.now) }
 {
     if next_is_one_of(rest, &POINTERS) {
         let reason = reason_at(rest, Refusal::NotInProfile, &POINTERS);
-        return Err(Stop::At(reason, rest));
+        return Err(GrammarStop::At(reason, rest));
     }
     take(rest, Symbol::CloseBracket)
 }
 
 // "[" WHOLE "]"
 #[tactic(auto, unfolding(crate::specs::Members::length_body))]
-fn read_length(rest: &[Token]) -> Result<(u64, &[Token]), Stop<Symbol>>
+fn read_length(rest: &[Token]) -> Result<(u64, &[Token]), GrammarStop<Symbol>>
     ensures { Gives (λ x. (x.0, x.1.now)) result (read number_of class_of [] length rest.now) }
 {
     let (_, rest) = take(rest, Symbol::OpenBracket)?;
@@ -95,7 +95,7 @@ fn read_length(rest: &[Token]) -> Result<(u64, &[Token]), Stop<Symbol>>
 pub fn read_lengths<'a>(
     alloc: Global,
     rest: &'a [Token],
-) -> Result<(Items<u64>, &'a [Token]), Stop<'a, Symbol>>
+) -> Result<(Items<u64>, &'a [Token]), GrammarStop<'a, Symbol>>
     ensures { Gives (λ x. (x.0, x.1.now)) result (read number_of class_of [] lengths rest.now) }
 {
     let mut found = Items::new(alloc);
@@ -113,13 +113,13 @@ pub fn read_lengths<'a>(
 }
 
 // NAME, as a member's name.
-fn take_declared_name(rest: &[Token]) -> Result<(&Token, &[Token]), Stop<Symbol>>
+fn take_declared_name(rest: &[Token]) -> Result<(&Token, &[Token]), GrammarStop<Symbol>>
     ensures { Gives (λ x. (x.0.now, x.1.now)) result
         (read number_of class_of [] declared_name rest.now) }
 {
     if next_is_one_of(rest, &POINTERS) {
         let reason = reason_at(rest, Refusal::NotInProfile, &POINTERS);
-        return Err(Stop::At(reason, rest));
+        return Err(GrammarStop::At(reason, rest));
     }
     take_free_name(rest)
 }
@@ -130,7 +130,7 @@ fn read_declarator<'a>(
     alloc: Global,
     source: Source,
     rest: &'a [Token],
-) -> Result<(Declarator, &'a [Token]), Stop<'a, Symbol>>
+) -> Result<(Declarator, &'a [Token]), GrammarStop<'a, Symbol>>
     ensures { Gives (λ x. (declarator_of x.0, x.1.now)) result
         (read number_of class_of [] (declarator source.entry.text.now) rest.now) }
 {
@@ -148,7 +148,7 @@ fn read_next_declarator<'a>(
     alloc: Global,
     source: Source,
     rest: &'a [Token],
-) -> Result<(Declarator, &'a [Token]), Stop<'a, Symbol>>
+) -> Result<(Declarator, &'a [Token]), GrammarStop<'a, Symbol>>
     ensures { Gives (λ x. (declarator_of x.0, x.1.now)) result
         (read number_of class_of [] (next_declarator source.entry.text.now) rest.now) }
 {
@@ -161,7 +161,7 @@ fn read_next_declarators<'a>(
     alloc: Global,
     source: Source,
     rest: &'a [Token],
-) -> Result<(Vec<Declarator>, &'a [Token]), Stop<'a, Symbol>>
+) -> Result<(Vec<Declarator>, &'a [Token]), GrammarStop<'a, Symbol>>
     ensures { Gives (λ x. (map declarator_of x.0.items, x.1.now)) result
         (read number_of class_of [] (repetition (source.entry.limit - 1) (next_declarator source.entry.text.now))
         rest.now) }
@@ -171,7 +171,7 @@ fn read_next_declarators<'a>(
     let mut rest = rest;
     while next_is(rest, Symbol::Comma) {
         if left == 0 {
-            return Err(Stop::At(Refusal::TooLong, rest));
+            return Err(GrammarStop::At(Refusal::TooLong, rest));
         }
         let (declarator, after) = read_next_declarator(alloc, source, rest)?;
         found.push(declarator)?;
@@ -187,7 +187,7 @@ pub fn read_more_declarators<'a>(
     alloc: Global,
     source: Source,
     rest: &'a [Token],
-) -> Result<(Vec<Declarator>, &'a [Token]), Stop<'a, Symbol>>
+) -> Result<(Vec<Declarator>, &'a [Token]), GrammarStop<'a, Symbol>>
     ensures { Gives (λ x. (map declarator_of x.0.items, x.1.now)) result
         (read number_of class_of [] (more_declarators source.entry.text.now source.entry.limit) rest.now) }
 {
@@ -202,7 +202,7 @@ pub fn read_declarators<'a>(
     alloc: Global,
     source: Source,
     rest: &'a [Token],
-) -> Result<(Vec<Declarator>, &'a [Token]), Stop<'a, Symbol>>
+) -> Result<(Vec<Declarator>, &'a [Token]), GrammarStop<'a, Symbol>>
     ensures { Gives (λ x. (map declarator_of x.0.items, x.1.now)) result
         (read number_of class_of [] (declarators source.entry.text.now source.entry.limit) rest.now) }
 {
@@ -218,7 +218,7 @@ fn read_member<'a>(
     alloc: Global,
     source: Source,
     rest: &'a [Token],
-) -> Result<(Members, &'a [Token]), Stop<'a, Symbol>>
+) -> Result<(Members, &'a [Token]), GrammarStop<'a, Symbol>>
     ensures { Gives (λ x. (members_of x.0, x.1.now)) result
         (read number_of class_of [] (member source.entry.text.now source.entry.limit) rest.now) }
 {
@@ -247,7 +247,7 @@ fn read_members<'a>(
     alloc: Global,
     source: Source,
     rest: &'a [Token],
-) -> Result<(Vec<Members>, &'a [Token]), Stop<'a, Symbol>>
+) -> Result<(Vec<Members>, &'a [Token]), GrammarStop<'a, Symbol>>
     ensures { Gives (λ x. (map members_of x.0.items, x.1.now)) result
         (read number_of class_of [] (repetition source.entry.limit
         (member source.entry.text.now source.entry.limit)) rest.now) }
@@ -257,7 +257,7 @@ fn read_members<'a>(
     let mut rest = rest;
     while next_is_one_of(rest, &MEMBER_BEGINNINGS) {
         if left == 0 {
-            return Err(Stop::At(Refusal::TooLong, rest));
+            return Err(GrammarStop::At(Refusal::TooLong, rest));
         }
         let (members, after) = read_member(alloc, source, rest)?;
         found.push(members)?;
@@ -270,7 +270,7 @@ fn read_members<'a>(
 /// "}" ";", which ends an enum, a struct and a class
 pub fn take_closing<'a>(
     rest: &'a [Token],
-) -> Result<((&'a Token, &'a Token), &'a [Token]), Stop<'a, Symbol>>
+) -> Result<((&'a Token, &'a Token), &'a [Token]), GrammarStop<'a, Symbol>>
     ensures { Gives (λ x. ((x.0.0.now, x.0.1.now), x.1.now)) result
         (read number_of class_of [] closing rest.now) }
 {
@@ -302,7 +302,7 @@ pub fn read_struct<'a>(
     alloc: Global,
     source: Source,
     rest: &'a [Token],
-) -> Result<(Definition, &'a [Token]), Stop<'a, Symbol>>
+) -> Result<(Definition, &'a [Token]), GrammarStop<'a, Symbol>>
     ensures { Gives (λ x. (definition_of x.0, x.1.now)) result
         (read number_of class_of [] (struct source.entry.text.now source.entry.limit) rest.now) }
 {

@@ -7,7 +7,7 @@ ghost use Rattle.trick_grammar.specs.Reading.{read};
 ghost use Rattle.trick_sdef.specs.Members.{free_name};
 
 use trick_body::{Symbol, Token};
-use trick_grammar::{Refusal, Stop, next_is, reason_at, take_one_of};
+use trick_grammar::{Refusal, GrammarStop, next_is, reason_at, take_one_of};
 
 // The symbols of names other than `trick`.
 pub const FREE_NAMES: [Symbol; 7] = [
@@ -22,12 +22,12 @@ pub const FREE_NAMES: [Symbol; 7] = [
 
 /// A NAME other than `trick`, which is not in the profile.
 #[tactic(auto, unfolding(crate::specs::Members::free_name_body))]
-pub fn take_free_name(rest: &[Token]) -> Result<(&Token, &[Token]), Stop<Symbol>>
+pub fn take_free_name(rest: &[Token]) -> Result<(&Token, &[Token]), GrammarStop<Symbol>>
     ensures { Gives (λ x. (x.0.now, x.1.now)) result (read number_of class_of [] free_name rest.now) }
 {
     if next_is(rest, Symbol::LowerTrick) {
         let reason = reason_at(rest, Refusal::NotInProfile, &[Symbol::LowerTrick]);
-        return Err(Stop::At(reason, rest));
+        return Err(GrammarStop::At(reason, rest));
     }
     take_one_of(rest, &FREE_NAMES)
 }

@@ -17,7 +17,7 @@ use trick_base::Items;
 use trick_body::{
     LIST_LIMIT, METHOD_LEVELS, NESTING_LIMIT, Source, Symbol, Token, lexemes, told, told_line,
 };
-use trick_grammar::{Refusal, Stop};
+use trick_grammar::{Refusal, GrammarStop};
 use trick_lang::syntax::{Definition, SDefine};
 use trick_text::{FirstFault, Style, TextFault, TimeFault, TokenKind, cut, last_line, seconds};
 
@@ -115,7 +115,7 @@ fn read_to_end<'a>(
     alloc: Global,
     text: &[u8],
     tokens: &'a [Token],
-) -> Result<Vec<Definition>, Stop<'a, Symbol>>
+) -> Result<Vec<Definition>, GrammarStop<'a, Symbol>>
     ensures { Gives (λ found. map definition_of found.items) result
         (read_all number_of class_of (file text.now) tokens.now) }
 {
@@ -127,7 +127,7 @@ fn read_to_end<'a>(
     let (found, rest) = read_file(alloc, source, METHOD_LEVELS, tokens)?;
     match rest {
         [] => Ok(found),
-        [_, ..] => Err(Stop::At(Refusal::Expected, rest)),
+        [_, ..] => Err(GrammarStop::At(Refusal::Expected, rest)),
     }
 }
 
@@ -173,8 +173,8 @@ fn read_cut(alloc: Global, read: Cut, fault: Option<FirstFault>) -> Result<SDefi
             None => Ok(whole_of(read, definitions)),
             Some(first) => Err(SdefFault::Text(first.fault)),
         },
-        Err(Stop::Memory) => Err(SdefFault::OutOfMemory),
-        Err(Stop::At(reason, rest)) => Err(refused(read, reason, rest, fault)),
+        Err(GrammarStop::Memory) => Err(SdefFault::OutOfMemory),
+        Err(GrammarStop::At(reason, rest)) => Err(refused(read, reason, rest, fault)),
     }
 }
 

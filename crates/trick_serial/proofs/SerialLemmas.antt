@@ -14,8 +14,8 @@ use Rattle.trick_outside.specs.declared.stop.Stop.TheVariants.{Memory}
 use Rattle.trick_outside.specs.declared.stop.Stop.{Stop}
 use Rattle.trick_runs.proofs.DidLemmas.{did_fail, did_none}
 use Rattle.trick_runs.specs.Stops.{StopsAt, before}
-use Rattle.trick_serial.specs.Serial.{RunsSerially, ended_by}
-use Rattle.trick_serial.specs.declared.ended.Ended.{Ended}
+use Rattle.trick_serial.specs.Serial.{RunsSerially, summary_of}
+use Rattle.trick_serial.specs.declared.summary.Summary.{Summary}
 use Rattle.trick_tic.specs.Steps.{steps_of}
 
 not_ok : {T : Type 0} (result : Result T Stop) (e : Stop) → result ≡ Err e → IsOk result → ⊥
@@ -26,7 +26,7 @@ not_ok (Err f) e is ok = cc
 pub none_kept : {S : Type 0} {shelf : Ghosts S} (old : S) (p : Plan) (s : State) → shelf.called old [] old
     → RunsSerially shelf p s old old (Err Memory)
 none_kept old p s none =
-    let result : Result Ended Stop = Err Memory in
+    let result : Result Summary Stop = Err Memory in
     let did = did_none old result (steps_of (run_writes p s [])) none (λ ok. cc) (λ fault. cc) in
     record {
       lists = [];
@@ -45,7 +45,7 @@ none_kept old p s none =
 pub stopped : {S T : Type 0} {shelf : Ghosts S} {old new : S} {first : Result T Stop} (p : Plan) (s : State) (lists : List (List Entry)) (e f : Stop)
     → RunsAlone shelf p s lists old new first → first ≡ Err e → f ≡ e → RunsSerially shelf p s old new (Err f)
 stopped {first = first} p s lists e f runs at same =
-    let result : Result Ended Stop = Err f in
+    let result : Result Summary Stop = Err f in
     let did = did_fail result e f runs.does at refl same in
     let stops = runs.stops (not_ok first e at) in
     record {
@@ -62,8 +62,8 @@ stopped {first = first} p s lists e f runs at same =
     }
 
 -- it came to its end
-pub came : {S T : Type 0} {shelf : Ghosts S} {old new : S} {first : Result T Stop} (p : Plan) (s : State) (lists : List (List Entry)) (ended : Ended)
-    → RunsAlone shelf p s lists old new first → IsOk first → ended ≡ ended_by (final p s lists) → RunsSerially shelf p s old new (Ok ended)
+pub came : {S T : Type 0} {shelf : Ghosts S} {old new : S} {first : Result T Stop} (p : Plan) (s : State) (lists : List (List Entry)) (ended : Summary)
+    → RunsAlone shelf p s lists old new first → IsOk first → ended ≡ summary_of (final p s lists) → RunsSerially shelf p s old new (Ok ended)
 came {first = first} p s lists ended runs ok is = record {
   lists = lists;
   runs = record {

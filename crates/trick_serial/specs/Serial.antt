@@ -8,17 +8,17 @@ use Rattle.trick_model.specs.declared.entry.Entry.{Entry}
 use Rattle.trick_outside.specs.declared.shelf.Shelf.{Ghosts}
 use Rattle.trick_outside.specs.declared.stop.Stop.{Stop}
 use Rattle.trick_serial.specs.Sum.{wrapped_sum}
-use Rattle.trick_serial.specs.declared.ended.Ended.{Ended}
+use Rattle.trick_serial.specs.declared.summary.Summary.{Summary}
 
 -- what is said of the last state of a run: its turn, its next tic, how many faults it counts, and the
 -- sum of its cells
-abbrev pub ended_by : State → Ended
-ended_by s = record { turns = s.turn; tic = s.tic; faults = s.faults.count; sum = wrapped_sum s.memory }
+abbrev pub summary_of : State → Summary
+summary_of s = record { turns = s.turn; tic = s.tic; faults = s.faults.count; sum = wrapped_sum s.memory }
 
 -- A run from a state, under the entries of a run without clients: what it did to the shelf, and, where
 -- it came to its end, what it says of the last state.
 pub record RunsSerially {S : Type 0} (shelf : Ghosts S) (p : Plan) (s : State) (old new : S)
-    (result : Result Ended Stop) : Type 0 where
+    (result : Result Summary Stop) : Type 0 where
   pub lists : List (List Entry)
   pub runs : RunsAlone shelf p s lists old new result
-  pub ended : IfOk result (λ ended. ended ≡ ended_by (final p s lists))
+  pub ended : IfOk result (λ ended. ended ≡ summary_of (final p s lists))

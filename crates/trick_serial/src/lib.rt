@@ -2,13 +2,13 @@
 //! `docs/RULES.md` has the rules of a run and `docs/FORMATS.md` its files.
 #![tactic(auto)]
 
-mod ended;
+mod summary;
 mod first;
 mod run;
 mod sum;
 mod workers;
 
-pub use ended::{Ended, ended_by};
+pub use summary::{Summary, summary_of};
 pub use first::first_state;
 pub use run::{serial, serial_by, serial_from};
 pub use workers::one_thread;

@@ -10,8 +10,8 @@ ghost use Rattle.trick_model.specs.ValidState.{IsStateOf};
 ghost use Rattle.trick_one_post.specs.Posting.{started_at};
 ghost use Rattle.trick_serial.specs.Serial.{RunsSerially};
 
-use crate::Ended;
-use crate::ended::ended_by;
+use crate::Summary;
+use crate::summary::summary_of;
 use crate::first::first_state;
 use crate::workers::one_thread;
 use std::alloc::Global;
@@ -35,7 +35,7 @@ pub fn serial_by<M: Cells + Drop, F: Shelf, H: Phases<M>>(
     state: State<M>,
     shelf: &mut F,
     workers: &mut Workers<H, OnePost>,
-) -> Result<Ended, Stop>
+) -> Result<Summary, Stop>
     requires own { H.is_for workers.old.phases accepted.now.plan }
     requires posts { (arc_value workers.old.posts.accepted).plan ≡ accepted.now.plan }
     requires free { (n : ℕ) → started_at workers.old.posts.trays.items n ≡ None }
@@ -48,7 +48,7 @@ pub fn serial_by<M: Cells + Drop, F: Shelf, H: Phases<M>>(
     let mut turns = NoTurns;
     let start = Start { alloc, state };
     match run(accepted, start, shelf, workers, &mut turns)? {
-        trick_exec::Ended::Done(world) => Ok(ended_by(&world.state)),
+        trick_exec::Ended::Done(world) => Ok(summary_of(&world.state)),
         trick_exec::Ended::Length { .. } => unreachable!(),
     }
 }
@@ -61,7 +61,7 @@ pub fn serial_from<M: Cells + Drop, F: Shelf>(
     accepted: &Arc<Accepted, Global>,
     state: State<M>,
     shelf: &mut F,
-) -> Result<Ended, Stop>
+) -> Result<Summary, Stop>
     requires valid { IsStateOf (plan_of (arc_value accepted.now).plan) (seen M.numbers state) }
     requires memory { IsMemoryOf (arc_value accepted.now).plan.program (M.numbers state.memory)
         (M.scalars state.memory) }
@@ -81,7 +81,7 @@ pub fn serial<F: Shelf>(
     alloc: Global,
     accepted: &Arc<Accepted, Global>,
     shelf: &mut F,
-) -> Result<Ended, Stop>
+) -> Result<Summary, Stop>
     ensures run { RunsSerially F.Shelf (plan_of (arc_value accepted.now).plan)
         (start_of (plan_of (arc_value accepted.now).plan)) shelf.old shelf.new result }
 {

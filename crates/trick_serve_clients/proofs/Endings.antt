@@ -14,12 +14,12 @@ use Rattle.trick_serve_clients.specs.Ends.{AreItsEnds, ends_left, seat_ends}
 use Rattle.trick_serve_clients.specs.declared.ending.EndsLeft.{EndsLeft}
 use Rattle.trick_serve_door.specs.Pairs.{AllFit}
 use Rattle.trick_serve_door.specs.Returns.{backs_of}
-use Rattle.trick_serve_door.specs.declared.ending.Ended.{Ended}
+use Rattle.trick_serve_door.specs.declared.ending.SessionEnd.{SessionEnd}
 use Rattle.trick_serve_door.specs.declared.ending.Ends.{Ends}
 use Rattle.trick_serve_door.specs.declared.past.Past.{Past}
 
 -- the links of one session more
-backs_more : {I O : Type 0} (number : ℕ) (sessions : List (Ended I O)) (session : Ended I O)
+backs_more : {I O : Type 0} (number : ℕ) (sessions : List (SessionEnd I O)) (session : SessionEnd I O)
     → backs_of number (sessions ++ session ∷ []) ≡ backs_of number sessions ++ Back (number + length sessions) session.input session.output ∷ []
 backs_more number [] session = ap (λ (n : ℕ). Back n session.input session.output ∷ []) (omega arith)
 backs_more {I} {O} number (first ∷ sessions) session =
@@ -27,14 +27,14 @@ backs_more {I} {O} number (first ∷ sessions) session =
     (backs_more (number + 1) sessions session ∙ ap (λ (n : ℕ). backs_of (number + 1) sessions ++ Back n session.input session.output ∷ []) (omega arith))
 
 -- It is not so of any of these sessions that there was no memory for its messages and its caller was not told.
-abbrev pub NoneLacks : {I O : Type 0} → List (Ended I O) → Type 0
+abbrev pub NoneLacks : {I O : Type 0} → List (SessionEnd I O) → Type 0
 NoneLacks sessions = All (λ session. session.lacked ≡ false) sessions
 
 -- The first sessions were ended, and their links went back; the others are left, the last of them first.
 pub record IsEnding {D I O : Type 0} (visited : D → List (Visit I O) → D → Type 0) (input : InGhosts I) (output : OutGhosts O) (first now : D) (all ends : List Ends) (pasts left : List (Past I O))
     (number : ℕ) (lacked : Bool) : Type 0 where
-  pub done : List (Ended I O)
-  pub more : (sessions : List (Ended I O)) → AreEnded input output ends (reverse left) sessions → AreEnded input output all pasts (done ++ sessions)
+  pub done : List (SessionEnd I O)
+  pub more : (sessions : List (SessionEnd I O)) → AreEnded input output ends (reverse left) sessions → AreEnded input output all pasts (done ++ sessions)
   pub fit : AllFit AreItsEnds ends (reverse left)
   pub count : number ≡ length done
   pub went : visited first (backs_of 1 done) now
@@ -97,7 +97,7 @@ module _ {D I O : Type 0} (visited : D → List (Visit I O) → D → Type 0) (i
         fit = subst (λ (l : List (Past I O)). AllFit AreItsEnds all l) (sym back) fit;
         count = refl;
         went = none;
-        memory = λ no. All-nil (λ (session : Ended I O). session.lacked ≡ false);
+        memory = λ no. All-nil (λ (session : SessionEnd I O). session.lacked ≡ false);
       }
 
   -- the ends that come next are those of the session that comes next
@@ -105,7 +105,7 @@ module _ {D I O : Type 0} (visited : D → List (Visit I O) → D → Type 0) (i
       → IsEnding visited input output first now all ends pasts left number lacked → (pasts' : List (Past I O)) × AllFit AreItsEnds ends (past ∷ pasts')
   ending_fits now ends left rest past number lacked cut e = (reverse rest, subst (λ (l : List (Past I O)). AllFit AreItsEnds ends l) (turned_cut left rest past cut) e.fit)
 
-  pub ending_more : (old new : D) (ends after : List Ends) (mine : Ends) (left rest : List (Past I O)) (past : Past I O) (ended : Ended I O) (number now : ℕ) (was is : Bool)
+  pub ending_more : (old new : D) (ends after : List Ends) (mine : Ends) (left rest : List (Past I O)) (past : Past I O) (ended : SessionEnd I O) (number now : ℕ) (was is : Bool)
       → ((one two three : D) (early late : List (Visit I O)) → visited one early two → visited two late three → visited one (early ++ late) three)
       → left ≡ rest ++ past ∷ [] → now ≡ number + 1 → visited old (Back now ended.input ended.output ∷ []) new → ends ≡ mine ∷ after → IsEndedBy input output mine past ended
       → is ≡ (was || ended.lacked) → IsEnding visited input output first old all ends pasts left number was → IsEnding visited input output first new all after pasts rest now is
@@ -113,7 +113,7 @@ module _ {D I O : Type 0} (visited : D → List (Visit I O) → D → Type 0) (i
       let turned = turned_cut left rest past cut in
       let fit = subst (λ (l : List (Past I O)). AllFit AreItsEnds ends l) turned e.fit in record {
         done = e.done ++ ended ∷ [];
-        more = λ sessions so. subst (λ (l : List (Ended I O)). AreEnded input output all pasts l) (sym (append_assoc e.done (ended ∷ []) sessions))
+        more = λ sessions so. subst (λ (l : List (SessionEnd I O)). AreEnded input output all pasts l) (sym (append_assoc e.done (ended ∷ []) sessions))
             (e.more (ended ∷ sessions) (subst (λ (l : List (Past I O)). AreEnded input output ends l (ended ∷ sessions)) (sym turned)
             (subst (λ (l : List Ends). AreEnded input output l (past ∷ reverse rest) (ended ∷ sessions)) (sym next) (by, so))));
         fit = rest_fits ends after mine past (reverse rest) next fit;
@@ -123,7 +123,7 @@ module _ {D I O : Type 0} (visited : D → List (Visit I O) → D → Type 0) (i
             (subst (λ (n : ℕ). visited old (Back n ended.input ended.output ∷ []) new) (more ∙ (let count = e.count in omega arith)) back));
         memory = λ no.
             let none = or_parts was ended.lacked (sym said ∙ no) in
-            let Holds : Ended I O → Type 0 = λ session. session.lacked ≡ false in
+            let Holds : SessionEnd I O → Type 0 = λ session. session.lacked ≡ false in
             All-append Holds e.done (ended ∷ []) (e.memory none.0) (All-cons Holds ended [] none.1 (All-nil Holds));
       }
 
@@ -132,7 +132,7 @@ module _ {D I O : Type 0} (visited : D → List (Visit I O) → D → Type 0) (i
   ending_all now ends left number lacked none e =
       let empty : reverse left ≡ [] = ap reverse none in record {
         sessions = e.done;
-        ended = subst (λ (l : List (Ended I O)). AreEnded input output all pasts l) (append-nil e.done)
+        ended = subst (λ (l : List (SessionEnd I O)). AreEnded input output all pasts l) (append-nil e.done)
             (e.more [] (subst (λ (l : List (Past I O)). AreEnded input output ends l []) (sym empty) (none_left input output ends (subst (λ (l : List (Past I O)). AllFit AreItsEnds ends l) empty e.fit))));
         back = e.went;
         memory = e.memory;

@@ -17,7 +17,7 @@ use Rattle.trick_serve_clients.specs.Tended.{IsTended, IsTendedSeat}
 use Rattle.trick_serve_door.specs.Pairs.{AllFit}
 use Rattle.trick_serve_door.specs.Seats.{IsPast}
 use Rattle.trick_serve_door.specs.declared.arrival.Arrival.{Arrival}
-use Rattle.trick_serve_door.specs.declared.ending.Ended.{Ended}
+use Rattle.trick_serve_door.specs.declared.ending.SessionEnd.{SessionEnd}
 use Rattle.trick_serve_door.specs.declared.ending.Ends.{Ends}
 use Rattle.trick_serve_door.specs.declared.past.Past.{Past}
 use Rattle.trick_wire.specs.Ends.{put_by, taken_by}
@@ -89,7 +89,7 @@ module _ {I O : Type 0} (input : InGhosts I) (output : OutGhosts O) where
   -- ---- the client at one place
 
   -- the client whose ends have this place, where its side has what went through them
-  tended_at : (all : List Ends) (arrivals : List (Arrival I O)) (pasts : List (Past I O)) (sessions : List (Ended I O)) (k : ℕ) (ends : Ends) (s : Side) → AllFit (IsPast input output) arrivals pasts
+  tended_at : (all : List Ends) (arrivals : List (Arrival I O)) (pasts : List (Past I O)) (sessions : List (SessionEnd I O)) (k : ℕ) (ends : Ends) (s : Side) → AllFit (IsPast input output) arrivals pasts
       → AreEnded input output all pasts sessions → slice_get all k ≡ Some ends → taken_by ends.inbox ≡ s.heard → put_by ends.outbox ≡ s.put → taken_by ends.causes ≡ s.told
       → IsTended input output arrivals sessions k s
   tended_at [] arrivals pasts sessions k ends s fit ended there heard put told = absurd (none_some ends there)
@@ -144,7 +144,7 @@ module _ {I O : Type 0} (input : InGhosts I) (output : OutGhosts O) where
   some_client x y is = cc
 
   -- The client of each seat.
-  pub seat_tended : (seats : List Seat) (late : List Ends) (first others : List (Arrival I O)) (pasts : List (Past I O)) (sessions : List (Ended I O)) → seat_queues seats ≡ map client_queues first
+  pub seat_tended : (seats : List Seat) (late : List Ends) (first others : List (Arrival I O)) (pasts : List (Past I O)) (sessions : List (SessionEnd I O)) → seat_queues seats ≡ map client_queues first
       → AllFit (IsPast input output) (first ++ others) pasts → AreEnded input output (map seat_ends seats ++ late) pasts sessions
       → (k : ℕ) → k < length seats → IsTendedSeat input output (first ++ others) sessions k (side seats k)
   seat_tended seats late first others pasts sessions same fit ended k there =
@@ -169,7 +169,7 @@ module _ {I O : Type 0} (input : InGhosts I) (output : OutGhosts O) where
   late_place (ends ∷ front) kept (suc k) past there = let rest = late_place front kept k (omega arith) (omega arith) in record { arrival = rest.arrival; there = rest.there }
 
   -- The client at each place above those of the seats, where the ends of all were kept.
-  pub late_tended : (seats : List Seat) (first kept : List (Arrival I O)) (pasts : List (Past I O)) (sessions : List (Ended I O)) → seat_queues seats ≡ map client_queues first
+  pub late_tended : (seats : List Seat) (first kept : List (Arrival I O)) (pasts : List (Past I O)) (sessions : List (SessionEnd I O)) → seat_queues seats ≡ map client_queues first
       → AllFit (IsPast input output) (first ++ kept) pasts → AreEnded input output (map seat_ends seats ++ map ends_of kept) pasts sessions
       → (k : ℕ) → length seats ≤ k → k < length (first ++ kept) → IsTended input output (first ++ kept) sessions k nobody
   late_tended seats first kept pasts sessions same fit ended k past there =
@@ -181,7 +181,7 @@ module _ {I O : Type 0} (input : InGhosts I) (output : OutGhosts O) where
       place.arrival.no_line place.arrival.no_message place.arrival.no_cause
 
   -- as many sessions as clients
-  pub sessions_count : (all : List Ends) (arrivals : List (Arrival I O)) (pasts : List (Past I O)) (sessions : List (Ended I O)) → AllFit (IsPast input output) arrivals pasts
+  pub sessions_count : (all : List Ends) (arrivals : List (Arrival I O)) (pasts : List (Past I O)) (sessions : List (SessionEnd I O)) → AllFit (IsPast input output) arrivals pasts
       → AreEnded input output all pasts sessions → length sessions ≡ length arrivals
   sessions_count [] [] [] [] fit ended = refl
   sessions_count (ends ∷ all) [] [] sessions fit ended = absurd ended
@@ -194,10 +194,10 @@ module _ {I O : Type 0} (input : InGhosts I) (output : OutGhosts O) where
 
   -- ---- where there was no memory for the messages to a client
 
-  some_session : (x y : Ended I O) → Some x ≡ Some y → x ≡ y
+  some_session : (x y : SessionEnd I O) → Some x ≡ Some y → x ≡ y
   some_session x y is = cc
 
-  none_session : (x : Ended I O) → None ≡ Some x → ⊥
+  none_session : (x : SessionEnd I O) → None ≡ Some x → ⊥
   none_session x is = cc
 
   -- the ends of a session, of whose causes this was taken
@@ -206,7 +206,7 @@ module _ {I O : Type 0} (input : InGhosts I) (output : OutGhosts O) where
     there : slice_get all k ≡ Some ends
     told : taken_by ends.causes ≡ stop.OutOfMemory ∷ []
 
-  told_at : (all : List Ends) (arrivals : List (Arrival I O)) (pasts : List (Past I O)) (sessions : List (Ended I O)) (k : ℕ) (session : Ended I O) → AllFit (IsPast input output) arrivals pasts
+  told_at : (all : List Ends) (arrivals : List (Arrival I O)) (pasts : List (Past I O)) (sessions : List (SessionEnd I O)) (k : ℕ) (session : SessionEnd I O) → AllFit (IsPast input output) arrivals pasts
       → AreEnded input output all pasts sessions → NoneLacks sessions → slice_get sessions k ≡ Some session → session.wrote ≡ stop.OutOfMemory → ToldAt all k
   told_at all arrivals pasts [] k session fit ended none there wrote = absurd (none_session session there)
   told_at [] arrivals [] (one ∷ sessions) k session fit ended none there wrote = absurd ended
@@ -217,24 +217,24 @@ module _ {I O : Type 0} (input : InGhosts I) (output : OutGhosts O) where
       let same = some_session one session there in record {
         ends = ends;
         there = refl;
-        told = ended.0.told (All-head (λ (s : Ended I O). s.lacked ≡ false) one sessions none) (ap (λ (s : Ended I O). s.wrote) same ∙ wrote) arrival fit.0;
+        told = ended.0.told (All-head (λ (s : SessionEnd I O). s.lacked ≡ false) one sessions none) (ap (λ (s : SessionEnd I O). s.wrote) same ∙ wrote) arrival fit.0;
       }
   told_at (ends ∷ all) (arrival ∷ arrivals) (past ∷ pasts) (one ∷ sessions) (suc k) session fit ended none there wrote =
-      let rest = told_at all arrivals pasts sessions k session fit.1 ended.1 (All-tail (λ (s : Ended I O). s.lacked ≡ false) one sessions none) there wrote in
+      let rest = told_at all arrivals pasts sessions k session fit.1 ended.1 (All-tail (λ (s : SessionEnd I O). s.lacked ≡ false) one sessions none) there wrote in
       record { ends = rest.ends; there = rest.there; told = rest.told }
 
   no_stop : (x : WriteStop) → [] ≡ x ∷ [] → ⊥
   no_stop x is = cc
 
-  session_within : (sessions : List (Ended I O)) (k : ℕ) (session : Ended I O) → slice_get sessions k ≡ Some session → k < length sessions
+  session_within : (sessions : List (SessionEnd I O)) (k : ℕ) (session : SessionEnd I O) → slice_get sessions k ≡ Some session → k < length sessions
   session_within [] k session is = absurd (none_session session is)
   session_within (one ∷ sessions) zero session is = omega arith
   session_within (one ∷ sessions) (suc k) session is = let rest = session_within sessions k session is in omega (arith, rest)
 
   -- Where it is not so of any session that it was not told, it was told to the seat of each.
-  pub told_seat : (seats : List Seat) (first kept : List (Arrival I O)) (pasts : List (Past I O)) (sessions : List (Ended I O)) → seat_queues seats ≡ map client_queues first
+  pub told_seat : (seats : List Seat) (first kept : List (Arrival I O)) (pasts : List (Past I O)) (sessions : List (SessionEnd I O)) → seat_queues seats ≡ map client_queues first
       → AllFit (IsPast input output) (first ++ kept) pasts → AreEnded input output (map seat_ends seats ++ map ends_of kept) pasts sessions → NoneLacks sessions
-      → (k : ℕ) (session : Ended I O) → slice_get sessions k ≡ Some session → session.wrote ≡ stop.OutOfMemory → (side seats k).told ≡ stop.OutOfMemory ∷ []
+      → (k : ℕ) (session : SessionEnd I O) → slice_get sessions k ≡ Some session → session.wrote ≡ stop.OutOfMemory → (side seats k).told ≡ stop.OutOfMemory ∷ []
   told_seat seats first kept pasts sessions same fit ended none k session there wrote =
       let at = told_at (map seat_ends seats ++ map ends_of kept) (first ++ kept) pasts sessions k session fit ended none there wrote in
       let within = session_within sessions k session there in

@@ -7,7 +7,7 @@ use Rattle.trick_outside.specs.declared.link_out.LinkOut.{Ghosts as OutGhosts}
 use Rattle.trick_serve_door.specs.Returns.{backs_of}
 use Rattle.trick_serve_door.specs.Seats.{IsPast}
 use Rattle.trick_serve_door.specs.declared.arrival.Arrival.{Arrival}
-use Rattle.trick_serve_door.specs.declared.ending.Ended.{Ended}
+use Rattle.trick_serve_door.specs.declared.ending.SessionEnd.{SessionEnd}
 use Rattle.trick_serve_door.specs.declared.ending.Ends.{Ends}
 use Rattle.trick_serve_door.specs.declared.past.Past.{Past}
 use Rattle.trick_wire.specs.Ends.{put_by, taken_by}
@@ -17,7 +17,7 @@ use Rattle.trick_wire.specs.declared.heard.WriteStop.TheVariants as stop
 
 module _ {I O : Type 0} (input : InGhosts I) (output : OutGhosts O) where
   -- A session was ended with these ends, whosever its threads were.
-  pub record IsEndedBy (ends : Ends) (past : Past I O) (ended : Ended I O) : Type 0 where
+  pub record IsEndedBy (ends : Ends) (past : Past I O) (ended : SessionEnd I O) : Type 0 where
     pub heard : (arrival : Arrival I O) → IsPast input output arrival past
         → HasHeard (input.holds arrival.input.value)
         (Rose (input.failures arrival.input.value) (input.failures ended.input)) (taken_by ends.inbox)
@@ -31,7 +31,7 @@ module _ {I O : Type 0} (input : InGhosts I) (output : OutGhosts O) where
     pub later : output.failures past.writer.link ≤ output.failures ended.output
 
   -- Each session was ended with its ends.
-  abbrev pub AreEnded : List Ends → List (Past I O) → List (Ended I O) → Type 0
+  abbrev pub AreEnded : List Ends → List (Past I O) → List (SessionEnd I O) → Type 0
   AreEnded [] [] [] = Unit {0}
   AreEnded (ends ∷ all) (past ∷ pasts) (ended ∷ sessions) = IsEndedBy ends past ended × AreEnded all pasts sessions
   AreEnded [] [] (ended ∷ sessions) = ⊥
@@ -43,7 +43,7 @@ module _ {I O : Type 0} (input : InGhosts I) (output : OutGhosts O) where
 -- nothing did for any of them.
 pub record EndsAll {D I O : Type 0} (visited : D → List (Visit I O) → D → Type 0) (input : InGhosts I)
     (output : OutGhosts O) (old new : D) (ends : List Ends) (pasts : List (Past I O)) (lacked : Bool) : Type 0 where
-  pub sessions : List (Ended I O)
+  pub sessions : List (SessionEnd I O)
   pub ended : AreEnded input output ends pasts sessions
   pub back : visited old (backs_of 1 sessions) new
   pub memory : lacked ≡ false → All (λ session. session.lacked ≡ false) sessions

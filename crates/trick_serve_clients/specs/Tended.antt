@@ -14,7 +14,7 @@ use Rattle.trick_serve_door.specs.Returns.{backs_of}
 use Rattle.trick_serve_door.specs.Taking.{Hosts}
 use Rattle.trick_serve_door.specs.Told.{GivesFirst, IsOpen, links_of, refused_of}
 use Rattle.trick_serve_door.specs.declared.arrival.Arrival.{Arrival}
-use Rattle.trick_serve_door.specs.declared.ending.Ended.{Ended}
+use Rattle.trick_serve_door.specs.declared.ending.SessionEnd.{SessionEnd}
 use Rattle.trick_serve_door.specs.declared.past.Past.{Past}
 use Rattle.trick_serve_facts.specs.Tales.{IsEndOf}
 use Rattle.trick_wire.specs.declared.heard.WriteStop.TheVariants as stop
@@ -30,17 +30,17 @@ HasNoMore last count = (last ≡ visit.Ended ∷ []) ⊎ ((last ≡ visit.Failed
 
 -- The client at this place, from its arrival to the end of its session, of which its caller had this side.
 pub record IsTended {I O : Type 0} (input : InGhosts I) (output : OutGhosts O) (arrivals : List (Arrival I O))
-    (sessions : List (Ended I O)) (k : ℕ) (s : Side) : Type 0 where
+    (sessions : List (SessionEnd I O)) (k : ℕ) (s : Side) : Type 0 where
   pub arrival : Arrival I O
   pub past : Past I O
-  pub ended : Ended I O
+  pub ended : SessionEnd I O
   pub comes : slice_get arrivals k ≡ Some arrival
   pub goes : slice_get sessions k ≡ Some ended
   pub end : IsEndOf input output arrival past ended s
 
 -- So it is with the client of this seat, and the queues of the seat are those that came with the client.
 pub record IsTendedSeat {I O : Type 0} (input : InGhosts I) (output : OutGhosts O) (arrivals : List (Arrival I O))
-    (sessions : List (Ended I O)) (k : ℕ) (s : Side) : Type 0 where
+    (sessions : List (SessionEnd I O)) (k : ℕ) (s : Side) : Type 0 where
   pub client : IsTended input output arrivals sessions k s
   pub queues : s.queues ≡ Some (client_queues client.arrival)
 
@@ -58,7 +58,7 @@ pub record HasTended {D I O S : Type 0} (h : Hosts D I O S) (door : D) (spawner 
   pub visits : List (Visit I O)
   pub last : List (Visit I O)
   pub arrivals : List (Arrival I O)
-  pub sessions : List (Ended I O)
+  pub sessions : List (SessionEnd I O)
   pub visited : h.visited door ((visits ++ last) ++ backs_of 1 sessions) closed.door
   pub asks : All IsOpen visits
   pub ended : IsLastAnswer last
@@ -73,5 +73,5 @@ pub record HasTended {D I O S : Type 0} (h : Hosts D I O S) (door : D) (spawner 
   pub first : h.has_client door → GivesFirst (visits ++ last)
   pub silent : h.has_client door → v.broke ≡ false → v.silent ≡ false
   pub over : v.over ≡ true → (length v.seats ≡ length arrivals) × HasNoMore last (length arrivals)
-  pub memory : closed.lacked ≡ false → (k : ℕ) (ended : Ended I O) → slice_get sessions k ≡ Some ended
+  pub memory : closed.lacked ≡ false → (k : ℕ) (ended : SessionEnd I O) → slice_get sessions k ≡ Some ended
       → ended.wrote ≡ stop.OutOfMemory → (side v.seats k).told ≡ stop.OutOfMemory ∷ []

@@ -8,7 +8,7 @@ ghost use Rattle.trick_serve_door.specs.Pairs.{AllFit};
 use std::sync::Wait;
 use trick_outside::{Door, LinkIn, LinkOut};
 use trick_serve::Seat;
-use trick_serve_door::{Ended, Ends, Past, end_session};
+use trick_serve_door::{SessionEnd, Ends, Past, end_session};
 
 // The ends of the sessions that are not ended yet: of those with seats and of those that came late, each with the last
 // of them first.
@@ -47,7 +47,7 @@ fn end_next<I: LinkIn + Drop, O: LinkOut + Drop, R: Wait>(
     rt: &R,
     ends: &mut EndsLeft,
     past: Past<I, O>,
-) -> Ended<I, O>
+) -> SessionEnd<I, O>
     requires { (pasts : List (Past I O)) × AllFit AreItsEnds (ends_left ends.old) (past ∷ pasts) }
     ensures { (mine : Ends) × (ends_left ends.old ≡ mine ∷ ends_left ends.new)
         × IsEndedBy I.LinkIn O.LinkOut mine past result }
@@ -84,7 +84,7 @@ where
     let mut has_lacked = false;
     while let Some(past) = left.pop() {
         number += 1;
-        let Ended {
+        let SessionEnd {
             input,
             output,
             lacked,

@@ -22,7 +22,7 @@ pub struct Ends {
 
 /// A session that is over: the links of its client, and why its reader and its writer stopped.
 #[derive(Drop)]
-pub struct Ended<I, O> {
+pub struct SessionEnd<I, O> {
     pub input: I,
     pub output: O,
     pub read: ReadStop,
@@ -65,7 +65,7 @@ pub fn end_session<I: LinkIn, O: LinkOut, R: Wait>(
     rt: &R,
     ends: Ends,
     past: Past<I, O>,
-) -> Ended<I, O>
+) -> SessionEnd<I, O>
     requires inbox { AreEnds past.reader.inbox ends.inbox }
     requires outbox { AreEnds ends.outbox past.writer.outbox }
     requires causes { AreEnds past.writer.causes ends.causes }
@@ -92,7 +92,7 @@ pub fn end_session<I: LinkIn, O: LinkOut, R: Wait>(
     let (output, wrote) = end_writer(rt, outbox, &mut causes, writer);
     let (input, read) = end_reader(&mut inbox, reader);
     let lacked = has_lacked(rt, wrote, stop, &mut causes);
-    Ended {
+    SessionEnd {
         input,
         output,
         read,

@@ -21,6 +21,6 @@ pub use arrival::{Arrival, Comes};
 pub use ask::End;
 pub use asking::Asking;
 pub use departure::Departure;
-pub use ending::{Ended, Ends, end_session};
+pub use ending::{SessionEnd, Ends, end_session};
 pub use past::Past;
 pub use taking::{Accepting, Taken, accept};

@@ -16,7 +16,7 @@ use Rattle.trick_runs.specs.Ran as ran
 use Rattle.trick_serve.specs.Calls.{View, Went}
 use Rattle.trick_serve.specs.Sides.{Side}
 use Rattle.trick_serve_door.specs.declared.arrival.Arrival.{Arrival}
-use Rattle.trick_serve_door.specs.declared.ending.Ended.{Ended}
+use Rattle.trick_serve_door.specs.declared.ending.SessionEnd.{SessionEnd}
 use Rattle.trick_serve_door.specs.declared.past.Past.{Past}
 use Rattle.trick_serve_facts.specs.Clients.{EndSays}
 use Rattle.trick_serve_facts.specs.Life.{is_write_fault}
@@ -49,7 +49,7 @@ rose_later : (before now later : ℕ) → now ≤ later → Rose before now → 
 rose_later before now later more rose = le_trans rose more
 
 -- What is said of the end of a session is what its links tell.
-pub end_says : {I O : Type 0} → (input : InGhosts I) (output : OutGhosts O) (arrival : Arrival I O) (past : Past I O) (ended : Ended I O) (s : Side)
+pub end_says : {I O : Type 0} → (input : InGhosts I) (output : OutGhosts O) (arrival : Arrival I O) (past : Past I O) (ended : SessionEnd I O) (s : Side)
     → IsEndOf input output arrival past ended s → EndSays (tale_of input output arrival ended) s
 end_says input output arrival past ended s end = record {
   heard = end.heard;

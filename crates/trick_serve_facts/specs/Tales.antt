@@ -6,7 +6,7 @@ use Rattle.trick_outside.specs.declared.link_out.LinkOut.{Ghosts as OutGhosts}
 use Rattle.trick_serve.specs.Sides.{Side}
 use Rattle.trick_serve_door.specs.Seats.{IsPast}
 use Rattle.trick_serve_door.specs.declared.arrival.Arrival.{Arrival}
-use Rattle.trick_serve_door.specs.declared.ending.Ended.{Ended}
+use Rattle.trick_serve_door.specs.declared.ending.SessionEnd.{SessionEnd}
 use Rattle.trick_serve_door.specs.declared.past.Past.{Past}
 use Rattle.trick_serve_facts.specs.Clients.{LinkTale}
 use Rattle.trick_wire.specs.HasHeard.{HasHeard}
@@ -14,7 +14,7 @@ use Rattle.trick_wire.specs.HasWritten.{HasWritten, IsCauseOf}
 
 module _ {I O : Type 0} where
   -- what the links tell of a client that arrived with them, and whose session ended with them
-  abbrev pub tale_of : InGhosts I → OutGhosts O → Arrival I O → Ended I O → LinkTale
+  abbrev pub tale_of : InGhosts I → OutGhosts O → Arrival I O → SessionEnd I O → LinkTale
   tale_of input output arrival ended = record {
     told = input.holds arrival.input.value;
     read_before = input.failures arrival.input.value;
@@ -28,7 +28,7 @@ module _ {I O : Type 0} where
 
   -- What is said of the end of a session whose seat has this side: its threads handed back what they promise, and the
   -- count of its second link has not fallen since.
-  pub record IsEndOf (input : InGhosts I) (output : OutGhosts O) (arrival : Arrival I O) (past : Past I O) (ended : Ended I O) (s : Side)
+  pub record IsEndOf (input : InGhosts I) (output : OutGhosts O) (arrival : Arrival I O) (past : Past I O) (ended : SessionEnd I O) (s : Side)
       : Type 0 where
     pub is_past : IsPast input output arrival past
     pub heard : HasHeard (input.holds arrival.input.value)

@@ -14,7 +14,7 @@ use Rattle.trick_outside.specs.declared.shelf.Shelf.{Ghosts as ShelfGhosts}
 use Rattle.trick_outside.specs.declared.stop.Stop.TheVariants.{Memory}
 use Rattle.trick_outside.specs.declared.stop.Stop.{Stop}
 use Rattle.trick_run_facts.specs.Left.{Left, untouched}
-use Rattle.trick_serial.specs.declared.ended.Ended.{Ended}
+use Rattle.trick_serial.specs.declared.summary.Summary.{Summary}
 use Rattle.trick_serve_door.specs.Taking.{Hosts}
 use Rattle.trick_serve_run.specs.Served.{HasServedRun, IsStoppedServed}
 use Rattle.trick_serve_run.specs.Serving.{moment, outside}
@@ -51,7 +51,7 @@ none_served : {F D I O S : Type 0} (shelf : ShelfGhosts F) (h : Hosts D I O S) (
     → shelf.called at [] at → h.visited door [] door
     → IsStoppedServed (outside shelf h) p s [] (moment at door first) (moment at door spawner) Memory
 none_served shelf h p s at door first spawner called visited =
-    let result : Result Ended Stop = Err Memory in
+    let result : Result Summary Stop = Err Memory in
     record {
       rules = refl;
       does = does_none at result (steps_of (run_writes p s [])) called (λ ok. cc) (λ fault. cc);

@@ -7,7 +7,7 @@ use Rattle.trick_model.specs.State.{State}
 use Rattle.trick_model.specs.declared.entry.Entry.{Entry}
 use Rattle.trick_outside.specs.Causes.{RoseBy}
 use Rattle.trick_outside.specs.declared.stop.Stop.{Stop}
-use Rattle.trick_serial.specs.declared.ended.Ended.{Ended}
+use Rattle.trick_serial.specs.declared.summary.Summary.{Summary}
 use Rattle.trick_serve_door.specs.Taking.{Hosts}
 use Rattle.trick_serve_run.specs.Served.{HasServedRun, IsStoppedServed, IsWholeServed}
 use Rattle.trick_serve_run.specs.Serving.{Moment, Outside, moment}
@@ -62,7 +62,7 @@ stopped_from first served = record {
   clients = served.clients;
 }
 
-pub served_from : {F D I O S : Type 0} (o : Outside F D I O S) (p : Plan) (s : State) (shelf : F) (door : D) (first spawner : S) (new : Moment F D S) (sessions : ℕ) (ended : Result Ended Stop)
+pub served_from : {F D I O S : Type 0} (o : Outside F D I O S) (p : Plan) (s : State) (shelf : F) (door : D) (first spawner : S) (new : Moment F D S) (sessions : ℕ) (ended : Result Summary Stop)
     → o.clients.refusals first ≤ o.clients.refusals spawner → HasServedRun o p s (moment shelf door spawner) new sessions ended
     → HasServedRun o p s (moment shelf door first) new sessions ended
 served_from o p s shelf door first spawner new sessions (Ok ended) more (lists, served, says, joins) = (lists, whole_from first more served, says, joins)

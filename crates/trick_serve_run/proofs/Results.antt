@@ -18,7 +18,7 @@ use Rattle.trick_run_facts.specs.Stopping.{StopsLeave}
 use Rattle.trick_run_facts.specs.Waiting.{RoundsAreBounded}
 use Rattle.trick_runs.specs.Hosts.{Place, hosts}
 use Rattle.trick_runs.specs.Ran.{Ran, Stopped}
-use Rattle.trick_serial.specs.declared.ended.Ended.{Ended}
+use Rattle.trick_serial.specs.declared.summary.Summary.{Summary}
 use Rattle.trick_serve.specs.Calls.{View, Went}
 use Rattle.trick_serve_clients.specs.Tended.{HasTended}
 use Rattle.trick_serve_clients.specs.declared.closing.Closed.{Closed}
@@ -56,7 +56,7 @@ module _ {F D I O S : Type 0} (shelf : ShelfGhosts F) (clients : DoorHosts D I O
         → IsStoppedServed all p s lists (moment old.shelf door spawner) (moment new.shelf closed.door closed.spawner) e
     stop_served e lists stopped =
         let went = stopped_went view steps undecided p s lists stopped in
-        let result : Result Ended Stop = Err e in
+        let result : Result Summary Stop = Err e in
         record {
           rules = stopped_right view steps undecided p s lists stopped;
           does = does_fail result e e stopped.does refl refl refl;
@@ -90,14 +90,14 @@ module _ {F D I O S : Type 0} (shelf : ShelfGhosts F) (clients : DoorHosts D I O
           joins_counted lists (length (view new.turns).seats) (joins_law p s lists (view old.turns) (view new.turns) run.0 right),
         )
 
-    pub served_by : (ended : Result Ended Stop) → HasRun M (hosts shelf turns posts) p s old new ended
+    pub served_by : (ended : Result Summary Stop) → HasRun M (hosts shelf turns posts) p s old new ended
         → HasServedRun all p s (moment old.shelf door spawner) (moment new.shelf closed.door closed.spawner) (length (view new.turns).seats)
         (concluded ended (not (view new.turns).broke && not closed.lacked))
     served_by (Err e) (lists, stopped) = (lists, stop_served e lists stopped)
     served_by (Ok ended) (lists, ran, last) = by (not (view new.turns).broke && not closed.lacked) refl
       where
         by : (b : Bool) → (not (view new.turns).broke && not closed.lacked) ≡ b
-            → (let result : Result Ended Stop = Ok ended in
+            → (let result : Result Summary Stop = Ok ended in
             HasServedRun all p s (moment old.shelf door spawner) (moment new.shelf closed.door closed.spawner) (length (view new.turns).seats) (concluded result b))
         by true both =
             let parts = all_whole (view new.turns).broke closed.lacked both in

@@ -15,7 +15,7 @@ use Rattle.trick_runs.specs.Hosts.{Hosts, Place}
 use Rattle.trick_runs.specs.Ran.{Handed, Ran, Stopped, last_answer}
 use Rattle.trick_runs.specs.Rounds.{AreChosen}
 use Rattle.trick_runs.specs.Turned.{Asks}
-use Rattle.trick_serial.specs.declared.ended.Ended.{Ended}
+use Rattle.trick_serial.specs.declared.summary.Summary.{Summary}
 use Rattle.trick_serve.specs.Calls.{View, Went}
 use Rattle.trick_serve.specs.Rolls.{ways_of}
 use Rattle.trick_serve.specs.declared.served.Served.{Served}
@@ -38,7 +38,7 @@ nothing_last w = by (is_frozen w.state.mode && nat_lt w.state.tic w.state.limit)
     by false = tt
 
 -- What was given and handed over, until it came to its end or stopped.
-pub run_went : {S U M Q : Type 0} (D : Type 0) (h : Hosts S U M Q) (p : Plan) (s : State) (old new : Place S U Q) (result : Result Ended Stop)
+pub run_went : {S U M Q : Type 0} (D : Type 0) (h : Hosts S U M Q) (p : Plan) (s : State) (old new : Place S U Q) (result : Result Summary Stop)
     → HasRun D h p s old new result → (given : List Answer) × (said : List Message) × h.turns.went old.turns given said new.turns
 run_went D h p s old new (Ok ended) (lists, ran, last) = (_, _, ran.done.step)
 run_went D h p s old new (Err e) (lists, stopped) = (_, _, stopped.step)

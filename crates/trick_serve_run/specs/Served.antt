@@ -13,8 +13,8 @@ use Rattle.trick_outside.specs.Does.{Does}
 use Rattle.trick_outside.specs.declared.stop.Stop.{Stop}
 use Rattle.trick_run_facts.specs.Left.{Left}
 use Rattle.trick_runs.specs.Answers.{IsSuccession}
-use Rattle.trick_serial.specs.Serial.{ended_by}
-use Rattle.trick_serial.specs.declared.ended.Ended.{Ended}
+use Rattle.trick_serial.specs.Serial.{summary_of}
+use Rattle.trick_serial.specs.declared.summary.Summary.{Summary}
 use Rattle.trick_serve_run.specs.Serving.{Moment, Outside}
 use Rattle.trick_tic.specs.Steps.{steps_of}
 use Rattle.trick_turns.specs.Joins.{joins_of}
@@ -33,7 +33,7 @@ pub record IsWholeServed {F D I O S : Type 0} (o : Outside F D I O S) (p : Plan)
 pub record IsStoppedServed {F D I O S : Type 0} (o : Outside F D I O S) (p : Plan) (s : State)
     (lists : List (List Entry)) (old new : Moment F D S) (e : Stop) : Type 0 where
   pub rules : IsSuccession false lists
-  pub does : Does {T = Ended} o.shelf old.shelf new.shelf (Err e) (steps_of (run_writes p s lists))
+  pub does : Does {T = Summary} o.shelf old.shelf new.shelf (Err e) (steps_of (run_writes p s lists))
   pub sent : List Message
   pub unsent : List Message
   pub handed : turns_said p (opened s) lists ≡ sent ++ unsent
@@ -43,8 +43,8 @@ pub record IsStoppedServed {F D I O S : Type 0} (o : Outside F D I O S) (p : Pla
 
 -- A served run from a state came to its end, of which this is said, and so many sessions joined; or it stopped.
 abbrev pub HasServedRun : {F D I O S : Type 0} → Outside F D I O S → Plan → State → Moment F D S → Moment F D S → ℕ
-    → Result Ended Stop → Type 0
+    → Result Summary Stop → Type 0
 HasServedRun o p s old new sessions (Ok ended) =
-    (lists : List (List Entry)) × IsWholeServed o p s lists old new × (ended ≡ ended_by (final p s lists))
+    (lists : List (List Entry)) × IsWholeServed o p s lists old new × (ended ≡ summary_of (final p s lists))
     × (sessions ≡ joins_of lists)
 HasServedRun o p s old new sessions (Err e) = (lists : List (List Entry)) × IsStoppedServed o p s lists old new e

@@ -16,7 +16,7 @@ use trick_model::Accepted;
 use trick_outside::{Shelf, Stop};
 use trick_phase::Phases;
 use trick_post::Posts;
-use trick_serial::{Ended, ended_by};
+use trick_serial::{Summary, summary_of};
 use trick_tic::Workers;
 use trick_turns::Turns;
 
@@ -29,7 +29,7 @@ pub(crate) fn run_by<M: Cells + Drop, F: Shelf, H: Phases<M>, P: Posts, T: Turns
     shelf: &mut F,
     workers: &mut Workers<H, P>,
     turns: &mut T,
-) -> Result<Ended, Stop>
+) -> Result<Summary, Stop>
     requires own { H.is_for workers.old.phases accepted.now.plan }
     requires posts { P.plan workers.old.posts ≡ accepted.now.plan }
     requires free { IsFree (plan_of accepted.now.plan) (P.in_flight workers.old.posts) }
@@ -43,7 +43,7 @@ pub(crate) fn run_by<M: Cells + Drop, F: Shelf, H: Phases<M>, P: Posts, T: Turns
         (at shelf.old turns.old workers.old.posts) (at shelf.new turns.new workers.new.posts) result }
 {
     match run(accepted, start, shelf, workers, turns) {
-        Ok(trick_exec::Ended::Done(world)) => Ok(ended_by(&world.state)),
+        Ok(trick_exec::Ended::Done(world)) => Ok(summary_of(&world.state)),
         Ok(trick_exec::Ended::Length { .. }) => unreachable!(),
         Err(stop) => Err(stop),
     }

@@ -3,7 +3,7 @@
 use std::alloc::Global;
 use std::sync::Arc;
 use trick_outside::Stop;
-use trick_serial::Ended;
+use trick_serial::Summary;
 
 /// What a served run works with, beside its plan, its first state and its shelf.
 #[derive(Drop)]
@@ -23,7 +23,7 @@ pub struct Serving<D, S, G, R> {
 pub struct Service<D, S> {
     /// What is said of its last state, or why it stopped: at `Stop::Shelf` the shelf failed, and at `Stop::Memory`
     /// there was no memory.
-    pub ended: Result<Ended, Stop>,
+    pub ended: Result<Summary, Stop>,
     /// How many sessions joined in it.
     pub sessions: u64,
     /// The door, which has the links of all clients back.

@@ -5,7 +5,7 @@ ghost use Rattle.trick_serve_run.specs.Ending.{concluded as concluded_of};
 
 use crate::serving::Service;
 use trick_outside::Stop;
-use trick_serial::Ended;
+use trick_serial::Summary;
 use trick_serve::Served;
 use trick_serve_clients::Closed;
 
@@ -32,7 +32,7 @@ pub(crate) fn tally_of<I, O, R>(served: &Served<I, O, R>) -> Tally
 }
 
 // How a run ended: where there was no memory for its clients it has stopped for that.
-fn concluded(ended: Result<Ended, Stop>, whole: bool) -> Result<Ended, Stop>
+fn concluded(ended: Result<Summary, Stop>, whole: bool) -> Result<Summary, Stop>
     ensures { result ≡ concluded_of ended whole }
 {
     match ended {
@@ -43,7 +43,7 @@ fn concluded(ended: Result<Ended, Stop>, whole: bool) -> Result<Ended, Stop>
 
 /// What a run comes to that ended so, by what its source of entries told then and by its closed clients.
 pub(crate) fn service_of<D, S>(
-    ended: Result<Ended, Stop>,
+    ended: Result<Summary, Stop>,
     tally: Tally,
     closed: Closed<D, S>,
 ) -> Service<D, S>

@@ -16,8 +16,8 @@ use Rattle.trick_outside.specs.declared.stop.Stop.TheVariants as stop
 use Rattle.trick_outside.specs.declared.stop.Stop.{Stop}
 use Rattle.trick_refusal.specs.Checkpoint.{checkpoint_line}
 use Rattle.trick_resume.specs.Loaded.{IsCheckpointOf}
-use Rattle.trick_serial.specs.Serial.{RunsSerially, ended_by}
-use Rattle.trick_serial.specs.declared.ended.Ended.{Ended}
+use Rattle.trick_serial.specs.Serial.{RunsSerially, summary_of}
+use Rattle.trick_serial.specs.declared.summary.Summary.{Summary}
 use Rattle.trick_top.proofs.JoinLemmas.{none_join}
 use Rattle.trick_top.specs.Acts.{Acts, HasActed, StopsWith, accepted_verdict, checked, ended_verdict, last_state, listed, listed_verdict}
 use Rattle.trick_top.specs.Acts.{no_memory, no_memory_to_write, not_written, ran, run_steps, unloaded}
@@ -51,7 +51,7 @@ module _ {S : Type 0} {shelf : Ghosts S} (s : S) (plan shown : Plan) (from journ
   acted_listed t list (inr is) = acted_quiet s plan from journal t verdict none (rw is no_memory)
 
 module _ {S : Type 0} {shelf : Ghosts S} {old new : S} (plan : Plan) (from : Option (List ℕ)) (first : State) (starts : IsFirst plan from first) where
-  under_way : {result : Result Ended Stop} → (runs : RunsSerially shelf (plan_of plan) first old new result) → IsUnderWay plan None first runs.lists
+  under_way : {result : Result Summary Stop} → (runs : RunsSerially shelf (plan_of plan) first old new result) → IsUnderWay plan None first runs.lists
   under_way runs = record { goes = runs.runs.goes; published = runs.runs.published }
 
   -- how it stopped
@@ -59,13 +59,13 @@ module _ {S : Type 0} {shelf : Ghosts S} {old new : S} (plan : Plan) (from : Opt
   stopped_so runs = let stops = runs.runs.stops (λ ok. cc) in record { part = runs.runs.does.part; said = stops.0; stops = stops.1 }
 
   -- no session joins in a run without clients
-  alone : {result : Result Ended Stop} (runs : RunsSerially shelf (plan_of plan) first old new result) → Acts plan from None aim.Run (run_steps plan first runs.lists) (ended_verdict plan first runs.lists)
-      → Acts plan from None aim.Run (run_steps plan first runs.lists) (EndedBy (ended_by (last_state plan first runs.lists)) 0)
+  alone : {result : Result Summary Stop} (runs : RunsSerially shelf (plan_of plan) first old new result) → Acts plan from None aim.Run (run_steps plan first runs.lists) (ended_verdict plan first runs.lists)
+      → Acts plan from None aim.Run (run_steps plan first runs.lists) (EndedBy (summary_of (last_state plan first runs.lists)) 0)
   alone runs acts =
-      subst (λ n. Acts plan from None aim.Run (run_steps plan first runs.lists) (EndedBy (ended_by (last_state plan first runs.lists)) n)) (none_join (plan_of plan) _ runs.lists runs.runs.published) acts
+      subst (λ n. Acts plan from None aim.Run (run_steps plan first runs.lists) (EndedBy (summary_of (last_state plan first runs.lists)) n)) (none_join (plan_of plan) _ runs.lists runs.runs.published) acts
 
   -- a run without clients from this state
-  pub acted_run : (result : Result Ended Stop) → RunsSerially shelf (plan_of plan) first old new result → HasActed shelf old new plan from None aim.Run (run_verdict result)
+  pub acted_run : (result : Result Summary Stop) → RunsSerially shelf (plan_of plan) first old new result → HasActed shelf old new plan from None aim.Run (run_verdict result)
   acted_run (Ok ended) runs = record {
     calls = runs.runs.does.calls;
     went = runs.runs.does.went;

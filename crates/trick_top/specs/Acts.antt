@@ -19,7 +19,7 @@ use Rattle.trick_refusal.specs.Checkpoint.{checkpoint_line}
 use Rattle.trick_refusal.specs.Journal.{journal_line}
 use Rattle.trick_runs.specs.Stops.{StopsAt}
 use Rattle.trick_turns.specs.Joins.{joins_of}
-use Rattle.trick_serial.specs.Serial.{ended_by}
+use Rattle.trick_serial.specs.Serial.{summary_of}
 use Rattle.trick_tic.specs.Steps.{steps_of}
 use Rattle.trick_top.specs.First.{IsFirst, IsUnloaded}
 use Rattle.trick_top.specs.Runs.{IsMisfit, IsUnderWay, IsUnread, IsWholeRun, given_turn, short_steps}
@@ -51,7 +51,7 @@ last_state plan first lists = final (plan_of plan) first lists
 
 -- what a run says that is done: what holds of its last state, and how many sessions joined
 abbrev pub ended_verdict : Plan → State → List (List Entry) → Verdict
-ended_verdict plan first lists = Ended (ended_by (last_state plan first lists)) (joins_of lists)
+ended_verdict plan first lists = Ended (summary_of (last_state plan first lists)) (joins_of lists)
 
 -- what is said of a journal that does not fit: its end, and the turn at which its run is over
 abbrev pub length_verdict : Plan → State → Journal → Verdict

@@ -13,7 +13,7 @@ use Rattle.trick_refusal.specs.Checkpoint.{checkpoint_line}
 use Rattle.trick_refusal.specs.Journal.{journal_line, length_line}
 use Rattle.trick_replay.specs.declared.replayed.Replayed.TheVariants as replayed
 use Rattle.trick_replay.specs.declared.replayed.Replayed.{Replayed}
-use Rattle.trick_serial.specs.declared.ended.Ended as serial
+use Rattle.trick_serial.specs.declared.summary.Summary as serial
 use Rattle.trick_top.specs.declared.verdict.Verdict as declared
 use Rattle.trick_top.specs.declared.verdict.Verdict.TheVariants as declared_verdict
 
@@ -31,11 +31,11 @@ pub data Verdict : Type 0 where
   -- the cells are listed by this line
   Listed : (line : List ℕ) → Verdict
   -- the run came to its end, of which this is said, and had so many sessions
-  Ended : (ended : serial.Ended) (sessions : ℕ) → Verdict
+  Ended : (ended : serial.Summary) (sessions : ℕ) → Verdict
   -- the run of a generated simulation of so many objects came to its end
-  Generated : (objects : ℕ) (ended : serial.Ended) (sessions : ℕ) → Verdict
+  Generated : (objects : ℕ) (ended : serial.Summary) (sessions : ℕ) → Verdict
   -- the run with clients came to its end, of which this is said, and had so many sessions; and whether its door failed
-  Served : (ended : serial.Ended) (sessions : ℕ) (door_failed : Bool) → Verdict
+  Served : (ended : serial.Summary) (sessions : ℕ) (door_failed : Bool) → Verdict
   -- the journal does not fit: it ends at one turn, and its run at another
   JournalLength : (kept given : ℕ) → Verdict
   -- the shelf failed
@@ -63,16 +63,16 @@ status_of ShelfFault = 5
 status_of OutOfMemory = 6
 
 -- what a run says, up to the end of its line: its turns, the first tic that was not run, its faults and its sessions
-abbrev pub ended_facts : serial.Ended → ℕ → List ℕ
+abbrev pub ended_facts : serial.Summary → ℕ → List ℕ
 ended_facts ended sessions =
     codes "ended turns=" ++ decimal ended.turns ++ codes " tic=" ++ decimal ended.tic ++ codes " faults="
     ++ decimal ended.faults ++ codes " sessions=" ++ decimal sessions
 
-abbrev pub ended_line : serial.Ended → ℕ → List ℕ
+abbrev pub ended_line : serial.Summary → ℕ → List ℕ
 ended_line ended sessions = ended_facts ended sessions ++ codes "\n"
 
 -- what a run with clients says: the same, and that its door failed, where it did
-abbrev pub served_line : serial.Ended → ℕ → Bool → List ℕ
+abbrev pub served_line : serial.Summary → ℕ → Bool → List ℕ
 served_line ended sessions true = ended_facts ended sessions ++ codes " door=failed\n"
 served_line ended sessions false = ended_line ended sessions
 
@@ -135,7 +135,7 @@ unready_verdict (unready.PlanRefused line) = PlanRefused line.items
 unready_verdict unready.OutOfMemory = OutOfMemory
 
 -- the verdict on a run without clients that ended so: no session has joined
-abbrev pub run_verdict : Result serial.Ended Stop → Verdict
+abbrev pub run_verdict : Result serial.Summary Stop → Verdict
 run_verdict (Ok ended) = Ended ended 0
 run_verdict (Err stop.Shelf) = ShelfFault
 run_verdict (Err stop.Memory) = OutOfMemory

@@ -14,10 +14,10 @@ use trick_model::Accepted;
 use trick_outside::{Shelf, Stop};
 use trick_refusal::checkpoint_line;
 use trick_resume::resume;
-use trick_serial::{Ended, serial, serial_from};
+use trick_serial::{Summary, serial, serial_from};
 
 /// The verdict on a run that ended so.
-pub(crate) fn ended(run: Result<Ended, Stop>) -> Verdict<'static>
+pub(crate) fn ended(run: Result<Summary, Stop>) -> Verdict<'static>
     ensures { verdict_of result ≡ run_verdict run }
 {
     match run {

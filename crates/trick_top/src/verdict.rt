@@ -7,7 +7,7 @@ ghost use Rattle.trick_top.specs.Verdict.{status_of, verdict_of};
 use std::alloc::{AllocError, Global};
 use trick_base::Word;
 use trick_refusal::length_line;
-use trick_serial::Ended;
+use trick_serial::Summary;
 
 const USAGE: &[u8] = b"usage: tricks serial|run|replay|check|list|gen\n";
 
@@ -36,18 +36,18 @@ pub enum Verdict<'a> {
     Listed(Vec<u8>),
     /// The run came to its end, and so many sessions joined in it.
     Ended {
-        ended: Ended,
+        ended: Summary,
         sessions: u64,
     },
     /// The run of a generated simulation of so many objects came to its end.
     Generated {
         objects: u32,
-        ended: Ended,
+        ended: Summary,
         sessions: u64,
     },
     /// The run with clients came to its end, and so many sessions joined in it.
     Served {
-        ended: Ended,
+        ended: Summary,
         sessions: u64,
         door_failed: bool,
     },
@@ -80,10 +80,10 @@ fn accepted_line(alloc: Global, cells: u64, jobs: u64, threads: u64) -> Result<V
 }
 
 // What a run says, with this end of its line.
-fn ended_facts(alloc: Global, ended: Ended, sessions: u64, end: &str) -> Result<Vec<u8>, AllocError>
+fn ended_facts(alloc: Global, ended: Summary, sessions: u64, end: &str) -> Result<Vec<u8>, AllocError>
     ensures { IfOk result (λ line. line.items ≡ ended_facts_of ended sessions ++ end.now) }
 {
-    let Ended {
+    let Summary {
         turns,
         tic,
         faults,
@@ -95,7 +95,7 @@ fn ended_facts(alloc: Global, ended: Ended, sessions: u64, end: &str) -> Result<
     Ok(line.into_bytes())
 }
 
-fn ended_line(alloc: Global, ended: Ended, sessions: u64) -> Result<Vec<u8>, AllocError>
+fn ended_line(alloc: Global, ended: Summary, sessions: u64) -> Result<Vec<u8>, AllocError>
     ensures { IfOk result (λ line. line.items ≡ line_of (EndedBy ended sessions)) }
 {
     ended_facts(alloc, ended, sessions, "\n")
@@ -104,7 +104,7 @@ fn ended_line(alloc: Global, ended: Ended, sessions: u64) -> Result<Vec<u8>, All
 // What a run with clients says. That its door failed stands before the line feed.
 fn served_line(
     alloc: Global,
-    ended: Ended,
+    ended: Summary,
     sessions: u64,
     door_failed: bool,
 ) -> Result<Vec<u8>, AllocError>
@@ -130,7 +130,7 @@ fn generated_line(alloc: Global, objects: u32, sum: i64) -> Result<Vec<u8>, Allo
 fn generated_lines(
     alloc: Global,
     objects: u32,
-    ended: Ended,
+    ended: Summary,
     sessions: u64,
 ) -> Result<Vec<u8>, AllocError>
     ensures { IfOk result (λ line. line.items ≡ line_of (GeneratedBy objects ended sessions)) }

@@ -2,7 +2,7 @@
 use Rattle.std.proofs.Common.{◌≡◌, ℕ, Bool, true, false, None, Some, Err, refl}
 use Rattle.std.specs.Prelude.{◌-◌, ◌^◌, ◌++◌, codes, pos}
 use Rattle.trick_outside.specs.declared.stop.Stop.TheVariants as stop
-use Rattle.trick_serial.specs.declared.ended.Ended.{Ended}
+use Rattle.trick_serial.specs.declared.summary.Summary.{Summary}
 use Rattle.trick_top.specs.Verdict.{OutOfMemory, Served, ShelfFault, ended_facts, line_of, status_of}
 use Rattle.trick_top_serve.specs.Ports.{port_of_task}
 use Rattle.trick_top_serve.specs.Rows.{has_risen, served_verdict}
@@ -22,7 +22,7 @@ no_run = refl
 -- ---- what is said of a run
 
 -- four turns, 3,000,001 tics, and no fault
-four_turns : Ended
+four_turns : Summary
 four_turns = record { turns = 4; tic = 3000001; faults = 0; sum = pos 103 }
 
 it_ended : (sessions : ℕ) → line_of (Served four_turns sessions false) ≡ ended_facts four_turns sessions ++ codes "\n"

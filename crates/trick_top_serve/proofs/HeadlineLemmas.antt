@@ -17,8 +17,8 @@ use Rattle.trick_outside.specs.Visits.{clients}
 use Rattle.trick_outside.specs.declared.sink.Sink as sink
 use Rattle.trick_outside.specs.declared.stop.Stop.TheVariants as stop
 use Rattle.trick_outside.specs.declared.stop.Stop.{Stop}
-use Rattle.trick_serial.specs.Serial.{ended_by}
-use Rattle.trick_serial.specs.declared.ended.Ended.{Ended}
+use Rattle.trick_serial.specs.Serial.{summary_of}
+use Rattle.trick_serial.specs.declared.summary.Summary.{Summary}
 use Rattle.trick_serve_door.specs.Taking.{Hosts}
 use Rattle.trick_serve_facts.specs.Joins.{numbers_from}
 use Rattle.trick_serve_facts.specs.Serves.{all_entries}
@@ -64,15 +64,15 @@ module _ {F D I O S : Type 0} {o : Outside F D I O S} {words : List (List ℕ)} 
 
 module _ {F D S K : Type 0} {failures : D → ℕ} {sink : sink.Ghosts K} {old new : Moment F D S} {before now : K} {status : ℕ} where
   -- what is told of a run that came to its end
-  tells_end : (plan : Plan) (first : State) (lists : List (List Entry)) (ended : Ended) (sessions : ℕ) (verdict : Verdict) (due : ℕ)
+  tells_end : (plan : Plan) (first : State) (lists : List (List Entry)) (ended : Summary) (sessions : ℕ) (verdict : Verdict) (due : ℕ)
       → Prints sink before now verdict status → verdict ≡ Served ended sessions (has_risen (failures old.door) (failures new.door))
-      → ended ≡ ended_by (final (plan_of plan) first lists) → sessions ≡ joins_of lists → status ≡ due → due ≢ 6 → due ≢ 8
+      → ended ≡ summary_of (final (plan_of plan) first lists) → sessions ≡ joins_of lists → status ≡ due → due ≢ 6 → due ≢ 8
       → TellsServed failures sink plan first lists old new before now status
   tells_end plan first lists ended sessions verdict due prints told is joined due_is six eight =
       let both = decided (shown prints) due due_is six eight in
-      let all : verdict ≡ Served (ended_by (final (plan_of plan) first lists)) (joins_of lists) (has_risen (failures old.door) (failures new.door)) =
-      told ∙ ap (λ (e : Ended). Served e sessions (has_risen (failures old.door) (failures new.door))) is
-      ∙ ap (λ (n : ℕ). Served (ended_by (final (plan_of plan) first lists)) n (has_risen (failures old.door) (failures new.door))) joined in
+      let all : verdict ≡ Served (summary_of (final (plan_of plan) first lists)) (joins_of lists) (has_risen (failures old.door) (failures new.door)) =
+      told ∙ ap (λ (e : Summary). Served e sessions (has_risen (failures old.door) (failures new.door))) is
+      ∙ ap (λ (n : ℕ). Served (summary_of (final (plan_of plan) first lists)) n (has_risen (failures old.door) (failures new.door))) joined in
       record {
         status_is = due_is ∙ sym both.0 ∙ ap status_of all;
         line = subst (λ (v : Verdict). TookLine (sink.holds before) (sink.holds now) (line_of v)) all both.1;
@@ -112,7 +112,7 @@ module _ {F D I O S K : Type 0} {o : Outside F D I O S} {failures : D → ℕ} {
         five : due ≢ 5
         five e = elim ends [ inl zero ↦ omega (arith, sym zero ∙ e) | inr four ↦ omega (arith, sym four ∙ e) ]
 
-        by : (ended : Result Ended Stop) (sessions : ℕ)
+        by : (ended : Result Summary Stop) (sessions : ℕ)
             → HasServedRun o (plan_of ran.plan) ran.first (moment ran.mid old.door old.spawner) new sessions ended
             → ran.verdict ≡ served_verdict ended sessions (has_risen (failures old.door) (failures new.door))
             → KeepsHeadline o failures sink words old new before now status

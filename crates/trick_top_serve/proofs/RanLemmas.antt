@@ -17,7 +17,7 @@ use Rattle.trick_outside.specs.declared.stop.Stop.TheVariants as stop
 use Rattle.trick_outside.specs.declared.stop.Stop.{Stop}
 use Rattle.trick_ready.specs.Meaning.{HaveOneMeaning}
 use Rattle.trick_ready.specs.Texts.{IsPlanRefused}
-use Rattle.trick_serial.specs.declared.ended.Ended.{Ended}
+use Rattle.trick_serial.specs.declared.summary.Summary.{Summary}
 use Rattle.trick_serve_run.specs.Served.{HasServedRun}
 use Rattle.trick_serve_run.specs.Serving.{Moment, Outside, moment}
 use Rattle.trick_top.proofs.CompleteLemmas.{AreOneLine, IsEnd, ended_is_end, not_run, same_asked}
@@ -43,32 +43,32 @@ use Rattle.trick_top_serve.specs.Rows.{has_risen, served_verdict}
 -- ---- verdicts of a run that was served
 
 -- its status is one of four
-no_other : (ended : Result Ended Stop) (sessions : ℕ) (failed : Bool) (due : ℕ) → due ≢ 0 → due ≢ 4 → due ≢ 5 → due ≢ 6
+no_other : (ended : Result Summary Stop) (sessions : ℕ) (failed : Bool) (due : ℕ) → due ≢ 0 → due ≢ 4 → due ≢ 5 → due ≢ 6
     → status_of (served_verdict ended sessions failed) ≡ due → ⊥
 no_other (Ok ended) sessions failed due none four five six is = not_ended ended.faults due none four is
 no_other (Err stop.Shelf) sessions failed due none four five six is = five (sym is)
 no_other (Err stop.Memory) sessions failed due none four five six is = six (sym is)
 
 -- 5 is that of a shelf that failed
-by_shelf : (ended : Result Ended Stop) (sessions : ℕ) (failed : Bool) → status_of (served_verdict ended sessions failed) ≡ 5 → ended ≡ Err stop.Shelf
+by_shelf : (ended : Result Summary Stop) (sessions : ℕ) (failed : Bool) → status_of (served_verdict ended sessions failed) ≡ 5 → ended ≡ Err stop.Shelf
 by_shelf (Ok ended) sessions failed is = absurd (not_ended ended.faults 5 (λ e. omega (arith, e)) (λ e. omega (arith, e)) is)
 by_shelf (Err stop.Shelf) sessions failed is = refl
 by_shelf (Err stop.Memory) sessions failed is = absurd (omega (arith, is))
 
-tells_shelf : (ended : Result Ended Stop) (sessions : ℕ) (failed : Bool) → ended ≡ Err stop.Shelf → served_verdict ended sessions failed ≡ ShelfFault
-tells_shelf ended sessions failed is = ap (λ (e : Result Ended Stop). served_verdict e sessions failed) is
+tells_shelf : (ended : Result Summary Stop) (sessions : ℕ) (failed : Bool) → ended ≡ Err stop.Shelf → served_verdict ended sessions failed ≡ ShelfFault
+tells_shelf ended sessions failed is = ap (λ (e : Result Summary Stop). served_verdict e sessions failed) is
 
 -- ---- the calls of a run that was served
 
 -- its calls, of which the last alone may have failed, just where the run stopped at a fault of the shelf
-record Did {F : Type 0} (shelf : Ghosts F) (old new : F) (ended : Result Ended Stop) : Type 0 where
+record Did {F : Type 0} (shelf : Ghosts F) (old new : F) (ended : Result Summary Stop) : Type 0 where
   calls : List Call
   went : Went shelf old new calls
   ends : EndAtFault calls
   failed : ended ≡ Err stop.Shelf → fails calls ≡ true
   fault : fails calls ≡ true → ended ≡ Err stop.Shelf
 
-did : {F D I O S : Type 0} (o : Outside F D I O S) (plan : Plan) (first : State) (old new : Moment F D S) (sessions : ℕ) (ended : Result Ended Stop)
+did : {F D I O S : Type 0} (o : Outside F D I O S) (plan : Plan) (first : State) (old new : Moment F D S) (sessions : ℕ) (ended : Result Summary Stop)
     → HasServedRun o (plan_of plan) first old new sessions ended → Did o.shelf old.shelf new.shelf ended
 did o plan first old new sessions (Ok ended) (lists, run, is, joined) = record {
   calls = run.does.calls;
@@ -224,12 +224,12 @@ module _ {F D I O S K : Type 0} {o : Outside F D I O S} {failures : D → ℕ} {
       absurd (no_journal bad.text (sym (ap (λ (g : Sources). g.journal) same.1) ∙ bad.replays))
 
   -- the run came to its end, unless there was no memory
-  ended_so : (ended : Result Ended Stop) → ended ≡ ran.served.ended → (ended ≡ Err stop.Shelf → ⊥) → IsEnd aim.Run (status_of (served_verdict ended ran.served.sessions false))
+  ended_so : (ended : Result Summary Stop) → ended ≡ ran.served.ended → (ended ≡ Err stop.Shelf → ⊥) → IsEnd aim.Run (status_of (served_verdict ended ran.served.sessions false))
   ended_so (Ok ended) is quiet = ended_is_end ended.faults
   ended_so (Err stop.Shelf) is quiet = absurd (quiet refl)
   ended_so (Err stop.Memory) is quiet = inr (inr refl)
 
-  same_status : (ended : Result Ended Stop) (sessions : ℕ) (one other : Bool) → status_of (served_verdict ended sessions one) ≡ status_of (served_verdict ended sessions other)
+  same_status : (ended : Result Summary Stop) (sessions : ℕ) (one other : Bool) → status_of (served_verdict ended sessions one) ≡ status_of (served_verdict ended sessions other)
   same_status (Ok ended) sessions one other = refl
   same_status (Err stop.Shelf) sessions one other = refl
   same_status (Err stop.Memory) sessions one other = refl

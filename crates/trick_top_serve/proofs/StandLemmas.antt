@@ -6,7 +6,7 @@ use Rattle.trick_model.specs.PlanOf.{plan_of}
 use Rattle.trick_outside.proofs.DoesLemmas.{Joins}
 use Rattle.trick_outside.specs.declared.sink.Sink as sink
 use Rattle.trick_outside.specs.declared.stop.Stop.{Stop}
-use Rattle.trick_serial.specs.declared.ended.Ended.{Ended}
+use Rattle.trick_serial.specs.declared.summary.Summary.{Summary}
 use Rattle.trick_serve_run.specs.Served.{HasServedRun}
 use Rattle.trick_serve_run.specs.Serving.{Moment, Outside, moment}
 use Rattle.trick_top_serve.proofs.RowLemmas.{Ran, found_same, row_cases}
@@ -18,7 +18,7 @@ module _ {F D I O S K : Type 0} {o : Outside F D I O S} {failures : D → ℕ} {
   ran_stands : Ran o failures sink words old new before now status → StandsServed o words old new
   ran_stands ran = by ran.served.ended ran.served.run
     where
-      by : (ended : Result Ended Stop) → HasServedRun o (plan_of ran.plan) ran.first (moment ran.mid old.door old.spawner) new ran.served.sessions ended
+      by : (ended : Result Summary Stop) → HasServedRun o (plan_of ran.plan) ran.first (moment ran.mid old.door old.spawner) new ran.served.sessions ended
           → StandsServed o words old new
       by (Ok ended) (lists, run, is, joined) = done ran.plan ran.first lists (record { mid = ran.mid; begins = ran.begins; served = run.whole })
       by (Err e) (lists, run) =

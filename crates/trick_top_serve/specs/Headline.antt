@@ -11,7 +11,7 @@ use Rattle.trick_model.specs.declared.plan.Plan.{Plan}
 use Rattle.trick_outside.specs.Visits.{clients}
 use Rattle.trick_outside.specs.declared.sink.Sink as sink
 use Rattle.trick_ready.specs.Texts.{IsReady}
-use Rattle.trick_serial.specs.Serial.{ended_by}
+use Rattle.trick_serial.specs.Serial.{summary_of}
 use Rattle.trick_serve_run.specs.Serving.{Moment, Outside}
 use Rattle.trick_top.specs.First.{IsFirst}
 use Rattle.trick_top.specs.Outcome.{HasFound}
@@ -49,7 +49,7 @@ pub record TellsServed {F D S K : Type 0} (failures : D → ℕ) (sink : sink.Gh
     (lists : List (List Entry)) (old new : Moment F D S) (before now : K) (status : ℕ) : Type 0 where
   pub status_is : status ≡ ended_status ((final (plan_of plan) first lists).faults).count
   pub line : TookLine (sink.holds before) (sink.holds now)
-      (line_of (Served (ended_by (final (plan_of plan) first lists)) (joins_of lists)
+      (line_of (Served (summary_of (final (plan_of plan) first lists)) (joins_of lists)
       (has_risen (failures old.door) (failures new.door))))
 
 -- Status 0 or 4 of `run`: it came to its end, which is told; and, as long as turns are counted, the headline holds. Where

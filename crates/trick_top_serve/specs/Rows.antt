@@ -9,7 +9,7 @@ use Rattle.trick_outside.specs.declared.stop.Stop.TheVariants as stop
 use Rattle.trick_outside.specs.declared.stop.Stop.{Stop}
 use Rattle.trick_ready.specs.Texts.{IsPlanRefused, IsReady, IsTextRefused}
 use Rattle.trick_refusal.specs.Checkpoint.{checkpoint_line}
-use Rattle.trick_serial.specs.declared.ended.Ended.{Ended}
+use Rattle.trick_serial.specs.declared.summary.Summary.{Summary}
 use Rattle.trick_serve_run.specs.Served.{HasServedRun}
 use Rattle.trick_serve_run.specs.Serving.{Moment, Outside, moment}
 use Rattle.trick_top.specs.First.{IsFirst, IsUnloaded}
@@ -26,7 +26,7 @@ abbrev pub has_risen : ℕ → ℕ → Bool
 has_risen before now = nat_le (min (before + 1) (2 ^ 64 - 1)) now
 
 -- the verdict on a run that was served and ended so, with so many sessions, whose door failed or not
-abbrev pub served_verdict : Result Ended Stop → ℕ → Bool → Verdict
+abbrev pub served_verdict : Result Summary Stop → ℕ → Bool → Verdict
 served_verdict (Ok ended) sessions door_failed = Served ended sessions door_failed
 served_verdict (Err stop.Shelf) sessions door_failed = ShelfFault
 served_verdict (Err stop.Memory) sessions door_failed = OutOfMemory
@@ -48,7 +48,7 @@ module _ {F D I O S : Type 0} (o : Outside F D I O S) (failures : D → ℕ) whe
   -- An accepted plan was run from a state, and served: this is what the run came to, and the verdict says it. The door
   -- is said to have failed exactly where its count rose.
   pub record IsServedSo (plan : Plan) (first : State) (old new : Moment F D S) (verdict : Verdict) : Type 0 where
-    pub ended : Result Ended Stop
+    pub ended : Result Summary Stop
     pub sessions : ℕ
     pub run : HasServedRun o (plan_of plan) first old new sessions ended
     pub told : verdict ≡ served_verdict ended sessions (has_risen (failures old.door) (failures new.door))

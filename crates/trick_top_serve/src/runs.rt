@@ -19,7 +19,7 @@ use trick_memory::Memory;
 use trick_model::{Accepted, State, laws};
 use trick_outside::{Door, Gate, Shelf, Spawner, Stop};
 use trick_resume::resume;
-use trick_serial::{Ended, first_state};
+use trick_serial::{Summary, first_state};
 use trick_serve_run::{Service, Serving, serve};
 use trick_top::{Verdict, unloaded};
 
@@ -39,7 +39,7 @@ fn has_risen(before: u64, now: u64) -> bool
 }
 
 /// The verdict on a run that was served and ended so.
-fn verdict(ended: Result<Ended, Stop>, sessions: u64, door_failed: bool) -> Verdict<'static>
+fn verdict(ended: Result<Summary, Stop>, sessions: u64, door_failed: bool) -> Verdict<'static>
     ensures { verdict_of result ≡ served_verdict ended sessions door_failed }
 {
     match ended {

@@ -5,7 +5,7 @@ use Rattle.std.proofs.lemmas.List.{length-append, length-drop, length-map, lengt
 use Rattle.std.specs.List.{slice_index_or}
 use Rattle.std.specs.Prelude.{ℤ, Err, Ok, Option, Result, if◌then◌else◌, min, nat_le, nat_lt}
 use Rattle.trick_lang.specs.declared.fault.JobFault.{JobFault}
-use Rattle.trick_lang.specs.declared.fault.Stop.{Stop}
+use Rattle.trick_lang.specs.declared.fault.StatementFault.{StatementFault}
 use Rattle.trick_model.specs.FaultList.{FaultList, kept, with_fault, with_faults}
 use Rattle.trick_model.specs.Plan.{Plan}
 use Rattle.trick_model.specs.Running.{After, after_jobs, apply, outcome}
@@ -19,7 +19,7 @@ apply_at : (p : Plan) (b : Bool) (tic k : ℕ) (memory : List ℤ)
 apply_at p false tic k memory = (refl, refl)
 apply_at p true tic k memory = by_effect (p.effect k memory)
   where
-    by_effect : (r : Result (List (Option ℤ)) Stop)
+    by_effect : (r : Result (List (Option ℤ)) StatementFault)
         → ((outcome tic k memory r).memory ≡ (outcome 0 k memory r).memory) × ((outcome tic k memory r).faults ≡ map (dated tic) (outcome 0 k memory r).faults)
     by_effect (Ok stored) = (refl, refl)
     by_effect (Err stop) = (refl, refl)

@@ -9,7 +9,7 @@ use Rattle.trick_lang.specs.Access.{is_in}
 use Rattle.trick_lang.specs.Effect.{effect, overwritten, writes}
 use Rattle.trick_lang.specs.Laws.{WritesOnly}
 use Rattle.trick_lang.specs.declared.fault.JobFault.{JobFault}
-use Rattle.trick_lang.specs.declared.fault.Stop.{Stop}
+use Rattle.trick_lang.specs.declared.fault.StatementFault.{StatementFault}
 use Rattle.trick_model.specs.Access.{may_read, may_write, scope}
 use Rattle.trick_model.specs.Beside.{replaced, spread}
 use Rattle.trick_model.specs.FaultList.{FaultList, with_fault, with_faults}
@@ -92,7 +92,7 @@ apply_other plan only true tic k memory c none = by_effect (effect plan.program 
         let within : IsTrue (is_in (writes plan.program (record { 0 = k })) c) = only plan.program (record { 0 = k }) memory stored c n e is in
         let off : true ≡ false = sym within ∙ none in cc
 
-    by_effect : (r : Result (List (Option ℤ)) Stop) → effect plan.program (record { 0 = k }) memory ≡ r
+    by_effect : (r : Result (List (Option ℤ)) StatementFault) → effect plan.program (record { 0 = k }) memory ≡ r
         → number_at (outcome tic k memory r).memory c ≡ number_at memory c
     by_effect (Ok stored) e = over_other stored memory c (by_number stored (slice_index_or stored c None) e refl)
     by_effect (Err stop) e = refl

@@ -7,7 +7,7 @@ use Rattle.trick_lang.specs.Syntax.{statements_of_list}
 
 pub returns-clause-blocks : goal.returns-clause-blocks
 returns-clause-blocks c =
-    let w = c.args.world.now in
+    let w = c.args.scope.now in
     let n = length c.args.blocks.now.items in
     let old = bodies_of c.args.blocks.now.items in
     let all = statements_of_list c.args.body.now in

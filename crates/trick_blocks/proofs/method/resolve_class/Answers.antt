@@ -11,10 +11,10 @@ loop-number-preserved c =
     let order = c.args.order.now in
     let parts = class_parts_of c.args.parts.now in
     let i = c.loop-number.number-index in
-    let before = progress c.loop-number.world (bodies_of c.loop-number.blocks.items) in
-    let all = with_parts order parts (progress c.args.world.now (bodies_of c.args.blocks.now.items)) in
+    let before = progress c.loop-number.scope (bodies_of c.loop-number.blocks.items) in
+    let all = with_parts order parts (progress c.args.scope.now (bodies_of c.args.blocks.now.items)) in
     record {
       made = ap (with_parts (drop (i + 1) order) parts) c.in_ok-resolve_part_at.ensures
           ∙ subst (λ q. with_parts q parts before ≡ all) (next_number order i c.loop-number-test.true) c.loop-number.invariant.made;
-      laid = subst (λ q. IsLaid q.world) (sym c.in_ok-resolve_part_at.ensures) (laid_part (slice_get parts (get_or order i 0)) before c.loop-number.invariant.laid);
+      laid = subst (λ q. IsLaid q.scope) (sym c.in_ok-resolve_part_at.ensures) (laid_part (slice_get parts (get_or order i 0)) before c.loop-number.invariant.laid);
     }

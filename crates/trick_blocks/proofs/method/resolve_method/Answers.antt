@@ -11,7 +11,7 @@ use Rattle.trick_names.specs.Names.{with_name}
 
 pub returns : goal.returns
 returns c =
-    let w = c.args.world.now in
+    let w = c.args.scope.now in
     let old = c.args.blocks.now.items in
     let new = c.add_body.new.blocks.items in
     let m = method_of c.args.method.now in

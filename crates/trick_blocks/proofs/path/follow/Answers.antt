@@ -9,7 +9,7 @@ use Rattle.trick_blocks.specs.Room.{Fits}
 
 pub loop-part-preserved : goal.loop-part-preserved
 loop-part-preserved c =
-    let w = c.args.world.now in
+    let w = c.args.scope.now in
     let xs = c.args.parts.now in
     let i = c.loop-part.part-index in
     let item = c.part-item.result in

@@ -7,6 +7,6 @@ use Rattle.trick_blocks.specs.Room.{Fits}
 -- what is left leads from here where all lead from the start
 abbrev pub invariant-loop-part : goal.invariant-loop-part
 invariant-loop-part l = record {
-  leads : followed (parts_of_list (drop l.part-index l.parts)) l.world l.at ≡ followed (parts_of_list l.parts) l.world (Some l.fn.from);
-  fits : Fits l.world l.at;
+  leads : followed (parts_of_list (drop l.part-index l.parts)) l.scope l.at ≡ followed (parts_of_list l.parts) l.scope (Some l.fn.from);
+  fits : Fits l.scope l.at;
 }

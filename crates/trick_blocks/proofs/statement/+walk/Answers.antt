@@ -24,7 +24,7 @@ resolve_statement-resolve_if-requires t c =
 
 pub resolve_all-loop-s-preserved : goal.resolve_all-loop-s-preserved
 resolve_all-loop-s-preserved t c =
-    let w = c.args.world.now in
+    let w = c.args.scope.now in
     let xs = c.args.all.now in
     let i = c.loop-s.s-index in
     let item = c.s-item.result in
@@ -59,7 +59,7 @@ resolve_all-loop-s-preserved t c =
 
 pub resolve_if-loop-branch-preserved : goal.resolve_if-loop-branch-preserved
 resolve_if-loop-branch-preserved t c =
-    let w = c.args.world.now in
+    let w = c.args.scope.now in
     let xs = c.args.branches.now in
     let last = text.else_of_option c.args.otherwise.now in
     let i = c.loop-branch.branch-index in
@@ -115,7 +115,7 @@ resolve_statement-returns-in_ok-number-in-Block-clause-code t c =
     let n = length c.args.blocks.now.items in
     let counted = ap (λ xs. n + all_count (text.statements_of_list xs)) c.deref.ensures.value in
     ap codes.Run (c.in_ok-number-in-Block.ensures.number ∙ counted)
-    ∙ ap (λ s. code s c.args.world.now c.args.locals.now n) (sym is)
+    ∙ ap (λ s. code s c.args.scope.now c.args.locals.now n) (sym is)
 
 pub resolve_statement-returns-in_ok-number-in-Block-clause-length : goal.resolve_statement-returns-in_ok-number-in-Block-clause-length
 resolve_statement-returns-in_ok-number-in-Block-clause-length t c =
@@ -126,7 +126,7 @@ resolve_statement-returns-in_ok-number-in-Block-clause-length t c =
 pub resolve_statement-returns-in_ok-number-in-Block-clause-blocks : goal.resolve_statement-returns-in_ok-number-in-Block-clause-blocks
 resolve_statement-returns-in_ok-number-in-Block-clause-blocks t c =
     let is = ap text.statement_of c.in-Block.is ∙ block_is c.in-Block.all in
-    let w = c.args.world.now in
+    let w = c.args.scope.now in
     let locals = c.args.locals.now in
     let n = length c.args.blocks.now.items in
     let old = bodies_of c.args.blocks.now.items in
@@ -137,7 +137,7 @@ resolve_statement-returns-in_ok-number-in-Block-clause-blocks t c =
 pub resolve_statement-returns-in_ok-number-in-Block-clause-locals : goal.resolve_statement-returns-in_ok-number-in-Block-clause-locals
 resolve_statement-returns-in_ok-number-in-Block-clause-locals t c =
     let is = ap text.statement_of c.in-Block.is ∙ block_is c.in-Block.all in
-    let w = c.args.world.now in
+    let w = c.args.scope.now in
     let locals = c.args.locals.now in
     let forgotten : take c.len-mark.result c.add_statements.new.locals ≡ take (length locals) (after_all (text.statements_of_list c.deref.result.now) w locals) = ap (λ k. take k c.add_statements.new.locals) c.len-mark.ensures ∙ ap (take (length locals)) c.in_ok-number-in-Block.ensures.locals in
     c.forget.ensures ∙ (forgotten ∙ (left_again locals _ (all_begins (text.statements_of_list c.deref.result.now) w locals) ∙ ap (λ s. after s w locals) (sym is)))
@@ -145,14 +145,14 @@ resolve_statement-returns-in_ok-number-in-Block-clause-locals t c =
 pub resolve_statement-returns-in_ok-block-in-For-clause-locals : goal.resolve_statement-returns-in_ok-block-in-For-clause-locals
 resolve_statement-returns-in_ok-block-in-For-clause-locals t c =
     let locals = c.args.locals.now in
-    let inside = loop_in c.in-For.name c.args.world.now locals in
+    let inside = loop_in c.in-For.name c.args.scope.now locals in
     let known : c.resolve_body.new.locals ≡ inside = c.in_ok-block-in-For.ensures.locals ∙ c.in_ok-slot-in-For.ensures.locals in
     let forgotten : take c.len-mark-in-For.result c.resolve_body.new.locals ≡ take (length locals) inside = ap (λ k. take k c.resolve_body.new.locals) c.len-mark-in-For.ensures ∙ ap (take (length locals)) known in
-    c.forget-in-For.ensures ∙ (forgotten ∙ (left_again locals inside (known_begins c.in-For.name _ locals) ∙ ap (λ s. after (text.statement_of s) c.args.world.now locals) (sym c.in-For.is)))
+    c.forget-in-For.ensures ∙ (forgotten ∙ (left_again locals inside (known_begins c.in-For.name _ locals) ∙ ap (λ s. after (text.statement_of s) c.args.scope.now locals) (sym c.in-For.is)))
 
 pub resolve_body-returns-clause-blocks : goal.resolve_body-returns-clause-blocks
 resolve_body-returns-clause-blocks t c =
-    let w = c.args.world.now in
+    let w = c.args.scope.now in
     let locals = c.args.locals.now in
     let n = length c.args.blocks.now.items in
     let old = bodies_of c.args.blocks.now.items in
@@ -165,7 +165,7 @@ resolve_body-returns-clause-blocks t c =
 
 pub add_statements-returns-clause-blocks : goal.add_statements-returns-clause-blocks
 add_statements-returns-clause-blocks t c =
-    let w = c.args.world.now in
+    let w = c.args.scope.now in
     let locals = c.args.locals.now in
     let n = length c.args.blocks.now.items in
     let old = bodies_of c.args.blocks.now.items in

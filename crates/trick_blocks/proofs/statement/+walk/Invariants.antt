@@ -28,10 +28,10 @@ invariant-resolve_all-loop-s l =
     let rest = text.statements_of_list (drop l.s-index l.all) in
     let all = text.statements_of_list l.all in
     record {
-      codes : code_list l.out.items ++ all_codes rest l.world l.locals (length l.blocks.items) ≡ all_codes all l.world l.fn.locals (length l.fn.blocks.items);
-      blocks : with_bodies l.world.class (all_inner rest l.world l.locals (length l.blocks.items)) (bodies_of l.blocks.items) ≡ with_bodies l.world.class (all_inner all l.world l.fn.locals (length l.fn.blocks.items)) (bodies_of l.fn.blocks.items);
+      codes : code_list l.out.items ++ all_codes rest l.scope l.locals (length l.blocks.items) ≡ all_codes all l.scope l.fn.locals (length l.fn.blocks.items);
+      blocks : with_bodies l.scope.class (all_inner rest l.scope l.locals (length l.blocks.items)) (bodies_of l.blocks.items) ≡ with_bodies l.scope.class (all_inner all l.scope l.fn.locals (length l.fn.blocks.items)) (bodies_of l.fn.blocks.items);
       counted : length l.blocks.items + all_count rest ≡ length l.fn.blocks.items + all_count all;
-      known : after_all rest l.world l.locals ≡ after_all all l.world l.fn.locals;
+      known : after_all rest l.scope l.locals ≡ after_all all l.scope l.fn.locals;
       weighs : all_weight rest ≤ all_weight all;
     }
 
@@ -41,8 +41,8 @@ invariant-resolve_if-loop-branch l =
     let rest = text.branches_of_list (drop l.branch-index l.branches) last in
     let all = text.branches_of_list l.branches last in
     record {
-      codes : branches_after l.out.items (branch_codes rest l.world l.locals (length l.blocks.items)) ≡ branch_codes all l.world l.fn.locals (length l.fn.blocks.items);
-      blocks : with_bodies l.world.class (branch_inner rest l.world l.locals (length l.blocks.items)) (bodies_of l.blocks.items) ≡ with_bodies l.world.class (branch_inner all l.world l.fn.locals (length l.fn.blocks.items)) (bodies_of l.fn.blocks.items);
+      codes : branches_after l.out.items (branch_codes rest l.scope l.locals (length l.blocks.items)) ≡ branch_codes all l.scope l.fn.locals (length l.fn.blocks.items);
+      blocks : with_bodies l.scope.class (branch_inner rest l.scope l.locals (length l.blocks.items)) (bodies_of l.blocks.items) ≡ with_bodies l.scope.class (branch_inner all l.scope l.fn.locals (length l.fn.blocks.items)) (bodies_of l.fn.blocks.items);
       counted : length l.blocks.items + branch_count rest ≡ length l.fn.blocks.items + branch_count all;
       known : l.locals ≡ l.fn.locals;
       weighs : branch_weight rest ≤ branch_weight all;

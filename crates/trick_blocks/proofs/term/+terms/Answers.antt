@@ -38,11 +38,11 @@ resolve_expression-resolve_expression-requires-in-Choose t c =
 
 pub resolve_expression-returns-in_ok-reached-in-Named : goal.resolve_expression-returns-in_ok-reached-in-Named
 resolve_expression-returns-in_ok-reached-in-Named t c =
-    c.named.ensures ∙ (ap goal_term c.in_ok-reached-in-Named.ensures ∙ ap (λ e. term e c.args.world.now c.args.locals.now) (sym (ap text.expression_of c.in-Named.is ∙ named_is c.in-Named.path)))
+    c.named.ensures ∙ (ap goal_term c.in_ok-reached-in-Named.ensures ∙ ap (λ e. term e c.args.scope.now c.args.locals.now) (sym (ap text.expression_of c.in-Named.is ∙ named_is c.in-Named.path)))
 
 pub resolve_expression-returns-in_ok-more-in-Chain : goal.resolve_expression-returns-in_ok-more-in-Chain
 resolve_expression-returns-in_ok-more-in-Chain t c =
-    let w = c.args.world.now in
+    let w = c.args.scope.now in
     let locals = c.args.locals.now in
     let is = ap text.expression_of c.in-Chain.is ∙ chain_is c.in-Chain.first c.in-Chain.links in
     let more = tree.links_of_list c.in_ok-more-in-Chain.more.items in
@@ -54,7 +54,7 @@ resolve_expression-returns-in_ok-more-in-Chain t c =
 
 pub resolve_expression-returns-in_ok-end-in-Choose : goal.resolve_expression-returns-in_ok-end-in-Choose
 resolve_expression-returns-in_ok-end-in-Choose t c =
-    let w = c.args.world.now in
+    let w = c.args.scope.now in
     let locals = c.args.locals.now in
     let is = ap text.expression_of c.in-Choose.is ∙ choose_is c.in-Choose.choices c.in-Choose.last in
     let tests = c.in_ok-tests-in-Choose.tests in
@@ -67,7 +67,7 @@ resolve_expression-returns-in_ok-end-in-Choose t c =
 
 pub resolve_links-loop-link-preserved : goal.resolve_links-loop-link-preserved
 resolve_links-loop-link-preserved t c =
-    let w = c.args.world.now in
+    let w = c.args.scope.now in
     let locals = c.args.locals.now in
     let xs = c.args.links.now in
     let i = c.loop-link.link-index in
@@ -86,14 +86,14 @@ resolve_links-loop-link-preserved t c =
 
 pub resolve_links-returns : goal.resolve_links-returns
 resolve_links-returns t c =
-    let w = c.args.world.now in
+    let w = c.args.scope.now in
     let locals = c.args.locals.now in
     let none : drop c.loop-link.link-index c.args.links.now ≡ [] = drop_all c.args.links.now c.loop-link.link-index (omega (arith, c.loop-link-test.false)) in
     sym (links_done c.loop-link.out.items) ∙ subst (λ q. links_after c.loop-link.out.items (link_terms (text.links_of_list q) w locals) ≡ link_terms (text.links_of_list c.args.links.now) w locals) none c.loop-link.invariant.made
 
 pub resolve_choices-loop-choice-preserved : goal.resolve_choices-loop-choice-preserved
 resolve_choices-loop-choice-preserved t c =
-    let w = c.args.world.now in
+    let w = c.args.scope.now in
     let locals = c.args.locals.now in
     let xs = c.args.choices.now in
     let i = c.loop-choice.choice-index in
@@ -114,7 +114,7 @@ resolve_choices-loop-choice-preserved t c =
 
 pub resolve_choices-returns : goal.resolve_choices-returns
 resolve_choices-returns t c = λ last.
-    let w = c.args.world.now in
+    let w = c.args.scope.now in
     let locals = c.args.locals.now in
     let out = c.loop-choice.out.items in
     let none : drop c.loop-choice.choice-index c.args.choices.now ≡ [] = drop_all c.args.choices.now c.loop-choice.choice-index (omega (arith, c.loop-choice-test.false)) in
@@ -123,13 +123,13 @@ resolve_choices-returns t c = λ last.
 pub resolve_step-returns-in-Member : goal.resolve_step-returns-in-Member
 resolve_step-returns-in-Member t c =
     let so = tree.steps_of_list c.args.out.now.items in
-    ap (λ p. added_steps so (steps (text.parts_of_list (p ∷ [])) c.args.world.now c.args.locals.now c.args.at)) c.in-Member.is ∙ added_none so
+    ap (λ p. added_steps so (steps (text.parts_of_list (p ∷ [])) c.args.scope.now c.args.locals.now c.args.at)) c.in-Member.is ∙ added_none so
 
 pub resolve_step-returns-in-None : goal.resolve_step-returns-in-None
 resolve_step-returns-in-None t c =
     let so = tree.steps_of_list c.args.out.now.items in
-    let x = term (text.expression_of c.in-Index.e) c.args.world.now c.args.locals.now in
-    ap (λ p. added_steps so (steps (text.parts_of_list (p ∷ [])) c.args.world.now c.args.locals.now c.args.at)) c.in-Index.is
+    let x = term (text.expression_of c.in-Index.e) c.args.scope.now c.args.locals.now in
+    ap (λ p. added_steps so (steps (text.parts_of_list (p ∷ [])) c.args.scope.now c.args.locals.now c.args.at)) c.in-Index.is
     ∙ (ap (λ o. added_steps so (stepped o x NoStep)) (ap (λ k. computed k (element_at c.args.at)) (sym c.literal.ensures) ∙ (sym c.computed_array.ensures ∙ c.in-None.is)) ∙ added_none so)
 
 pub resolve_step-returns-in_ok-push-in-Some : goal.resolve_step-returns-in_ok-push-in-Some
@@ -137,8 +137,8 @@ resolve_step-returns-in_ok-push-in-Some t c =
     let is = c.args.out.now.items in
     let so = tree.steps_of_list is in
     let found = c.in-Some.found in
-    let x = term (text.expression_of c.in-Index.e) c.args.world.now c.args.locals.now in
-    ap (λ p. added_steps so (steps (text.parts_of_list (p ∷ [])) c.args.world.now c.args.locals.now c.args.at)) c.in-Index.is
+    let x = term (text.expression_of c.in-Index.e) c.args.scope.now c.args.locals.now in
+    ap (λ p. added_steps so (steps (text.parts_of_list (p ∷ [])) c.args.scope.now c.args.locals.now c.args.at)) c.in-Index.is
     ∙ (ap (λ o. added_steps so (stepped o x NoStep)) (ap (λ k. computed k (element_at c.args.at)) (sym c.literal.ensures) ∙ (sym c.computed_array.ensures ∙ c.in-Some.is))
     ∙ (ap (λ y. added_steps so (Step found.dim.length found.dim.stride y NoStep)) (sym c.in_ok-x-in-Some.ensures)
     ∙ (added_one is _ ∙ ap tree.steps_of_list (sym c.in_ok-push-in-Some.ensures.items))))
@@ -153,7 +153,7 @@ resolve_steps-resolve_step-requires t c =
 
 pub resolve_steps-loop-part-preserved : goal.resolve_steps-loop-part-preserved
 resolve_steps-loop-part-preserved t c =
-    let w = c.args.world.now in
+    let w = c.args.scope.now in
     let locals = c.args.locals.now in
     let xs = c.args.parts.now in
     let i = c.loop-part.part-index in
@@ -177,7 +177,7 @@ resolve_steps-loop-part-preserved t c =
 
 pub resolve_steps-returns : goal.resolve_steps-returns
 resolve_steps-returns t c =
-    let w = c.args.world.now in
+    let w = c.args.scope.now in
     let locals = c.args.locals.now in
     let so = tree.steps_of_list c.loop-part.out.items in
     let none : drop c.loop-part.part-index c.args.parts.now ≡ [] = drop_all c.args.parts.now c.loop-part.part-index (omega (arith, c.loop-part-test.false)) in

@@ -34,7 +34,7 @@ abbrev pub invariant-resolve_links-loop-link : goal.invariant-resolve_links-loop
 invariant-resolve_links-loop-link l =
     let rest = text.links_of_list (drop l.link-index l.links) in
     record {
-      made : links_after l.out.items (link_terms rest l.world l.locals) ≡ link_terms (text.links_of_list l.links) l.world l.locals;
+      made : links_after l.out.items (link_terms rest l.scope l.locals) ≡ link_terms (text.links_of_list l.links) l.scope l.locals;
       weighs : link_weight rest ≤ link_weight (text.links_of_list l.links);
     }
 
@@ -42,7 +42,7 @@ abbrev pub invariant-resolve_choices-loop-choice : goal.invariant-resolve_choice
 invariant-resolve_choices-loop-choice l =
     let rest = drop l.choice-index l.choices in
     record {
-      made : (last : Expression) → choices_after l.out.items (choice_terms (text.choices_of_list rest last) l.world l.locals) ≡ choice_terms (text.choices_of_list l.choices last) l.world l.locals;
+      made : (last : Expression) → choices_after l.out.items (choice_terms (text.choices_of_list rest last) l.scope l.locals) ≡ choice_terms (text.choices_of_list l.choices last) l.scope l.locals;
       weighs : choices_weight rest ≤ choices_weight l.choices;
     }
 
@@ -50,7 +50,7 @@ abbrev pub invariant-resolve_steps-loop-part : goal.invariant-resolve_steps-loop
 invariant-resolve_steps-loop-part l =
     let rest = text.parts_of_list (drop l.part-index l.parts) in
     record {
-      made : added_steps (tree.steps_of_list l.out.items) (steps rest l.world l.locals l.at) ≡ steps (text.parts_of_list l.parts) l.world l.locals (Some l.fn.from);
-      fits : Fits l.world l.at;
+      made : added_steps (tree.steps_of_list l.out.items) (steps rest l.scope l.locals l.at) ≡ steps (text.parts_of_list l.parts) l.scope l.locals (Some l.fn.from);
+      fits : Fits l.scope l.at;
       weighs : part_weight rest ≤ part_weight (text.parts_of_list l.parts);
     }

@@ -14,19 +14,19 @@ returns-clause-made c =
     let class = c.args.class in
     let parts = class_parts_of c.args.parts.now in
     let order = c.args.order.now in
-    let before = progress old.world (bodies_of old.blocks.items) in
+    let before = progress old.scope (bodies_of old.blocks.items) in
     let after = class_progress class order parts before in
-    let there : progress c.resolve_class.new.world (bodies_of c.resolve_class.new.blocks.items) ≡ after =
-    c.in_ok-resolve_class.ensures ∙ ap (λ q. with_parts order parts (progress q (bodies_of old.blocks.items))) c.enter.ensures.world in
-    let methods : c.add_methods.new.methods ≡ old.methods ++ class_methods class after.world.methods parts =
-    c.in_ok-add_methods.ensures ∙ ap (λ (q : Progress). old.methods ++ class_methods class q.world.methods parts) there in
+    let there : progress c.resolve_class.new.scope (bodies_of c.resolve_class.new.blocks.items) ≡ after =
+    c.in_ok-resolve_class.ensures ∙ ap (λ q. with_parts order parts (progress q (bodies_of old.blocks.items))) c.enter.ensures.scope in
+    let methods : c.add_methods.new.methods ≡ old.methods ++ class_methods class after.scope.methods parts =
+    c.in_ok-add_methods.ensures ∙ ap (λ (q : Progress). old.methods ++ class_methods class q.scope.methods parts) there in
     let own : c.in_ok-own.own ≡ with_numbers (length old.methods) parts [] =
     c.in_ok-own.ensures ∙ ap (λ n. with_numbers n parts []) c.in_ok-first.ensures in
     let numbers : c.push.new.self ≡ old.numbers ++ with_numbers (length old.methods) parts [] ∷ [] =
     c.in_ok-push.ensures.ok ∙ ap (λ q. old.numbers ++ q ∷ []) own in
     ap (λ q. made_of q c.add_methods.new.methods c.push.new.self) there
     ∙ (ap (λ q. made_of after q c.push.new.self) methods
-    ∙ ap (made_of after (old.methods ++ class_methods class after.world.methods parts)) numbers)
+    ∙ ap (made_of after (old.methods ++ class_methods class after.scope.methods parts)) numbers)
 
 pub returns-clause-whole : goal.returns-clause-whole
 returns-clause-whole c =

@@ -16,13 +16,13 @@ loop-class-init c = record {
 pub add_definition-requires-clause-laid : goal.add_definition-requires-clause-laid
 add_definition-requires-clause-laid c =
     let ds = definitions_of c.args.definitions.now in
-    let layout = ap (λ (m : Made). m.progress.world.layout) c.loop-class.invariant.is_made ∙ first_layout ds c.args.objects.now c.loop-class.class in
+    let layout = ap (λ (m : Made). m.progress.scope.layout) c.loop-class.invariant.is_made ∙ first_layout ds c.args.objects.now c.loop-class.class in
     subst AreLaid (sym (layout ∙ sym c.requires.layout)) c.requires.laid
 
 pub add_definition-requires-clause-sizes : goal.add_definition-requires-clause-sizes
 add_definition-requires-clause-sizes c =
     let ds = definitions_of c.args.definitions.now in
-    let layout = ap (λ (m : Made). m.progress.world.layout) c.loop-class.invariant.is_made ∙ first_layout ds c.args.objects.now c.loop-class.class in
+    let layout = ap (λ (m : Made). m.progress.scope.layout) c.loop-class.invariant.is_made ∙ first_layout ds c.args.objects.now c.loop-class.class in
     subst SizesFit (sym layout) (sizes_fit ds)
 
 pub loop-class-preserved : goal.loop-class-preserved

@@ -27,11 +27,11 @@ look_expression-look_choices-requires t c =
 
 pub look_expression-returns-in-Named : goal.look_expression-returns-in-Named
 look_expression-returns-in-Named t c =
-    c.look_path.ensures ∙ ap (λ e. noted (expression_mistakes e c.args.world.now c.args.locals.now) c.args.found.now) (sym (ap expression_of c.in-Named.is ∙ named_is c.in-Named.path))
+    c.look_path.ensures ∙ ap (λ e. noted (expression_mistakes e c.args.scope.now c.args.locals.now) c.args.found.now) (sym (ap expression_of c.in-Named.is ∙ named_is c.in-Named.path))
 
 pub look_expression-returns-in-Chain : goal.look_expression-returns-in-Chain
 look_expression-returns-in-Chain t c =
-    let w = c.args.world.now in
+    let w = c.args.scope.now in
     let locals = c.args.locals.now in
     let is = ap expression_of c.in-Chain.is ∙ chain_is c.in-Chain.first c.in-Chain.links in
     let first : c.look_expression-in-Chain.new.found ≡ noted (expression_mistakes (expression_of c.in-Chain.first.value) w locals) c.args.found.now = c.look_expression-in-Chain.ensures ∙ ap (λ e. noted (expression_mistakes (expression_of e) w locals) c.args.found.now) c.deref-in-Chain.ensures in
@@ -45,7 +45,7 @@ look_expression-returns-in-Choose t c =
 
 pub look_links-loop-link-preserved : goal.look_links-loop-link-preserved
 look_links-loop-link-preserved t c =
-    let w = c.args.world.now in
+    let w = c.args.scope.now in
     let locals = c.args.locals.now in
     let xs = c.args.links.now in
     let i = c.loop-link.link-index in
@@ -60,7 +60,7 @@ look_links-loop-link-preserved t c =
 
 pub look_choices-loop-choice-preserved : goal.look_choices-loop-choice-preserved
 look_choices-loop-choice-preserved t c =
-    let w = c.args.world.now in
+    let w = c.args.scope.now in
     let locals = c.args.locals.now in
     let xs = c.args.choices.now in
     let i = c.loop-choice.choice-index in
@@ -86,7 +86,7 @@ look_parts-look_part-state-requires t c =
 
 pub look_parts-loop-part-preserved : goal.look_parts-loop-part-preserved
 look_parts-loop-part-preserved t c =
-    let w = c.args.world.now in
+    let w = c.args.scope.now in
     let locals = c.args.locals.now in
     let xs = c.args.parts.now in
     let i = c.loop-part.part-index in

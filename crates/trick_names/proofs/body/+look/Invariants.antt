@@ -28,7 +28,7 @@ abbrev pub invariant-look_links-loop-link : goal.invariant-look_links-loop-link
 invariant-look_links-loop-link l =
     let rest = links_of_list (drop l.link-index l.links) in
     record {
-      told : noted (link_mistakes rest l.world l.locals) l.found ≡ noted (link_mistakes (links_of_list l.links) l.world l.locals) l.fn.found;
+      told : noted (link_mistakes rest l.scope l.locals) l.found ≡ noted (link_mistakes (links_of_list l.links) l.scope l.locals) l.fn.found;
       weighs : link_weight rest ≤ link_weight (links_of_list l.links);
     }
 
@@ -37,7 +37,7 @@ invariant-look_choices-loop-choice l =
     let rest = choices_of_list (drop l.choice-index l.choices) (expression_of l.last) in
     let all = choices_of_list l.choices (expression_of l.last) in
     record {
-      told : noted (choice_mistakes rest l.world l.locals) l.found ≡ noted (choice_mistakes all l.world l.locals) l.fn.found;
+      told : noted (choice_mistakes rest l.scope l.locals) l.found ≡ noted (choice_mistakes all l.scope l.locals) l.fn.found;
       weighs : choice_weight rest ≤ choice_weight all;
     }
 
@@ -45,6 +45,6 @@ abbrev pub invariant-look_parts-loop-part : goal.invariant-look_parts-loop-part
 invariant-look_parts-loop-part l =
     let rest = parts_of_list (drop l.part-index l.parts) in
     record {
-      told : noted (part_mistakes rest l.world l.locals l.state) l.found ≡ noted (part_mistakes (parts_of_list l.parts) l.world l.locals l.fn.from) l.fn.found;
+      told : noted (part_mistakes rest l.scope l.locals l.state) l.found ≡ noted (part_mistakes (parts_of_list l.parts) l.scope l.locals l.fn.from) l.fn.found;
       weighs : part_weight rest ≤ part_weight (parts_of_list l.parts);
     }

@@ -10,7 +10,7 @@ use Rattle.trick_names.specs.Mistakes.{noted}
 
 pub look_all-loop-s-preserved : goal.look_all-loop-s-preserved
 look_all-loop-s-preserved t c =
-    let w = c.args.world.now in
+    let w = c.args.scope.now in
     let xs = c.args.all.now in
     let i = c.loop-s.s-index in
     let item = c.s-item.result in
@@ -28,7 +28,7 @@ look_all-loop-s-preserved t c =
 
 pub look_branches-loop-branch-preserved : goal.look_branches-loop-branch-preserved
 look_branches-loop-branch-preserved t c =
-    let w = c.args.world.now in
+    let w = c.args.scope.now in
     let xs = c.args.branches.now in
     let last = else_of_option c.args.otherwise.now in
     let i = c.loop-branch.branch-index in
@@ -59,7 +59,7 @@ look_statement-look_branches-requires t c =
 pub look_statement-returns-in_ok-look_all-in-Block-clause-found : goal.look_statement-returns-in_ok-look_all-in-Block-clause-found
 look_statement-returns-in_ok-look_all-in-Block-clause-found t c =
     let is = ap statement_of c.in-Block.is ∙ block_is c.in-Block.all in
-    c.in_ok-look_all-in-Block.ensures.found ∙ (ap (λ xs. noted (all_mistakes (statements_of_list xs) c.args.world.now c.args.locals.now) c.args.found.now) c.deref.ensures.value ∙ ap (λ s. noted (statement_mistakes s c.args.world.now c.args.locals.now) c.args.found.now) (sym is))
+    c.in_ok-look_all-in-Block.ensures.found ∙ (ap (λ xs. noted (all_mistakes (statements_of_list xs) c.args.scope.now c.args.locals.now) c.args.found.now) c.deref.ensures.value ∙ ap (λ s. noted (statement_mistakes s c.args.scope.now c.args.locals.now) c.args.found.now) (sym is))
 
 pub look_statement-returns-in_ok-look_all-in-Block-clause-locals : goal.look_statement-returns-in_ok-look_all-in-Block-clause-locals
 look_statement-returns-in_ok-look_all-in-Block-clause-locals t c =
@@ -70,7 +70,7 @@ look_statement-returns-in_ok-look_all-in-Block-clause-locals t c =
 
 pub look_statement-returns-in-Assign-clause-found : goal.look_statement-returns-in-Assign-clause-found
 look_statement-returns-in-Assign-clause-found t c =
-    let w = c.args.world.now in
+    let w = c.args.scope.now in
     let locals = c.args.locals.now in
     let ms = path_mistakes (path_of c.in-Assign.path) true w locals in
     let ns = change_mistakes (change_of c.in-Assign.change) w locals in

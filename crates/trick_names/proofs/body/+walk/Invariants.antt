@@ -24,7 +24,7 @@ abbrev pub invariant-look_all-loop-s : goal.invariant-look_all-loop-s
 invariant-look_all-loop-s l =
     let rest = statements_of_list (drop l.s-index l.all) in
     record {
-      told : noted (all_mistakes rest l.world l.locals) l.found ≡ noted (all_mistakes (statements_of_list l.all) l.world l.fn.locals) l.fn.found;
+      told : noted (all_mistakes rest l.scope l.locals) l.found ≡ noted (all_mistakes (statements_of_list l.all) l.scope l.fn.locals) l.fn.found;
       known : after_all rest l.locals ≡ after_all (statements_of_list l.all) l.fn.locals;
       weighs : all_weight rest ≤ all_weight (statements_of_list l.all);
     }
@@ -34,7 +34,7 @@ invariant-look_branches-loop-branch l =
     let last = else_of_option l.otherwise in
     let rest = branches_of_list (drop l.branch-index l.branches) last in
     record {
-      told : noted (branch_mistakes rest l.world l.locals) l.found ≡ noted (branch_mistakes (branches_of_list l.branches last) l.world l.fn.locals) l.fn.found;
+      told : noted (branch_mistakes rest l.scope l.locals) l.found ≡ noted (branch_mistakes (branches_of_list l.branches last) l.scope l.fn.locals) l.fn.found;
       known : l.locals ≡ l.fn.locals;
       weighs : branch_weight rest ≤ branch_weight (branches_of_list l.branches last);
     }

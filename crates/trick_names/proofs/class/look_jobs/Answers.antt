@@ -10,7 +10,7 @@ use Rattle.trick_names.specs.Places.{own_member}
 
 pub loop-job-preserved : goal.loop-job-preserved
 loop-job-preserved c =
-    let w = c.args.world.now in
+    let w = c.args.scope.now in
     let xs = c.args.jobs.now in
     let i = c.loop-job.job-index in
     let item = c.job-item.result in

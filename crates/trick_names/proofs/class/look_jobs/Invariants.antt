@@ -6,4 +6,4 @@ use Rattle.trick_names.specs.Mistakes.{noted}
 
 -- what is left finds from here what all find from the start
 abbrev pub invariant-loop-job : goal.invariant-loop-job
-invariant-loop-job l = noted (job_mistakes (jobs_of (drop l.job-index l.jobs)) l.world) l.found ≡ noted (job_mistakes (jobs_of l.jobs) l.world) l.fn.found
+invariant-loop-job l = noted (job_mistakes (jobs_of (drop l.job-index l.jobs)) l.scope) l.found ≡ noted (job_mistakes (jobs_of l.jobs) l.scope) l.fn.found

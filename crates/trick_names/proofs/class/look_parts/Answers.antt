@@ -9,7 +9,7 @@ use Rattle.trick_names.specs.Tables.{behind_part}
 
 pub loop-number-preserved : goal.loop-number-preserved
 loop-number-preserved c =
-    let w = c.args.world.now in
+    let w = c.args.scope.now in
     let class = c.args.class.now in
     let xs = c.args.parts.now in
     let i = c.loop-number.number in

@@ -7,5 +7,5 @@ use Rattle.trick_names.specs.Mistakes.{noted}
 -- what is left finds from here what all find from the start
 abbrev pub invariant-loop-number : goal.invariant-loop-number
 invariant-loop-number l =
-    noted (class_mistakes (class_parts_of (drop l.number l.parts)) l.number l.class l.inside l.world) l.found
-    ≡ noted (class_mistakes (class_parts_of l.parts) 0 l.class l.fn.inside l.world) l.fn.found
+    noted (class_mistakes (class_parts_of (drop l.number l.parts)) l.number l.class l.inside l.scope) l.found
+    ≡ noted (class_mistakes (class_parts_of l.parts) 0 l.class l.fn.inside l.scope) l.fn.found

@@ -12,11 +12,11 @@ found_all ms start f none found = ap fault_of_found (found ∙ ap (noted ms) non
 
 pub returns-in-Some-clause-err : goal.returns-in-Some-clause-err
 returns-in-Some-clause-err c =
-    let ms = definitions_mistakes (definitions_of c.args.definitions.now) c.args.world.now in
+    let ms = definitions_mistakes (definitions_of c.args.definitions.now) c.args.scope.now in
     λ other.
     sym (found_all ms _ _ c.nothing-found.ensures c.in_ok-look_definitions.ensures.found) ∙ (sym c.fault.ensures ∙ c.in-Some.is)
 
 pub returns-in-None-clause-ok : goal.returns-in-None-clause-ok
 returns-in-None-clause-ok c =
-    let ms = definitions_mistakes (definitions_of c.args.definitions.now) c.args.world.now in
+    let ms = definitions_mistakes (definitions_of c.args.definitions.now) c.args.scope.now in
     sym (found_all ms _ _ c.nothing-found.ensures c.in_ok-look_definitions.ensures.found) ∙ (sym c.fault.ensures ∙ c.in-None.is)

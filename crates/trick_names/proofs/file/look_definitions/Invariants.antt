@@ -7,7 +7,7 @@ use Rattle.trick_names.specs.Mistakes.{noted}
 -- what is left finds from here what all find from the start
 abbrev pub invariant-loop-definition : goal.invariant-loop-definition
 invariant-loop-definition l = record {
-  number : l.world.own ≡ l.definition-index;
-  tables : l.world.tables ≡ l.fn.world.tables;
-  told : noted (definitions_mistakes (definitions_of (drop l.definition-index l.definitions)) l.world) l.found ≡ noted (definitions_mistakes (definitions_of l.definitions) l.fn.world) l.fn.found;
+  number : l.scope.own ≡ l.definition-index;
+  tables : l.scope.tables ≡ l.fn.scope.tables;
+  told : noted (definitions_mistakes (definitions_of (drop l.definition-index l.definitions)) l.scope) l.found ≡ noted (definitions_mistakes (definitions_of l.definitions) l.fn.scope) l.fn.found;
 }

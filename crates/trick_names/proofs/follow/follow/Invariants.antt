@@ -5,4 +5,4 @@ use Rattle.trick_names.specs.Places.{followed}
 
 -- what is left leads from here where all lead from the start
 abbrev pub invariant-loop-part : goal.invariant-loop-part
-invariant-loop-part l = followed (parts_of_list (drop l.part-index l.parts)) l.world l.state ≡ followed (parts_of_list l.parts) l.world l.fn.from
+invariant-loop-part l = followed (parts_of_list (drop l.part-index l.parts)) l.scope l.state ≡ followed (parts_of_list l.parts) l.scope l.fn.from

@@ -5,7 +5,7 @@ use Rattle.trick_model.specs.PlanOf.{plan_of}
 use Rattle.trick_model.specs.State.{State, World, seen}
 use Rattle.trick_replay.proofs.ReplayLemmas.{misfit, none_kept, stopped, whole}
 use Rattle.trick_replay.proofs.run.replay_by.Goals as goal
-use Rattle.trick_serial.specs.Serial.{ended_by}
+use Rattle.trick_serial.specs.Serial.{summary_of}
 use Rattle.trick_turns.specs.Joins.{joins_of}
 use Rattle.trick_turns.specs.Turns.{Told}
 
@@ -28,7 +28,7 @@ returns-in-Done g c =
     record {
       run = whole (plan_of c.args.accepted.now.plan) (seen g.M.Cells.numbers c.args.start.state) c.args.journal run.0 _ _ c.journals_show.ensures run.1 refl
           (ap (λ (told : Told). Some told) c.in-Ok.ensures.told)
-          (c.ended_by.ensures ∙ ap (λ (w : World). ended_by w.state) run.2)
+          (c.summary_of.ensures ∙ ap (λ (w : World). summary_of w.state) run.2)
           (c.joins-joins.ensures ∙ ap (λ (told : Told). joins_of told.lists) c.in-Ok.ensures.told);
     }
 

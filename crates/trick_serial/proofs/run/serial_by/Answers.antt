@@ -9,7 +9,7 @@ use Rattle.trick_outside.specs.declared.stop.Stop.{Stop}
 use Rattle.trick_runs.specs.Hosts.{at}
 use Rattle.trick_serial.proofs.SerialLemmas.{came, stopped}
 use Rattle.trick_serial.proofs.run.serial_by.Goals as goal
-use Rattle.trick_serial.specs.Serial.{ended_by}
+use Rattle.trick_serial.specs.Serial.{summary_of}
 
 pub run-requires-clause-free : goal.run-requires-clause-free
 run-requires-clause-free g c = λ place within. c.requires.free _
@@ -35,4 +35,4 @@ returns g c =
     (at c.run.new.shelf c.run.new.turns c.run.new.workers.posts) result c.serial_forms_are_alone.ensures.always c.in_ok-world.ensures.run in
     let run = subst (λ (e : EndedValue g.row.M.Denot). let r : Result (EndedValue g.row.M.Denot) Stop = Ok e in
     RunsAs g.F.Shelf g.M.Cells.numbers (plan_of plan) s c.args.shelf.now c.run.new.shelf r) c.in-Done.is all in
-    record { run = came (plan_of plan) s run.0 _ run.1 refl (c.ended_by.ensures ∙ ap (λ (w : World). ended_by w.state) run.2) }
+    record { run = came (plan_of plan) s run.0 _ run.1 refl (c.summary_of.ensures ∙ ap (λ (w : World). summary_of w.state) run.2) }

@@ -11,7 +11,7 @@ use Rattle.trick_exec.specs.CameTo.{HasGiven}
 use Rattle.trick_exec.specs.Ended.{AreTurns}
 use Rattle.trick_exec.specs.Worlds.{world_of}
 use Rattle.trick_exec.specs.declared.ended.Ended.{Ended as EndedValue}
-use Rattle.trick_exec.specs.declared.world.World.{World as WorldValue}
+use Rattle.trick_model.specs.declared.world.World.{World as WorldValue}
 use Rattle.trick_model.specs.Plan.{threads_beside}
 use Rattle.trick_model.specs.PlanOf.{plan_of}
 use Rattle.trick_model.specs.Run.{is_shut, opened}

@@ -10,7 +10,7 @@ use Rattle.trick_exec.proofs.lent.Run.turn.Goals as goal
 use Rattle.trick_exec.specs.CameTo.{HasGiven}
 use Rattle.trick_exec.specs.Known.{AreKnown}
 use Rattle.trick_exec.specs.Worlds.{world_of}
-use Rattle.trick_exec.specs.declared.world.World.{World as WorldValue}
+use Rattle.trick_model.specs.declared.world.World.{World as WorldValue}
 use Rattle.trick_hear.specs.Hearing.{hearing_of, said_of}
 use Rattle.trick_model.specs.Files.{note}
 use Rattle.trick_model.specs.Plan.{threads_beside}

@@ -3,7 +3,7 @@ use trick_names::Names;
 
 /// What a body of a class sees of its file.
 #[derive(Drop)]
-pub struct World {
+pub struct ClassScope {
     /// Where the variables lie.
     pub layout: Layout,
     /// The class of the body, by the number of its definition in the file.

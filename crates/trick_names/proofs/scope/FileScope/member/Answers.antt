@@ -1,6 +1,6 @@
 use Rattle.std.proofs.Common.{◌≡◌, ◌<◌, ◌≤◌, length, List, slice_index_or, ap, sym, ◌∙◌, subst}
 use Rattle.trick_names.proofs.Lists.{groups_past, groups_in}
-use Rattle.trick_names.proofs.world.World.member.Goals as goal
+use Rattle.trick_names.proofs.scope.FileScope.member.Goals as goal
 use Rattle.trick_names.specs.Names.{Names, meaning_of}
 use Rattle.trick_names.specs.declared.tables.Member.{Member}
 

@@ -7,7 +7,7 @@ use trick_base::Word;
 
 /// What a walk over a file knows where it has come to.
 #[derive(Drop)]
-pub struct World {
+pub struct FileScope {
     /// What the whole file declares.
     pub tables: Tables,
     /// The names so far.
@@ -16,7 +16,7 @@ pub struct World {
     pub own: usize,
 }
 
-impl World {
+impl FileScope {
     /// What a name is in a struct or class.
     pub fn member(&self, group: usize, name: &Word) -> Option<Member>
         ensures { result ≡ meaning_of name.now (members_at self.now.tables.groups group) }

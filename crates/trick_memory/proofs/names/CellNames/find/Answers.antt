@@ -1,6 +1,6 @@
 use Rattle.std.proofs.Common.{◌∙◌, ap}
 use Rattle.trick_memory.proofs.Found.{position_is}
-use Rattle.trick_memory.proofs.names.Names.find.Goals as goal
+use Rattle.trick_memory.proofs.names.CellNames.find.Goals as goal
 use Rattle.trick_model.specs.Names.{find_name}
 
 pub returns : goal.returns

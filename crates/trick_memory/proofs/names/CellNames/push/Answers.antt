@@ -1,6 +1,6 @@
 use Rattle.std.proofs.Common.{◌≡◌, ◌∙◌, None, ap, refl}
 use Rattle.trick_memory.proofs.Found.{goes_last, shown}
-use Rattle.trick_memory.proofs.names.Names.push.Goals as goal
+use Rattle.trick_memory.proofs.names.CellNames.push.Goals as goal
 use Rattle.trick_model.specs.Names.{find_name}
 
 pub returns : goal.returns

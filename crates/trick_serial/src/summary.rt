@@ -1,6 +1,6 @@
 ghost use Rattle.std.specs.Prelude.{◌≡◌};
 ghost use Rattle.trick_model.specs.State.{seen};
-ghost use Rattle.trick_serial.specs.Serial.{ended_by};
+ghost use Rattle.trick_serial.specs.Serial.{summary_of};
 
 use crate::sum::sum_of;
 use trick_lang::Cells;
@@ -8,7 +8,7 @@ use trick_model::State;
 
 /// What a run says of its last state.
 #[derive(Clone, Copy, Debug, PartialEq, Eq)]
-pub struct Ended {
+pub struct Summary {
     /// The turns that were done, at most 2^63 - 1; those before a checkpoint that it started from count.
     pub turns: u64,
     /// The first tic that was not run, at most 10^15 + 1.
@@ -20,10 +20,10 @@ pub struct Ended {
 }
 
 /// What is said of a state that is the last.
-pub fn ended_by<M: Cells>(state: &State<M>) -> Ended
-    ensures { result ≡ ended_by (seen M.numbers state.now) }
+pub fn summary_of<M: Cells>(state: &State<M>) -> Summary
+    ensures { result ≡ summary_of (seen M.numbers state.now) }
 {
-    Ended {
+    Summary {
         turns: state.turn,
         tic: state.tic,
         faults: state.faults.count(),
