@@ -1,7 +1,7 @@
 -- What is in a list of numbers that are all below one.
 use Rattle.std.proofs.Common.{◌≡◌, ℕ, zero, suc, ◌<◌, true, inl, inr, List, [], ◌∷◌, subst}
 use Rattle.std.proofs.lemmas.Bool.{and_parts, eqb-true, ltb-true, or_cases}
-use Rattle.trick_order.specs.Calls.{all_below, callees, each_below, has}
+use Rattle.trick_check_order.specs.Calls.{all_below, callees, each_below, has}
 
 below_has : (n : ℕ) (xs : List ℕ) (k : ℕ) → all_below n xs ≡ true → has xs k ≡ true → k < n
 below_has n [] k all h = absurd (cc h)

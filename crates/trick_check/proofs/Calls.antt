@@ -7,17 +7,17 @@ use Rattle.trick_check.proofs.Below.{callees_below}
 use Rattle.trick_check.specs.Parts.{calls_at, parts_at, parts_in}
 use Rattle.trick_lang.specs.SyntaxTree as tree
 use Rattle.trick_lang.specs.SyntaxTree.{Name, Declarator, Members, SDefine, Include, Enum, Struct, ClassOf, Object, Public, HasMembers, HasMethod, Constructor, Statement, Empty, Block, Declare, Assign, If, For, Call, Branches, NoElse, Else, Test, Statements, NoStatement, Then}
-use Rattle.trick_names.specs.Calls.{all_calls, branch_calls, class_calls, method_of, part_calls, statement_calls}
-use Rattle.trick_names.specs.Names.{Names, meaning_of, with_name}
-use Rattle.trick_names.specs.Places.{members_at}
-use Rattle.trick_names.specs.Tables.{base_of, behind_definition, behind_definitions, behind_part, behind_parts, lengths_of, members_in, nothing_inside, tables_of, with_all_members, with_declarator, with_declarators, with_members}
-use Rattle.trick_names.specs.declared.tables.Base.{Base}
-use Rattle.trick_names.specs.declared.tables.Global.{Global}
-use Rattle.trick_names.specs.declared.tables.Inside.{Inside}
-use Rattle.trick_names.specs.declared.tables.Member.{Member}
-use Rattle.trick_names.specs.declared.tables.Member.TheVariants.{Variable as Holds, Method}
-use Rattle.trick_names.specs.declared.tables.Tables.{Tables}
-use Rattle.trick_order.specs.Calls.{AreCallees, all_below, each_below}
+use Rattle.trick_check_names.specs.Calls.{all_calls, branch_calls, class_calls, method_of, part_calls, statement_calls}
+use Rattle.trick_check_names.specs.Names.{Names, meaning_of, with_name}
+use Rattle.trick_check_names.specs.Places.{members_at}
+use Rattle.trick_check_names.specs.Tables.{base_of, behind_definition, behind_definitions, behind_part, behind_parts, lengths_of, members_in, nothing_inside, tables_of, with_all_members, with_declarator, with_declarators, with_members}
+use Rattle.trick_check_names.specs.declared.tables.Base.{Base}
+use Rattle.trick_check_names.specs.declared.tables.Global.{Global}
+use Rattle.trick_check_names.specs.declared.tables.Inside.{Inside}
+use Rattle.trick_check_names.specs.declared.tables.Member.{Member}
+use Rattle.trick_check_names.specs.declared.tables.Member.TheVariants.{Variable as Holds, Method}
+use Rattle.trick_check_names.specs.declared.tables.Tables.{Tables}
+use Rattle.trick_check_order.specs.Calls.{AreCallees, all_below, each_below}
 
 -- ---- numbers of methods
 

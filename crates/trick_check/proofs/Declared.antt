@@ -7,15 +7,15 @@ use Rattle.std.specs.Str.{bytes_eq}
 use Rattle.trick_lang.specs.Names.{are_apart, is_letter, is_letter_or_digit, is_spelled}
 use Rattle.trick_lang.specs.SyntaxTree as tree
 use Rattle.trick_lang.specs.SyntaxTree.{Declarator, Definition, EnumItem, Members, Name, Part, SDefine}
-use Rattle.trick_names.specs.Names.{Names, meaning_of, with_name}
-use Rattle.trick_names.specs.Tables.{base_of, behind_definition, behind_definitions, behind_part, behind_parts, lengths_of, members_in, names_behind, nothing_inside, object_base, tables_of, taken_value, with_all_members, with_declarator, with_declarators, with_item, with_items, with_members}
-use Rattle.trick_names.specs.declared.tables.Base.{Base}
-use Rattle.trick_names.specs.declared.tables.Global.{Global}
-use Rattle.trick_names.specs.declared.tables.Global.TheVariants as the
-use Rattle.trick_names.specs.declared.tables.Inside.{Inside}
-use Rattle.trick_names.specs.declared.tables.Member.{Member}
-use Rattle.trick_names.specs.declared.tables.Member.TheVariants.{Variable as Holds, Method}
-use Rattle.trick_names.specs.declared.tables.Tables.{Tables}
+use Rattle.trick_check_names.specs.Names.{Names, meaning_of, with_name}
+use Rattle.trick_check_names.specs.Tables.{base_of, behind_definition, behind_definitions, behind_part, behind_parts, lengths_of, members_in, names_behind, nothing_inside, object_base, tables_of, taken_value, with_all_members, with_declarator, with_declarators, with_item, with_items, with_members}
+use Rattle.trick_check_names.specs.declared.tables.Base.{Base}
+use Rattle.trick_check_names.specs.declared.tables.Global.{Global}
+use Rattle.trick_check_names.specs.declared.tables.Global.TheVariants as the
+use Rattle.trick_check_names.specs.declared.tables.Inside.{Inside}
+use Rattle.trick_check_names.specs.declared.tables.Member.{Member}
+use Rattle.trick_check_names.specs.declared.tables.Member.TheVariants.{Variable as Holds, Method}
+use Rattle.trick_check_names.specs.declared.tables.Tables.{Tables}
 use Rattle.trick_lang.specs.Facts.{are_right_lengths}
 use Rattle.trick_lang.specs.PartTests.{PartTests, anything, declarator_passes, definition_passes, file_passes, item_passes, members_pass, part_passes, type_passes}
 use Rattle.trick_check.proofs.Unlike.{apart_append, are_unlike, is_plain}

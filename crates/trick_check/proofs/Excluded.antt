@@ -9,8 +9,8 @@ use Rattle.trick_check.specs.declared.fault.CheckFault.{CheckFault}
 use Rattle.trick_check.specs.declared.fault.CheckFault.TheVariants.{Twice, Unknown, NotScalar, Recursive, TooManyCells, TooManyJobs, TooManySteps, OutOfMemory}
 use Rattle.trick_lang.specs.SyntaxTree.{Name, SDefine}
 use Rattle.trick_lang.specs.declared.program.Program.{Program}
-use Rattle.trick_names.specs.Places.{members_at}
-use Rattle.trick_names.specs.Tables.{tables_of}
+use Rattle.trick_check_names.specs.Places.{members_at}
+use Rattle.trick_check_names.specs.Tables.{tables_of}
 
 pub same_program : (ds : SDefine) (p q : Program) → IsNamed ds p → IsNamed ds q → AreSame p q
 same_program ds p q a b = record {

@@ -3,12 +3,12 @@ use Rattle.std.proofs.Common.{◌≡◌, ℕ, suc, ◌+◌, ◌≤◌, Bool, tru
 use Rattle.std.proofs.lemmas.Bool.{and_from, le-leb}
 use Rattle.std.proofs.lemmas.List.{length-append}
 use Rattle.std.specs.Str.{bytes_eq}
-use Rattle.trick_jobs.specs.Jobs.{calls_in, jobs_from, lines_at, numbers_at, object_jobs}
+use Rattle.trick_check_bodies.specs.Jobs.{calls_in, jobs_from, lines_at, numbers_at, object_jobs}
 use Rattle.trick_lang.specs.SyntaxTree.{JobLine, Name, SDefine}
 use Rattle.trick_lang.specs.Valid.{have_right_instances}
 use Rattle.trick_lang.specs.declared.job.Job.{Job}
 use Rattle.trick_lang.specs.declared.object.Object.{Object}
-use Rattle.trick_names.specs.Names.{Names}
+use Rattle.trick_check_names.specs.Names.{Names}
 
 -- each of these jobs has an instance up to a number
 abbrev Within : ℕ → List Job → Type 0

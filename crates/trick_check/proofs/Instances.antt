@@ -5,24 +5,24 @@ use Rattle.std.proofs.lemmas.List.{append_assoc, append_cancel_left}
 use Rattle.std.proofs.lemmas.Slice.Eq.{bytes_eq-Decides}
 use Rattle.std.specs.List.{list_all}
 use Rattle.std.specs.Str.{bytes_eq}
-use Rattle.trick_bodies.specs.Classes.{Made}
-use Rattle.trick_cells.specs.Counts.{global_count}
-use Rattle.trick_cells.specs.Tables.{narrow, object_row, object_rows}
+use Rattle.trick_check_bodies.specs.Classes.{Made}
+use Rattle.trick_check_cells.specs.Counts.{global_count}
+use Rattle.trick_check_cells.specs.Tables.{narrow, object_row, object_rows}
 use Rattle.trick_check.specs.Parts.{parts_at}
 use Rattle.trick_check.specs.Walk.{all_made, has_object, jobs_named, made_of_first, objects_of, sizes_of}
-use Rattle.trick_jobs.specs.Jobs.{calls_in, job_of, jobs_from, lines_at, method_number, numbers_at, object_jobs}
+use Rattle.trick_check_bodies.specs.Jobs.{calls_in, job_of, jobs_from, lines_at, method_number, numbers_at, object_jobs}
 use Rattle.trick_lang.specs.Names.{are_apart, dot, job_name, method_name, object_name, of_one_instance}
 use Rattle.trick_lang.specs.SyntaxTree.{JobLine, Name, Part, SDefine}
 use Rattle.trick_lang.specs.declared.job.Job.{Job}
 use Rattle.trick_lang.specs.declared.method.Method.{Method}
 use Rattle.trick_lang.specs.declared.object.Object.{Object}
-use Rattle.trick_names.specs.FileMistakes.{mistakes}
-use Rattle.trick_names.specs.Mistakes.{fault_of}
-use Rattle.trick_names.specs.Names.{Names}
-use Rattle.trick_names.specs.Tables.{tables_of}
-use Rattle.trick_names.specs.declared.tables.Base.TheVariants.{Group}
-use Rattle.trick_names.specs.declared.tables.Global.{Global}
-use Rattle.trick_names.specs.declared.tables.Global.TheVariants as the
+use Rattle.trick_check_names.specs.FileMistakes.{mistakes}
+use Rattle.trick_check_names.specs.Mistakes.{fault_of}
+use Rattle.trick_check_names.specs.Names.{Names}
+use Rattle.trick_check_names.specs.Tables.{tables_of}
+use Rattle.trick_check_names.specs.declared.tables.Base.TheVariants.{Group}
+use Rattle.trick_check_names.specs.declared.tables.Global.{Global}
+use Rattle.trick_check_names.specs.declared.tables.Global.TheVariants as the
 use Rattle.trick_check.proofs.Unlike.{apart_append, are_unlike, is_plain, unlike}
 use Rattle.trick_check.proofs.Cells.{are_right, fits, for_all, of_same_name, splits}
 use Rattle.trick_check.proofs.Jobs.{all_append}

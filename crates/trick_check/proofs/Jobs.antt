@@ -2,7 +2,7 @@
 use Rattle.std.proofs.Common.{◌≡◌, ℕ, zero, suc, ◌+◌, Bool, true, false, if◌then◌else◌, List, [], ◌∷◌, ◌++◌, refl}
 use Rattle.std.proofs.lemmas.Bool.{and_parts}
 use Rattle.std.specs.List.{list_all}
-use Rattle.trick_jobs.specs.Jobs.{class_lines, definition_lines, is_constructor, job_of, jobs_from, lines_at, numbers_at, object_jobs, part_lines}
+use Rattle.trick_check_bodies.specs.Jobs.{class_lines, definition_lines, is_constructor, job_of, jobs_from, lines_at, numbers_at, object_jobs, part_lines}
 use Rattle.trick_lang.specs.SyntaxTree as tree
 use Rattle.trick_lang.specs.SyntaxTree.{Definition, JobLine, Part, SDefine}
 use Rattle.trick_lang.specs.Valid as valid
@@ -10,7 +10,7 @@ use Rattle.trick_lang.specs.declared.class.Class.{Class}
 use Rattle.trick_lang.specs.declared.class.Class.TheVariants.{Scheduled}
 use Rattle.trick_lang.specs.declared.job.Job.{Job}
 use Rattle.trick_lang.specs.declared.object.Object.{Object}
-use Rattle.trick_names.specs.Names.{Names}
+use Rattle.trick_check_names.specs.Names.{Names}
 use Rattle.trick_lang.specs.Facts.{has_right_times}
 use Rattle.trick_lang.specs.PartTests.{PartTests, anything, definition_passes, file_passes, part_passes}
 

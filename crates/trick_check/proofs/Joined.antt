@@ -1,9 +1,9 @@
 -- What a program asks of the blocks of its parts.
 use Rattle.std.proofs.Common.{◌≡◌, IsTrue, List, length, sym, subst}
-use Rattle.trick_blocks.specs.Held.{bodies_of}
-use Rattle.trick_blocks.specs.Kept.{AreKept, BlocksHold, Keeps, MethodsHold}
-use Rattle.trick_blocks.specs.Methods.{progress}
-use Rattle.trick_blocks.specs.declared.scope.ClassScope.{ClassScope}
+use Rattle.trick_check_blocks.specs.Held.{bodies_of}
+use Rattle.trick_check_blocks.specs.Kept.{AreKept, BlocksHold, Keeps, MethodsHold}
+use Rattle.trick_check_blocks.specs.Methods.{progress}
+use Rattle.trick_check_blocks.specs.declared.scope.ClassScope.{ClassScope}
 use Rattle.trick_check.specs.Draft.{IsWhole}
 use Rattle.trick_check.specs.declared.draft.ProgramDraft.{ProgramDraft}
 use Rattle.trick_lang.specs.Valid.{are_short}

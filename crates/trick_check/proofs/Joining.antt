@@ -1,9 +1,9 @@
 -- The parts of a file are such as a program asks.
 use Rattle.std.proofs.Common.{◌≡◌, ℕ, ◌<◌, true, List, length, ap, sym, ◌∙◌, subst}
 use Rattle.trick_base.specs.Capped.{capped}
-use Rattle.trick_blocks.specs.Kept.{is_one_of}
-use Rattle.trick_cells.specs.Cells.{all_groups, memory_cells}
-use Rattle.trick_cells.specs.Counts.{counts, names_count}
+use Rattle.trick_check_blocks.specs.Kept.{is_one_of}
+use Rattle.trick_check_cells.specs.Cells.{all_groups, memory_cells}
+use Rattle.trick_check_cells.specs.Counts.{counts, names_count}
 use Rattle.trick_check.proofs.Lists.{has_is}
 use Rattle.trick_check.proofs.Calls.{calls_many}
 use Rattle.trick_check.proofs.Placed.{same_count}
@@ -13,14 +13,14 @@ use Rattle.trick_check.specs.Parts.{calls_at, parts_at}
 use Rattle.trick_check.specs.Refused.{JobsAreRight, cells_in}
 use Rattle.trick_check.specs.Walk.{sizes_of}
 use Rattle.trick_check.specs.declared.draft.ProgramDraft.{ProgramDraft}
-use Rattle.trick_blocks.specs.Held.{bodies_of}
-use Rattle.trick_bodies.specs.Classes.{Made}
+use Rattle.trick_check_blocks.specs.Held.{bodies_of}
+use Rattle.trick_check_bodies.specs.Classes.{Made}
 use Rattle.trick_lang.specs.SyntaxTree.{SDefine}
 use Rattle.trick_lang.specs.declared.program.Program.{Program}
-use Rattle.trick_layout.specs.declared.layout.Layout.{Layout}
-use Rattle.trick_names.specs.Places.{members_at}
-use Rattle.trick_names.specs.Tables.{tables_of}
-use Rattle.trick_order.specs.Calls.{IsOrderOf}
+use Rattle.trick_check_names.specs.declared.layout.Layout.{Layout}
+use Rattle.trick_check_names.specs.Places.{members_at}
+use Rattle.trick_check_names.specs.Tables.{tables_of}
+use Rattle.trick_check_order.specs.Calls.{IsOrderOf}
 
 -- an order of the parts of a class has the number of each
 pub order_takes : (ds : SDefine) (class : ℕ) (order : List ℕ) → IsOrderOf (calls_at ds class) order → (k : ℕ) → k < length (parts_at ds class) → is_one_of order k ≡ true

@@ -1,14 +1,14 @@
 -- Parts of classes and tables of definitions, by their numbers.
 use Rattle.std.proofs.Common.{◌≡◌, ℕ, zero, suc, ◌<◌, ◌≤◌, List, [], ◌∷◌, length, get_or, slice_get, Some, None, Result, Ok, Err, IfOk, OnOk, refl, ap, arith}
-use Rattle.trick_blocks.specs.Kept.{is_one_of}
+use Rattle.trick_check_blocks.specs.Kept.{is_one_of}
 use Rattle.trick_check.specs.Parts.{parts_at, parts_in}
 use Rattle.trick_lang.specs.Syntax.{class_part_of, class_parts_of, definition_of, definitions_of}
 use Rattle.trick_lang.specs.declared.syntax.definition.ClassPart.{ClassPart}
 use Rattle.trick_lang.specs.declared.syntax.definition.Definition.{Definition}
-use Rattle.trick_names.specs.Names.{Names}
-use Rattle.trick_names.specs.Places.{members_at}
-use Rattle.trick_names.specs.declared.tables.Member.{Member}
-use Rattle.trick_order.specs.Calls.{has}
+use Rattle.trick_check_names.specs.Names.{Names}
+use Rattle.trick_check_names.specs.Places.{members_at}
+use Rattle.trick_check_names.specs.declared.tables.Member.{Member}
+use Rattle.trick_check_order.specs.Calls.{has}
 
 pub parts_past : (ds : List Definition) (k : ℕ) → length ds ≤ k → [] ≡ parts_at (definitions_of ds) k
 parts_past [] k h = refl

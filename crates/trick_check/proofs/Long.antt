@@ -5,10 +5,10 @@ use Rattle.std.proofs.lemmas.Bool.{and_parts, eqb-true, le-leb, leb-true}
 use Rattle.std.proofs.lemmas.Option.{get_or_from_slice_get, slice_get-get_or}
 use Rattle.std.specs.List.{list_all}
 use Rattle.trick_base.specs.Capped.{capped}
-use Rattle.trick_blocks.specs.Held.{bodies_of}
-use Rattle.trick_blocks.specs.Kept.{codes_in}
-use Rattle.trick_bodies.specs.Classes.{Made, made}
-use Rattle.trick_bodies.specs.declared.class.Bodies.{Bodies}
+use Rattle.trick_check_blocks.specs.Held.{bodies_of}
+use Rattle.trick_check_blocks.specs.Kept.{codes_in}
+use Rattle.trick_check_bodies.specs.Classes.{Made, made}
+use Rattle.trick_check_bodies.specs.declared.class.Bodies.{Bodies}
 use Rattle.trick_check.specs.Refused.{AreShortJobs, IsFirstLong, IsLongJob, steps_by, steps_in}
 use Rattle.trick_check.specs.Walk.{all_made, jobs_named}
 use Rattle.trick_lang.specs.Blocks.{table}
@@ -22,7 +22,7 @@ use Rattle.trick_lang.specs.declared.job.Job.{Job}
 use Rattle.trick_lang.specs.declared.method.Method.{Method}
 use Rattle.trick_lang.specs.declared.object.Object.{Object}
 use Rattle.trick_lang.specs.declared.tree.Block.{Block}
-use Rattle.trick_steps.specs.Steps.{blocks_steps, count_at}
+use Rattle.trick_check_steps.specs.Steps.{blocks_steps, count_at}
 
 pub codes_are : (bs : List Block) → codes_in (bodies_of bs) ≡ codes_of bs
 codes_are [] = refl

@@ -5,22 +5,22 @@ use Rattle.std.proofs.lemmas.List.{append-nil, append_assoc}
 use Rattle.std.specs.List.{list_all}
 use Rattle.std.specs.Str.{bytes_eq}
 use Rattle.trick_check.specs.Parts.{parts_at, parts_in}
-use Rattle.trick_jobs.specs.Jobs.{class_lines, definition_lines, lines_at}
+use Rattle.trick_check_bodies.specs.Jobs.{class_lines, definition_lines, lines_at}
 use Rattle.trick_lang.specs.SyntaxTree as tree
 use Rattle.trick_lang.specs.SyntaxTree.{Declarator, Definition, JobLine, Members, Name, Part, SDefine}
-use Rattle.trick_names.specs.BodyMistakes.{call_mistakes}
-use Rattle.trick_names.specs.FileMistakes.{at_start, class_mistakes, definition_mistakes, definitions_mistakes, job_mistakes, mistakes, past}
-use Rattle.trick_names.specs.Mistakes.{Mistake, Twice, Unknown, NotScalar, fault_of, first_twice, first_unknown, twice_fault}
-use Rattle.trick_names.specs.Names.{Names, meaning_of, with_name}
-use Rattle.trick_names.specs.Places.{members_at, own_member}
-use Rattle.trick_names.specs.Tables.{base_of, behind_definition, behind_definitions, behind_part, behind_parts, lengths_of, members_in, nothing_inside, tables_of, with_all_members, with_declarator, with_declarators, with_members}
-use Rattle.trick_names.specs.declared.tables.Base.{Base}
-use Rattle.trick_names.specs.declared.tables.Global.{Global}
-use Rattle.trick_names.specs.declared.tables.Inside.{Inside}
-use Rattle.trick_names.specs.declared.tables.Member.{Member}
-use Rattle.trick_names.specs.declared.tables.Member.TheVariants.{Variable as Holds, Method}
-use Rattle.trick_names.specs.declared.tables.Tables.{Tables}
-use Rattle.trick_names.specs.declared.scope.FileScope.{FileScope}
+use Rattle.trick_check_names.specs.BodyMistakes.{call_mistakes}
+use Rattle.trick_check_names.specs.FileMistakes.{at_start, class_mistakes, definition_mistakes, definitions_mistakes, job_mistakes, mistakes, past}
+use Rattle.trick_check_names.specs.Mistakes.{Mistake, Twice, Unknown, NotScalar, fault_of, first_twice, first_unknown, twice_fault}
+use Rattle.trick_check_names.specs.Names.{Names, meaning_of, with_name}
+use Rattle.trick_check_names.specs.Places.{members_at, own_member}
+use Rattle.trick_check_names.specs.Tables.{base_of, behind_definition, behind_definitions, behind_part, behind_parts, lengths_of, members_in, nothing_inside, tables_of, with_all_members, with_declarator, with_declarators, with_members}
+use Rattle.trick_check_names.specs.declared.tables.Base.{Base}
+use Rattle.trick_check_names.specs.declared.tables.Global.{Global}
+use Rattle.trick_check_names.specs.declared.tables.Inside.{Inside}
+use Rattle.trick_check_names.specs.declared.tables.Member.{Member}
+use Rattle.trick_check_names.specs.declared.tables.Member.TheVariants.{Variable as Holds, Method}
+use Rattle.trick_check_names.specs.declared.tables.Tables.{Tables}
+use Rattle.trick_check_names.specs.declared.scope.FileScope.{FileScope}
 
 -- ---- right names are those without a mistake
 

@@ -2,9 +2,9 @@
 use Rattle.std.proofs.Common.{◌≡◌, ℕ, ◌+◌, Bool, true, List, [], ◌∷◌, length, refl}
 use Rattle.std.proofs.lemmas.Bool.{and_from, and_parts}
 use Rattle.std.specs.List.{list_all}
-use Rattle.trick_cells.specs.Cells.{memory_cells}
-use Rattle.trick_cells.specs.Counts.{global_count}
-use Rattle.trick_cells.specs.Tables.{item_row, item_rows, narrow, object_row, object_rows}
+use Rattle.trick_check_cells.specs.Cells.{memory_cells}
+use Rattle.trick_check_cells.specs.Counts.{global_count}
+use Rattle.trick_check_cells.specs.Tables.{item_row, item_rows, narrow, object_row, object_rows}
 use Rattle.trick_check.proofs.Jobs.{all_append}
 use Rattle.trick_check.proofs.PlainCells.{memory_plain}
 use Rattle.trick_check.proofs.Tables.{all_pass, made_named, named, tables_named}
@@ -15,11 +15,11 @@ use Rattle.trick_lang.specs.PartTests.{file_passes}
 use Rattle.trick_lang.specs.SyntaxTree.{Name, SDefine}
 use Rattle.trick_lang.specs.declared.method.Method.{Method}
 use Rattle.trick_lang.specs.declared.object.Object.{Object}
-use Rattle.trick_names.specs.Names.{Names}
-use Rattle.trick_names.specs.Tables.{tables_of}
-use Rattle.trick_names.specs.declared.tables.Base.TheVariants.{Group}
-use Rattle.trick_names.specs.declared.tables.Global.{Global}
-use Rattle.trick_names.specs.declared.tables.Global.TheVariants as the
+use Rattle.trick_check_names.specs.Names.{Names}
+use Rattle.trick_check_names.specs.Tables.{tables_of}
+use Rattle.trick_check_names.specs.declared.tables.Base.TheVariants.{Group}
+use Rattle.trick_check_names.specs.declared.tables.Global.{Global}
+use Rattle.trick_check_names.specs.declared.tables.Global.TheVariants as the
 
 -- ---- objects and items
 

@@ -2,7 +2,7 @@
 use Rattle.std.proofs.Common.{◌≡◌, ◌≢◌, ℕ, zero, suc, ◌+◌, ◌-◌, ◌<◌, ◌≤◌, List, [], Option, Some, None, slice_get, inl, inr, refl, ap, ap₂, sym, ◌∙◌, subst, arith}
 use Rattle.std.proofs.lemmas.Bool.{cases_order}
 use Rattle.trick_base.specs.Capped.{capped}
-use Rattle.trick_bodies.specs.Classes.{Made}
+use Rattle.trick_check_bodies.specs.Classes.{Made}
 use Rattle.trick_check.proofs.Excluded.{not_recursive}
 use Rattle.trick_check.specs.Parts.{calls_at, method_name_at}
 use Rattle.trick_check.specs.Refused.{CallsAreRight, CellsAreRight, HasLongJob, IsFirstLong, IsFirstRecursive, IsLongJob, IsRefused, JobsAreRight, NamesAreRight, cells_in, jobs_in}
@@ -13,11 +13,11 @@ use Rattle.trick_lang.specs.Names.{job_name}
 use Rattle.trick_lang.specs.SyntaxTree.{Name, SDefine}
 use Rattle.trick_lang.specs.declared.job.Job.{Job}
 use Rattle.trick_lang.specs.declared.object.Object.{Object}
-use Rattle.trick_names.specs.FileMistakes.{mistakes}
-use Rattle.trick_names.specs.Mistakes.{fault_of}
-use Rattle.trick_names.specs.declared.fault.NameFault.{NameFault}
-use Rattle.trick_names.specs.declared.fault.NameFault.TheVariants as names
-use Rattle.trick_order.specs.Calls.{IsFirst}
+use Rattle.trick_check_names.specs.FileMistakes.{mistakes}
+use Rattle.trick_check_names.specs.Mistakes.{fault_of}
+use Rattle.trick_check_names.specs.declared.fault.NameFault.{NameFault}
+use Rattle.trick_check_names.specs.declared.fault.NameFault.TheVariants as names
+use Rattle.trick_check_order.specs.Calls.{IsFirst}
 
 -- ---- the kinds of refusals, in their order
 

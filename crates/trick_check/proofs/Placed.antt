@@ -6,19 +6,19 @@ use Rattle.std.proofs.lemmas.List.Folds.{list_all-append}
 use Rattle.std.specs.List.{list_all}
 use Rattle.trick_base.proofs.Numbers.{other_than_greater}
 use Rattle.trick_base.specs.Capped.{capped}
-use Rattle.trick_cells.specs.Counts.{global_count, names_count}
-use Rattle.trick_cells.specs.Tables.{narrow, object_row, object_rows, taken}
-use Rattle.trick_jobs.specs.Jobs.{job_count, job_of, jobs_from, lines_at, numbers_at, object_jobs}
+use Rattle.trick_check_cells.specs.Counts.{global_count, names_count}
+use Rattle.trick_check_cells.specs.Tables.{narrow, object_row, object_rows, taken}
+use Rattle.trick_check_bodies.specs.Jobs.{job_count, job_of, jobs_from, lines_at, numbers_at, object_jobs}
 use Rattle.trick_lang.specs.Names.{are_apart, of_one_number}
 use Rattle.trick_lang.specs.SyntaxTree as tree
 use Rattle.trick_lang.specs.SyntaxTree.{Name, SDefine}
 use Rattle.trick_lang.specs.Valid.{object_stands, objects_stand}
 use Rattle.trick_lang.specs.declared.job.Job.{Job}
 use Rattle.trick_lang.specs.declared.object.Object.{Object}
-use Rattle.trick_names.specs.Names.{Names}
-use Rattle.trick_names.specs.declared.tables.Base.TheVariants.{Group}
-use Rattle.trick_names.specs.declared.tables.Global.{Global}
-use Rattle.trick_names.specs.declared.tables.Global.TheVariants as the
+use Rattle.trick_check_names.specs.Names.{Names}
+use Rattle.trick_check_names.specs.declared.tables.Base.TheVariants.{Group}
+use Rattle.trick_check_names.specs.declared.tables.Global.{Global}
+use Rattle.trick_check_names.specs.declared.tables.Global.TheVariants as the
 
 -- ---- objects
 

@@ -1,6 +1,6 @@
 -- The parts that a file names are proper, by what the reader knows of the file.
 use Rattle.std.proofs.Common.{◌≡◌, ◌≤◌, nat_le, ap, sym, ◌∙◌, subst}
-use Rattle.trick_bodies.specs.Classes.{Made}
+use Rattle.trick_check_bodies.specs.Classes.{Made}
 use Rattle.trick_check.proofs.Cells.{cells_apart}
 use Rattle.trick_check.proofs.Declared.{text_tables}
 use Rattle.trick_check.proofs.FewInstances.{instances_right}
@@ -18,7 +18,7 @@ use Rattle.trick_lang.specs.SDefineOf.{sdefine_of}
 use Rattle.trick_lang.specs.Valid as valid
 use Rattle.trick_lang.specs.Valid.{have_right_instances, have_right_threads, have_right_times, jobs_stand}
 use Rattle.trick_lang.specs.declared.syntax.definition.SDefine.{SDefine}
-use Rattle.trick_names.specs.Tables.{tables_of}
+use Rattle.trick_check_names.specs.Tables.{tables_of}
 
 pub proper : (s : SDefine) (d : ProgramDraft) → IsDraft (sdefine_of s) d → IsProper d
 proper s d draft =

@@ -1,6 +1,6 @@
 -- Refusals of each kind are refusals of the file.
 use Rattle.std.proofs.Common.{◌≡◌, ◌≢◌, ℕ, List, Some, subst}
-use Rattle.trick_bodies.specs.Classes.{Made}
+use Rattle.trick_check_bodies.specs.Classes.{Made}
 use Rattle.trick_check.specs.Refused.{HasLongJob, IsLongJob, IsRefused, IsStepFault, JobsAreRight, check_fault}
 use Rattle.trick_check.specs.Walk.{all_made, jobs_named, objects_of}
 use Rattle.trick_check.specs.declared.fault.CheckFault.{CheckFault}
@@ -8,10 +8,10 @@ use Rattle.trick_check.specs.declared.fault.CheckFault.TheVariants.{TooManySteps
 use Rattle.trick_lang.specs.SyntaxTree.{Name, SDefine}
 use Rattle.trick_lang.specs.declared.job.Job.{Job}
 use Rattle.trick_lang.specs.declared.object.Object.{Object}
-use Rattle.trick_names.specs.FileMistakes.{mistakes}
-use Rattle.trick_names.specs.Mistakes.{fault_of}
-use Rattle.trick_names.specs.declared.fault.NameFault.{NameFault}
-use Rattle.trick_names.specs.declared.fault.NameFault.TheVariants as names
+use Rattle.trick_check_names.specs.FileMistakes.{mistakes}
+use Rattle.trick_check_names.specs.Mistakes.{fault_of}
+use Rattle.trick_check_names.specs.declared.fault.NameFault.{NameFault}
+use Rattle.trick_check_names.specs.declared.fault.NameFault.TheVariants as names
 
 pub names_refused : (ds : SDefine) (fault : NameFault) → (fault ≢ names.OutOfMemory → fault_of (mistakes ds) ≡ Some fault) → IsRefused ds (check_fault fault)
 names_refused ds (names.Twice name) h = h (λ e. cc e)

@@ -5,20 +5,20 @@ use Rattle.std.proofs.lemmas.List.{append-nil, append_assoc}
 use Rattle.std.proofs.lemmas.Slice.Eq.{bytes_eq-Decides}
 use Rattle.std.specs.List.{list_all}
 use Rattle.std.specs.Str.{bytes_eq}
-use Rattle.trick_bodies.specs.Classes.{Made}
+use Rattle.trick_check_bodies.specs.Classes.{Made}
 use Rattle.trick_check.specs.Parts.{order_at, parts_at}
 use Rattle.trick_check.specs.Walk.{all_made, has_object, jobs_named, made_of_first, objects_of, with_class_if}
-use Rattle.trick_jobs.specs.Jobs.{job_of, jobs_from, lines_at, method_number, numbers_at, object_jobs}
-use Rattle.trick_jobs.specs.Methods.{class_methods, with_numbers}
+use Rattle.trick_check_bodies.specs.Jobs.{job_of, jobs_from, lines_at, method_number, numbers_at, object_jobs}
+use Rattle.trick_check_bodies.specs.Methods.{class_methods, with_numbers}
 use Rattle.trick_lang.specs.Names.{method_name}
 use Rattle.trick_lang.specs.SyntaxTree as tree
 use Rattle.trick_lang.specs.SyntaxTree.{JobLine, Name, Part, SDefine}
 use Rattle.trick_lang.specs.Valid.{job_stands, jobs_stand, of_one_class}
 use Rattle.trick_lang.specs.declared.method.Method as program
 use Rattle.trick_lang.specs.declared.object.Object.{Object}
-use Rattle.trick_names.specs.FileMistakes.{mistakes}
-use Rattle.trick_names.specs.Mistakes.{fault_of}
-use Rattle.trick_names.specs.Names.{Names, meaning_of, with_name}
+use Rattle.trick_check_names.specs.FileMistakes.{mistakes}
+use Rattle.trick_check_names.specs.Mistakes.{fault_of}
+use Rattle.trick_check_names.specs.Names.{Names, meaning_of, with_name}
 use Rattle.trick_check.proofs.Jobs.{all_append}
 use Rattle.trick_check.proofs.Methods.{has_method, lines_call_methods}
 

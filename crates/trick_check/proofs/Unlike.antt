@@ -4,7 +4,7 @@ use Rattle.std.proofs.lemmas.Bool.{and_parts, ne_eqb}
 use Rattle.std.proofs.lemmas.List.{append_assoc}
 use Rattle.std.specs.List.{list_all}
 use Rattle.std.specs.Str.{bytes_eq}
-use Rattle.trick_cells.specs.Cells.{under}
+use Rattle.trick_check_cells.specs.Cells.{under}
 use Rattle.trick_lang.specs.Names.{are_apart, of_one_name}
 use Rattle.trick_lang.specs.SyntaxTree.{Name}
 use Rattle.trick_lang.specs.declared.variable.Variable.{Variable}

@@ -1,15 +1,15 @@
 -- Classes that are made keep where the variables lie.
 use Rattle.std.proofs.Common.{◌≡◌, ℕ, zero, suc, ◌≤◌, Bool, true, false, nat_le, if◌then◌else◌, List, [], ◌∷◌, Option, Some, slice_get, refl, ap, ◌∙◌, arith}
 use Rattle.std.proofs.lemmas.Bool.{leb-true}
-use Rattle.trick_blocks.specs.Methods.{Progress, progress, with_part, with_parts}
-use Rattle.trick_bodies.specs.Classes.{Made, with_class}
-use Rattle.trick_cells.specs.Tables.{taken}
+use Rattle.trick_check_blocks.specs.Methods.{Progress, progress, with_part, with_parts}
+use Rattle.trick_check_bodies.specs.Classes.{Made, with_class}
+use Rattle.trick_check_cells.specs.Tables.{taken}
 use Rattle.trick_check.specs.Parts.{order_at, parts_at}
 use Rattle.trick_check.specs.Walk.{SizesFit, file_layout, has_object, made_of_first, with_class_if}
 use Rattle.trick_lang.specs.SyntaxTree as tree
 use Rattle.trick_lang.specs.SyntaxTree.{SDefine}
 use Rattle.trick_lang.specs.declared.object.Object.{Object}
-use Rattle.trick_layout.specs.Laid.{size_at}
+use Rattle.trick_check_names.specs.Laid.{size_at}
 
 part_layout : (o : Option tree.Part) (p : Progress) → (with_part o p).scope.layout ≡ p.scope.layout
 part_layout (Some tree.Public) p = refl

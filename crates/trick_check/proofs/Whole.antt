@@ -1,12 +1,12 @@
 -- The parts of each file are whole.
 use Rattle.std.proofs.Common.{◌≡◌, ℕ, ◌≤◌, true, IsTrue, List, length, ap, sym, ◌∙◌, subst, arith}
 use Rattle.trick_base.specs.Capped.{capped}
-use Rattle.trick_bodies.specs.Classes.{AreWhole, Made, made}
-use Rattle.trick_cells.specs.Cells.{all_groups, memory_cells, objects_cells}
-use Rattle.trick_cells.specs.Counts.{counts, names_count}
-use Rattle.trick_cells.specs.Tables.{taken}
-use Rattle.trick_cells.specs.Unfolding.{Unfolds}
-use Rattle.trick_cells.specs.Waits.{IsDone}
+use Rattle.trick_check_bodies.specs.Classes.{AreWhole, Made, made}
+use Rattle.trick_check_cells.specs.Cells.{all_groups, memory_cells, objects_cells}
+use Rattle.trick_check_cells.specs.Counts.{counts, names_count}
+use Rattle.trick_check_cells.specs.Tables.{taken}
+use Rattle.trick_check_cells.specs.Unfolding.{Unfolds}
+use Rattle.trick_check_cells.specs.Waits.{IsDone}
 use Rattle.trick_check.proofs.Joining.{count_is}
 use Rattle.trick_check.proofs.Placed.{jobs_many, numbers_apart, objects_fit}
 use Rattle.trick_check.proofs.Walked.{first_layout}
@@ -19,9 +19,9 @@ use Rattle.trick_lang.specs.SyntaxTree.{SDefine}
 use Rattle.trick_lang.specs.Valid.{are_short, objects_stand}
 use Rattle.trick_lang.specs.declared.object.Object.{Object}
 use Rattle.trick_lang.specs.declared.variable.Variable.{Variable}
-use Rattle.trick_layout.specs.declared.layout.Layout.{Layout}
-use Rattle.trick_names.specs.Tables.{tables_of}
-use Rattle.trick_names.specs.declared.tables.Tables.{Tables}
+use Rattle.trick_check_names.specs.declared.layout.Layout.{Layout}
+use Rattle.trick_check_names.specs.Tables.{tables_of}
+use Rattle.trick_check_names.specs.declared.tables.Tables.{Tables}
 
 abbrev CountsCells : Type 0
 CountsCells = (tables : Tables) → capped (names_count (counts (all_groups tables)) tables.names) ≡ capped (length (memory_cells tables))

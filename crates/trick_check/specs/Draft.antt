@@ -1,9 +1,9 @@
 -- The parts of a program, before they are joined.
 
 use Rattle.std.specs.Prelude.{◌≡◌, ◌≤◌, IsTrue, length}
-use Rattle.trick_bodies.specs.Classes.{AreWhole, made}
-use Rattle.trick_cells.specs.Cells.{memory_cells}
-use Rattle.trick_cells.specs.Tables.{item_rows}
+use Rattle.trick_check_bodies.specs.Classes.{AreWhole, made}
+use Rattle.trick_check_cells.specs.Cells.{memory_cells}
+use Rattle.trick_check_cells.specs.Tables.{item_rows}
 use Rattle.trick_check.specs.Refused.{StepsAreRight}
 use Rattle.trick_check.specs.Walk.{all_made, file_layout, jobs_named, objects_of}
 use Rattle.trick_check.specs.declared.draft.ProgramDraft.{ProgramDraft}
@@ -11,7 +11,7 @@ use Rattle.trick_lang.specs.Names.{are_apart, are_plain_cells, are_plain_names, 
 use Rattle.trick_lang.specs.SyntaxTree.{SDefine}
 use Rattle.trick_lang.specs.Valid.{are_short, have_right_instances, have_right_threads, have_right_times, jobs_stand, objects_stand}
 use Rattle.trick_lang.specs.declared.program.Program.{Program}
-use Rattle.trick_names.specs.Tables.{tables_of}
+use Rattle.trick_check_names.specs.Tables.{tables_of}
 
 -- these are the parts of what the file names
 pub record IsDraft (ds : SDefine) (d : ProgramDraft) : Type 0 where

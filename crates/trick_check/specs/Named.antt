@@ -1,14 +1,14 @@
 -- Which program a file names.
 
 use Rattle.std.specs.Prelude.{◌≡◌}
-use Rattle.trick_blocks.specs.Held.{bodies_of}
-use Rattle.trick_cells.specs.Cells.{memory_cells}
-use Rattle.trick_cells.specs.Tables.{item_rows, taken}
+use Rattle.trick_check_blocks.specs.Held.{bodies_of}
+use Rattle.trick_check_cells.specs.Cells.{memory_cells}
+use Rattle.trick_check_cells.specs.Tables.{item_rows, taken}
 use Rattle.trick_check.specs.Refused.{StepsAreRight}
 use Rattle.trick_check.specs.Walk.{all_made, jobs_named, objects_of, sizes_of}
 use Rattle.trick_lang.specs.SyntaxTree.{SDefine}
 use Rattle.trick_lang.specs.declared.program.Program.{Program}
-use Rattle.trick_names.specs.Tables.{tables_of}
+use Rattle.trick_check_names.specs.Tables.{tables_of}
 
 pub record IsNamed (ds : SDefine) (p : Program) : Type 0 where
   -- Each name is given once and stands for what may stand there, no method reaches itself by calls, and

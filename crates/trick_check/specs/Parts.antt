@@ -4,10 +4,10 @@
 use Rattle.std.specs.Prelude.{◌≡◌, ℕ, zero, suc, ◌<◌, List, [], ◌∷◌, length, slice_get, slice_index_or, Option, Some}
 use Rattle.trick_lang.specs.SyntaxTree as tree
 use Rattle.trick_lang.specs.SyntaxTree.{Name, SDefine, ClassOf, HasMethod}
-use Rattle.trick_names.specs.Calls.{class_calls}
-use Rattle.trick_names.specs.Places.{members_at}
-use Rattle.trick_names.specs.Tables.{tables_of}
-use Rattle.trick_order.specs.Calls.{IsOrderOf, ReachesItself, order_of}
+use Rattle.trick_check_names.specs.Calls.{class_calls}
+use Rattle.trick_check_names.specs.Places.{members_at}
+use Rattle.trick_check_names.specs.Tables.{tables_of}
+use Rattle.trick_check_order.specs.Calls.{IsOrderOf, ReachesItself, order_of}
 
 -- the parts of a class; another definition has none
 abbrev pub parts_in : tree.Definition → List tree.Part

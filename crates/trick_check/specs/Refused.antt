@@ -3,14 +3,14 @@
 
 use Rattle.std.specs.Prelude.{◌≡◌, ℕ, ◌<◌, ◌≤◌, List, length, slice_get, Option, Some, None}
 use Rattle.trick_base.specs.Capped.{capped}
-use Rattle.trick_blocks.specs.Kept.{codes_in}
-use Rattle.trick_bodies.specs.Classes.{Made}
-use Rattle.trick_cells.specs.Cells.{memory_cells}
+use Rattle.trick_check_blocks.specs.Kept.{codes_in}
+use Rattle.trick_check_bodies.specs.Classes.{Made}
+use Rattle.trick_check_cells.specs.Cells.{memory_cells}
 use Rattle.trick_check.specs.Parts.{HaveNoLoop, calls_at, method_name_at}
 use Rattle.trick_check.specs.Walk.{all_made, jobs_named, objects_of}
 use Rattle.trick_check.specs.declared.fault.CheckFault.{CheckFault}
 use Rattle.trick_check.specs.declared.fault.CheckFault.TheVariants.{Twice, Unknown, NotScalar, Recursive, TooManyCells, TooManyJobs, TooManySteps, OutOfMemory}
-use Rattle.trick_jobs.specs.Jobs.{job_count}
+use Rattle.trick_check_bodies.specs.Jobs.{job_count}
 use Rattle.trick_lang.specs.Count.{block_steps}
 use Rattle.trick_lang.specs.Names.{job_name}
 use Rattle.trick_lang.specs.SyntaxTree.{Name, SDefine}
@@ -18,13 +18,13 @@ use Rattle.trick_lang.specs.Valid.{block_of, method_of}
 use Rattle.trick_lang.specs.declared.job.Job.{Job}
 use Rattle.trick_lang.specs.declared.method.Method.{Method}
 use Rattle.trick_lang.specs.declared.object.Object.{Object}
-use Rattle.trick_names.specs.FileMistakes.{mistakes}
-use Rattle.trick_names.specs.Mistakes.{fault_of}
-use Rattle.trick_names.specs.Tables.{tables_of}
-use Rattle.trick_names.specs.declared.fault.NameFault.{NameFault}
-use Rattle.trick_names.specs.declared.fault.NameFault.TheVariants as names
-use Rattle.trick_order.specs.Calls.{IsFirst}
-use Rattle.trick_steps.specs.Steps.{count_at}
+use Rattle.trick_check_names.specs.FileMistakes.{mistakes}
+use Rattle.trick_check_names.specs.Mistakes.{fault_of}
+use Rattle.trick_check_names.specs.Tables.{tables_of}
+use Rattle.trick_check_names.specs.declared.fault.NameFault.{NameFault}
+use Rattle.trick_check_names.specs.declared.fault.NameFault.TheVariants as names
+use Rattle.trick_check_order.specs.Calls.{IsFirst}
+use Rattle.trick_check_steps.specs.Steps.{count_at}
 
 -- ---- names
 

@@ -2,21 +2,21 @@
 -- the jobs.
 
 use Rattle.std.specs.Prelude.{ℕ, zero, suc, ◌==◌, ◌≤◌, Bool, true, false, ◌||◌, List, [], ◌∷◌, ◌++◌, length}
-use Rattle.trick_blocks.specs.Methods.{progress}
-use Rattle.trick_blocks.specs.declared.scope.ClassScope.{ClassScope}
-use Rattle.trick_bodies.specs.Classes.{Made, with_class}
-use Rattle.trick_cells.specs.Cells.{all_groups}
-use Rattle.trick_cells.specs.Counts.{counts}
-use Rattle.trick_cells.specs.Tables.{layout_of, object_rows}
+use Rattle.trick_check_blocks.specs.Methods.{progress}
+use Rattle.trick_check_blocks.specs.declared.scope.ClassScope.{ClassScope}
+use Rattle.trick_check_bodies.specs.Classes.{Made, with_class}
+use Rattle.trick_check_cells.specs.Cells.{all_groups}
+use Rattle.trick_check_cells.specs.Counts.{counts}
+use Rattle.trick_check_cells.specs.Tables.{layout_of, object_rows}
 use Rattle.trick_check.specs.Parts.{order_at, parts_at}
-use Rattle.trick_jobs.specs.Jobs.{jobs_from}
+use Rattle.trick_check_bodies.specs.Jobs.{jobs_from}
 use Rattle.trick_lang.specs.SyntaxTree as tree
 use Rattle.trick_lang.specs.SyntaxTree.{SDefine}
 use Rattle.trick_lang.specs.declared.job.Job.{Job}
 use Rattle.trick_lang.specs.declared.object.Object.{Object}
-use Rattle.trick_layout.specs.Laid.{size_at}
-use Rattle.trick_layout.specs.declared.layout.Layout.{Layout}
-use Rattle.trick_names.specs.Tables.{tables_of}
+use Rattle.trick_check_names.specs.Laid.{size_at}
+use Rattle.trick_check_names.specs.declared.layout.Layout.{Layout}
+use Rattle.trick_check_names.specs.Tables.{tables_of}
 
 -- how many cells each struct and class has, by the number of its definition
 abbrev pub sizes_of : SDefine → List ℕ

@@ -2,22 +2,22 @@
 
 ghost use Rattle.std.specs.Prelude.{◌≡◌, ◌≤◌, ◌<◌, IfErr, IfNone, IfOk, IfSome, OnOk, length};
 ghost use Rattle.trick_base.specs.Capped.{capped};
-ghost use Rattle.trick_cells.specs.Cells.{all_groups, memory_cells};
-ghost use Rattle.trick_cells.specs.Counts.{counts, names_count};
+ghost use Rattle.trick_check_cells.specs.Cells.{all_groups, memory_cells};
+ghost use Rattle.trick_check_cells.specs.Counts.{counts, names_count};
 ghost use Rattle.trick_check.specs.Refused.{CallsAreRight, IsRefused, JobsAreRight};
 ghost use Rattle.trick_check.specs.Walk.{objects_of, sizes_of};
-ghost use Rattle.trick_jobs.specs.Jobs.{job_count};
+ghost use Rattle.trick_check_bodies.specs.Jobs.{job_count};
 ghost use Rattle.trick_lang.specs.Syntax.{definitions_of};
-ghost use Rattle.trick_names.specs.Tables.{tables_of};
+ghost use Rattle.trick_check_names.specs.Tables.{tables_of};
 
 use crate::CheckFault;
 use std::alloc::Global as Memory;
 use trick_base::{CELL_LIMIT, Items};
-use trick_cells::{cell_count, laws, objects, sizes};
-use trick_jobs::job_count;
+use trick_check_cells::{cell_count, laws, objects, sizes};
+use trick_check_bodies::job_count;
 use trick_lang::Object;
 use trick_lang::syntax::Definition;
-use trick_names::Tables;
+use trick_check_names::Tables;
 
 /// The most jobs that a simulation has.
 const JOB_LIMIT: u64 = 512;

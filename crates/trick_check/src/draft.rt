@@ -3,10 +3,10 @@
 ghost use Rattle.trick_check.specs.Draft.{IsJoined, IsProper, IsWhole};
 
 use trick_base::Items;
-use trick_blocks::{ClassScope, laws};
-use trick_bodies::Bodies;
+use trick_check_blocks::{ClassScope, laws};
+use trick_check_bodies::Bodies;
 use trick_lang::{EnumItem, Job, Object, Program, Variable};
-use trick_layout::Layout;
+use trick_check_names::Layout;
 
 /// The parts of a program.
 #[derive(Drop)]

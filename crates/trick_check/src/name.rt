@@ -2,12 +2,12 @@ ghost use Rattle.std.specs.Prelude.{◌≡◌, IfErr, IfOk, OnOk};
 ghost use Rattle.trick_check.specs.Refused.{IsRefused, NamesAreRight};
 ghost use Rattle.trick_check.specs.Refused.{check_fault};
 ghost use Rattle.trick_lang.specs.SDefineOf.{sdefine_of};
-ghost use Rattle.trick_names.specs.Tables.{tables_of};
+ghost use Rattle.trick_check_names.specs.Tables.{tables_of};
 
 use crate::CheckFault;
 use std::alloc::Global as Memory;
 use trick_lang::syntax::SDefine;
-use trick_names::{NameFault, Tables, check};
+use trick_check_names::{NameFault, Tables, check};
 
 // The refusal of a mistake in names.
 fn check_fault(fault: NameFault) -> CheckFault

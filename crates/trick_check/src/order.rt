@@ -4,18 +4,18 @@ ghost use Rattle.std.specs.Prelude.{◌≡◌, ℕ, ◌<◌, IfErr, IfOk, OnOk, 
 ghost use Rattle.trick_check.specs.Parts.{AreOrders, HaveNoLoop, IsOneOrder, calls_at};
 ghost use Rattle.trick_check.specs.Refused.{IsRefused, NamesAreRight};
 ghost use Rattle.trick_lang.specs.Syntax.{class_parts_of, definitions_of};
-ghost use Rattle.trick_names.specs.Calls.{class_calls};
-ghost use Rattle.trick_names.specs.Tables.{tables_of};
-ghost use Rattle.trick_order.specs.Calls.{AreCallees, IsFirst};
-ghost use Rattle.trick_order.specs.declared.search.OrderFault.TheVariants.{Recursive};
+ghost use Rattle.trick_check_names.specs.Calls.{class_calls};
+ghost use Rattle.trick_check_names.specs.Tables.{tables_of};
+ghost use Rattle.trick_check_order.specs.Calls.{AreCallees, IsFirst};
+ghost use Rattle.trick_check_order.specs.declared.search.OrderFault.TheVariants.{Recursive};
 
 use crate::CheckFault;
 use crate::class::{method_name, parts_at};
 use std::alloc::Global as Memory;
 use trick_base::Items;
 use trick_lang::syntax::{ClassPart, Definition};
-use trick_names::{Member, Names, Tables, calls_of_class};
-use trick_order::{OrderFault, laws, order};
+use trick_check_names::{Member, Names, Tables, calls_of_class};
+use trick_check_order::{OrderFault, laws, order};
 
 // The order of the parts of a class that has these members, or the first that reaches itself.
 fn order_of(

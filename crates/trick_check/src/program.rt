@@ -1,5 +1,5 @@
 ghost use Rattle.std.specs.Prelude.{◌≡◌, IfErr, IfOk, IsTrue, length};
-ghost use Rattle.trick_bodies.specs.Classes.{AreWhole, made};
+ghost use Rattle.trick_check_bodies.specs.Classes.{AreWhole, made};
 ghost use Rattle.trick_check.specs.Draft.{IsDraft, IsWhole};
 ghost use Rattle.trick_check.specs.Named.{IsNamed};
 ghost use Rattle.trick_check.specs.Parts.{AreOrders};
@@ -8,7 +8,7 @@ ghost use Rattle.trick_check.specs.Walk.{all_made, jobs_named, objects_of, sizes
 ghost use Rattle.trick_lang.specs.SDefineOf.{sdefine_of};
 ghost use Rattle.trick_lang.specs.Syntax.{definitions_of};
 ghost use Rattle.trick_lang.specs.Valid.{are_short};
-ghost use Rattle.trick_names.specs.Tables.{tables_of};
+ghost use Rattle.trick_check_names.specs.Tables.{tables_of};
 
 use crate::CheckFault;
 use crate::count::{Counted, count};
@@ -19,12 +19,11 @@ use crate::step::check_steps;
 use crate::walk::make_classes;
 use std::alloc::{AllocError, Global as Memory};
 use trick_base::Items;
-use trick_bodies::Bodies;
-use trick_cells::{cells, items, laws as cell_laws, lay_out};
-use trick_jobs::jobs;
+use trick_check_bodies::{Bodies, jobs};
+use trick_check_cells::{cells, items, laws as cell_laws, lay_out};
 use trick_lang::syntax::{Definition, SDefine};
 use trick_lang::{Job, Object, Program};
-use trick_names::Tables;
+use trick_check_names::Tables;
 
 // What is made of the classes.
 fn make_bodies(

@@ -1,16 +1,16 @@
 //! The static steps of jobs.
 
 ghost use Rattle.std.specs.Prelude.{◌≡◌, ◌<◌, ℕ, IfErr, IfOk, IsTrue, MatchOption, OnOk, Some, length, slice_get};
-ghost use Rattle.trick_bodies.specs.Classes.{made};
+ghost use Rattle.trick_check_bodies.specs.Classes.{made};
 ghost use Rattle.trick_check.specs.Refused.{IsFirstLong, IsStepFault, steps_by};
 ghost use Rattle.trick_lang.specs.Valid.{are_short, method_of};
 
 use crate::CheckFault;
 use crate::title::job_name;
 use std::alloc::{AllocError, Global as Memory};
-use trick_bodies::Bodies;
+use trick_check_bodies::Bodies;
 use trick_lang::{Job, Method, Object};
-use trick_steps::{laws, steps};
+use trick_check_steps::{laws, steps};
 
 /// The most static steps that a job has.
 const STEP_LIMIT: u64 = 1_000_000;

@@ -1,21 +1,20 @@
 //! What is made of the classes of a file, one after another.
 
 ghost use Rattle.std.specs.Prelude.{◌≡◌, ◌<◌, ◌==◌, ◌||◌, ℕ, [], Bool, true, false, IfOk, OnOk, length, slice_index_or};
-ghost use Rattle.trick_bodies.specs.Classes.{AreWhole, made};
+ghost use Rattle.trick_check_bodies.specs.Classes.{AreWhole, made};
 ghost use Rattle.trick_check.specs.Parts.{AreOrders, order_at, parts_at};
 ghost use Rattle.trick_check.specs.Walk.{SizesFit, file_layout, has_object, made_of_first, nothing_made, with_class_if};
 ghost use Rattle.trick_lang.specs.Syntax.{definitions_of};
-ghost use Rattle.trick_layout.specs.Kept.{AreLaid};
+ghost use Rattle.trick_check_names.specs.Kept.{AreLaid};
 
 use crate::class::parts_at;
 use std::alloc::{AllocError, Global as Memory};
 use trick_base::Items;
-use trick_blocks::{ClassScope, laws};
-use trick_bodies::{Bodies, add_class};
+use trick_check_blocks::{ClassScope, laws};
+use trick_check_bodies::{Bodies, add_class};
 use trick_lang::Object;
 use trick_lang::syntax::Definition;
-use trick_layout::Layout;
-use trick_names::Names;
+use trick_check_names::{Layout, Names};
 
 // What the classes of a file are made by: for each definition the order of its parts, and whether it is
 // a class that has objects.

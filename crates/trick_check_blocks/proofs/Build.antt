@@ -10,14 +10,14 @@ use Rattle.trick_lang.specs.declared.tree.Choice.{Choice}
 use Rattle.trick_lang.specs.declared.tree.Index as tree
 use Rattle.trick_lang.specs.declared.tree.Link.{Link}
 use Rattle.trick_lang.specs.declared.syntax.expression.Choice as text
-use Rattle.trick_blocks.proofs.Weights.{expression_weight, choice_weight, part_weight}
-use Rattle.trick_blocks.specs.Places.{element_at, followed, literal_count, literal_of, to_index}
-use Rattle.trick_blocks.specs.Terms.{added_steps, computed, stepped, steps, term}
-use Rattle.trick_blocks.specs.declared.start.Local.{Local}
-use Rattle.trick_blocks.specs.declared.spot.Element.{Element}
-use Rattle.trick_blocks.specs.declared.spot.Spot.{Spot}
-use Rattle.trick_blocks.specs.declared.scope.ClassScope.{ClassScope}
-use Rattle.trick_names.specs.Names.{Names}
+use Rattle.trick_check_blocks.proofs.Weights.{expression_weight, choice_weight, part_weight}
+use Rattle.trick_check_blocks.specs.Places.{element_at, followed, literal_count, literal_of, to_index}
+use Rattle.trick_check_blocks.specs.Terms.{added_steps, computed, stepped, steps, term}
+use Rattle.trick_check_blocks.specs.declared.start.Local.{Local}
+use Rattle.trick_check_blocks.specs.declared.spot.Element.{Element}
+use Rattle.trick_check_blocks.specs.declared.spot.Spot.{Spot}
+use Rattle.trick_check_blocks.specs.declared.scope.ClassScope.{ClassScope}
+use Rattle.trick_check_names.specs.Names.{Names}
 
 abbrev pub links_after : List Link → Links → Links
 links_after [] rest = rest

@@ -1,8 +1,8 @@
 -- Frames of blocks, one block after another.
 use Rattle.std.proofs.Common.{◌≡◌, ℕ, zero, suc, ◌<◌, ◌≤◌, max, List, [], ◌∷◌, length, get_or, refl, ap, sym, ◌∙◌, arith}
 use Rattle.std.proofs.Math.Nat.{max-zero, max_comm}
-use Rattle.trick_blocks.specs.Bodies.{Body, depth_at, branch_depth}
-use Rattle.trick_blocks.specs.Held.{bodies_of}
+use Rattle.trick_check_blocks.specs.Bodies.{Body, depth_at, branch_depth}
+use Rattle.trick_check_blocks.specs.Held.{bodies_of}
 use Rattle.trick_lang.specs.Tree.{Branches, NoElse}
 use Rattle.trick_lang.specs.TreeOf.{branches_of}
 use Rattle.trick_lang.specs.declared.tree.Block.{Block}

@@ -1,11 +1,11 @@
 -- Statements, branches and blocks that grow at their ends, and locals that are forgotten again.
 use Rattle.std.proofs.Common.{◌≡◌, ℕ, ◌++◌, List, [], ◌∷◌, length, take, Bool, true, false, if◌then◌else◌, is_some, refl, ap, sym, ◌∙◌}
 use Rattle.std.proofs.lemmas.List.{append-nil, append_assoc}
-use Rattle.trick_blocks.specs.Bodies.{Body, with_body, with_bodies}
-use Rattle.trick_blocks.specs.Codes.{after, after_all}
-use Rattle.trick_blocks.specs.Held.{bodies_of}
-use Rattle.trick_blocks.specs.declared.start.Local.{Local}
-use Rattle.trick_blocks.specs.declared.scope.ClassScope.{ClassScope}
+use Rattle.trick_check_blocks.specs.Bodies.{Body, with_body, with_bodies}
+use Rattle.trick_check_blocks.specs.Codes.{after, after_all}
+use Rattle.trick_check_blocks.specs.Held.{bodies_of}
+use Rattle.trick_check_blocks.specs.declared.start.Local.{Local}
+use Rattle.trick_check_blocks.specs.declared.scope.ClassScope.{ClassScope}
 use Rattle.trick_lang.specs.SyntaxTree.{Name, Statement, Empty, Block, Declare, Assign, If, For, Call, Statements, NoStatement, Then}
 use Rattle.trick_lang.specs.Tree as Tree
 use Rattle.trick_lang.specs.Tree.{Code, Branches, NoElse}
@@ -13,7 +13,7 @@ use Rattle.trick_lang.specs.TreeOf.{term_of, code_of, code_list, branches_of}
 use Rattle.trick_lang.specs.declared.tree.Block as tree
 use Rattle.trick_lang.specs.declared.tree.Branch.{Branch}
 use Rattle.trick_lang.specs.declared.tree.Stmt.{Stmt}
-use Rattle.trick_names.specs.Names.{Names, meaning_of, with_name}
+use Rattle.trick_check_names.specs.Names.{Names, meaning_of, with_name}
 
 abbrev pub branches_after : List Branch → Branches → Branches
 branches_after [] rest = rest

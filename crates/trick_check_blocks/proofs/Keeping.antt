@@ -5,18 +5,18 @@ use Rattle.std.proofs.lemmas.Bool.{and_from, le-leb}
 use Rattle.std.proofs.lemmas.Bool.Decides.{nat_tests}
 use Rattle.std.proofs.lemmas.List.{append-nil, append_assoc}
 use Rattle.trick_base.proofs.Truths.{first_holds, second_holds}
-use Rattle.trick_blocks.proofs.Grow.{bodies_grown}
-use Rattle.trick_blocks.proofs.Passing.{each_passes}
-use Rattle.trick_blocks.proofs.Running.{below, each_runs}
-use Rattle.trick_blocks.specs.Bodies.{Body, all_depth, branch_depth, code_depth, depth_at, with_bodies, with_body}
-use Rattle.trick_blocks.specs.Held.{bodies_of}
-use Rattle.trick_blocks.specs.Kept.{Deepen, bodies_lie, bodies_run_own, class_in}
+use Rattle.trick_check_blocks.proofs.Grow.{bodies_grown}
+use Rattle.trick_check_blocks.proofs.Passing.{each_passes}
+use Rattle.trick_check_blocks.proofs.Running.{below, each_runs}
+use Rattle.trick_check_blocks.specs.Bodies.{Body, all_depth, branch_depth, code_depth, depth_at, with_bodies, with_body}
+use Rattle.trick_check_blocks.specs.Held.{bodies_of}
+use Rattle.trick_check_blocks.specs.Kept.{Deepen, bodies_lie, bodies_run_own, class_in}
 use Rattle.trick_lang.specs.Passes.{all_blocks, all_pass, branch_blocks, code_blocks}
 use Rattle.trick_lang.specs.Tree.{Code, Empty, Declare, SetLocal, Assign, If, For, Run, Branches, NoElse, Else, Test}
 use Rattle.trick_lang.specs.TreeOf.{code_list, codes_of}
 use Rattle.trick_lang.specs.Valid.{all_fit, are_deep, are_in_order, cells_test, class_at, code_fits, deep_at, has_class, is_of, lie_in, run_own_class, span_test, stay_in_span}
 use Rattle.trick_lang.specs.declared.tree.Block.{Block}
-use Rattle.trick_layout.specs.Laid.{size_at}
+use Rattle.trick_check_names.specs.Laid.{size_at}
 
 -- ---- spans and cells
 

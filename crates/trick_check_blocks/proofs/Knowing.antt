@@ -6,19 +6,19 @@ use Rattle.std.proofs.lemmas.Bool.Decides.{nat_tests}
 use Rattle.std.specs.Str.{bytes_eq}
 use Rattle.trick_base.proofs.Numbers.{equal_to_itself, other_than_greater, other_than_less}
 use Rattle.trick_base.proofs.Truths.{first_holds, second_holds}
-use Rattle.trick_blocks.proofs.Passing.{Pass, change_pass, goal_passes, path_pass, term_pass, value_pass}
-use Rattle.trick_blocks.proofs.Running.{all_inner_count, inner_count, one_count}
-use Rattle.trick_blocks.proofs.Sitting.{Sits, all_under, code_under, each_under, sits_left, sits_one, sits_right, under_left, under_right}
-use Rattle.trick_blocks.specs.Codes as Codes
-use Rattle.trick_blocks.specs.Codes.{all_codes, all_count, all_inner, branch_codes, branch_count, branch_inner, call_code, change_term, code, count, declared, declared_code, free_slot, goal_code, inner, local_code, loop_code, loop_in, loop_slot, new_slot, scalar_of, slot_behind, value_term}
-use Rattle.trick_blocks.specs.Kept.{AreAbove}
-use Rattle.trick_blocks.specs.Places.{field_meaning, followed, literal_count, local_meaning, named, scalar_there, site_meaning, start_of}
-use Rattle.trick_blocks.specs.Terms.{Goal, OfLocal, OfNumber, OfPlace, OfNothing, goal_of, path_goal, place_goal, steps, term}
-use Rattle.trick_blocks.specs.declared.start.Local.{Local}
-use Rattle.trick_blocks.specs.declared.start.Meaning.{Meaning}
-use Rattle.trick_blocks.specs.declared.start.Meaning.TheVariants as means
-use Rattle.trick_blocks.specs.declared.spot.Spot.{Spot}
-use Rattle.trick_blocks.specs.declared.scope.ClassScope.{ClassScope}
+use Rattle.trick_check_blocks.proofs.Passing.{Pass, change_pass, goal_passes, path_pass, term_pass, value_pass}
+use Rattle.trick_check_blocks.proofs.Running.{all_inner_count, inner_count, one_count}
+use Rattle.trick_check_blocks.proofs.Sitting.{Sits, all_under, code_under, each_under, sits_left, sits_one, sits_right, under_left, under_right}
+use Rattle.trick_check_blocks.specs.Codes as Codes
+use Rattle.trick_check_blocks.specs.Codes.{all_codes, all_count, all_inner, branch_codes, branch_count, branch_inner, call_code, change_term, code, count, declared, declared_code, free_slot, goal_code, inner, local_code, loop_code, loop_in, loop_slot, new_slot, scalar_of, slot_behind, value_term}
+use Rattle.trick_check_blocks.specs.Kept.{AreAbove}
+use Rattle.trick_check_blocks.specs.Places.{field_meaning, followed, literal_count, local_meaning, named, scalar_there, site_meaning, start_of}
+use Rattle.trick_check_blocks.specs.Terms.{Goal, OfLocal, OfNumber, OfPlace, OfNothing, goal_of, path_goal, place_goal, steps, term}
+use Rattle.trick_check_blocks.specs.declared.start.Local.{Local}
+use Rattle.trick_check_blocks.specs.declared.start.Meaning.{Meaning}
+use Rattle.trick_check_blocks.specs.declared.start.Meaning.TheVariants as means
+use Rattle.trick_check_blocks.specs.declared.spot.Spot.{Spot}
+use Rattle.trick_check_blocks.specs.declared.scope.ClassScope.{ClassScope}
 use Rattle.trick_lang.proofs.Alike.{knows_is}
 use Rattle.trick_lang.specs.Blocks.{block_at}
 use Rattle.trick_lang.specs.Locals.{Known, after, all_know, block_knows, bound_number, branch_knows, code_knows, is_free, is_known, is_known_as, is_type, locals_test, type_number}
@@ -30,11 +30,11 @@ use Rattle.trick_lang.specs.Valid.{are_in_order}
 use Rattle.trick_lang.specs.declared.bound.Bound.{Bound}
 use Rattle.trick_lang.specs.declared.scalar.Scalar.{Scalar}
 use Rattle.trick_lang.specs.declared.scalar.Scalar.TheVariants.{Long}
-use Rattle.trick_layout.specs.Laid.{fields_at}
-use Rattle.trick_layout.specs.declared.layout.Field.{Field}
-use Rattle.trick_layout.specs.declared.layout.Site.{Site}
-use Rattle.trick_layout.specs.declared.layout.Site.TheVariants.{Item, Object}
-use Rattle.trick_names.specs.Names.{Names, meaning_of, with_name}
+use Rattle.trick_check_names.specs.Laid.{fields_at}
+use Rattle.trick_check_names.specs.declared.layout.Field.{Field}
+use Rattle.trick_check_names.specs.declared.layout.Site.{Site}
+use Rattle.trick_check_names.specs.declared.layout.Site.TheVariants.{Item, Object}
+use Rattle.trick_check_names.specs.Names.{Names, meaning_of, with_name}
 
 lt_test : (m n : ℕ) → m < n → IsTrue (nat_lt m n)
 lt_test m n h = grind (arith, nat_tests)

@@ -4,20 +4,20 @@ use Rattle.std.proofs.Math.ListN.{length-append}
 use Rattle.std.proofs.lemmas.List.{append-nil}
 use Rattle.std.specs.Str.{bytes_eq}
 use Rattle.trick_base.proofs.Numbers.{equal_to_itself}
-use Rattle.trick_blocks.proofs.Keeping.{class_blocks, class_made, class_stays, deep_blocks, deepen_with, lie_blocks, lie_with, own_blocks, own_made, spans_are, with_behind}
-use Rattle.trick_blocks.proofs.Knowing.{Ground, method_knows}
-use Rattle.trick_blocks.proofs.Passing.{PassAny, all_inner_pass, codes_pass, each_both, each_more, each_passes}
-use Rattle.trick_blocks.proofs.Reaching.{cells_pass, span_passes}
-use Rattle.trick_blocks.proofs.Rows.{codes_are, codes_with, laid_part}
-use Rattle.trick_blocks.proofs.Running.{AreMade, Runs, method_count, method_ordered, method_runs, order_both}
-use Rattle.trick_blocks.proofs.Sitting.{Sits, each_front, slots_grow, slots_under}
-use Rattle.trick_blocks.specs.Bodies.{Body, with_bodies}
-use Rattle.trick_blocks.specs.Codes.{all_codes, all_count, all_inner}
-use Rattle.trick_blocks.specs.Held.{bodies_of}
-use Rattle.trick_blocks.specs.Kept.{BlocksHold, Grows, Keeps, MethodHolds, MethodKept, class_in, codes_in}
-use Rattle.trick_blocks.specs.Methods.{Progress, block_slots, body_blocks, progress, with_method, with_part, with_parts}
-use Rattle.trick_blocks.specs.Room.{IsLaid}
-use Rattle.trick_blocks.specs.declared.scope.ClassScope.{ClassScope}
+use Rattle.trick_check_blocks.proofs.Keeping.{class_blocks, class_made, class_stays, deep_blocks, deepen_with, lie_blocks, lie_with, own_blocks, own_made, spans_are, with_behind}
+use Rattle.trick_check_blocks.proofs.Knowing.{Ground, method_knows}
+use Rattle.trick_check_blocks.proofs.Passing.{PassAny, all_inner_pass, codes_pass, each_both, each_more, each_passes}
+use Rattle.trick_check_blocks.proofs.Reaching.{cells_pass, span_passes}
+use Rattle.trick_check_blocks.proofs.Rows.{codes_are, codes_with, laid_part}
+use Rattle.trick_check_blocks.proofs.Running.{AreMade, Runs, method_count, method_ordered, method_runs, order_both}
+use Rattle.trick_check_blocks.proofs.Sitting.{Sits, each_front, slots_grow, slots_under}
+use Rattle.trick_check_blocks.specs.Bodies.{Body, with_bodies}
+use Rattle.trick_check_blocks.specs.Codes.{all_codes, all_count, all_inner}
+use Rattle.trick_check_blocks.specs.Held.{bodies_of}
+use Rattle.trick_check_blocks.specs.Kept.{BlocksHold, Grows, Keeps, MethodHolds, MethodKept, class_in, codes_in}
+use Rattle.trick_check_blocks.specs.Methods.{Progress, block_slots, body_blocks, progress, with_method, with_part, with_parts}
+use Rattle.trick_check_blocks.specs.Room.{IsLaid}
+use Rattle.trick_check_blocks.specs.declared.scope.ClassScope.{ClassScope}
 use Rattle.trick_lang.specs.Locals.{Known, all_know, block_knows}
 use Rattle.trick_lang.specs.Passes.{Leaves}
 use Rattle.trick_lang.specs.SyntaxTree as tree
@@ -26,8 +26,8 @@ use Rattle.trick_lang.specs.Tree.{Code}
 use Rattle.trick_lang.specs.TreeOf.{codes_of}
 use Rattle.trick_lang.specs.Valid.{are_in_order, cells_test, is_of, span_test, stay_in_span}
 use Rattle.trick_lang.specs.declared.tree.Block.{Block}
-use Rattle.trick_layout.specs.Laid.{size_at}
-use Rattle.trick_names.specs.Names.{Names, meaning_of, with_name}
+use Rattle.trick_check_names.specs.Laid.{size_at}
+use Rattle.trick_check_names.specs.Names.{Names, meaning_of, with_name}
 
 codes_count : (bodies : List Body) → length (codes_in bodies) ≡ length bodies
 codes_count [] = refl

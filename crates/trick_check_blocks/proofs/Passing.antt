@@ -1,26 +1,26 @@
 -- Tests that each leaf of what a tree becomes passes.
 use Rattle.std.proofs.Common.{◌≡◌, ℕ, ◌+◌, ◌++◌, ◌&&◌, Bool, true, false, if◌then◌else◌, IsTrue, List, [], ◌∷◌, Option, Some, None, refl}
 use Rattle.std.proofs.lemmas.Bool.{and_from}
-use Rattle.trick_blocks.specs.Codes.{after, all_codes, all_inner, branch_codes, branch_inner, call_code, change_term, code, count, declared, declared_code, goal_code, inner, loop_code, loop_in, loop_slot, new_slot, scalar_of, value_term}
-use Rattle.trick_blocks.specs.Places.{element_at, field_meaning, followed, literal_count, literal_of, local_meaning, named, scalar_there, site_meaning, start_of, to_index, to_member}
-use Rattle.trick_blocks.specs.Terms.{Goal, OfLocal, OfNumber, OfPlace, OfNothing, choice_terms, computed, goal_of, goal_term, link_terms, path_goal, place_goal, spot_with, stepped, steps, term}
-use Rattle.trick_blocks.specs.declared.start.Local.{Local}
-use Rattle.trick_blocks.specs.declared.start.Meaning.{Meaning}
-use Rattle.trick_blocks.specs.declared.start.Meaning.TheVariants as means
-use Rattle.trick_blocks.specs.declared.spot.Element.{Element}
-use Rattle.trick_blocks.specs.declared.spot.Spot.{Spot}
-use Rattle.trick_blocks.specs.declared.scope.ClassScope.{ClassScope}
+use Rattle.trick_check_blocks.specs.Codes.{after, all_codes, all_inner, branch_codes, branch_inner, call_code, change_term, code, count, declared, declared_code, goal_code, inner, loop_code, loop_in, loop_slot, new_slot, scalar_of, value_term}
+use Rattle.trick_check_blocks.specs.Places.{element_at, field_meaning, followed, literal_count, literal_of, local_meaning, named, scalar_there, site_meaning, start_of, to_index, to_member}
+use Rattle.trick_check_blocks.specs.Terms.{Goal, OfLocal, OfNumber, OfPlace, OfNothing, choice_terms, computed, goal_of, goal_term, link_terms, path_goal, place_goal, spot_with, stepped, steps, term}
+use Rattle.trick_check_blocks.specs.declared.start.Local.{Local}
+use Rattle.trick_check_blocks.specs.declared.start.Meaning.{Meaning}
+use Rattle.trick_check_blocks.specs.declared.start.Meaning.TheVariants as means
+use Rattle.trick_check_blocks.specs.declared.spot.Element.{Element}
+use Rattle.trick_check_blocks.specs.declared.spot.Spot.{Spot}
+use Rattle.trick_check_blocks.specs.declared.scope.ClassScope.{ClassScope}
 use Rattle.trick_lang.specs.Passes.{Leaves, all_pass, branch_passes, change_passes, choice_passes, code_passes, first_passes, link_passes, place_passes, step_passes, term_passes}
 use Rattle.trick_lang.specs.SyntaxTree.{Name, Expression, Whole, Truth, Named, Prefixed, Chain, Choose, Links, NoLink, Link, Choices, Last, Choice, Path, path, Parts, NoPart, Member, Index, Change, Set, Update, Increase, Decrease, Statement, Empty, Block, Declare, Assign, If, For, Call, Branches, NoElse, Else, Test, Statements, NoStatement, Then}
 use Rattle.trick_lang.specs.Tree as Tree
 use Rattle.trick_lang.specs.Tree.{Code, Steps, Term}
 use Rattle.trick_lang.specs.declared.bound.Bound.{Bound}
 use Rattle.trick_lang.specs.declared.scalar.Scalar.{Scalar}
-use Rattle.trick_layout.specs.Laid.{fields_at}
-use Rattle.trick_layout.specs.declared.layout.Field.{Field}
-use Rattle.trick_layout.specs.declared.layout.Site.{Site}
-use Rattle.trick_layout.specs.declared.layout.Site.TheVariants.{Item, Object}
-use Rattle.trick_names.specs.Names.{Names, meaning_of}
+use Rattle.trick_check_names.specs.Laid.{fields_at}
+use Rattle.trick_check_names.specs.declared.layout.Field.{Field}
+use Rattle.trick_check_names.specs.declared.layout.Site.{Site}
+use Rattle.trick_check_names.specs.declared.layout.Site.TheVariants.{Item, Object}
+use Rattle.trick_check_names.specs.Names.{Names, meaning_of}
 
 -- each local and each place that a body can name passes a test, where these locals are known
 pub record Pass (p : Leaves) (w : ClassScope) (locals : Names Local) : Type 0 where

@@ -3,33 +3,33 @@
 use Rattle.std.proofs.Common.{◌≡◌, ℕ, ◌+◌, ◌-◌, ◌*◌, ◌≤◌, Bool, true, false, if◌then◌else◌, nat_lt, nat_le, IsTrue, List, Option, Some, None, refl, ap, sym, ◌∙◌, subst, arith}
 use Rattle.std.proofs.lemmas.Bool.{ltb-true}
 use Rattle.std.proofs.lemmas.Bool.Decides.{nat_tests}
-use Rattle.trick_blocks.proofs.Fitting.{start_fits, stride_ends, to_index_fits, to_member_fits}
-use Rattle.trick_blocks.proofs.Passing.{PassAny}
-use Rattle.trick_blocks.specs.Places.{element_at, element_in, field_in, field_meaning, local_meaning, site_meaning, followed, literal_count, literal_of, loose_moved, loosened, moved, named, on_element, on_field, scalar_in, scalar_there, start_of, to_index, to_member}
-use Rattle.trick_blocks.specs.Room.{Fits, IsLaid, LieIn, room}
-use Rattle.trick_blocks.specs.Terms.{computed, offset_of, span_of, stepped, steps, term}
-use Rattle.trick_blocks.specs.declared.start.Local.{Local}
-use Rattle.trick_blocks.specs.declared.start.Meaning.{Meaning}
-use Rattle.trick_blocks.specs.declared.start.Meaning.TheVariants as means
-use Rattle.trick_blocks.specs.declared.spot.Element.{Element}
-use Rattle.trick_blocks.specs.declared.spot.Loose.{Loose}
-use Rattle.trick_blocks.specs.declared.spot.Spot.{Spot}
-use Rattle.trick_blocks.specs.declared.scope.ClassScope.{ClassScope}
+use Rattle.trick_check_blocks.proofs.Fitting.{start_fits, stride_ends, to_index_fits, to_member_fits}
+use Rattle.trick_check_blocks.proofs.Passing.{PassAny}
+use Rattle.trick_check_blocks.specs.Places.{element_at, element_in, field_in, field_meaning, local_meaning, site_meaning, followed, literal_count, literal_of, loose_moved, loosened, moved, named, on_element, on_field, scalar_in, scalar_there, start_of, to_index, to_member}
+use Rattle.trick_check_blocks.specs.Room.{Fits, IsLaid, LieIn, room}
+use Rattle.trick_check_blocks.specs.Terms.{computed, offset_of, span_of, stepped, steps, term}
+use Rattle.trick_check_blocks.specs.declared.start.Local.{Local}
+use Rattle.trick_check_blocks.specs.declared.start.Meaning.{Meaning}
+use Rattle.trick_check_blocks.specs.declared.start.Meaning.TheVariants as means
+use Rattle.trick_check_blocks.specs.declared.spot.Element.{Element}
+use Rattle.trick_check_blocks.specs.declared.spot.Loose.{Loose}
+use Rattle.trick_check_blocks.specs.declared.spot.Spot.{Spot}
+use Rattle.trick_check_blocks.specs.declared.scope.ClassScope.{ClassScope}
 use Rattle.trick_lang.specs.SyntaxTree.{Name, Parts, NoPart, Member, Index}
 use Rattle.trick_lang.specs.Tree as Tree
 use Rattle.trick_lang.specs.Tree.{Steps, NoStep, Step}
 use Rattle.trick_lang.specs.Valid.{cells_test, reach, span_test}
-use Rattle.trick_layout.specs.Laid.{AreStrides, IsDim, LiesIn, fields_at, size_at, size_of}
-use Rattle.trick_layout.specs.declared.layout.Dim.{Dim}
-use Rattle.trick_layout.specs.declared.layout.Dims.{Dims}
-use Rattle.trick_layout.specs.declared.layout.Dims.TheVariants.{Plain, One, Two}
-use Rattle.trick_layout.specs.declared.layout.Extent.{Extent}
-use Rattle.trick_layout.specs.declared.layout.Field.{Field}
-use Rattle.trick_layout.specs.declared.layout.Site.{Site}
-use Rattle.trick_layout.specs.declared.layout.Site.TheVariants.{Item, Object}
-use Rattle.trick_names.specs.Names.{Names, meaning_of}
-use Rattle.trick_names.specs.declared.tables.Base.{Base}
-use Rattle.trick_names.specs.declared.tables.Base.TheVariants.{Single, Group}
+use Rattle.trick_check_names.specs.Laid.{AreStrides, IsDim, LiesIn, fields_at, size_at, size_of}
+use Rattle.trick_check_names.specs.declared.layout.Dim.{Dim}
+use Rattle.trick_check_names.specs.declared.layout.Dims.{Dims}
+use Rattle.trick_check_names.specs.declared.layout.Dims.TheVariants.{Plain, One, Two}
+use Rattle.trick_check_names.specs.declared.layout.Extent.{Extent}
+use Rattle.trick_check_names.specs.declared.layout.Field.{Field}
+use Rattle.trick_check_names.specs.declared.layout.Site.{Site}
+use Rattle.trick_check_names.specs.declared.layout.Site.TheVariants.{Item, Object}
+use Rattle.trick_check_names.specs.Names.{Names, meaning_of}
+use Rattle.trick_check_names.specs.declared.tables.Base.{Base}
+use Rattle.trick_check_names.specs.declared.tables.Base.TheVariants.{Single, Group}
 
 -- so many cells, from the furthest that the indexes so far reach, stay in the array; before the first
 -- computed index nothing was reached

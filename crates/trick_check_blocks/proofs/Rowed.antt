@@ -3,11 +3,11 @@ use Rattle.std.proofs.Common.{rules, ◌≡◌, ℕ, ◌++◌, ◌||◌, ◌==�
 use Rattle.std.proofs.lemmas.Bool.{and_from, eqb-true}
 use Rattle.std.proofs.lemmas.Slice.Eq.{bytes_eq-Decides}
 use Rattle.std.specs.Str.{bytes_eq}
-use Rattle.trick_blocks.proofs.Made.{method_holds}
-use Rattle.trick_blocks.specs.Held.{bodies_of}
-use Rattle.trick_blocks.specs.Kept.{AreKept, Grows, MethodsHold, is_one_of}
-use Rattle.trick_blocks.specs.Methods.{Progress, progress, with_part, with_parts}
-use Rattle.trick_blocks.specs.declared.scope.ClassScope.{ClassScope}
+use Rattle.trick_check_blocks.proofs.Made.{method_holds}
+use Rattle.trick_check_blocks.specs.Held.{bodies_of}
+use Rattle.trick_check_blocks.specs.Kept.{AreKept, Grows, MethodsHold, is_one_of}
+use Rattle.trick_check_blocks.specs.Methods.{Progress, progress, with_part, with_parts}
+use Rattle.trick_check_blocks.specs.declared.scope.ClassScope.{ClassScope}
 use Rattle.trick_lang.specs.Locals.{block_knows, methods_know}
 use Rattle.trick_lang.specs.SyntaxTree as tree
 use Rattle.trick_lang.specs.SyntaxTree.{Name}
@@ -15,7 +15,7 @@ use Rattle.trick_lang.specs.TreeOf.{codes_of}
 use Rattle.trick_lang.specs.Valid.{method_stands, methods_stand}
 use Rattle.trick_lang.specs.declared.method.Method.{Method}
 use Rattle.trick_lang.specs.declared.tree.Block.{Block}
-use Rattle.trick_names.specs.Names.{Names, meaning_of, with_name}
+use Rattle.trick_check_names.specs.Names.{Names, meaning_of, with_name}
 
 pub kept_both : (p : Progress) (ms ns : List Method) → AreKept p ms → AreKept p ns → AreKept p (ms ++ ns)
 kept_both p [] ns h k = k

@@ -1,11 +1,11 @@
 -- Blocks with their classes and frames, one list after another.
 use Rattle.std.proofs.Common.{◌≡◌, ℕ, zero, suc, ◌+◌, ◌-◌, ◌<◌, ◌≤◌, get_or, List, [], ◌∷◌, ◌++◌, length, take, drop, Option, Some, None, slice_get, refl, ap, sym, ◌∙◌, arith}
 use Rattle.std.proofs.lemmas.List.{append-nil, append_assoc}
-use Rattle.trick_blocks.specs.Bodies.{Body, with_body, with_bodies}
-use Rattle.trick_blocks.specs.Held.{bodies_of}
-use Rattle.trick_blocks.specs.Kept.{codes_in}
-use Rattle.trick_blocks.specs.Methods.{Progress, with_part}
-use Rattle.trick_blocks.specs.Room.{IsLaid}
+use Rattle.trick_check_blocks.specs.Bodies.{Body, with_body, with_bodies}
+use Rattle.trick_check_blocks.specs.Held.{bodies_of}
+use Rattle.trick_check_blocks.specs.Kept.{codes_in}
+use Rattle.trick_check_blocks.specs.Methods.{Progress, with_part}
+use Rattle.trick_check_blocks.specs.Room.{IsLaid}
 use Rattle.trick_lang.specs.Syntax.{class_part_of, class_parts_of}
 use Rattle.trick_lang.specs.SyntaxTree as tree
 use Rattle.trick_lang.specs.Tree.{Code}

@@ -3,11 +3,11 @@ use Rattle.std.proofs.Common.{◌≡◌, ℕ, suc, ◌+◌, ◌≤◌, ◌<◌, 
 use Rattle.std.proofs.Math.ListN.{length-append}
 use Rattle.std.proofs.lemmas.Bool.{and_from}
 use Rattle.std.proofs.lemmas.Bool.Decides.{nat_tests}
-use Rattle.trick_blocks.specs.Codes.{after, all_codes, all_count, all_inner, branch_codes, branch_count, branch_inner, call_code, change_term, code, count, declared, declared_code, goal_code, inner, loop_code, loop_in, loop_slot, new_slot, scalar_of, value_term}
-use Rattle.trick_blocks.specs.Methods.{body_blocks}
-use Rattle.trick_blocks.specs.Terms.{Goal, OfLocal, OfNumber, OfPlace, OfNothing, path_goal}
-use Rattle.trick_blocks.specs.declared.start.Local.{Local}
-use Rattle.trick_blocks.specs.declared.scope.ClassScope.{ClassScope}
+use Rattle.trick_check_blocks.specs.Codes.{after, all_codes, all_count, all_inner, branch_codes, branch_count, branch_inner, call_code, change_term, code, count, declared, declared_code, goal_code, inner, loop_code, loop_in, loop_slot, new_slot, scalar_of, value_term}
+use Rattle.trick_check_blocks.specs.Methods.{body_blocks}
+use Rattle.trick_check_blocks.specs.Terms.{Goal, OfLocal, OfNumber, OfPlace, OfNothing, path_goal}
+use Rattle.trick_check_blocks.specs.declared.start.Local.{Local}
+use Rattle.trick_check_blocks.specs.declared.scope.ClassScope.{ClassScope}
 use Rattle.trick_lang.specs.Passes.{all_blocks, branch_blocks, code_blocks}
 use Rattle.trick_lang.specs.SyntaxTree.{Name, Statement, Empty, Block, Declare, Assign, If, For, Call, Branches, NoElse, Else, Test, Statements, NoStatement, Then}
 use Rattle.trick_lang.specs.Tree as Tree
@@ -15,7 +15,7 @@ use Rattle.trick_lang.specs.Tree.{Code, Term}
 use Rattle.trick_lang.specs.Valid.{are_in_order}
 use Rattle.trick_lang.specs.declared.bound.Bound.{Bound}
 use Rattle.trick_lang.specs.declared.scalar.Scalar.{Scalar}
-use Rattle.trick_names.specs.Names.{Names, meaning_of}
+use Rattle.trick_check_names.specs.Names.{Names, meaning_of}
 
 -- ---- how many blocks there are
 

@@ -6,7 +6,7 @@ use Rattle.std.proofs.lemmas.Bool.Decides.{nat_tests}
 use Rattle.std.proofs.lemmas.List.{append_assoc, get_or_append_left}
 use Rattle.std.specs.List.{slice_index_or}
 use Rattle.trick_base.proofs.Truths.{first_holds, second_holds}
-use Rattle.trick_blocks.specs.Methods.{all_slots, block_slots, code_slots}
+use Rattle.trick_check_blocks.specs.Methods.{all_slots, block_slots, code_slots}
 use Rattle.trick_lang.specs.Blocks.{block_at, each_block, table}
 use Rattle.trick_lang.specs.Tree.{Code, Empty, Declare, SetLocal, Assign, If, For, Run}
 

@@ -1,6 +1,6 @@
 -- The worked bodies are resolved so, as the rules compute.
 use Rattle.std.proofs.Common.{refl}
-use Rattle.trick_blocks.specs.Worked.{AreResolved}
+use Rattle.trick_check_blocks.specs.Worked.{AreResolved}
 
 pub resolved : AreResolved
 resolved = record {

@@ -3,9 +3,9 @@
 -- follows is said of every tree; of one that a reader or a check of names refuses it says something
 -- that nobody relies on.
 use Rattle.std.specs.Prelude.{ℕ, ◌+◌, true, false, if◌then◌else◌, nat_le, List, [], ◌∷◌, ◌++◌, length, Option, Some, None}
-use Rattle.trick_blocks.specs.Terms.{Goal, OfLocal, OfNumber, OfPlace, OfNothing, term, path_goal}
-use Rattle.trick_blocks.specs.declared.start.Local.{Local}
-use Rattle.trick_blocks.specs.declared.scope.ClassScope.{ClassScope}
+use Rattle.trick_check_blocks.specs.Terms.{Goal, OfLocal, OfNumber, OfPlace, OfNothing, term, path_goal}
+use Rattle.trick_check_blocks.specs.declared.start.Local.{Local}
+use Rattle.trick_check_blocks.specs.declared.scope.ClassScope.{ClassScope}
 use Rattle.trick_lang.specs.Locals.{bound_number}
 use Rattle.trick_lang.specs.SyntaxTree.{Name, Expression, TypeName, Basic, Custom, Change, Set, Update, Increase, Decrease, Statement, Empty, Block, Declare, Assign, If, For, Call, Branches, NoElse, Else, Test, Statements, NoStatement, Then}
 use Rattle.trick_lang.specs.Tree as Tree
@@ -13,7 +13,7 @@ use Rattle.trick_lang.specs.Tree.{Code, Term}
 use Rattle.trick_lang.specs.declared.bound.Bound.{Bound}
 use Rattle.trick_lang.specs.declared.scalar.Scalar.{Scalar}
 use Rattle.trick_lang.specs.declared.scalar.Scalar.TheVariants.{Int, Long}
-use Rattle.trick_names.specs.Names.{Names, meaning_of, with_name}
+use Rattle.trick_check_names.specs.Names.{Names, meaning_of, with_name}
 
 -- ---- locals
 

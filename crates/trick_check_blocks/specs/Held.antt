@@ -1,9 +1,9 @@
 -- What a value of the code holds.
 use Rattle.std.specs.Prelude.{List, [], ◌∷◌}
-use Rattle.trick_blocks.specs.Bodies.{Body}
-use Rattle.trick_blocks.specs.Terms.{Goal, OfLocal, OfNumber, OfPlace, OfNothing}
-use Rattle.trick_blocks.specs.declared.term.Reached.{Reached}
-use Rattle.trick_blocks.specs.declared.term.Reached.TheVariants as reached
+use Rattle.trick_check_blocks.specs.Bodies.{Body}
+use Rattle.trick_check_blocks.specs.Terms.{Goal, OfLocal, OfNumber, OfPlace, OfNothing}
+use Rattle.trick_check_blocks.specs.declared.term.Reached.{Reached}
+use Rattle.trick_check_blocks.specs.declared.term.Reached.TheVariants as reached
 use Rattle.trick_lang.specs.TreeOf.{code_list, spot_of}
 use Rattle.trick_lang.specs.declared.tree.Block.{Block}
 

@@ -1,7 +1,7 @@
 -- What a program keeps of its blocks, said of blocks that are made, class by class.
 use Rattle.std.specs.Prelude.{◌≡◌, ℕ, zero, suc, ◌+◌, ◌<◌, ◌≤◌, Bool, true, false, ◌&&◌, ◌||◌, ◌==◌, IsTrue, List, [], ◌∷◌, ◌++◌, length, Option, Some, None}
-use Rattle.trick_blocks.specs.Bodies.{Body, all_depth}
-use Rattle.trick_blocks.specs.Methods.{Progress}
+use Rattle.trick_check_blocks.specs.Bodies.{Body, all_depth}
+use Rattle.trick_check_blocks.specs.Methods.{Progress}
 use Rattle.trick_lang.specs.Locals.{Known, block_knows, is_known, methods_know}
 use Rattle.trick_lang.specs.Passes.{all_blocks, all_pass}
 use Rattle.trick_lang.specs.SyntaxTree.{Name}
@@ -10,8 +10,8 @@ use Rattle.trick_lang.specs.TreeOf.{codes_of}
 use Rattle.trick_lang.specs.Valid.{are_deep, are_in_order, cells_test, has_class, is_of, lie_in, methods_stand, run_own_class, stay_in_span}
 use Rattle.trick_lang.specs.declared.method.Method.{Method}
 use Rattle.trick_lang.specs.declared.tree.Block.{Block}
-use Rattle.trick_layout.specs.Laid.{size_at}
-use Rattle.trick_names.specs.Names.{meaning_of}
+use Rattle.trick_check_names.specs.Laid.{size_at}
+use Rattle.trick_check_names.specs.Names.{meaning_of}
 
 -- the statements of each block
 abbrev pub codes_in : List Body → List (List Code)

@@ -1,12 +1,12 @@
 -- The methods of a class, one after another, each after those that it calls.
 use Rattle.std.specs.Prelude.{ℕ, ◌+◌, max, List, [], ◌∷◌, ◌++◌, length, Option, Some, None, slice_get}
-use Rattle.trick_blocks.specs.Bodies.{Body, with_bodies}
-use Rattle.trick_blocks.specs.Codes.{all_codes, all_count, all_inner}
-use Rattle.trick_blocks.specs.declared.scope.ClassScope.{ClassScope}
+use Rattle.trick_check_blocks.specs.Bodies.{Body, with_bodies}
+use Rattle.trick_check_blocks.specs.Codes.{all_codes, all_count, all_inner}
+use Rattle.trick_check_blocks.specs.declared.scope.ClassScope.{ClassScope}
 use Rattle.trick_lang.specs.SyntaxTree as tree
 use Rattle.trick_lang.specs.SyntaxTree.{Statements, Public, HasMembers, HasMethod, Constructor}
 use Rattle.trick_lang.specs.Tree.{Code, Empty, Declare, SetLocal, Assign, If, For, Run}
-use Rattle.trick_names.specs.Names.{with_name}
+use Rattle.trick_check_names.specs.Names.{with_name}
 
 -- ---- slots
 

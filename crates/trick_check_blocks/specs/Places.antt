@@ -1,24 +1,24 @@
 -- What the first name of a path stands for, and where the rest of it leads. What follows is said of
 -- every tree; of one with mistakes in names it leads nowhere.
 use Rattle.std.specs.Prelude.{ℕ, ◌+◌, ◌*◌, true, false, if◌then◌else◌, nat_lt, Option, Some, None}
-use Rattle.trick_blocks.specs.declared.start.Local.{Local}
-use Rattle.trick_blocks.specs.declared.start.Meaning.{Meaning}
-use Rattle.trick_blocks.specs.declared.start.Meaning.TheVariants as means
-use Rattle.trick_blocks.specs.declared.spot.Element.{Element}
-use Rattle.trick_blocks.specs.declared.spot.Loose.{Loose}
-use Rattle.trick_blocks.specs.declared.spot.Spot.{Spot}
-use Rattle.trick_blocks.specs.declared.scope.ClassScope.{ClassScope}
+use Rattle.trick_check_blocks.specs.declared.start.Local.{Local}
+use Rattle.trick_check_blocks.specs.declared.start.Meaning.{Meaning}
+use Rattle.trick_check_blocks.specs.declared.start.Meaning.TheVariants as means
+use Rattle.trick_check_blocks.specs.declared.spot.Element.{Element}
+use Rattle.trick_check_blocks.specs.declared.spot.Loose.{Loose}
+use Rattle.trick_check_blocks.specs.declared.spot.Spot.{Spot}
+use Rattle.trick_check_blocks.specs.declared.scope.ClassScope.{ClassScope}
 use Rattle.trick_lang.specs.SyntaxTree.{Name, Expression, Whole, Truth, Named, Prefixed, Chain, Choose, Parts, NoPart, Member, Index}
-use Rattle.trick_layout.specs.Laid.{fields_at}
-use Rattle.trick_layout.specs.declared.layout.Dims.{Dims}
-use Rattle.trick_layout.specs.declared.layout.Dims.TheVariants.{Plain, One, Two}
-use Rattle.trick_layout.specs.declared.layout.Extent.{Extent}
-use Rattle.trick_layout.specs.declared.layout.Field.{Field}
-use Rattle.trick_layout.specs.declared.layout.Site.{Site}
-use Rattle.trick_layout.specs.declared.layout.Site.TheVariants.{Item, Object}
-use Rattle.trick_names.specs.Names.{Names, meaning_of}
-use Rattle.trick_names.specs.declared.tables.Base.{Base}
-use Rattle.trick_names.specs.declared.tables.Base.TheVariants.{Single, Group}
+use Rattle.trick_check_names.specs.Laid.{fields_at}
+use Rattle.trick_check_names.specs.declared.layout.Dims.{Dims}
+use Rattle.trick_check_names.specs.declared.layout.Dims.TheVariants.{Plain, One, Two}
+use Rattle.trick_check_names.specs.declared.layout.Extent.{Extent}
+use Rattle.trick_check_names.specs.declared.layout.Field.{Field}
+use Rattle.trick_check_names.specs.declared.layout.Site.{Site}
+use Rattle.trick_check_names.specs.declared.layout.Site.TheVariants.{Item, Object}
+use Rattle.trick_check_names.specs.Names.{Names, meaning_of}
+use Rattle.trick_check_names.specs.declared.tables.Base.{Base}
+use Rattle.trick_check_names.specs.declared.tables.Base.TheVariants.{Single, Group}
 
 -- ---- first names
 

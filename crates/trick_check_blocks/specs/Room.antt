@@ -1,10 +1,10 @@
 -- Places that lie where they may: in an object of the class, or in the memory.
 use Rattle.std.specs.Prelude.{ℕ, ◌+◌, ◌≤◌, Bool, true, false, Option, Some, None}
-use Rattle.trick_blocks.specs.declared.spot.Loose.{Loose}
-use Rattle.trick_blocks.specs.declared.spot.Spot.{Spot}
-use Rattle.trick_blocks.specs.declared.scope.ClassScope.{ClassScope}
-use Rattle.trick_layout.specs.Kept.{AreLaid}
-use Rattle.trick_layout.specs.Laid.{size_at, size_of, AreStrides}
+use Rattle.trick_check_blocks.specs.declared.spot.Loose.{Loose}
+use Rattle.trick_check_blocks.specs.declared.spot.Spot.{Spot}
+use Rattle.trick_check_blocks.specs.declared.scope.ClassScope.{ClassScope}
+use Rattle.trick_check_names.specs.Kept.{AreLaid}
+use Rattle.trick_check_names.specs.Laid.{size_at, size_of, AreStrides}
 
 -- how many cells there are from the one that a place is counted from
 abbrev pub room : ClassScope → Bool → ℕ

@@ -1,20 +1,20 @@
 -- What expressions become: names by cell, by slot, or by number.
 use Rattle.std.specs.Prelude.{ℕ, ℤ, pos, Option, Some, None}
-use Rattle.trick_blocks.specs.Places.{named, start_of, followed, scalar_there, literal_count, literal_of, element_at, to_index, to_member}
-use Rattle.trick_blocks.specs.declared.start.Local.{Local}
-use Rattle.trick_blocks.specs.declared.start.Meaning.{Meaning}
-use Rattle.trick_blocks.specs.declared.start.Meaning.TheVariants as means
-use Rattle.trick_blocks.specs.declared.spot.Element.{Element}
-use Rattle.trick_blocks.specs.declared.spot.Loose.{Loose}
-use Rattle.trick_blocks.specs.declared.spot.Spot.{Spot}
-use Rattle.trick_blocks.specs.declared.scope.ClassScope.{ClassScope}
+use Rattle.trick_check_blocks.specs.Places.{named, start_of, followed, scalar_there, literal_count, literal_of, element_at, to_index, to_member}
+use Rattle.trick_check_blocks.specs.declared.start.Local.{Local}
+use Rattle.trick_check_blocks.specs.declared.start.Meaning.{Meaning}
+use Rattle.trick_check_blocks.specs.declared.start.Meaning.TheVariants as means
+use Rattle.trick_check_blocks.specs.declared.spot.Element.{Element}
+use Rattle.trick_check_blocks.specs.declared.spot.Loose.{Loose}
+use Rattle.trick_check_blocks.specs.declared.spot.Spot.{Spot}
+use Rattle.trick_check_blocks.specs.declared.scope.ClassScope.{ClassScope}
 use Rattle.trick_lang.specs.Numbers.{number_of}
 use Rattle.trick_lang.specs.SyntaxTree.{Expression, Whole, Truth, Named, Prefixed, Chain, Choose, Links, NoLink, Link, Choices, Last, Choice, Path, path, Parts, NoPart, Member, Index}
 use Rattle.trick_lang.specs.Tree as Tree
 use Rattle.trick_lang.specs.Tree.{Term, Steps, NoStep, Step}
 use Rattle.trick_lang.specs.Wrap.{wrap}
 use Rattle.trick_lang.specs.declared.scalar.Scalar.TheVariants.{Long}
-use Rattle.trick_names.specs.Names.{Names}
+use Rattle.trick_check_names.specs.Names.{Names}
 
 -- ---- places
 

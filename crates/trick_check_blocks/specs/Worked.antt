@@ -1,10 +1,10 @@
 -- Worked bodies, and what the rules make of them. The names are of one letter.
 use Rattle.std.specs.Prelude.{◌≡◌, ℕ, ◌*◌, pos, true, false, List, [], ◌∷◌, None}
-use Rattle.trick_blocks.specs.Codes.{all_codes, all_inner}
-use Rattle.trick_blocks.specs.Methods.{progress, with_parts}
-use Rattle.trick_blocks.specs.Terms.{term}
-use Rattle.trick_blocks.specs.declared.start.Local.{Local}
-use Rattle.trick_blocks.specs.declared.scope.ClassScope.{ClassScope}
+use Rattle.trick_check_blocks.specs.Codes.{all_codes, all_inner}
+use Rattle.trick_check_blocks.specs.Methods.{progress, with_parts}
+use Rattle.trick_check_blocks.specs.Terms.{term}
+use Rattle.trick_check_blocks.specs.declared.start.Local.{Local}
+use Rattle.trick_check_blocks.specs.declared.scope.ClassScope.{ClassScope}
 use Rattle.trick_lang.specs.SyntaxTree as text
 use Rattle.trick_lang.specs.SyntaxTree.{Name, Expression, Whole, Truth, Named, path, Parts, NoPart, Member, Index, Basic, Set, Statement, Statements, NoStatement, Then, HasMethod, Public}
 use Rattle.trick_lang.specs.Tree.{Term, Number, Cell, spot, NoStep, Step, Code, Empty, Declare, SetLocal, Assign, If, For, Run, NoElse, Else, Test}
@@ -12,14 +12,14 @@ use Rattle.trick_lang.specs.Tree as Tree
 use Rattle.trick_lang.specs.Wrap.{wrap}
 use Rattle.trick_lang.specs.declared.bound.Bound.TheVariants.{Below}
 use Rattle.trick_lang.specs.declared.scalar.Scalar.TheVariants.{Int, Long}
-use Rattle.trick_layout.specs.declared.layout.Dim.{Dim}
-use Rattle.trick_layout.specs.declared.layout.Dims.{Dims}
-use Rattle.trick_layout.specs.declared.layout.Dims.TheVariants.{Plain, One, Two}
-use Rattle.trick_layout.specs.declared.layout.Field.{Field}
-use Rattle.trick_layout.specs.declared.layout.Site.TheVariants.{Item, Object}
-use Rattle.trick_names.specs.Names.{Names}
-use Rattle.trick_names.specs.declared.tables.Base.{Base}
-use Rattle.trick_names.specs.declared.tables.Base.TheVariants.{Single, Group}
+use Rattle.trick_check_names.specs.declared.layout.Dim.{Dim}
+use Rattle.trick_check_names.specs.declared.layout.Dims.{Dims}
+use Rattle.trick_check_names.specs.declared.layout.Dims.TheVariants.{Plain, One, Two}
+use Rattle.trick_check_names.specs.declared.layout.Field.{Field}
+use Rattle.trick_check_names.specs.declared.layout.Site.TheVariants.{Item, Object}
+use Rattle.trick_check_names.specs.Names.{Names}
+use Rattle.trick_check_names.specs.declared.tables.Base.{Base}
+use Rattle.trick_check_names.specs.declared.tables.Base.TheVariants.{Single, Group}
 
 -- ---- a class and an object of it
 

@@ -1,8 +1,8 @@
 //! Blocks, with the frames that they need.
 
 ghost use Rattle.std.specs.Prelude.{◌≡◌, ◌+◌, ◌∷◌, [], max, IfOk, OnOk, length};
-ghost use Rattle.trick_blocks.specs.Bodies.{all_depth, branch_depth, code_depth, depth_at, with_body};
-ghost use Rattle.trick_blocks.specs.Held.{bodies_of};
+ghost use Rattle.trick_check_blocks.specs.Bodies.{all_depth, branch_depth, code_depth, depth_at, with_body};
+ghost use Rattle.trick_check_blocks.specs.Held.{bodies_of};
 ghost use Rattle.trick_lang.specs.TreeOf.{branches_of, code_list, code_of, else_of};
 
 use std::alloc::{AllocError, Global};

@@ -2,17 +2,17 @@
 //! rest on what it says; the call itself does nothing.
 
 ghost use Rattle.std.specs.Prelude.{◌≡◌, [], ℕ, IsTrue, List, Some, is_some, slice_get};
-ghost use Rattle.trick_blocks.specs.Bodies.{Body};
-ghost use Rattle.trick_blocks.specs.Held.{bodies_of};
-ghost use Rattle.trick_blocks.specs.Kept.{AreKept, BlocksHold, Grows, Keeps, MethodHolds, MethodKept, MethodsHold, is_one_of};
-ghost use Rattle.trick_blocks.specs.Methods.{Progress, progress, with_parts};
-ghost use Rattle.trick_blocks.specs.Room.{IsLaid};
-ghost use Rattle.trick_blocks.specs.Worked.{AreResolved};
-ghost use Rattle.trick_blocks.specs.declared.scope.ClassScope.{ClassScope};
+ghost use Rattle.trick_check_blocks.specs.Bodies.{Body};
+ghost use Rattle.trick_check_blocks.specs.Held.{bodies_of};
+ghost use Rattle.trick_check_blocks.specs.Kept.{AreKept, BlocksHold, Grows, Keeps, MethodHolds, MethodKept, MethodsHold, is_one_of};
+ghost use Rattle.trick_check_blocks.specs.Methods.{Progress, progress, with_parts};
+ghost use Rattle.trick_check_blocks.specs.Room.{IsLaid};
+ghost use Rattle.trick_check_blocks.specs.Worked.{AreResolved};
+ghost use Rattle.trick_check_blocks.specs.declared.scope.ClassScope.{ClassScope};
 ghost use Rattle.trick_lang.specs.SyntaxTree as tree;
 ghost use Rattle.trick_lang.specs.declared.method.Method.{Method};
 ghost use Rattle.trick_lang.specs.declared.tree.Block.{Block};
-ghost use Rattle.trick_names.specs.Names.{meaning_of};
+ghost use Rattle.trick_check_names.specs.Names.{meaning_of};
 
 /// Before the first block all is kept.
 pub fn start_law()

@@ -1,7 +1,7 @@
 //! Locals of bodies, with their slots.
 
 ghost use Rattle.std.specs.Prelude.{◌≡◌, OnOk, IfOk, length};
-ghost use Rattle.trick_blocks.specs.Codes.{declared, loop_in, loop_slot, new_slot, scalar_of, slot_behind};
+ghost use Rattle.trick_check_blocks.specs.Codes.{declared, loop_in, loop_slot, new_slot, scalar_of, slot_behind};
 ghost use Rattle.trick_lang.specs.Locals.{bound_number};
 ghost use Rattle.trick_lang.specs.Syntax.{written_of};
 
@@ -11,7 +11,7 @@ use std::alloc::AllocError;
 use trick_base::Word;
 use trick_lang::syntax::TypeName;
 use trick_lang::{BOUND_LIMIT, Bound, Scalar};
-use trick_names::Names;
+use trick_check_names::Names;
 
 // So many slots and locals fit the numbers of slots.
 const SLOT_LIMIT: usize = 1_000_000_000;

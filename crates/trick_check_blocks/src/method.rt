@@ -1,11 +1,11 @@
 //! The methods of a class.
 
 ghost use Rattle.std.specs.Prelude.{◌≡◌, ◌+◌, IfOk, OnOk, Some, length, slice_get};
-ghost use Rattle.trick_blocks.specs.Bodies.{with_bodies};
-ghost use Rattle.trick_blocks.specs.Codes.{all_count};
-ghost use Rattle.trick_blocks.specs.Held.{bodies_of};
-ghost use Rattle.trick_blocks.specs.Methods.{body_blocks, progress, with_method, with_part, with_parts};
-ghost use Rattle.trick_blocks.specs.Room.{IsLaid};
+ghost use Rattle.trick_check_blocks.specs.Bodies.{with_bodies};
+ghost use Rattle.trick_check_blocks.specs.Codes.{all_count};
+ghost use Rattle.trick_check_blocks.specs.Held.{bodies_of};
+ghost use Rattle.trick_check_blocks.specs.Methods.{body_blocks, progress, with_method, with_part, with_parts};
+ghost use Rattle.trick_check_blocks.specs.Room.{IsLaid};
 ghost use Rattle.trick_lang.specs.Syntax.{class_part_of, class_parts_of, method_of, statements_of_list};
 
 use crate::block::count_of;
@@ -15,7 +15,7 @@ use crate::scope::ClassScope;
 use std::alloc::{AllocError, Global};
 use trick_lang::Block;
 use trick_lang::syntax::{ClassPart, Method, Stmt};
-use trick_names::Names;
+use trick_check_names::Names;
 
 // The body of a method, with the blocks in it, and its number.
 fn add_body(

@@ -1,7 +1,7 @@
 ghost use Rattle.std.specs.Prelude.{◌≡◌, ◌∷◌, [], Some, if◌then◌else◌};
-ghost use Rattle.trick_blocks.specs.Places.{element_at, followed, literal_count, literal_of, to_index, to_member};
-ghost use Rattle.trick_blocks.specs.Room.{Fits, IsLaid};
-ghost use Rattle.trick_blocks.specs.Terms.{computed, offset_of, span_of, spot_with};
+ghost use Rattle.trick_check_blocks.specs.Places.{element_at, followed, literal_count, literal_of, to_index, to_member};
+ghost use Rattle.trick_check_blocks.specs.Room.{Fits, IsLaid};
+ghost use Rattle.trick_check_blocks.specs.Terms.{computed, offset_of, span_of, spot_with};
 ghost use Rattle.trick_lang.specs.Syntax.{expression_of, parts_of_list};
 ghost use Rattle.trick_lang.specs.TreeOf.{spot_of, steps_of_list};
 
@@ -10,8 +10,7 @@ use crate::scope::ClassScope;
 use trick_base::Word;
 use trick_lang::syntax::{Expr, Part};
 use trick_lang::{Index, Place};
-use trick_layout::Dims;
-use trick_names::Base;
+use trick_check_names::{Base, Dims};
 
 // Where `.name` leads.
 fn member(name: &Word, scope: &ClassScope, spot: Spot) -> Option<Spot>

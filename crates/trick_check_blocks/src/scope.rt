@@ -1,5 +1,4 @@
-use trick_layout::Layout;
-use trick_names::Names;
+use trick_check_names::{Layout, Names};
 
 /// What a body of a class sees of its file.
 #[derive(Drop)]

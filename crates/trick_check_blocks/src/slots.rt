@@ -1,7 +1,7 @@
 //! How many slots are enough for blocks.
 
 ghost use Rattle.std.specs.Prelude.{◌≡◌, ◌+◌, max, IfOk};
-ghost use Rattle.trick_blocks.specs.Methods.{all_slots, block_slots, code_slots};
+ghost use Rattle.trick_check_blocks.specs.Methods.{all_slots, block_slots, code_slots};
 ghost use Rattle.trick_lang.specs.TreeOf.{code_list, code_of, codes_of};
 
 use std::alloc::AllocError;

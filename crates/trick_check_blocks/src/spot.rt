@@ -1,9 +1,8 @@
 ghost use Rattle.std.specs.Prelude.{◌≡◌, ◌*◌};
-ghost use Rattle.trick_blocks.specs.Places.{element_at, loosened, moved, scalar_there};
-ghost use Rattle.trick_blocks.specs.Room.{LieIn};
+ghost use Rattle.trick_check_blocks.specs.Places.{element_at, loosened, moved, scalar_there};
+ghost use Rattle.trick_check_blocks.specs.Room.{LieIn};
 
-use trick_layout::{Dim, Dims, Extent};
-use trick_names::Base;
+use trick_check_names::{Base, Dim, Dims, Extent};
 
 /// Where a path has come after its first computed index: somewhere among the cells of that array.
 #[derive(Clone, Copy)]

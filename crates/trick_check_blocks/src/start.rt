@@ -1,12 +1,11 @@
 ghost use Rattle.std.specs.Prelude.{◌≡◌};
-ghost use Rattle.trick_blocks.specs.Places.{named};
+ghost use Rattle.trick_check_blocks.specs.Places.{named};
 
 use crate::spot::Spot;
 use crate::scope::ClassScope;
 use trick_base::Word;
 use trick_lang::Scalar;
-use trick_layout::{Dims, Extent, Site};
-use trick_names::{Base, Names};
+use trick_check_names::{Base, Dims, Extent, Names, Site};
 
 /// A local variable that is known at a place of a body.
 #[derive(Clone, Copy)]

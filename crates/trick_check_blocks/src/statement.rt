@@ -1,15 +1,15 @@
 //! Statements, and the blocks in them.
 
 ghost use Rattle.std.specs.Prelude.{◌≡◌, ◌+◌, ◌∷◌, ◌++◌, [], IfOk, OnOk, length};
-ghost use Rattle.trick_blocks.specs.Bodies.{with_bodies};
-ghost use Rattle.trick_blocks.specs.Codes.{after, after_all, all_codes, all_count, all_inner, branch_codes, branch_count, branch_inner, call_code, change_term, code, count, declared_code, goal_code, inner, local_code, loop_code, value_term};
-ghost use Rattle.trick_blocks.specs.Held.{bodies_of, goal_held};
-ghost use Rattle.trick_blocks.specs.Room.{IsLaid};
-ghost use Rattle.trick_blocks.specs.Terms.{path_goal};
+ghost use Rattle.trick_check_blocks.specs.Bodies.{with_bodies};
+ghost use Rattle.trick_check_blocks.specs.Codes.{after, after_all, all_codes, all_count, all_inner, branch_codes, branch_count, branch_inner, call_code, change_term, code, count, declared_code, goal_code, inner, local_code, loop_code, value_term};
+ghost use Rattle.trick_check_blocks.specs.Held.{bodies_of, goal_held};
+ghost use Rattle.trick_check_blocks.specs.Room.{IsLaid};
+ghost use Rattle.trick_check_blocks.specs.Terms.{path_goal};
 ghost use Rattle.trick_lang.specs.Syntax as text;
 ghost use Rattle.trick_lang.specs.Tree as codes;
 ghost use Rattle.trick_lang.specs.TreeOf as tree;
-ghost use Rattle.trick_names.specs.Names.{meaning_of};
+ghost use Rattle.trick_check_names.specs.Names.{meaning_of};
 
 use crate::block::{add_block, add_single};
 use crate::local::{declare, enter_loop, scalar};
@@ -19,7 +19,7 @@ use crate::scope::ClassScope;
 use std::alloc::{AllocError, Global};
 use trick_base::Word;
 use trick_lang::{Block, Bound, Branch, Change, Expr, Scalar, Stmt, syntax};
-use trick_names::Names;
+use trick_check_names::Names;
 
 // ---- what has no blocks
 

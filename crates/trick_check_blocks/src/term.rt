@@ -1,8 +1,8 @@
 ghost use Rattle.std.specs.Prelude.{◌≡◌, ◌∷◌, [], IfOk, OnOk, Some, pos};
-ghost use Rattle.trick_blocks.specs.Held.{goal_held};
-ghost use Rattle.trick_blocks.specs.Places.{followed, literal_count, scalar_there};
-ghost use Rattle.trick_blocks.specs.Room.{Fits, IsLaid};
-ghost use Rattle.trick_blocks.specs.Terms.{added_steps, choice_terms, goal_term, link_terms, path_goal, place_goal, steps, term};
+ghost use Rattle.trick_check_blocks.specs.Held.{goal_held};
+ghost use Rattle.trick_check_blocks.specs.Places.{followed, literal_count, scalar_there};
+ghost use Rattle.trick_check_blocks.specs.Room.{Fits, IsLaid};
+ghost use Rattle.trick_check_blocks.specs.Terms.{added_steps, choice_terms, goal_term, link_terms, path_goal, place_goal, steps, term};
 ghost use Rattle.trick_lang.specs.Syntax as text;
 ghost use Rattle.trick_lang.specs.Tree as codes;
 ghost use Rattle.trick_lang.specs.TreeOf as tree;
@@ -15,7 +15,7 @@ use crate::start::{Local, Meaning, stands_for};
 use crate::scope::ClassScope;
 use std::alloc::{AllocError, Global};
 use trick_lang::{Choice, Expr, Index, Link, Place, Prefix, Scalar, syntax};
-use trick_names::Names;
+use trick_check_names::Names;
 
 /// What a path stands for.
 #[derive(Drop)]

@@ -2,10 +2,10 @@
 use Rattle.std.proofs.Common.{◌≡◌, ℕ, zero, suc, ◌+◌, ◌*◌, ◌<◌, List, [], ◌∷◌, ◌++◌, length, refl, ap, sym, ◌∙◌, subst, arith}
 use Rattle.std.proofs.Math.ListN.{length-append}
 use Rattle.std.proofs.lemmas.List.{append_assoc}
-use Rattle.trick_cells.specs.Cells.{bracket, each, under}
+use Rattle.trick_check_cells.specs.Cells.{bracket, each, under}
 use Rattle.trick_lang.specs.SyntaxTree.{Name}
 use Rattle.trick_lang.specs.declared.variable.Variable.{Variable}
-use Rattle.trick_places.specs.Named.{HasAt}
+use Rattle.trick_check_bodies.specs.Named.{HasAt}
 
 -- ---- names in front
 

@@ -2,32 +2,32 @@
 use Rattle.std.proofs.Common.{◌≡◌, ℕ, ◌+◌, ◌*◌, ◌<◌, Bool, true, false, if◌then◌else◌, nat_lt, List, [], ◌∷◌, ◌++◌, length, Option, Some, None, refl, ap, sym, ◌∙◌, subst, arith}
 use Rattle.std.proofs.lemmas.Bool.{ltb-true}
 use Rattle.std.proofs.lemmas.List.{append_assoc}
-use Rattle.trick_blocks.specs.Places.{element_in, field_in, field_meaning, first_moved, followed, literal_count, literal_of, local_meaning, loose_moved, loosened, moved, named, on_element, on_field, scalar_in, scalar_there, site_meaning, start_of}
-use Rattle.trick_blocks.specs.Terms.{Goal, OfPlace, computed, goal_of, offset_of, place_goal, stepped, steps, term}
-use Rattle.trick_blocks.specs.declared.start.Local.{Local}
-use Rattle.trick_blocks.specs.declared.start.Meaning.{Meaning}
-use Rattle.trick_blocks.specs.declared.start.Meaning.TheVariants as means
-use Rattle.trick_blocks.specs.declared.spot.Element.{Element}
-use Rattle.trick_blocks.specs.declared.spot.Loose.{Loose}
-use Rattle.trick_blocks.specs.declared.spot.Spot.{Spot}
-use Rattle.trick_blocks.specs.declared.scope.ClassScope.{ClassScope}
-use Rattle.trick_cells.specs.Cells.{base_cells, bracket, cells_at, dotted, each, under}
+use Rattle.trick_check_blocks.specs.Places.{element_in, field_in, field_meaning, first_moved, followed, literal_count, literal_of, local_meaning, loose_moved, loosened, moved, named, on_element, on_field, scalar_in, scalar_there, site_meaning, start_of}
+use Rattle.trick_check_blocks.specs.Terms.{Goal, OfPlace, computed, goal_of, offset_of, place_goal, stepped, steps, term}
+use Rattle.trick_check_blocks.specs.declared.start.Local.{Local}
+use Rattle.trick_check_blocks.specs.declared.start.Meaning.{Meaning}
+use Rattle.trick_check_blocks.specs.declared.start.Meaning.TheVariants as means
+use Rattle.trick_check_blocks.specs.declared.spot.Element.{Element}
+use Rattle.trick_check_blocks.specs.declared.spot.Loose.{Loose}
+use Rattle.trick_check_blocks.specs.declared.spot.Spot.{Spot}
+use Rattle.trick_check_blocks.specs.declared.scope.ClassScope.{ClassScope}
+use Rattle.trick_check_cells.specs.Cells.{base_cells, bracket, cells_at, dotted, each, under}
 use Rattle.trick_lang.specs.SyntaxTree.{Name, Parts, NoPart, Member, Index}
 use Rattle.trick_lang.specs.Tree.{Steps, NoStep, Term, spot}
 use Rattle.trick_lang.specs.declared.variable.Variable.{Variable}
-use Rattle.trick_layout.specs.Laid.{fields_at}
-use Rattle.trick_layout.specs.declared.layout.Dims.{Dims}
-use Rattle.trick_layout.specs.declared.layout.Dims.TheVariants.{Plain, One, Two}
-use Rattle.trick_layout.specs.declared.layout.Extent.{Extent}
-use Rattle.trick_layout.specs.declared.layout.Field.{Field}
-use Rattle.trick_layout.specs.declared.layout.Layout.{Layout}
-use Rattle.trick_layout.specs.declared.layout.Site.{Site}
-use Rattle.trick_layout.specs.declared.layout.Site.TheVariants.{Item, Object}
-use Rattle.trick_names.specs.Names.{Names, meaning_of}
-use Rattle.trick_names.specs.declared.tables.Base.{Base}
-use Rattle.trick_names.specs.declared.tables.Base.TheVariants.{Single, Group}
-use Rattle.trick_places.proofs.Having.{has_element, has_in, has_member, has_under}
-use Rattle.trick_places.specs.Named.{AreNamed, AreTied, HasAt, IsHeld, IsNamed, LeadToTheirNames, ObjectsHoldNames, cells_from, dims_cells, extent_cells, first_text, led_by, led_on, next_text, path_text}
+use Rattle.trick_check_names.specs.Laid.{fields_at}
+use Rattle.trick_check_names.specs.declared.layout.Dims.{Dims}
+use Rattle.trick_check_names.specs.declared.layout.Dims.TheVariants.{Plain, One, Two}
+use Rattle.trick_check_names.specs.declared.layout.Extent.{Extent}
+use Rattle.trick_check_names.specs.declared.layout.Field.{Field}
+use Rattle.trick_check_names.specs.declared.layout.Layout.{Layout}
+use Rattle.trick_check_names.specs.declared.layout.Site.{Site}
+use Rattle.trick_check_names.specs.declared.layout.Site.TheVariants.{Item, Object}
+use Rattle.trick_check_names.specs.Names.{Names, meaning_of}
+use Rattle.trick_check_names.specs.declared.tables.Base.{Base}
+use Rattle.trick_check_names.specs.declared.tables.Base.TheVariants.{Single, Group}
+use Rattle.trick_check_bodies.proofs.Having.{has_element, has_in, has_member, has_under}
+use Rattle.trick_check_bodies.specs.Named.{AreNamed, AreTied, HasAt, IsHeld, IsNamed, LeadToTheirNames, ObjectsHoldNames, cells_from, dims_cells, extent_cells, first_text, led_by, led_on, next_text, path_text}
 
 -- where a place is, so far as its literal indexes and members say
 abbrev start : Spot → ℕ

@@ -1,3 +1,5 @@
+mod Rows
+mod Wholes
 mod Having
 mod Leading
 mod Tabled

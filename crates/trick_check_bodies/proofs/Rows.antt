@@ -2,14 +2,14 @@
 use Rattle.std.proofs.Common.{◌≡◌, ℕ, zero, suc, ◌+◌, ◌<◌, ◌≤◌, Bool, true, false, if◌then◌else◌, List, [], ◌∷◌, ◌++◌, length, get_or, take, drop, refl, ap, sym, ◌∙◌, arith, Result, Ok, Err, OnOk}
 use Rattle.std.proofs.lemmas.List.{append_assoc, take_more}
 use Rattle.trick_base.proofs.ListLemmas.{next_item}
-use Rattle.trick_jobs.specs.Jobs.{calls_in, definition_lines, lines_at, method_number, numbers_at, object_jobs}
+use Rattle.trick_check_bodies.specs.Jobs.{calls_in, definition_lines, lines_at, method_number, numbers_at, object_jobs}
 use Rattle.trick_lang.specs.SyntaxTree as tree
 use Rattle.trick_lang.specs.Syntax.{class_part_of, class_parts_of, definition_of, definitions_of, jobs_of}
 use Rattle.trick_lang.specs.declared.syntax.definition.ClassPart.{ClassPart}
 use Rattle.trick_lang.specs.declared.syntax.definition.Definition.{Definition}
 use Rattle.trick_lang.specs.declared.syntax.definition.JobLine.{JobLine}
 use Rattle.trick_lang.specs.declared.job.Job.{Job}
-use Rattle.trick_names.specs.Names.{Names}
+use Rattle.trick_check_names.specs.Names.{Names}
 
 pub parts_next : (xs : List ClassPart) (i : ℕ) (item : ClassPart) → i < length xs → item ≡ get_or xs i item → class_parts_of (drop i xs) ≡ class_part_of item ∷ class_parts_of (drop (i + 1) xs)
 parts_next xs i item h is = ap class_parts_of (next_item xs i item h is)

@@ -5,31 +5,31 @@ use Rattle.std.proofs.lemmas.Nat.{mul-le}
 use Rattle.std.proofs.lemmas.Slice.Eq.{bytes_eq-Decides}
 use Rattle.std.specs.Str.{bytes_eq}
 use Rattle.trick_base.specs.Capped.{capped}
-use Rattle.trick_cells.proofs.Counted.{base_counted, global_counted, member_counted, members_counted, size_counts}
-use Rattle.trick_cells.proofs.Laid.{groups_at}
-use Rattle.trick_cells.proofs.Lists.{length_each, length_under}
-use Rattle.trick_cells.specs.Cells.{array_cells, base_cells, cells_at, dotted, each, global_cells, member_cells, members_cells, objects_cells, place_cells, under}
-use Rattle.trick_cells.specs.Counts.{base_count, counts, global_count, member_count, members_count, names_count, place_count}
-use Rattle.trick_cells.specs.Tables.{dim, dims_of, fields_of, groups_from, has_elements, layout_of, narrow, with_field, with_fields, with_site, with_sites}
-use Rattle.trick_cells.specs.Unfolding.{Unfolds, members_at}
+use Rattle.trick_check_cells.proofs.Counted.{base_counted, global_counted, member_counted, members_counted, size_counts}
+use Rattle.trick_check_cells.proofs.Laid.{groups_at}
+use Rattle.trick_check_cells.proofs.Lists.{length_each, length_under}
+use Rattle.trick_check_cells.specs.Cells.{array_cells, base_cells, cells_at, dotted, each, global_cells, member_cells, members_cells, objects_cells, place_cells, under}
+use Rattle.trick_check_cells.specs.Counts.{base_count, counts, global_count, member_count, members_count, names_count, place_count}
+use Rattle.trick_check_cells.specs.Tables.{dim, dims_of, fields_of, groups_from, has_elements, layout_of, narrow, with_field, with_fields, with_site, with_sites}
+use Rattle.trick_check_cells.specs.Unfolding.{Unfolds, members_at}
 use Rattle.trick_lang.specs.SyntaxTree.{Name}
 use Rattle.trick_lang.specs.declared.variable.Variable.{Variable}
-use Rattle.trick_layout.specs.Laid.{fields_at}
-use Rattle.trick_layout.specs.declared.layout.Field.{Field}
-use Rattle.trick_layout.specs.declared.layout.Site.{Site}
-use Rattle.trick_layout.specs.declared.layout.Site.TheVariants as site
-use Rattle.trick_names.specs.Names.{Names, meaning_of, with_name}
-use Rattle.trick_names.specs.declared.tables.Base.{Base}
-use Rattle.trick_names.specs.declared.tables.Base.TheVariants.{Single, Group}
-use Rattle.trick_names.specs.declared.tables.Global.{Global}
-use Rattle.trick_names.specs.declared.tables.Global.TheVariants as the
-use Rattle.trick_names.specs.declared.tables.Lengths.{Lengths}
-use Rattle.trick_names.specs.declared.tables.Lengths.TheVariants.{Plain, One, Two}
-use Rattle.trick_names.specs.declared.tables.Member.{Member}
-use Rattle.trick_names.specs.declared.tables.Member.TheVariants.{Variable as Holds, Method}
-use Rattle.trick_names.specs.declared.tables.Tables.{Tables}
-use Rattle.trick_places.proofs.Having.{has_first, has_rest}
-use Rattle.trick_places.specs.Named.{AreNamed, AreTied, HasAt, IsHeld, dims_cells}
+use Rattle.trick_check_names.specs.Laid.{fields_at}
+use Rattle.trick_check_names.specs.declared.layout.Field.{Field}
+use Rattle.trick_check_names.specs.declared.layout.Site.{Site}
+use Rattle.trick_check_names.specs.declared.layout.Site.TheVariants as site
+use Rattle.trick_check_names.specs.Names.{Names, meaning_of, with_name}
+use Rattle.trick_check_names.specs.declared.tables.Base.{Base}
+use Rattle.trick_check_names.specs.declared.tables.Base.TheVariants.{Single, Group}
+use Rattle.trick_check_names.specs.declared.tables.Global.{Global}
+use Rattle.trick_check_names.specs.declared.tables.Global.TheVariants as the
+use Rattle.trick_check_names.specs.declared.tables.Lengths.{Lengths}
+use Rattle.trick_check_names.specs.declared.tables.Lengths.TheVariants.{Plain, One, Two}
+use Rattle.trick_check_names.specs.declared.tables.Member.{Member}
+use Rattle.trick_check_names.specs.declared.tables.Member.TheVariants.{Variable as Holds, Method}
+use Rattle.trick_check_names.specs.declared.tables.Tables.{Tables}
+use Rattle.trick_check_bodies.proofs.Having.{has_first, has_rest}
+use Rattle.trick_check_bodies.specs.Named.{AreNamed, AreTied, HasAt, IsHeld, dims_cells}
 
 -- ---- names
 

@@ -1,19 +1,19 @@
 -- Blocks and methods stay such as a program asks when a class is added.
 use Rattle.std.proofs.Common.{◌≡◌, ℕ, zero, suc, ◌+◌, ◌<◌, ◌≤◌, ◌++◌, IsTrue, List, [], ◌∷◌, length, slice_get, Option, Some, None, is_some, unwrap_or, true, refl, ap, sym, ◌∙◌, subst, arith}
-use Rattle.trick_blocks.proofs.Made.{grows_parts, keeps_class, keeps_parts}
-use Rattle.trick_blocks.proofs.Rowed.{kept_both, kept_grows, named_block}
-use Rattle.trick_blocks.specs.Kept.{AreKept, Grows, Keeps, MethodKept, is_one_of}
-use Rattle.trick_blocks.specs.Methods.{Progress, progress, with_part, with_parts}
-use Rattle.trick_blocks.specs.Room.{IsLaid}
-use Rattle.trick_bodies.specs.Classes.{AreWhole, Made, class_progress, with_class}
-use Rattle.trick_jobs.specs.Methods.{class_methods, part_methods}
+use Rattle.trick_check_blocks.proofs.Made.{grows_parts, keeps_class, keeps_parts}
+use Rattle.trick_check_blocks.proofs.Rowed.{kept_both, kept_grows, named_block}
+use Rattle.trick_check_blocks.specs.Kept.{AreKept, Grows, Keeps, MethodKept, is_one_of}
+use Rattle.trick_check_blocks.specs.Methods.{Progress, progress, with_part, with_parts}
+use Rattle.trick_check_blocks.specs.Room.{IsLaid}
+use Rattle.trick_check_bodies.specs.Classes.{AreWhole, Made, class_progress, with_class}
+use Rattle.trick_check_bodies.specs.Methods.{class_methods, part_methods}
 use Rattle.trick_lang.specs.Syntax.{class_parts_of}
 use Rattle.trick_lang.specs.SyntaxTree as tree
 use Rattle.trick_lang.specs.declared.method.Method.{Method}
 use Rattle.trick_lang.specs.declared.syntax.definition.ClassPart.{ClassPart}
-use Rattle.trick_layout.specs.Kept.{AreLaid}
-use Rattle.trick_layout.specs.Laid.{size_at}
-use Rattle.trick_names.specs.Names.{Names, meaning_of}
+use Rattle.trick_check_names.specs.Kept.{AreLaid}
+use Rattle.trick_check_names.specs.Laid.{size_at}
+use Rattle.trick_check_names.specs.Names.{Names, meaning_of}
 
 -- the class of the scope stays
 part_class : (o : Option tree.Part) (p : Progress) → (with_part o p).scope.class ≡ p.scope.class

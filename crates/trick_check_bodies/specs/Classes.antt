@@ -1,13 +1,13 @@
 -- What is made of classes, one after another.
 use Rattle.std.specs.Prelude.{ℕ, List, [], ◌∷◌, ◌++◌, length}
-use Rattle.trick_blocks.specs.Held.{bodies_of}
-use Rattle.trick_blocks.specs.Kept.{AreKept, Keeps}
-use Rattle.trick_blocks.specs.Methods.{Progress, progress, with_parts}
-use Rattle.trick_bodies.specs.declared.class.Bodies.{Bodies}
-use Rattle.trick_jobs.specs.Methods.{class_methods, with_numbers}
+use Rattle.trick_check_blocks.specs.Held.{bodies_of}
+use Rattle.trick_check_blocks.specs.Kept.{AreKept, Keeps}
+use Rattle.trick_check_blocks.specs.Methods.{Progress, progress, with_parts}
+use Rattle.trick_check_bodies.specs.declared.class.Bodies.{Bodies}
+use Rattle.trick_check_bodies.specs.Methods.{class_methods, with_numbers}
 use Rattle.trick_lang.specs.SyntaxTree as tree
 use Rattle.trick_lang.specs.declared.method.Method.{Method}
-use Rattle.trick_names.specs.Names.{Names}
+use Rattle.trick_check_names.specs.Names.{Names}
 
 -- the blocks, the methods, and for each class the numbers of its methods
 pub record Made : Type 0 where

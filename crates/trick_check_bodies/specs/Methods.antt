@@ -3,7 +3,7 @@ use Rattle.std.specs.Prelude.{ℕ, ◌+◌, List, [], ◌∷◌, ◌++◌, unwra
 use Rattle.trick_lang.specs.SyntaxTree as tree
 use Rattle.trick_lang.specs.SyntaxTree.{Public, HasMembers, HasMethod, Constructor}
 use Rattle.trick_lang.specs.declared.method.Method.{Method}
-use Rattle.trick_names.specs.Names.{Names, meaning_of, with_name}
+use Rattle.trick_check_names.specs.Names.{Names, meaning_of, with_name}
 
 -- a method of a class, where `blocks` are those of its methods
 abbrev pub part_methods : ℕ → Names ℕ → tree.Part → List Method

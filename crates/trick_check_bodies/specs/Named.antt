@@ -1,27 +1,27 @@
 -- Cells by their full names, and the texts of paths. A path whose computed indexes are written out
 -- as numbers is such a text: `[tank + 1]` is `[3]` where the sum is 3.
 use Rattle.std.specs.Prelude.{◌≡◌, ℕ, ◌+◌, ◌*◌, ◌≤◌, Bool, true, false, if◌then◌else◌, nat_lt, List, [], ◌∷◌, ◌++◌, length, Option, Some, None}
-use Rattle.trick_blocks.specs.Places.{literal_of}
-use Rattle.trick_blocks.specs.Terms.{OfPlace, path_goal}
-use Rattle.trick_blocks.specs.declared.start.Local.{Local}
-use Rattle.trick_blocks.specs.declared.scope.ClassScope.{ClassScope}
-use Rattle.trick_cells.specs.Cells.{base_cells, bracket, cells_at, dotted, each, objects_cells, under}
-use Rattle.trick_cells.specs.Counts.{counts, names_count}
-use Rattle.trick_cells.specs.Tables.{layout_of}
-use Rattle.trick_cells.specs.Unfolding.{Unfolds}
+use Rattle.trick_check_blocks.specs.Places.{literal_of}
+use Rattle.trick_check_blocks.specs.Terms.{OfPlace, path_goal}
+use Rattle.trick_check_blocks.specs.declared.start.Local.{Local}
+use Rattle.trick_check_blocks.specs.declared.scope.ClassScope.{ClassScope}
+use Rattle.trick_check_cells.specs.Cells.{base_cells, bracket, cells_at, dotted, each, objects_cells, under}
+use Rattle.trick_check_cells.specs.Counts.{counts, names_count}
+use Rattle.trick_check_cells.specs.Tables.{layout_of}
+use Rattle.trick_check_cells.specs.Unfolding.{Unfolds}
 use Rattle.trick_lang.specs.SyntaxTree.{Name, path, Parts, NoPart, Member, Index}
 use Rattle.trick_lang.specs.Tree.{Spot, Steps, NoStep, Step, spot}
 use Rattle.trick_lang.specs.declared.scalar.Scalar.{Scalar}
 use Rattle.trick_lang.specs.declared.variable.Variable.{Variable}
-use Rattle.trick_layout.specs.Laid.{fields_at}
-use Rattle.trick_layout.specs.declared.layout.Dims.{Dims}
-use Rattle.trick_layout.specs.declared.layout.Dims.TheVariants.{Plain, One, Two}
-use Rattle.trick_layout.specs.declared.layout.Extent.{Extent}
-use Rattle.trick_layout.specs.declared.layout.Field.{Field}
-use Rattle.trick_layout.specs.declared.layout.Layout.{Layout}
-use Rattle.trick_layout.specs.declared.layout.Site.TheVariants.{Object}
-use Rattle.trick_names.specs.Names.{Names, meaning_of}
-use Rattle.trick_names.specs.declared.tables.Tables.{Tables}
+use Rattle.trick_check_names.specs.Laid.{fields_at}
+use Rattle.trick_check_names.specs.declared.layout.Dims.{Dims}
+use Rattle.trick_check_names.specs.declared.layout.Dims.TheVariants.{Plain, One, Two}
+use Rattle.trick_check_names.specs.declared.layout.Extent.{Extent}
+use Rattle.trick_check_names.specs.declared.layout.Field.{Field}
+use Rattle.trick_check_names.specs.declared.layout.Layout.{Layout}
+use Rattle.trick_check_names.specs.declared.layout.Site.TheVariants.{Object}
+use Rattle.trick_check_names.specs.Names.{Names, meaning_of}
+use Rattle.trick_check_names.specs.declared.tables.Tables.{Tables}
 
 -- ---- cells in a list
 

@@ -1,18 +1,18 @@
 ghost use Rattle.std.specs.Prelude.{◌≡◌, ◌≤◌, ◌<◌, ℕ, [], IfOk, IsTrue, OnOk, length};
-ghost use Rattle.trick_blocks.specs.Room.{IsLaid};
-ghost use Rattle.trick_blocks.specs.Kept.{is_one_of};
-ghost use Rattle.trick_bodies.specs.Classes.{AreWhole, made, with_class};
+ghost use Rattle.trick_check_blocks.specs.Room.{IsLaid};
+ghost use Rattle.trick_check_blocks.specs.Kept.{is_one_of};
+ghost use Rattle.trick_check_bodies.specs.Classes.{AreWhole, made, with_class};
 ghost use Rattle.trick_lang.specs.Syntax.{class_parts_of};
-ghost use Rattle.trick_layout.specs.Kept.{AreLaid};
-ghost use Rattle.trick_layout.specs.Laid.{size_at};
+ghost use Rattle.trick_check_names.specs.Kept.{AreLaid};
+ghost use Rattle.trick_check_names.specs.Laid.{size_at};
 
 use std::alloc::{AllocError, Global as Memory};
 use trick_base::Items;
-use trick_blocks::{ClassScope, resolve_class};
-use trick_jobs::{add_methods, numbers};
+use trick_check_blocks::{ClassScope, resolve_class};
+use crate::{add_methods, numbers};
 use trick_lang::syntax::ClassPart;
 use trick_lang::{Block, Method};
-use trick_names::Names;
+use trick_check_names::Names;
 
 // So many methods fit their numbers.
 const METHOD_LIMIT: usize = 1_000_000_000;

@@ -1,7 +1,7 @@
 //! The jobs of objects.
 
 ghost use Rattle.std.specs.Prelude.{◌≡◌, ◌+◌, ◌++◌, ◌∷◌, [], IfOk, OnOk};
-ghost use Rattle.trick_jobs.specs.Jobs.{jobs_from, lines_at, numbers_at, object_jobs};
+ghost use Rattle.trick_check_bodies.specs.Jobs.{jobs_from, lines_at, numbers_at, object_jobs};
 ghost use Rattle.trick_lang.specs.Syntax.{definitions_of, jobs_of};
 
 use crate::line::{calls_in, lines_at};
@@ -9,7 +9,7 @@ use std::alloc::{AllocError, Global as Memory};
 use trick_base::Items;
 use trick_lang::syntax::{Definition, JobLine};
 use trick_lang::{Job, Object};
-use trick_names::Names;
+use trick_check_names::Names;
 
 // A number of 32 bits.
 fn small(number: usize) -> Result<u32, AllocError>

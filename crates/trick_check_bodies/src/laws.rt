@@ -1,7 +1,7 @@
 //! Laws of places, for every file, body and index. A function that calls one of these laws may rest
 //! on what it says; the call itself does nothing.
 
-ghost use Rattle.trick_places.specs.Named.{LeadToTheirNames, ObjectsHoldNames, TablesTell};
+ghost use Rattle.trick_check_bodies.specs.Named.{LeadToTheirNames, ObjectsHoldNames, TablesTell};
 
 /// Wherever a path may lead, its place is the cell with the path's text as its name.
 pub fn place_law()

@@ -1,11 +1,20 @@
 //! The methods and the jobs of a simulation: which lines of which constructors run what on which
 //! object.
+//!
+//! The bodies of a program, class by class: the blocks of each class' methods, and the methods with
+//! their numbers.
+//!
+//! Places by their full names: a path with its indexes written out as numbers is the full name of
+//! the one cell that its resolved place leads to.
 #![tactic(auto)]
 
+mod class;
 mod job;
+pub mod laws;
 mod line;
 mod method;
 
+pub use class::{Bodies, add_class};
 pub use job::jobs;
 pub use line::job_count;
 pub use method::{add_methods, numbers};

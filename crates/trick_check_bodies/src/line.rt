@@ -2,7 +2,7 @@
 
 ghost use Rattle.std.specs.Prelude.{◌≡◌, ◌≤◌, ◌-◌, ◌^◌, if◌then◌else◌, min};
 ghost use Rattle.std.specs.Str.{bytes_eq};
-ghost use Rattle.trick_jobs.specs.Jobs.{calls_in, class_lines, definition_lines, is_constructor, job_count, lines_at, part_lines};
+ghost use Rattle.trick_check_bodies.specs.Jobs.{calls_in, class_lines, definition_lines, is_constructor, job_count, lines_at, part_lines};
 ghost use Rattle.trick_lang.specs.Syntax.{class_part_of, class_parts_of, definition_of, definitions_of, jobs_of};
 
 use trick_base::Word;

@@ -1,14 +1,14 @@
 //! The methods of a class, in the program.
 
 ghost use Rattle.std.specs.Prelude.{◌≡◌, ◌++◌, ◌∷◌, [], IfOk, OnOk};
-ghost use Rattle.trick_jobs.specs.Methods.{class_methods, part_methods, with_numbers};
+ghost use Rattle.trick_check_bodies.specs.Methods.{class_methods, part_methods, with_numbers};
 ghost use Rattle.trick_lang.specs.Syntax.{class_part_of, class_parts_of};
 
 use std::alloc::{AllocError, Global as Memory};
 use trick_base::Items;
 use trick_lang::Method;
 use trick_lang::syntax::ClassPart;
-use trick_names::Names;
+use trick_check_names::Names;
 
 fn add_part(
     class: u32,

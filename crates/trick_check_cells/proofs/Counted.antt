@@ -5,21 +5,21 @@ use Rattle.std.proofs.lemmas.Bool.{cases_lt}
 use Rattle.std.proofs.lemmas.Nat.{mul-le}
 use Rattle.trick_base.proofs.Capped.{cap_mul}
 use Rattle.trick_base.specs.Capped.{capped}
-use Rattle.trick_cells.proofs.Lists.{length_under, length_each}
+use Rattle.trick_check_cells.proofs.Lists.{length_under, length_each}
 use Rattle.trick_lang.specs.declared.variable.Variable.{Variable}
-use Rattle.trick_cells.specs.Cells.{all_groups, memory_cells, under, dotted, each, array_cells, base_cells, cells_at, global_cells, group_cells, member_cells, members_cells, objects_cells}
-use Rattle.trick_cells.specs.Counts.{base_count, counts, global_count, member_count, members_count, names_count, place_count}
+use Rattle.trick_check_cells.specs.Cells.{all_groups, memory_cells, under, dotted, each, array_cells, base_cells, cells_at, global_cells, group_cells, member_cells, members_cells, objects_cells}
+use Rattle.trick_check_cells.specs.Counts.{base_count, counts, global_count, member_count, members_count, names_count, place_count}
 use Rattle.trick_lang.specs.SyntaxTree.{Name}
-use Rattle.trick_names.specs.Names.{Names}
-use Rattle.trick_names.specs.declared.tables.Base.{Base}
-use Rattle.trick_names.specs.declared.tables.Base.TheVariants.{Single, Group}
-use Rattle.trick_names.specs.declared.tables.Global.{Global}
-use Rattle.trick_names.specs.declared.tables.Global.TheVariants as the
-use Rattle.trick_names.specs.declared.tables.Lengths.{Lengths}
-use Rattle.trick_names.specs.declared.tables.Lengths.TheVariants.{Plain, One, Two}
-use Rattle.trick_names.specs.declared.tables.Member.{Member}
-use Rattle.trick_names.specs.declared.tables.Member.TheVariants.{Variable as Holds, Method}
-use Rattle.trick_names.specs.declared.tables.Tables.{Tables}
+use Rattle.trick_check_names.specs.Names.{Names}
+use Rattle.trick_check_names.specs.declared.tables.Base.{Base}
+use Rattle.trick_check_names.specs.declared.tables.Base.TheVariants.{Single, Group}
+use Rattle.trick_check_names.specs.declared.tables.Global.{Global}
+use Rattle.trick_check_names.specs.declared.tables.Global.TheVariants as the
+use Rattle.trick_check_names.specs.declared.tables.Lengths.{Lengths}
+use Rattle.trick_check_names.specs.declared.tables.Lengths.TheVariants.{Plain, One, Two}
+use Rattle.trick_check_names.specs.declared.tables.Member.{Member}
+use Rattle.trick_check_names.specs.declared.tables.Member.TheVariants.{Variable as Holds, Method}
+use Rattle.trick_check_names.specs.declared.tables.Tables.{Tables}
 
 pub cap_add : (a b : ℕ) → capped (capped a + capped b) ≡ capped (a + b)
 cap_add a b = omega arith

@@ -4,26 +4,26 @@ use Rattle.std.proofs.lemmas.Bool.{and_parts, le-leb, leb-true}
 use Rattle.std.proofs.lemmas.Nat.{mul-le}
 use Rattle.std.specs.Str.{bytes_eq}
 use Rattle.trick_base.specs.Capped.{capped}
-use Rattle.trick_cells.proofs.Counted.{members_counted, size_counts}
-use Rattle.trick_cells.specs.Counts.{base_count, counts, global_count, member_count, members_count, names_count, place_count}
-use Rattle.trick_cells.specs.Tables.{dim, dims_of, fields_of, groups_from, has_elements, layout_of, narrow, taken, with_field, with_fields, with_site, with_sites}
-use Rattle.trick_cells.specs.Unfolding.{Unfolds, members_at}
+use Rattle.trick_check_cells.proofs.Counted.{members_counted, size_counts}
+use Rattle.trick_check_cells.specs.Counts.{base_count, counts, global_count, member_count, members_count, names_count, place_count}
+use Rattle.trick_check_cells.specs.Tables.{dim, dims_of, fields_of, groups_from, has_elements, layout_of, narrow, taken, with_field, with_fields, with_site, with_sites}
+use Rattle.trick_check_cells.specs.Unfolding.{Unfolds, members_at}
 use Rattle.trick_lang.specs.SyntaxTree.{Name}
 use Rattle.trick_lang.specs.declared.variable.Variable.{Variable}
-use Rattle.trick_layout.specs.Kept.{AreLaid}
-use Rattle.trick_layout.specs.Laid.{AreStrides, IsDim, LiesIn, LiesInMemory, base_size, fields_at, size_at, size_of}
-use Rattle.trick_layout.specs.declared.layout.Field.{Field}
-use Rattle.trick_layout.specs.declared.layout.Site.{Site}
-use Rattle.trick_names.specs.Names.{Names, meaning_of, with_name}
-use Rattle.trick_names.specs.declared.tables.Base.{Base}
-use Rattle.trick_names.specs.declared.tables.Base.TheVariants.{Single, Group}
-use Rattle.trick_names.specs.declared.tables.Global.{Global}
-use Rattle.trick_names.specs.declared.tables.Global.TheVariants as the
-use Rattle.trick_names.specs.declared.tables.Lengths.{Lengths}
-use Rattle.trick_names.specs.declared.tables.Lengths.TheVariants.{Plain, One, Two}
-use Rattle.trick_names.specs.declared.tables.Member.{Member}
-use Rattle.trick_names.specs.declared.tables.Member.TheVariants.{Variable as Holds, Method}
-use Rattle.trick_names.specs.declared.tables.Tables.{Tables}
+use Rattle.trick_check_names.specs.Kept.{AreLaid}
+use Rattle.trick_check_names.specs.Laid.{AreStrides, IsDim, LiesIn, LiesInMemory, base_size, fields_at, size_at, size_of}
+use Rattle.trick_check_names.specs.declared.layout.Field.{Field}
+use Rattle.trick_check_names.specs.declared.layout.Site.{Site}
+use Rattle.trick_check_names.specs.Names.{Names, meaning_of, with_name}
+use Rattle.trick_check_names.specs.declared.tables.Base.{Base}
+use Rattle.trick_check_names.specs.declared.tables.Base.TheVariants.{Single, Group}
+use Rattle.trick_check_names.specs.declared.tables.Global.{Global}
+use Rattle.trick_check_names.specs.declared.tables.Global.TheVariants as the
+use Rattle.trick_check_names.specs.declared.tables.Lengths.{Lengths}
+use Rattle.trick_check_names.specs.declared.tables.Lengths.TheVariants.{Plain, One, Two}
+use Rattle.trick_check_names.specs.declared.tables.Member.{Member}
+use Rattle.trick_check_names.specs.declared.tables.Member.TheVariants.{Variable as Holds, Method}
+use Rattle.trick_check_names.specs.declared.tables.Tables.{Tables}
 
 -- ---- what names stand for
 

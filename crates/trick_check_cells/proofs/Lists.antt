@@ -2,7 +2,7 @@
 use Rattle.std.proofs.Common.{◌≡◌, ℕ, zero, suc, ◌+◌, ◌*◌, drop, slice_get, Some, List, [], ◌∷◌, ◌++◌, length, refl, ap, sym, subst, ◌∙◌, arith}
 use Rattle.std.proofs.lemmas.List.{append_assoc}
 use Rattle.std.proofs.Math.ListN.{length-append}
-use Rattle.trick_cells.specs.Cells.{under, each, bracket}
+use Rattle.trick_check_cells.specs.Cells.{under, each, bracket}
 use Rattle.trick_lang.specs.SyntaxTree.{Name}
 use Rattle.trick_lang.specs.declared.variable.Variable.{Variable}
 

@@ -3,13 +3,13 @@ use Rattle.std.proofs.Common.{◌≡◌, ℕ, zero, suc, ◌+◌, ◌<◌, ◌�
 use Rattle.std.proofs.Math.ListN.{length-append}
 use Rattle.std.proofs.lemmas.Bool.{and_parts, ltb-true}
 use Rattle.std.proofs.lemmas.List.{append_assoc, append-nil}
-use Rattle.trick_cells.specs.Cells.{under, dotted, array_cells, base_cells, cells_at, group_cells, member_cells, members_cells}
-use Rattle.trick_cells.specs.Unfolding.{Unfolds, are_declared_first, is_below, member_is_below, members_are_below, members_at}
-use Rattle.trick_names.specs.Names.{Names}
-use Rattle.trick_names.specs.declared.tables.Base.{Base}
-use Rattle.trick_names.specs.declared.tables.Base.TheVariants.{Single, Group}
-use Rattle.trick_names.specs.declared.tables.Member.{Member}
-use Rattle.trick_names.specs.declared.tables.Member.TheVariants.{Variable as Holds, Method}
+use Rattle.trick_check_cells.specs.Cells.{under, dotted, array_cells, base_cells, cells_at, group_cells, member_cells, members_cells}
+use Rattle.trick_check_cells.specs.Unfolding.{Unfolds, are_declared_first, is_below, member_is_below, members_are_below, members_at}
+use Rattle.trick_check_names.specs.Names.{Names}
+use Rattle.trick_check_names.specs.declared.tables.Base.{Base}
+use Rattle.trick_check_names.specs.declared.tables.Base.TheVariants.{Single, Group}
+use Rattle.trick_check_names.specs.declared.tables.Member.{Member}
+use Rattle.trick_check_names.specs.declared.tables.Member.TheVariants.{Variable as Holds, Method}
 use Rattle.trick_lang.specs.declared.variable.Variable.{Variable}
 
 at_front : (xs ys : List (List Variable)) (j : ℕ) → j < length xs → cells_at (xs ++ ys) j ≡ cells_at xs j

@@ -2,21 +2,21 @@
 use Rattle.std.proofs.Common.{◌≡◌, ℕ, zero, suc, ◌+◌, ◌-◌, ◌<◌, ◌≤◌, List, [], ◌∷◌, ◌++◌, length, drop, get_or, slice_get, Some, refl, ap, sym, ◌∙◌, arith, Result, Ok, Err, OnOk}
 use Rattle.std.proofs.Math.ListN.{drop_of_length-le}
 use Rattle.std.proofs.lemmas.List.{append_assoc, append-nil}
-use Rattle.trick_cells.proofs.Lists.{from_entry, under_append, under_under}
-use Rattle.trick_cells.proofs.Counted.{size_counts}
-use Rattle.trick_cells.specs.Counts.{base_count, counts}
-use Rattle.trick_cells.specs.Cells.{under, dotted, bracket, each, base_cells, cells_at, member_cells, members_cells, place_cells}
-use Rattle.trick_cells.specs.Unfolding.{members_at}
-use Rattle.trick_cells.specs.Waits.{stack_cells, waiting_cells}
-use Rattle.trick_cells.specs.declared.cell.Waiting.{Waiting}
-use Rattle.trick_cells.specs.declared.cell.Waiting.TheVariants.{Place, Elements, Members}
+use Rattle.trick_check_cells.proofs.Lists.{from_entry, under_append, under_under}
+use Rattle.trick_check_cells.proofs.Counted.{size_counts}
+use Rattle.trick_check_cells.specs.Counts.{base_count, counts}
+use Rattle.trick_check_cells.specs.Cells.{under, dotted, bracket, each, base_cells, cells_at, member_cells, members_cells, place_cells}
+use Rattle.trick_check_cells.specs.Unfolding.{members_at}
+use Rattle.trick_check_cells.specs.Waits.{stack_cells, waiting_cells}
+use Rattle.trick_check_cells.specs.declared.cell.Waiting.{Waiting}
+use Rattle.trick_check_cells.specs.declared.cell.Waiting.TheVariants.{Place, Elements, Members}
 use Rattle.trick_lang.specs.SyntaxTree.{Name}
-use Rattle.trick_names.specs.Names.{Names}
-use Rattle.trick_names.specs.declared.tables.Base.{Base}
-use Rattle.trick_names.specs.declared.tables.Base.TheVariants.{Single, Group}
-use Rattle.trick_names.specs.declared.tables.Lengths.{Lengths}
-use Rattle.trick_names.specs.declared.tables.Lengths.TheVariants.{Plain, One, Two}
-use Rattle.trick_names.specs.declared.tables.Member.{Member}
+use Rattle.trick_check_names.specs.Names.{Names}
+use Rattle.trick_check_names.specs.declared.tables.Base.{Base}
+use Rattle.trick_check_names.specs.declared.tables.Base.TheVariants.{Single, Group}
+use Rattle.trick_check_names.specs.declared.tables.Lengths.{Lengths}
+use Rattle.trick_check_names.specs.declared.tables.Lengths.TheVariants.{Plain, One, Two}
+use Rattle.trick_check_names.specs.declared.tables.Member.{Member}
 use Rattle.trick_lang.specs.declared.variable.Variable.{Variable}
 
 pub stack_push : (groups : List (Names Member)) (done : List (List Variable)) (ws : List Waiting) (w : Waiting) → stack_cells groups done (ws ++ w ∷ []) ≡ waiting_cells groups done w ++ stack_cells groups done ws

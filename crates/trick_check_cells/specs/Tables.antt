@@ -2,26 +2,26 @@
 -- before it in its struct or class, each object after those before it in the memory.
 use Rattle.std.specs.List.{slice_index_or}
 use Rattle.std.specs.Prelude.{ℕ, ◌+◌, ◌*◌, ◌-◌, ◌^◌, Bool, true, ◌&&◌, if◌then◌else◌, nat_le, min, List, [], ◌∷◌, ◌++◌}
-use Rattle.trick_cells.specs.Counts.{base_count, global_count, member_count, names_count}
+use Rattle.trick_check_cells.specs.Counts.{base_count, global_count, member_count, names_count}
 use Rattle.trick_lang.specs.SyntaxTree.{Name}
 use Rattle.trick_lang.specs.declared.object.Object.{Object}
 use Rattle.trick_lang.specs.declared.variable.EnumItem.{EnumItem}
-use Rattle.trick_layout.specs.declared.layout.Dim.{Dim}
-use Rattle.trick_layout.specs.declared.layout.Dims.{Dims}
-use Rattle.trick_layout.specs.declared.layout.Dims.TheVariants as dims
-use Rattle.trick_layout.specs.declared.layout.Field.{Field}
-use Rattle.trick_layout.specs.declared.layout.Layout.{Layout}
-use Rattle.trick_layout.specs.declared.layout.Site.{Site}
-use Rattle.trick_layout.specs.declared.layout.Site.TheVariants as site
-use Rattle.trick_names.specs.Names.{Names, with_name}
-use Rattle.trick_names.specs.declared.tables.Base.TheVariants.{Group}
-use Rattle.trick_names.specs.declared.tables.Global.{Global}
-use Rattle.trick_names.specs.declared.tables.Global.TheVariants as the
-use Rattle.trick_names.specs.declared.tables.Lengths.{Lengths}
-use Rattle.trick_names.specs.declared.tables.Lengths.TheVariants.{Plain, One, Two}
-use Rattle.trick_names.specs.declared.tables.Member.{Member}
-use Rattle.trick_names.specs.declared.tables.Member.TheVariants.{Variable as Holds, Method}
-use Rattle.trick_names.specs.declared.tables.Tables.{Tables}
+use Rattle.trick_check_names.specs.declared.layout.Dim.{Dim}
+use Rattle.trick_check_names.specs.declared.layout.Dims.{Dims}
+use Rattle.trick_check_names.specs.declared.layout.Dims.TheVariants as dims
+use Rattle.trick_check_names.specs.declared.layout.Field.{Field}
+use Rattle.trick_check_names.specs.declared.layout.Layout.{Layout}
+use Rattle.trick_check_names.specs.declared.layout.Site.{Site}
+use Rattle.trick_check_names.specs.declared.layout.Site.TheVariants as site
+use Rattle.trick_check_names.specs.Names.{Names, with_name}
+use Rattle.trick_check_names.specs.declared.tables.Base.TheVariants.{Group}
+use Rattle.trick_check_names.specs.declared.tables.Global.{Global}
+use Rattle.trick_check_names.specs.declared.tables.Global.TheVariants as the
+use Rattle.trick_check_names.specs.declared.tables.Lengths.{Lengths}
+use Rattle.trick_check_names.specs.declared.tables.Lengths.TheVariants.{Plain, One, Two}
+use Rattle.trick_check_names.specs.declared.tables.Member.{Member}
+use Rattle.trick_check_names.specs.declared.tables.Member.TheVariants.{Variable as Holds, Method}
+use Rattle.trick_check_names.specs.declared.tables.Tables.{Tables}
 
 -- Numbers of the tables stand still at 2^32 - 1. Only what is not in the memory has more.
 abbrev pub narrow : ℕ → ℕ

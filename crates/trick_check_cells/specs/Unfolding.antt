@@ -1,12 +1,12 @@
 -- What is known once types are declared before they are used.
 use Rattle.std.specs.Prelude.{◌≡◌, ℕ, zero, suc, Bool, true, ◌&&◌, nat_lt, List, [], ◌∷◌}
-use Rattle.trick_cells.specs.Cells.{cells_at, members_cells}
+use Rattle.trick_check_cells.specs.Cells.{cells_at, members_cells}
 use Rattle.trick_lang.specs.declared.variable.Variable.{Variable}
-use Rattle.trick_names.specs.Names.{Names}
-use Rattle.trick_names.specs.declared.tables.Base.{Base}
-use Rattle.trick_names.specs.declared.tables.Base.TheVariants.{Single, Group}
-use Rattle.trick_names.specs.declared.tables.Member.{Member}
-use Rattle.trick_names.specs.declared.tables.Member.TheVariants.{Variable as Holds, Method}
+use Rattle.trick_check_names.specs.Names.{Names}
+use Rattle.trick_check_names.specs.declared.tables.Base.{Base}
+use Rattle.trick_check_names.specs.declared.tables.Base.TheVariants.{Single, Group}
+use Rattle.trick_check_names.specs.declared.tables.Member.{Member}
+use Rattle.trick_check_names.specs.declared.tables.Member.TheVariants.{Variable as Holds, Method}
 
 -- the members of a struct or class, by its number
 abbrev pub members_at : List (Names Member) → ℕ → Names Member

@@ -1,13 +1,13 @@
 -- What is left to be written while cells are written, one after another.
 use Rattle.std.specs.Prelude.{◌≡◌, ℕ, ◌-◌, List, [], ◌∷◌, ◌++◌, drop}
-use Rattle.trick_cells.specs.Cells.{each, members_cells, place_cells, under}
-use Rattle.trick_cells.specs.Counts.{counts}
-use Rattle.trick_cells.specs.Unfolding.{members_at, Unfolds}
-use Rattle.trick_cells.specs.declared.cell.Waiting.{Waiting}
-use Rattle.trick_cells.specs.declared.cell.Waiting.TheVariants.{Place, Elements, Members}
+use Rattle.trick_check_cells.specs.Cells.{each, members_cells, place_cells, under}
+use Rattle.trick_check_cells.specs.Counts.{counts}
+use Rattle.trick_check_cells.specs.Unfolding.{members_at, Unfolds}
+use Rattle.trick_check_cells.specs.declared.cell.Waiting.{Waiting}
+use Rattle.trick_check_cells.specs.declared.cell.Waiting.TheVariants.{Place, Elements, Members}
 use Rattle.trick_lang.specs.declared.variable.Variable.{Variable}
-use Rattle.trick_names.specs.Names.{Names}
-use Rattle.trick_names.specs.declared.tables.Member.{Member}
+use Rattle.trick_check_names.specs.Names.{Names}
+use Rattle.trick_check_names.specs.declared.tables.Member.{Member}
 
 -- the cells of what waits
 abbrev pub waiting_cells : List (Names Member) → List (List Variable) → Waiting → List Variable

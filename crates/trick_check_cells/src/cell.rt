@@ -1,18 +1,18 @@
 //! Writes the cells of objects, without recursion: what is not yet written waits on a stack.
 
 ghost use Rattle.std.specs.Prelude.{◌≡◌, ◌++◌, IfOk, OnOk};
-ghost use Rattle.trick_cells.specs.Cells.{cells_at, global_cells, objects_cells, under};
-ghost use Rattle.trick_cells.specs.Counts.{counts};
-ghost use Rattle.trick_cells.specs.Unfolding.{Unfolds};
-ghost use Rattle.trick_cells.specs.Waits.{IsDone, stack_cells, waiting_cells};
-ghost use Rattle.trick_cells.specs.declared.cell.Waiting.TheVariants.{Place, Elements, Members};
+ghost use Rattle.trick_check_cells.specs.Cells.{cells_at, global_cells, objects_cells, under};
+ghost use Rattle.trick_check_cells.specs.Counts.{counts};
+ghost use Rattle.trick_check_cells.specs.Unfolding.{Unfolds};
+ghost use Rattle.trick_check_cells.specs.Waits.{IsDone, stack_cells, waiting_cells};
+ghost use Rattle.trick_check_cells.specs.declared.cell.Waiting.TheVariants.{Place, Elements, Members};
 
 use crate::name::{with_index, with_member};
 use crate::size::base_size;
 use std::alloc::{AllocError, Global as Memory};
 use trick_base::{Items, Word};
 use trick_lang::Variable;
-use trick_names::{Base, Global, Lengths, Member, Names, Tables};
+use trick_check_names::{Base, Global, Lengths, Member, Names, Tables};
 
 /// What is to be written, under the name of what it belongs to.
 #[derive(Drop)]

@@ -1,14 +1,13 @@
 //! Where variables lie in their structs and classes, and objects in the memory.
 
 ghost use Rattle.std.specs.Prelude.{◌≡◌, ◌+◌, [], IfOk, OnOk};
-ghost use Rattle.trick_cells.specs.Counts.{global_count, member_count};
-ghost use Rattle.trick_cells.specs.Tables.{dim, dims_of, fields_of, groups_from, has_elements, layout_of, narrow, taken, with_field, with_fields, with_site, with_sites};
+ghost use Rattle.trick_check_cells.specs.Counts.{global_count, member_count};
+ghost use Rattle.trick_check_cells.specs.Tables.{dim, dims_of, fields_of, groups_from, has_elements, layout_of, narrow, taken, with_field, with_fields, with_site, with_sites};
 
 use crate::size::{base_size, cell_count, global_size, member_size};
 use std::alloc::{AllocError, Global as Memory};
 use trick_base::{CELL_LIMIT, Items, Word};
-use trick_layout::{Dim, Dims, Extent, Field, Layout, Site};
-use trick_names::{Base, Global, Lengths, Member, Names, Tables};
+use trick_check_names::{Base, Dim, Dims, Extent, Field, Global, Layout, Lengths, Member, Names, Site, Tables};
 
 /// Stands still at 2^32 - 1.
 pub fn narrow(number: u64) -> u32

@@ -2,12 +2,12 @@
 
 ghost use Rattle.std.specs.Prelude.{◌≡◌, ◌≤◌, [], length, true};
 ghost use Rattle.trick_base.specs.Capped.{capped};
-ghost use Rattle.trick_cells.specs.Cells.{all_groups, group_cells, memory_cells};
-ghost use Rattle.trick_cells.specs.Counts.{counts, names_count};
-ghost use Rattle.trick_cells.specs.Tables.{layout_of};
-ghost use Rattle.trick_cells.specs.Unfolding.{Unfolds, are_declared_first};
-ghost use Rattle.trick_layout.specs.Kept.{AreLaid};
-ghost use Rattle.trick_names.specs.Tables.{tables_of};
+ghost use Rattle.trick_check_cells.specs.Cells.{all_groups, group_cells, memory_cells};
+ghost use Rattle.trick_check_cells.specs.Counts.{counts, names_count};
+ghost use Rattle.trick_check_cells.specs.Tables.{layout_of};
+ghost use Rattle.trick_check_cells.specs.Unfolding.{Unfolds, are_declared_first};
+ghost use Rattle.trick_check_names.specs.Kept.{AreLaid};
+ghost use Rattle.trick_check_names.specs.Tables.{tables_of};
 
 /// In a file each struct and class has members of structs before it alone.
 pub fn declared_law()

@@ -1,7 +1,7 @@
 //! Full names, part by part.
 
 ghost use Rattle.std.specs.Prelude.{◌≡◌, ◌++◌, IfOk};
-ghost use Rattle.trick_cells.specs.Cells.{bracket, dotted};
+ghost use Rattle.trick_check_cells.specs.Cells.{bracket, dotted};
 
 use itoa::Buffer;
 use std::alloc::AllocError;

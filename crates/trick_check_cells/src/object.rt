@@ -1,14 +1,14 @@
 //! The objects and the enum items of a file.
 
 ghost use Rattle.std.specs.Prelude.{◌≡◌, ◌++◌, IfOk, OnOk};
-ghost use Rattle.trick_cells.specs.Tables.{item_row, item_rows, object_row, object_rows};
+ghost use Rattle.trick_check_cells.specs.Tables.{item_row, item_rows, object_row, object_rows};
 
 use crate::field::narrow;
 use crate::size::global_size;
 use std::alloc::{AllocError, Global as Memory};
 use trick_base::{Items, Word};
 use trick_lang::{EnumItem, Object};
-use trick_names::{Base, Global, Names};
+use trick_check_names::{Base, Global, Names};
 
 // Adds an object that has so many cells before it.
 fn add_object(

@@ -2,11 +2,11 @@
 
 ghost use Rattle.std.specs.Prelude.{◌≡◌, [], IfOk};
 ghost use Rattle.trick_base.specs.Capped.{capped};
-ghost use Rattle.trick_cells.specs.Cells.{group_cells};
-ghost use Rattle.trick_cells.specs.Counts.{base_count, counts, global_count, member_count, members_count, names_count, place_count};
+ghost use Rattle.trick_check_cells.specs.Cells.{group_cells};
+ghost use Rattle.trick_check_cells.specs.Counts.{base_count, counts, global_count, member_count, members_count, names_count, place_count};
 
 use std::alloc::{AllocError, Global as Memory};
-use trick_names::{Base, Global, Lengths, Member, Names};
+use trick_check_names::{Base, Global, Lengths, Member, Names};
 
 /// How many cells an element has.
 pub fn base_size(sizes: &[u64], base: Base) -> u64

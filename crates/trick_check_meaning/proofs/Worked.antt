@@ -2,7 +2,7 @@
 use Rattle.std.proofs.Common.{refl}
 use Rattle.std.specs.Fmt.{digits}
 use Rattle.std.specs.Int.{int_wrap}
-use Rattle.trick_meaning.specs.Worked.{AreMeant, NamesAreMeant, PlacesAreMeant, CallsAreMeant}
+use Rattle.trick_check_meaning.specs.Worked.{AreMeant, NamesAreMeant, PlacesAreMeant, CallsAreMeant}
 
 names : NamesAreMeant
 unfolding int_wrap digits

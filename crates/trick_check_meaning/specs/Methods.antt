@@ -5,13 +5,13 @@ use Rattle.std.specs.Str.{bytes_eq}
 use Rattle.trick_lang.specs.Numbers.{and_then}
 use Rattle.trick_lang.specs.SyntaxTree.{Name, Definition, Include, Enum, Struct, ClassOf, Object, Part, Public, HasMembers, HasMethod, Constructor, SDefine, Statements, NoStatement}
 use Rattle.trick_lang.specs.declared.fault.StatementFault.{StatementFault}
-use Rattle.trick_meaning.specs.Meaning.{Stored, run_all}
-use Rattle.trick_names.specs.Names.{meaning_of}
-use Rattle.trick_names.specs.Tables.{tables_of}
-use Rattle.trick_names.specs.declared.tables.Base.TheVariants.{Single, Group}
-use Rattle.trick_names.specs.declared.tables.Global.{Global}
-use Rattle.trick_names.specs.declared.tables.Global.TheVariants as the
-use Rattle.trick_names.specs.declared.scope.FileScope.{FileScope}
+use Rattle.trick_check_meaning.specs.Meaning.{Stored, run_all}
+use Rattle.trick_check_names.specs.Names.{meaning_of}
+use Rattle.trick_check_names.specs.Tables.{tables_of}
+use Rattle.trick_check_names.specs.declared.tables.Base.TheVariants.{Single, Group}
+use Rattle.trick_check_names.specs.declared.tables.Global.{Global}
+use Rattle.trick_check_names.specs.declared.tables.Global.TheVariants as the
+use Rattle.trick_check_names.specs.declared.scope.FileScope.{FileScope}
 
 -- the body of the method of that name; where there is none it does nothing
 abbrev pub body_in : Name → List Part → Statements

@@ -10,8 +10,8 @@ use Rattle.trick_lang.specs.declared.operator.Arithmetic.TheVariants.{Plus, Minu
 use Rattle.trick_lang.specs.declared.operator.Operator.TheVariants.{Arithmetic, And}
 use Rattle.trick_lang.specs.declared.operator.Prefix.TheVariants.{Negate}
 use Rattle.trick_lang.specs.declared.scalar.Scalar.TheVariants.{Char, Long}
-use Rattle.trick_meaning.specs.Meaning.{Stored}
-use Rattle.trick_meaning.specs.Methods.{does}
+use Rattle.trick_check_meaning.specs.Meaning.{Stored}
+use Rattle.trick_check_meaning.specs.Methods.{does}
 
 -- ---- a class and two objects of it
 

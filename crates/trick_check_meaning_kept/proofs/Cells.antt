@@ -6,10 +6,10 @@ use Rattle.std.proofs.lemmas.List.{append_assoc}
 use Rattle.std.proofs.lemmas.Slice.Eq.{bytes_eq-Decides}
 use Rattle.std.specs.List.{list_all}
 use Rattle.std.specs.Str.{bytes_eq}
-use Rattle.trick_blocks.specs.Places as by_cell
-use Rattle.trick_blocks.specs.declared.spot.Spot.{Spot}
-use Rattle.trick_blocks.specs.declared.scope.ClassScope.{ClassScope}
-use Rattle.trick_cells.specs.Cells.{base_cells, bracket, cells_at, dotted, each, member_cells, members_cells, place_cells, under}
+use Rattle.trick_check_blocks.specs.Places as by_cell
+use Rattle.trick_check_blocks.specs.declared.spot.Spot.{Spot}
+use Rattle.trick_check_blocks.specs.declared.scope.ClassScope.{ClassScope}
+use Rattle.trick_check_cells.specs.Cells.{base_cells, bracket, cells_at, dotted, each, member_cells, members_cells, place_cells, under}
 use Rattle.trick_lang.specs.Effect.{scalars_of}
 use Rattle.trick_lang.specs.Names.{are_apart, of_one_name}
 use Rattle.trick_lang.specs.Numbers.{and_then}
@@ -19,21 +19,21 @@ use Rattle.trick_lang.specs.declared.fault.FaultKind.{FaultKind}
 use Rattle.trick_lang.specs.declared.fault.FaultKind.TheVariants.{IndexOutOfRange}
 use Rattle.trick_lang.specs.declared.scalar.Scalar.{Scalar}
 use Rattle.trick_lang.specs.declared.variable.Variable.{Variable}
-use Rattle.trick_meaning.specs.Meaning.{Place, Setting, State, checked, led, length_of, value}
-use Rattle.trick_meaning_kept.proofs.Following.{Walks, groups_same, on_one}
-use Rattle.trick_meaning_kept.specs.Alike.{AreSameTables}
-use Rattle.trick_names.specs.Names.{Names, meaning_of}
-use Rattle.trick_names.specs.Places as by_name
-use Rattle.trick_names.specs.Places.{member_in, member_of, single}
-use Rattle.trick_names.specs.declared.follow.State.TheVariants.{Stands}
-use Rattle.trick_names.specs.declared.tables.Base.{Base}
-use Rattle.trick_names.specs.declared.tables.Base.TheVariants.{Single, Group}
-use Rattle.trick_names.specs.declared.tables.Lengths.{Lengths}
-use Rattle.trick_names.specs.declared.tables.Lengths.TheVariants.{Plain, One, Two}
-use Rattle.trick_names.specs.declared.tables.Member.{Member as InGroup}
-use Rattle.trick_names.specs.declared.tables.Member.TheVariants.{Variable as Holds, Method}
-use Rattle.trick_names.specs.declared.tables.Shape.{Shape}
-use Rattle.trick_places.specs.Named.{HasAt, IsNamed}
+use Rattle.trick_check_meaning.specs.Meaning.{Place, Setting, State, checked, led, length_of, value}
+use Rattle.trick_check_meaning_kept.proofs.Following.{Walks, groups_same, on_one}
+use Rattle.trick_check_meaning_kept.specs.Alike.{AreSameTables}
+use Rattle.trick_check_names.specs.Names.{Names, meaning_of}
+use Rattle.trick_check_names.specs.Places as by_name
+use Rattle.trick_check_names.specs.Places.{member_in, member_of, single}
+use Rattle.trick_check_names.specs.declared.follow.State.TheVariants.{Stands}
+use Rattle.trick_check_names.specs.declared.tables.Base.{Base}
+use Rattle.trick_check_names.specs.declared.tables.Base.TheVariants.{Single, Group}
+use Rattle.trick_check_names.specs.declared.tables.Lengths.{Lengths}
+use Rattle.trick_check_names.specs.declared.tables.Lengths.TheVariants.{Plain, One, Two}
+use Rattle.trick_check_names.specs.declared.tables.Member.{Member as InGroup}
+use Rattle.trick_check_names.specs.declared.tables.Member.TheVariants.{Variable as Holds, Method}
+use Rattle.trick_check_names.specs.declared.tables.Shape.{Shape}
+use Rattle.trick_check_bodies.specs.Named.{HasAt, IsNamed}
 
 -- ---- entries of a list
 
@@ -190,7 +190,7 @@ module _ (w : ClassScope) (done : List (List Variable)) (memory : List Variable)
       let one : record { full = full; there = Stands shape } ≡ p = cc is in
       subst (λ (q : Place). Stand q.full (single scalar)) one (subst (λ q. Stand full q) walks.0 stand)
   parts_stand (Member line name rest) shape from at scalar full p walks stand is =
-      parts_stand rest walks.0.shape (Rattle.trick_blocks.specs.Places.moved walks.0.field.offset walks.0.field.extent from) at scalar (full ++ dotted name) p walks.1 (member_stands shape.lengths shape.base name full walks.0.shape walks.0.by_names stand)
+      parts_stand rest walks.0.shape (Rattle.trick_check_blocks.specs.Places.moved walks.0.field.offset walks.0.field.extent from) at scalar (full ++ dotted name) p walks.1 (member_stands shape.lengths shape.base name full walks.0.shape walks.0.by_names stand)
       (subst (λ r. led rest (full ++ dotted name) r x s ≡ Ok p) walks.0.by_names is)
   parts_stand (Index e rest) shape from at scalar full p walks stand is =
       index_case (value e x s) (length_of shape.lengths) (λ k. led rest (full ++ bracket k) (by_name.element_in shape.lengths shape.base None) x s) p (Stand p.full (single scalar)) is

@@ -5,38 +5,38 @@ use Rattle.std.proofs.Math.ListN.{length-append}
 use Rattle.std.proofs.lemmas.Bool.{and_parts, leb-true}
 use Rattle.std.proofs.lemmas.Nat.{mul-le}
 use Rattle.std.specs.Str.{bytes_eq}
-use Rattle.trick_blocks.specs.Places as by_cell
-use Rattle.trick_blocks.specs.Places.{field_in, moved, loosened, on_element, on_field}
-use Rattle.trick_blocks.specs.declared.spot.Element.{Element}
-use Rattle.trick_blocks.specs.declared.spot.Spot.{Spot}
-use Rattle.trick_blocks.specs.declared.scope.ClassScope.{ClassScope}
-use Rattle.trick_cells.proofs.Lists.{length_each, length_under}
-use Rattle.trick_cells.specs.Cells.{base_cells, cells_at, dotted, each, member_cells, members_cells, under}
-use Rattle.trick_cells.specs.Tables.{has_elements}
-use Rattle.trick_cells.specs.Unfolding as unfolding_of
+use Rattle.trick_check_blocks.specs.Places as by_cell
+use Rattle.trick_check_blocks.specs.Places.{field_in, moved, loosened, on_element, on_field}
+use Rattle.trick_check_blocks.specs.declared.spot.Element.{Element}
+use Rattle.trick_check_blocks.specs.declared.spot.Spot.{Spot}
+use Rattle.trick_check_blocks.specs.declared.scope.ClassScope.{ClassScope}
+use Rattle.trick_check_cells.proofs.Lists.{length_each, length_under}
+use Rattle.trick_check_cells.specs.Cells.{base_cells, cells_at, dotted, each, member_cells, members_cells, under}
+use Rattle.trick_check_cells.specs.Tables.{has_elements}
+use Rattle.trick_check_cells.specs.Unfolding as unfolding_of
 use Rattle.trick_lang.specs.SyntaxTree.{Name, Expression, Whole, Truth, Named, Prefixed, Chain, Choose, Parts, NoPart, Member, Index}
 use Rattle.trick_lang.specs.declared.scalar.Scalar.{Scalar}
 use Rattle.trick_lang.specs.declared.variable.Variable.{Variable}
-use Rattle.trick_layout.specs.Laid.{fields_at}
-use Rattle.trick_layout.specs.declared.layout.Dims.{Dims}
-use Rattle.trick_layout.specs.declared.layout.Dims.TheVariants as dims
-use Rattle.trick_layout.specs.declared.layout.Extent.{Extent}
-use Rattle.trick_layout.specs.declared.layout.Field.{Field}
-use Rattle.trick_meaning.specs.Meaning.{length_of}
-use Rattle.trick_meaning_kept.specs.Alike.{AreSameLengths, AreSameTables, IsSame, IsSameMember, many}
-use Rattle.trick_names.specs.Names.{Names, meaning_of}
-use Rattle.trick_names.specs.Places as by_name
-use Rattle.trick_names.specs.Places.{in_array, member_in, member_of, single}
-use Rattle.trick_names.specs.declared.follow.State.{State as Reach}
-use Rattle.trick_names.specs.declared.follow.State.TheVariants.{Stands, Astray, Misfit}
-use Rattle.trick_names.specs.declared.tables.Base.{Base}
-use Rattle.trick_names.specs.declared.tables.Base.TheVariants.{Single, Group}
-use Rattle.trick_names.specs.declared.tables.Lengths.{Lengths}
-use Rattle.trick_names.specs.declared.tables.Lengths.TheVariants.{Plain, One, Two}
-use Rattle.trick_names.specs.declared.tables.Member.{Member as InGroup}
-use Rattle.trick_names.specs.declared.tables.Member.TheVariants.{Variable as Holds, Method}
-use Rattle.trick_names.specs.declared.tables.Shape.{Shape}
-use Rattle.trick_names.specs.declared.scope.FileScope.{FileScope as ByName}
+use Rattle.trick_check_names.specs.Laid.{fields_at}
+use Rattle.trick_check_names.specs.declared.layout.Dims.{Dims}
+use Rattle.trick_check_names.specs.declared.layout.Dims.TheVariants as dims
+use Rattle.trick_check_names.specs.declared.layout.Extent.{Extent}
+use Rattle.trick_check_names.specs.declared.layout.Field.{Field}
+use Rattle.trick_check_meaning.specs.Meaning.{length_of}
+use Rattle.trick_check_meaning_kept.specs.Alike.{AreSameLengths, AreSameTables, IsSame, IsSameMember, many}
+use Rattle.trick_check_names.specs.Names.{Names, meaning_of}
+use Rattle.trick_check_names.specs.Places as by_name
+use Rattle.trick_check_names.specs.Places.{in_array, member_in, member_of, single}
+use Rattle.trick_check_names.specs.declared.follow.State.{State as Reach}
+use Rattle.trick_check_names.specs.declared.follow.State.TheVariants.{Stands, Astray, Misfit}
+use Rattle.trick_check_names.specs.declared.tables.Base.{Base}
+use Rattle.trick_check_names.specs.declared.tables.Base.TheVariants.{Single, Group}
+use Rattle.trick_check_names.specs.declared.tables.Lengths.{Lengths}
+use Rattle.trick_check_names.specs.declared.tables.Lengths.TheVariants.{Plain, One, Two}
+use Rattle.trick_check_names.specs.declared.tables.Member.{Member as InGroup}
+use Rattle.trick_check_names.specs.declared.tables.Member.TheVariants.{Variable as Holds, Method}
+use Rattle.trick_check_names.specs.declared.tables.Shape.{Shape}
+use Rattle.trick_check_names.specs.declared.scope.FileScope.{FileScope as ByName}
 
 -- ---- how many cells there are
 

@@ -2,13 +2,13 @@
 use Rattle.std.proofs.Common.{rules, ◌≡◌, ◌≢◌, ℕ, zero, suc, ◌+◌, ◌<◌, ◌≤◌, ℤ, pos, Bool, true, false, if◌then◌else◌, is_some, [], ◌∷◌, ◌++◌, length, take, Option, Some, None, unwrap_or, refl, ap, sym, ◌∙◌, subst, arith, get_or-set_other, get_or-set_same}
 use Rattle.std.proofs.lemmas.Slice.Eq.{bytes_eq-Decides}
 use Rattle.std.specs.Str.{bytes_eq}
-use Rattle.trick_blocks.specs.declared.start.Local.{Local as InSlot}
+use Rattle.trick_check_blocks.specs.declared.start.Local.{Local as InSlot}
 use Rattle.trick_lang.specs.Run.{State as Resolved, local_of, with_local}
 use Rattle.trick_lang.specs.SyntaxTree.{Name}
-use Rattle.trick_meaning.specs.Meaning.{Local as ByName, with_number}
-use Rattle.trick_meaning_kept.specs.Alike.{AreRows, IsSameLocal}
-use Rattle.trick_names.specs.Names.{Names, meaning_of, with_name}
-use Rattle.trick_names.specs.declared.tables.Local.{Local as Declared}
+use Rattle.trick_check_meaning.specs.Meaning.{Local as ByName, with_number}
+use Rattle.trick_check_meaning_kept.specs.Alike.{AreRows, IsSameLocal}
+use Rattle.trick_check_names.specs.Names.{Names, meaning_of, with_name}
+use Rattle.trick_check_names.specs.declared.tables.Local.{Local as Declared}
 
 -- ---- what names mean
 

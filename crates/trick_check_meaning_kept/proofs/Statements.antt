@@ -6,12 +6,12 @@ use Rattle.std.proofs.lemmas.List.{append-nil, append_assoc, length-append, leng
 use Rattle.std.proofs.lemmas.Slice.Eq.{bytes_eq-Decides}
 use Rattle.std.specs.List.{slice_index_or}
 use Rattle.std.specs.Str.{bytes_eq}
-use Rattle.trick_blocks.specs.Codes as codes
-use Rattle.trick_blocks.specs.Codes.{after, after_all, all_codes, all_count, all_inner, branch_codes, branch_count, branch_inner, call_code, change_term, code, count, declared_code, free_slot, goal_code, inner, loop_code, loop_in, new_slot, slot_behind, value_term}
-use Rattle.trick_blocks.specs.Places as by_cell
-use Rattle.trick_blocks.specs.Terms.{OfLocal as InLocal, goal_of, path_goal, steps, term}
-use Rattle.trick_blocks.specs.declared.start.Local.{Local as InSlot}
-use Rattle.trick_blocks.specs.declared.scope.ClassScope.{ClassScope}
+use Rattle.trick_check_blocks.specs.Codes as codes
+use Rattle.trick_check_blocks.specs.Codes.{after, after_all, all_codes, all_count, all_inner, branch_codes, branch_count, branch_inner, call_code, change_term, code, count, declared_code, free_slot, goal_code, inner, loop_code, loop_in, new_slot, slot_behind, value_term}
+use Rattle.trick_check_blocks.specs.Places as by_cell
+use Rattle.trick_check_blocks.specs.Terms.{OfLocal as InLocal, goal_of, path_goal, steps, term}
+use Rattle.trick_check_blocks.specs.declared.start.Local.{Local as InSlot}
+use Rattle.trick_check_blocks.specs.declared.scope.ClassScope.{ClassScope}
 use Rattle.trick_lang.specs.Blocks.{block_at}
 use Rattle.trick_lang.specs.Laws.{WrapsRight}
 use Rattle.trick_lang.specs.Numbers.{and_then, applied, is_true}
@@ -28,22 +28,22 @@ use Rattle.trick_lang.specs.declared.fault.StatementFault.{StatementFault}
 use Rattle.trick_lang.specs.declared.scalar.Scalar.{Scalar}
 use Rattle.trick_lang.specs.declared.scalar.Scalar.TheVariants.{Int, Long}
 use Rattle.trick_lang.specs.declared.variable.Variable.{Variable}
-use Rattle.trick_layout.specs.Laid.{fields_at}
-use Rattle.trick_meaning.specs.Meaning as meaning
-use Rattle.trick_meaning.specs.Meaning.{Local as ByName, OfLocal, OfPlace as OfVariable, Place, Setting, State, Stored, called, changed, declare, ended, first_value, led, local_meant, meant, number_at, path_assign, run, run_all, run_branch, turns, value, with_local, with_new, with_stored, within}
-use Rattle.trick_meaning_kept.proofs.Cells.{IsAt, Stand, at_below, is_at, one_cell, one_entry, one_name, type_is}
-use Rattle.trick_meaning_kept.proofs.Rows.{added_means, name_added, rows_declared, rows_front, rows_kept, rows_named, rows_new, rows_same, rows_set, slot_of, slot_other, slot_set}
-use Rattle.trick_meaning_kept.proofs.Values.{IsLed, PlaceView, assigned_path, none_left, none_right, parts_lead, path_view, value_kept}
-use Rattle.trick_meaning_kept.specs.Alike.{AreAlike, AreBelow, AreInOnePlace, AreRows, BlocksAreBelow, CallAlike, CanBranch, CanRun, CanRunAll, EndAlike, HasBlocks, IsSameLocal, KeepsFrom, RunBlocks, SeeTheSame, is_code_below}
-use Rattle.trick_names.specs.BodyMistakes as names
-use Rattle.trick_names.specs.BodyMistakes.{all_mistakes, branch_mistakes, change_mistakes, expression_mistakes, first_value_mistakes, path_mistakes, statement_mistakes, type_mistakes}
-use Rattle.trick_names.specs.Mistakes.{twice}
-use Rattle.trick_names.specs.Names.{Names, meaning_of, with_name}
-use Rattle.trick_names.specs.Places as by_name
-use Rattle.trick_names.specs.Places.{own_member, single}
-use Rattle.trick_names.specs.declared.follow.State.TheVariants.{Stands}
-use Rattle.trick_names.specs.declared.tables.Local.{Local as Declared}
-use Rattle.trick_places.specs.Named.{IsNamed, LeadToTheirNames, ObjectsHoldNames, led_by, path_text}
+use Rattle.trick_check_names.specs.Laid.{fields_at}
+use Rattle.trick_check_meaning.specs.Meaning as meaning
+use Rattle.trick_check_meaning.specs.Meaning.{Local as ByName, OfLocal, OfPlace as OfVariable, Place, Setting, State, Stored, called, changed, declare, ended, first_value, led, local_meant, meant, number_at, path_assign, run, run_all, run_branch, turns, value, with_local, with_new, with_stored, within}
+use Rattle.trick_check_meaning_kept.proofs.Cells.{IsAt, Stand, at_below, is_at, one_cell, one_entry, one_name, type_is}
+use Rattle.trick_check_meaning_kept.proofs.Rows.{added_means, name_added, rows_declared, rows_front, rows_kept, rows_named, rows_new, rows_same, rows_set, slot_of, slot_other, slot_set}
+use Rattle.trick_check_meaning_kept.proofs.Values.{IsLed, PlaceView, assigned_path, none_left, none_right, parts_lead, path_view, value_kept}
+use Rattle.trick_check_meaning_kept.specs.Alike.{AreAlike, AreBelow, AreInOnePlace, AreRows, BlocksAreBelow, CallAlike, CanBranch, CanRun, CanRunAll, EndAlike, HasBlocks, IsSameLocal, KeepsFrom, RunBlocks, SeeTheSame, is_code_below}
+use Rattle.trick_check_names.specs.BodyMistakes as names
+use Rattle.trick_check_names.specs.BodyMistakes.{all_mistakes, branch_mistakes, change_mistakes, expression_mistakes, first_value_mistakes, path_mistakes, statement_mistakes, type_mistakes}
+use Rattle.trick_check_names.specs.Mistakes.{twice}
+use Rattle.trick_check_names.specs.Names.{Names, meaning_of, with_name}
+use Rattle.trick_check_names.specs.Places as by_name
+use Rattle.trick_check_names.specs.Places.{own_member, single}
+use Rattle.trick_check_names.specs.declared.follow.State.TheVariants.{Stands}
+use Rattle.trick_check_names.specs.declared.tables.Local.{Local as Declared}
+use Rattle.trick_check_bodies.specs.Named.{IsNamed, LeadToTheirNames, ObjectsHoldNames, led_by, path_text}
 
 -- ---- names that are known and new ones
 
@@ -95,7 +95,7 @@ declared_all_more (Then b rest) declared = more_again declared (names.after b de
 -- a name that is not given twice was not known
 pub not_known : {T : Type 0} (name : Name) (known : Names T) → twice name known ≡ [] → meaning_of name known ≡ None
 not_known {T} name known none = by (meaning_of name known) none where
-  by : (o : Option T) → (if is_some o then Rattle.trick_names.specs.Mistakes.Twice name ∷ [] else []) ≡ [] → o ≡ None
+  by : (o : Option T) → (if is_some o then Rattle.trick_check_names.specs.Mistakes.Twice name ∷ [] else []) ≡ [] → o ≡ None
   by None h = refl
   by (Some l) h = absurd (cc h)
 

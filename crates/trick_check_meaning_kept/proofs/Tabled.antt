@@ -6,43 +6,43 @@ use Rattle.std.proofs.lemmas.Nat.{mul-le}
 use Rattle.std.proofs.lemmas.Slice.Eq.{bytes_eq-Decides}
 use Rattle.std.specs.List.{slice_index_or}
 use Rattle.std.specs.Str.{bytes_eq}
-use Rattle.trick_cells.proofs.Counted.{size_counts}
-use Rattle.trick_cells.proofs.Laid.{groups_at, with_one}
-use Rattle.trick_cells.proofs.Lists.{length_each}
-use Rattle.trick_cells.specs.Cells.{base_cells, cells_at, each}
-use Rattle.trick_cells.specs.Counts.{base_count, counts, global_count, member_count, names_count}
-use Rattle.trick_cells.specs.Tables.{dims_of, fields_of, groups_from, has_elements, layout_of, narrow, with_field, with_fields, with_site, with_sites}
-use Rattle.trick_cells.specs.Unfolding as unfolding_of
-use Rattle.trick_cells.specs.Unfolding.{Unfolds}
+use Rattle.trick_check_cells.proofs.Counted.{size_counts}
+use Rattle.trick_check_cells.proofs.Laid.{groups_at, with_one}
+use Rattle.trick_check_cells.proofs.Lists.{length_each}
+use Rattle.trick_check_cells.specs.Cells.{base_cells, cells_at, each}
+use Rattle.trick_check_cells.specs.Counts.{base_count, counts, global_count, member_count, names_count}
+use Rattle.trick_check_cells.specs.Tables.{dims_of, fields_of, groups_from, has_elements, layout_of, narrow, with_field, with_fields, with_site, with_sites}
+use Rattle.trick_check_cells.specs.Unfolding as unfolding_of
+use Rattle.trick_check_cells.specs.Unfolding.{Unfolds}
 use Rattle.trick_lang.specs.SyntaxTree as text
 use Rattle.trick_lang.specs.SyntaxTree.{Name, SDefine}
 use Rattle.trick_lang.specs.declared.scalar.Scalar.{Scalar}
 use Rattle.trick_lang.specs.declared.variable.Variable.{Variable}
-use Rattle.trick_layout.specs.Laid.{fields_at}
-use Rattle.trick_layout.specs.declared.layout.Extent.{Extent}
-use Rattle.trick_layout.specs.declared.layout.Field.{Field}
-use Rattle.trick_layout.specs.declared.layout.Site.{Site}
-use Rattle.trick_layout.specs.declared.layout.Site.TheVariants as site
-use Rattle.trick_meaning_kept.proofs.Following.{groups_same, member_many}
-use Rattle.trick_meaning_kept.proofs.Rows.{added_means, name_added}
-use Rattle.trick_meaning_kept.proofs.Values.{none_left, none_right}
-use Rattle.trick_meaning_kept.specs.Alike.{AreSameTables, HaveElements, IsSame, IsSameGlobal, IsSameMember, many}
-use Rattle.trick_names.specs.FileMistakes.{definition_mistakes, definitions_mistakes, mistakes, past, unless_class}
-use Rattle.trick_names.specs.Names.{Names, meaning_of, with_name}
-use Rattle.trick_names.specs.Places.{members_at}
-use Rattle.trick_names.specs.Tables.{behind_definition, behind_definitions, behind_parts, members_in, names_behind, object_base, tables_of, with_all_members, with_declarators, with_items, with_members}
-use Rattle.trick_names.specs.declared.tables.Base.{Base}
-use Rattle.trick_names.specs.declared.tables.Base.TheVariants.{Single, Group}
-use Rattle.trick_names.specs.declared.tables.Global.{Global}
-use Rattle.trick_names.specs.declared.tables.Global.TheVariants as the
-use Rattle.trick_names.specs.declared.tables.Inside.{Inside}
-use Rattle.trick_names.specs.declared.tables.Lengths.{Lengths}
-use Rattle.trick_names.specs.declared.tables.Lengths.TheVariants.{Plain, One, Two}
-use Rattle.trick_names.specs.declared.tables.Member.{Member}
-use Rattle.trick_names.specs.declared.tables.Member.TheVariants.{Variable as Holds, Method}
-use Rattle.trick_names.specs.declared.tables.Shape.{Shape}
-use Rattle.trick_names.specs.declared.tables.Tables.{Tables}
-use Rattle.trick_names.specs.declared.scope.FileScope.{FileScope}
+use Rattle.trick_check_names.specs.Laid.{fields_at}
+use Rattle.trick_check_names.specs.declared.layout.Extent.{Extent}
+use Rattle.trick_check_names.specs.declared.layout.Field.{Field}
+use Rattle.trick_check_names.specs.declared.layout.Site.{Site}
+use Rattle.trick_check_names.specs.declared.layout.Site.TheVariants as site
+use Rattle.trick_check_meaning_kept.proofs.Following.{groups_same, member_many}
+use Rattle.trick_check_meaning_kept.proofs.Rows.{added_means, name_added}
+use Rattle.trick_check_meaning_kept.proofs.Values.{none_left, none_right}
+use Rattle.trick_check_meaning_kept.specs.Alike.{AreSameTables, HaveElements, IsSame, IsSameGlobal, IsSameMember, many}
+use Rattle.trick_check_names.specs.FileMistakes.{definition_mistakes, definitions_mistakes, mistakes, past, unless_class}
+use Rattle.trick_check_names.specs.Names.{Names, meaning_of, with_name}
+use Rattle.trick_check_names.specs.Places.{members_at}
+use Rattle.trick_check_names.specs.Tables.{behind_definition, behind_definitions, behind_parts, members_in, names_behind, object_base, tables_of, with_all_members, with_declarators, with_items, with_members}
+use Rattle.trick_check_names.specs.declared.tables.Base.{Base}
+use Rattle.trick_check_names.specs.declared.tables.Base.TheVariants.{Single, Group}
+use Rattle.trick_check_names.specs.declared.tables.Global.{Global}
+use Rattle.trick_check_names.specs.declared.tables.Global.TheVariants as the
+use Rattle.trick_check_names.specs.declared.tables.Inside.{Inside}
+use Rattle.trick_check_names.specs.declared.tables.Lengths.{Lengths}
+use Rattle.trick_check_names.specs.declared.tables.Lengths.TheVariants.{Plain, One, Two}
+use Rattle.trick_check_names.specs.declared.tables.Member.{Member}
+use Rattle.trick_check_names.specs.declared.tables.Member.TheVariants.{Variable as Holds, Method}
+use Rattle.trick_check_names.specs.declared.tables.Shape.{Shape}
+use Rattle.trick_check_names.specs.declared.tables.Tables.{Tables}
+use Rattle.trick_check_names.specs.declared.scope.FileScope.{FileScope}
 
 -- ---- names that stand once
 
@@ -97,13 +97,13 @@ once_with {T} name l names once = by (meaning_of name names) refl where
 
 declarators_once : (ds : List text.Declarator) (base : Base) (members : Names Member) → Once members → Once (with_declarators ds base members)
 declarators_once [] base members once = once
-declarators_once (d ∷ ds) base members once = declarators_once ds base (Rattle.trick_names.specs.Tables.with_declarator d base members) (once_with d.name _ members once)
+declarators_once (d ∷ ds) base members once = declarators_once ds base (Rattle.trick_check_names.specs.Tables.with_declarator d base members) (once_with d.name _ members once)
 
 all_members_once : (ms : List text.Members) (names : Names Global) (members : Names Member) → Once members → Once (with_all_members ms names members)
 all_members_once [] names members once = once
 all_members_once (m ∷ ms) names members once = all_members_once ms names (with_members m names members) (declarators_once m.declarators _ members once)
 
-part_once : (part : text.Part) (number : ℕ) (names : Names Global) (inside : Inside) → Once inside.members → Once (Rattle.trick_names.specs.Tables.behind_part part number names inside).members
+part_once : (part : text.Part) (number : ℕ) (names : Names Global) (inside : Inside) → Once inside.members → Once (Rattle.trick_check_names.specs.Tables.behind_part part number names inside).members
 part_once text.Public number names inside once = once
 part_once (text.HasMembers m) number names inside once = declarators_once m.declarators _ inside.members once
 part_once (text.HasMethod m) number names inside once = once_with m.name (Method number) inside.members once
@@ -111,18 +111,18 @@ part_once (text.Constructor line name jobs) number names inside once = once
 
 parts_once : (parts : List text.Part) (number : ℕ) (names : Names Global) (inside : Inside) → Once inside.members → Once (behind_parts parts number names inside).members
 parts_once [] number names inside once = once
-parts_once (part ∷ rest) number names inside once = parts_once rest (number + 1) names (Rattle.trick_names.specs.Tables.behind_part part number names inside) (part_once part number names inside once)
+parts_once (part ∷ rest) number names inside once = parts_once rest (number + 1) names (Rattle.trick_check_names.specs.Tables.behind_part part number names inside) (part_once part number names inside once)
 
 definition_once : (d : text.Definition) (names : Names Global) → Once (members_in d names)
 definition_once text.Include names = tt
 definition_once (text.Enum name items) names = tt
 definition_once (text.Struct name members) names = all_members_once members names [] tt
-definition_once (text.ClassOf name parts) names = parts_once parts 0 names Rattle.trick_names.specs.Tables.nothing_inside tt
+definition_once (text.ClassOf name parts) names = parts_once parts 0 names Rattle.trick_check_names.specs.Tables.nothing_inside tt
 definition_once (text.Object line class name) names = tt
 
 items_once : (items : List text.EnumItem) (next : ℤ) (names : Names Global) → Once names → Once (with_items items next names)
 items_once [] next names once = once
-items_once (i ∷ rest) next names once = items_once rest _ (Rattle.trick_names.specs.Tables.with_item i next names) (once_with i.name _ names once)
+items_once (i ∷ rest) next names once = items_once rest _ (Rattle.trick_check_names.specs.Tables.with_item i next names) (once_with i.name _ names once)
 
 names_once : (d : text.Definition) (number : ℕ) (names : Names Global) → Once names → Once (names_behind d number names)
 names_once text.Include number names once = once
@@ -304,7 +304,7 @@ right_with name g names right none q = with_one Right q name g names (λ scalar 
 
 items_right : (items : List text.EnumItem) (next : ℤ) (names : Names Global) → NoneSingle names → NoneSingle (with_items items next names)
 items_right [] next names none = none
-items_right (i ∷ rest) next names none = items_right rest _ (Rattle.trick_names.specs.Tables.with_item i next names) (right_with i.name _ names (λ scalar h. absurd (cc h)) none)
+items_right (i ∷ rest) next names none = items_right rest _ (Rattle.trick_check_names.specs.Tables.with_item i next names) (right_with i.name _ names (λ scalar h. absurd (cc h)) none)
 
 object_right : (line : ℕ) (o : Option Global) → unless_class line o ≡ [] → Right (Some (the.Object (object_base o)))
 object_right line (Some (the.Class k)) none scalar h = absurd (cc h)
@@ -336,7 +336,7 @@ module _ (ds : SDefine) (done : List (List Variable)) (un : Unfolds (tables_of d
   once = file_once ds (record { names = []; groups = [] }) tt tt
 
   right : NoneSingle (tables_of ds).names
-  right = file_right ds (record { names = []; groups = [] }) (Rattle.trick_names.specs.FileMistakes.at_start (tables_of ds)) refl refl none (λ q scalar h. absurd (cc h))
+  right = file_right ds (record { names = []; groups = [] }) (Rattle.trick_check_names.specs.FileMistakes.at_start (tables_of ds)) refl refl none (λ q scalar h. absurd (cc h))
 
   members_same : (k : ℕ) (name : Name) → length (cells_at done k) ≤ 65536 → IsSameMember done (meaning_of name (members_at (tables_of ds).groups k)) (meaning_of name (fields_at (layout_of (counts done) (tables_of ds)).groups k))
   members_same k name fits =
@@ -353,9 +353,9 @@ module _ (ds : SDefine) (done : List (List Variable)) (un : Unfolds (tables_of d
         by (Some (Method number)) known = subst (λ o. IsSameMember done (Some (Method number)) o) (sym (fields_method (counts done) 0 name (members_at (tables_of ds).groups k) [] number (group_once (tables_of ds).groups k once.1) known refl)) tt
         by (Some (Holds shape)) known = λ cell.
             let found = fields_some (counts done) 0 name (members_at (tables_of ds).groups k) [] shape (group_once (tables_of ds).groups k once.1) known (elements k name shape known) refl in
-            let all : length (cells_at done k) ≡ length (Rattle.trick_cells.specs.Cells.members_cells done (members_at (tables_of ds).groups k)) = ap length (un k) ∙ ap (λ ms. length (Rattle.trick_cells.specs.Cells.members_cells done ms)) (groups_same (tables_of ds).groups k) in
+            let all : length (cells_at done k) ≡ length (Rattle.trick_check_cells.specs.Cells.members_cells done (members_at (tables_of ds).groups k)) = ap length (un k) ∙ ap (λ ms. length (Rattle.trick_check_cells.specs.Cells.members_cells done ms)) (groups_same (tables_of ds).groups k) in
             let same = extent_same done (counts done) shape.lengths shape.base cell (omega (arith, all, fits, member_many done (members_at (tables_of ds).groups k) name shape known)) in
-            subst (λ o. Rattle.trick_meaning_kept.specs.Alike.HasExtent shape o) (sym found.1) (subst (λ e. IsSame shape e) (sym found.2) same)
+            subst (λ o. Rattle.trick_check_meaning_kept.specs.Alike.HasExtent shape o) (sym found.1) (subst (λ e. IsSame shape e) (sym found.2) same)
 
   globals_same : (name : Name) → IsSameGlobal (meaning_of name (tables_of ds).names) (meaning_of name (layout_of (counts done) (tables_of ds)).sites)
   globals_same name = by (meaning_of name (tables_of ds).names) refl where

@@ -4,16 +4,16 @@ use Rattle.std.proofs.Common.{◌≡◌, ℕ, ◌+◌, ◌*◌, ◌≤◌, ◌<�
 use Rattle.std.proofs.lemmas.Bool.{ltb-true}
 use Rattle.std.proofs.lemmas.Int.{ints}
 use Rattle.std.proofs.lemmas.List.{append-nil, append_assoc}
-use Rattle.trick_blocks.specs.Places as by_cell
-use Rattle.trick_blocks.specs.Terms as terms
-use Rattle.trick_blocks.specs.Terms.{OfPlace, computed, goal_of, goal_term, link_terms, choice_terms, offset_of, path_goal, place_goal, span_of, steps, term}
-use Rattle.trick_blocks.specs.declared.spot.Element.{Element}
-use Rattle.trick_blocks.specs.declared.spot.Spot.{Spot}
-use Rattle.trick_blocks.specs.declared.start.Local.{Local as InSlot}
-use Rattle.trick_blocks.specs.declared.start.Meaning.{Meaning}
-use Rattle.trick_blocks.specs.declared.start.Meaning.TheVariants as means
-use Rattle.trick_blocks.specs.declared.scope.ClassScope.{ClassScope}
-use Rattle.trick_cells.specs.Cells.{bracket, cells_at, dotted, under}
+use Rattle.trick_check_blocks.specs.Places as by_cell
+use Rattle.trick_check_blocks.specs.Terms as terms
+use Rattle.trick_check_blocks.specs.Terms.{OfPlace, computed, goal_of, goal_term, link_terms, choice_terms, offset_of, path_goal, place_goal, span_of, steps, term}
+use Rattle.trick_check_blocks.specs.declared.spot.Element.{Element}
+use Rattle.trick_check_blocks.specs.declared.spot.Spot.{Spot}
+use Rattle.trick_check_blocks.specs.declared.start.Local.{Local as InSlot}
+use Rattle.trick_check_blocks.specs.declared.start.Meaning.{Meaning}
+use Rattle.trick_check_blocks.specs.declared.start.Meaning.TheVariants as means
+use Rattle.trick_check_blocks.specs.declared.scope.ClassScope.{ClassScope}
+use Rattle.trick_check_cells.specs.Cells.{bracket, cells_at, dotted, under}
 use Rattle.trick_lang.specs.Laws.{WrapsRight}
 use Rattle.trick_lang.specs.Numbers.{and_then, is_true, joined, prefixed}
 use Rattle.trick_lang.specs.SyntaxTree.{Name, Expression, Whole, Truth, Named, Prefixed, Chain, Choose, Links, NoLink, Link, Choices, Last, Choice, Path, path, Parts, NoPart, Member, Index}
@@ -26,33 +26,33 @@ use Rattle.trick_lang.specs.declared.fault.FaultKind.TheVariants.{IndexOutOfRang
 use Rattle.trick_lang.specs.declared.scalar.Scalar.{Scalar}
 use Rattle.trick_lang.specs.declared.scalar.Scalar.TheVariants.{Long}
 use Rattle.trick_lang.specs.declared.variable.Variable.{Variable}
-use Rattle.trick_layout.specs.Laid.{fields_at}
-use Rattle.trick_layout.specs.declared.layout.Dims.TheVariants as dims
-use Rattle.trick_layout.specs.declared.layout.Extent.{Extent}
-use Rattle.trick_layout.specs.declared.layout.Field.{Field}
-use Rattle.trick_layout.specs.declared.layout.Site.{Site}
-use Rattle.trick_layout.specs.declared.layout.Site.TheVariants as site
-use Rattle.trick_meaning.specs.Meaning.{Local as ByName, Meant, OfPlace as OfVariable, Place, Setting, State, checked, chosen, global_meant, led, length_of, linked, local_meant, meant, member_meant, number_at, path_value, read, value}
-use Rattle.trick_meaning_kept.proofs.Following.{IsBelow, Reaches, Stage, Walk, Walks, followed_is, group_many, has_cell, number_is, on_one, on_one_is, own_is, same_literal, walk}
-use Rattle.trick_meaning_kept.specs.Alike.{AreSameTables, IsSameGlobal, IsSameLocal, IsSameMember, SeeTheSame}
-use Rattle.trick_meaning_kept.proofs.Cells.{Stand, group_stands, member_stands, parts_stand}
-use Rattle.trick_names.specs.BodyMistakes.{astray, ends, expression_mistakes, link_mistakes, choice_mistakes, part_mistakes, path_mistakes, unless_fixed}
-use Rattle.trick_names.specs.Names.{Names, meaning_of}
-use Rattle.trick_names.specs.Places as by_name
-use Rattle.trick_names.specs.Places.{global_state, local_state, member_state, single}
-use Rattle.trick_names.specs.declared.follow.State.{State as Reach}
-use Rattle.trick_names.specs.declared.follow.State.TheVariants.{Stands, Astray, Misfit}
-use Rattle.trick_names.specs.declared.tables.Base.{Base}
-use Rattle.trick_names.specs.declared.tables.Base.TheVariants.{Single, Group}
-use Rattle.trick_names.specs.declared.tables.Global.{Global}
-use Rattle.trick_names.specs.declared.tables.Global.TheVariants as the
-use Rattle.trick_names.specs.declared.tables.Lengths.{Lengths}
-use Rattle.trick_names.specs.declared.tables.Lengths.TheVariants.{Plain, One, Two}
-use Rattle.trick_names.specs.declared.tables.Local.{Local as Declared}
-use Rattle.trick_names.specs.declared.tables.Member.{Member as InGroup}
-use Rattle.trick_names.specs.declared.tables.Member.TheVariants.{Variable as Holds, Method}
-use Rattle.trick_names.specs.declared.tables.Shape.{Shape}
-use Rattle.trick_places.specs.Named.{AreNamed, HasAt, IsNamed, LeadToTheirNames, ObjectsHoldNames, cells_from, first_text, led_by, led_on, next_text, path_text}
+use Rattle.trick_check_names.specs.Laid.{fields_at}
+use Rattle.trick_check_names.specs.declared.layout.Dims.TheVariants as dims
+use Rattle.trick_check_names.specs.declared.layout.Extent.{Extent}
+use Rattle.trick_check_names.specs.declared.layout.Field.{Field}
+use Rattle.trick_check_names.specs.declared.layout.Site.{Site}
+use Rattle.trick_check_names.specs.declared.layout.Site.TheVariants as site
+use Rattle.trick_check_meaning.specs.Meaning.{Local as ByName, Meant, OfPlace as OfVariable, Place, Setting, State, checked, chosen, global_meant, led, length_of, linked, local_meant, meant, member_meant, number_at, path_value, read, value}
+use Rattle.trick_check_meaning_kept.proofs.Following.{IsBelow, Reaches, Stage, Walk, Walks, followed_is, group_many, has_cell, number_is, on_one, on_one_is, own_is, same_literal, walk}
+use Rattle.trick_check_meaning_kept.specs.Alike.{AreSameTables, IsSameGlobal, IsSameLocal, IsSameMember, SeeTheSame}
+use Rattle.trick_check_meaning_kept.proofs.Cells.{Stand, group_stands, member_stands, parts_stand}
+use Rattle.trick_check_names.specs.BodyMistakes.{astray, ends, expression_mistakes, link_mistakes, choice_mistakes, part_mistakes, path_mistakes, unless_fixed}
+use Rattle.trick_check_names.specs.Names.{Names, meaning_of}
+use Rattle.trick_check_names.specs.Places as by_name
+use Rattle.trick_check_names.specs.Places.{global_state, local_state, member_state, single}
+use Rattle.trick_check_names.specs.declared.follow.State.{State as Reach}
+use Rattle.trick_check_names.specs.declared.follow.State.TheVariants.{Stands, Astray, Misfit}
+use Rattle.trick_check_names.specs.declared.tables.Base.{Base}
+use Rattle.trick_check_names.specs.declared.tables.Base.TheVariants.{Single, Group}
+use Rattle.trick_check_names.specs.declared.tables.Global.{Global}
+use Rattle.trick_check_names.specs.declared.tables.Global.TheVariants as the
+use Rattle.trick_check_names.specs.declared.tables.Lengths.{Lengths}
+use Rattle.trick_check_names.specs.declared.tables.Lengths.TheVariants.{Plain, One, Two}
+use Rattle.trick_check_names.specs.declared.tables.Local.{Local as Declared}
+use Rattle.trick_check_names.specs.declared.tables.Member.{Member as InGroup}
+use Rattle.trick_check_names.specs.declared.tables.Member.TheVariants.{Variable as Holds, Method}
+use Rattle.trick_check_names.specs.declared.tables.Shape.{Shape}
+use Rattle.trick_check_bodies.specs.Named.{AreNamed, HasAt, IsNamed, LeadToTheirNames, ObjectsHoldNames, cells_from, first_text, led_by, led_on, next_text, path_text}
 
 -- ---- lists and results
 
@@ -117,13 +117,13 @@ module _ (x : Setting) (declared : Names Declared) where
   not_lost (Index e rest) Misfit here none = not_lost rest Misfit refl (none_right (expression_mistakes e x.scope declared) _ none)
   not_lost (Index e rest) (Stands shape) here none =
       by (by_name.to_element (by_name.literal_of e) (Stands shape)) (λ r i. not_lost rest r i) (none_right (expression_mistakes e x.scope declared) _ none) where
-        by : (next : Reach) → ((r : Reach) → astray 0 r ≡ [] → part_mistakes rest x.scope declared r ≡ [] → astray 0 (by_name.followed rest x.scope r) ≡ []) → astray (Rattle.trick_names.specs.BodyMistakes.line_of e) next ++ part_mistakes rest x.scope declared next ≡ [] → astray 0 (by_name.followed rest x.scope next) ≡ []
+        by : (next : Reach) → ((r : Reach) → astray 0 r ≡ [] → part_mistakes rest x.scope declared r ≡ [] → astray 0 (by_name.followed rest x.scope r) ≡ []) → astray (Rattle.trick_check_names.specs.BodyMistakes.line_of e) next ++ part_mistakes rest x.scope declared next ≡ [] → astray 0 (by_name.followed rest x.scope next) ≡ []
         by (Stands other) further none = further (Stands other) refl none
         by Misfit further none = further Misfit refl none
         by Astray further none = absurd (cc none)
 
   -- and ends at a number
-  number_end : (line : ℕ) (ls : Lengths) (base : Base) → Rattle.trick_names.specs.BodyMistakes.unless_single line ls base ≡ [] → (scalar : Scalar) × (record { lengths = ls; base = base } ≡ single scalar)
+  number_end : (line : ℕ) (ls : Lengths) (base : Base) → Rattle.trick_check_names.specs.BodyMistakes.unless_single line ls base ≡ [] → (scalar : Scalar) × (record { lengths = ls; base = base } ≡ single scalar)
   number_end line Plain (Single scalar) h = (scalar, refl)
   number_end line Plain (Group k) h = absurd (cc h)
   number_end line (One n) base h = absurd (cc h)
@@ -190,7 +190,7 @@ module _ (w : ClassScope) (done : List (List Variable)) (memory : List Variable)
 
   member_leads : (line : ℕ) (name : Name) (rest : Parts) → LeadsAll rest → LeadsAll (Member line name rest)
   member_leads line name rest further shape at scalar end walks none = λ from full.
-      let next = Rattle.trick_blocks.specs.Places.moved walks.0.field.offset walks.0.field.extent at in
+      let next = Rattle.trick_check_blocks.specs.Places.moved walks.0.field.offset walks.0.field.extent at in
       let no_more : part_mistakes rest x.scope declared (Stands walks.0.shape) ≡ [] = subst (λ r. part_mistakes rest x.scope declared r ≡ []) walks.0.by_names (none_right _ _ none) in
       let told = further walks.0.shape next scalar end walks.1 no_more from (full ++ dotted name) in
       subst (λ o. IsLed (steps rest w slots (by_cell.on_field o at)) (path_text (Member line name rest)) from full scalar (resolved.led (steps rest w slots (by_cell.on_field o at)) sight from) (led rest (full ++ dotted name) (by_name.member_in shape.lengths shape.base name x.scope) x s)) (sym walks.0.by_cells)

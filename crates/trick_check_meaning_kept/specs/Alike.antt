@@ -2,11 +2,11 @@
 -- common, and states that say the same by names and by numbers.
 use Rattle.std.specs.List.{slice_index_or}
 use Rattle.std.specs.Prelude.{◌≡◌, ℕ, suc, ◌+◌, ℤ, ◌≤◌, Bool, true, nat_le, nat_lt, List, [], ◌∷◌, length, Option, Some, None, is_some, Result, Ok, Err}
-use Rattle.trick_blocks.specs.declared.start.Local.{Local as InSlot}
-use Rattle.trick_blocks.specs.declared.scope.ClassScope.{ClassScope}
-use Rattle.trick_cells.specs.Cells.{cells_at, place_cells}
-use Rattle.trick_cells.specs.Tables.{has_elements}
-use Rattle.trick_cells.specs.Unfolding.{Unfolds}
+use Rattle.trick_check_blocks.specs.declared.start.Local.{Local as InSlot}
+use Rattle.trick_check_blocks.specs.declared.scope.ClassScope.{ClassScope}
+use Rattle.trick_check_cells.specs.Cells.{cells_at, place_cells}
+use Rattle.trick_check_cells.specs.Tables.{has_elements}
+use Rattle.trick_check_cells.specs.Unfolding.{Unfolds}
 use Rattle.trick_lang.specs.Blocks.{block_at}
 use Rattle.trick_lang.specs.Effect.{scalars_of}
 use Rattle.trick_lang.specs.Locals.{bound_number}
@@ -18,28 +18,28 @@ use Rattle.trick_lang.specs.Tree.{Code, Empty, Declare, SetLocal, Assign, If, Fo
 use Rattle.trick_lang.specs.Value.{Sight}
 use Rattle.trick_lang.specs.declared.fault.StatementFault.{StatementFault}
 use Rattle.trick_lang.specs.declared.variable.Variable.{Variable}
-use Rattle.trick_layout.specs.Laid.{fields_at}
-use Rattle.trick_layout.specs.declared.layout.Dims.{Dims}
-use Rattle.trick_layout.specs.declared.layout.Dims.TheVariants as dims
-use Rattle.trick_layout.specs.declared.layout.Extent.{Extent}
-use Rattle.trick_layout.specs.declared.layout.Field.{Field}
-use Rattle.trick_layout.specs.declared.layout.Layout.{Layout}
-use Rattle.trick_layout.specs.declared.layout.Site.{Site}
-use Rattle.trick_layout.specs.declared.layout.Site.TheVariants as site
-use Rattle.trick_meaning.specs.Meaning.{Local as ByName, Setting, State, Stored, number_at}
-use Rattle.trick_names.specs.Names.{Names, meaning_of}
-use Rattle.trick_names.specs.Places.{members_at}
-use Rattle.trick_names.specs.declared.tables.Base.TheVariants.{Single, Group}
-use Rattle.trick_names.specs.declared.tables.Global.{Global}
-use Rattle.trick_names.specs.declared.tables.Global.TheVariants as the
-use Rattle.trick_names.specs.declared.tables.Lengths.{Lengths}
-use Rattle.trick_names.specs.declared.tables.Lengths.TheVariants as lengths
-use Rattle.trick_names.specs.declared.tables.Local.{Local as Declared}
-use Rattle.trick_names.specs.declared.tables.Member.{Member}
-use Rattle.trick_names.specs.declared.tables.Member.TheVariants.{Variable as Holds, Method}
-use Rattle.trick_names.specs.declared.tables.Shape.{Shape}
-use Rattle.trick_names.specs.declared.tables.Tables.{Tables}
-use Rattle.trick_places.specs.Named.{AreNamed, IsNamed}
+use Rattle.trick_check_names.specs.Laid.{fields_at}
+use Rattle.trick_check_names.specs.declared.layout.Dims.{Dims}
+use Rattle.trick_check_names.specs.declared.layout.Dims.TheVariants as dims
+use Rattle.trick_check_names.specs.declared.layout.Extent.{Extent}
+use Rattle.trick_check_names.specs.declared.layout.Field.{Field}
+use Rattle.trick_check_names.specs.declared.layout.Layout.{Layout}
+use Rattle.trick_check_names.specs.declared.layout.Site.{Site}
+use Rattle.trick_check_names.specs.declared.layout.Site.TheVariants as site
+use Rattle.trick_check_meaning.specs.Meaning.{Local as ByName, Setting, State, Stored, number_at}
+use Rattle.trick_check_names.specs.Names.{Names, meaning_of}
+use Rattle.trick_check_names.specs.Places.{members_at}
+use Rattle.trick_check_names.specs.declared.tables.Base.TheVariants.{Single, Group}
+use Rattle.trick_check_names.specs.declared.tables.Global.{Global}
+use Rattle.trick_check_names.specs.declared.tables.Global.TheVariants as the
+use Rattle.trick_check_names.specs.declared.tables.Lengths.{Lengths}
+use Rattle.trick_check_names.specs.declared.tables.Lengths.TheVariants as lengths
+use Rattle.trick_check_names.specs.declared.tables.Local.{Local as Declared}
+use Rattle.trick_check_names.specs.declared.tables.Member.{Member}
+use Rattle.trick_check_names.specs.declared.tables.Member.TheVariants.{Variable as Holds, Method}
+use Rattle.trick_check_names.specs.declared.tables.Shape.{Shape}
+use Rattle.trick_check_names.specs.declared.tables.Tables.{Tables}
+use Rattle.trick_check_bodies.specs.Named.{AreNamed, IsNamed}
 
 -- ---- tables
 

@@ -1,12 +1,12 @@
 -- What resolving keeps of what the parts of a body mean.
 use Rattle.std.specs.Prelude.{◌≡◌, ◌≤◌, ℕ, List, []}
-use Rattle.trick_blocks.specs.Codes.{after_all, all_codes, all_inner}
-use Rattle.trick_blocks.specs.Terms.{term}
-use Rattle.trick_blocks.specs.declared.start.Local.{Local as InSlot}
-use Rattle.trick_blocks.specs.declared.scope.ClassScope.{ClassScope}
-use Rattle.trick_cells.specs.Counts.{counts, names_count}
-use Rattle.trick_cells.specs.Tables.{layout_of}
-use Rattle.trick_cells.specs.Unfolding.{Unfolds}
+use Rattle.trick_check_blocks.specs.Codes.{after_all, all_codes, all_inner}
+use Rattle.trick_check_blocks.specs.Terms.{term}
+use Rattle.trick_check_blocks.specs.declared.start.Local.{Local as InSlot}
+use Rattle.trick_check_blocks.specs.declared.scope.ClassScope.{ClassScope}
+use Rattle.trick_check_cells.specs.Counts.{counts, names_count}
+use Rattle.trick_check_cells.specs.Tables.{layout_of}
+use Rattle.trick_check_cells.specs.Unfolding.{Unfolds}
 use Rattle.trick_lang.specs.Run as in_cells
 use Rattle.trick_lang.specs.Run.{Setting as InCells, State as Resolved}
 use Rattle.trick_lang.specs.SyntaxTree.{Expression, SDefine, Statements}
@@ -14,15 +14,15 @@ use Rattle.trick_lang.specs.Tree.{Code}
 use Rattle.trick_lang.specs.Value as resolved
 use Rattle.trick_lang.specs.Value.{Sight}
 use Rattle.trick_lang.specs.declared.variable.Variable.{Variable}
-use Rattle.trick_meaning.specs.Meaning.{Setting, State, run_all, value}
-use Rattle.trick_meaning_kept.specs.Alike.{AreAlike, AreBelow, AreInOnePlace, AreSameTables, BlocksAreBelow, CanRunAll, EndAlike, HasBlocks, HaveElements, RunBlocks, SeeTheSame}
-use Rattle.trick_names.specs.BodyMistakes as names
-use Rattle.trick_names.specs.BodyMistakes.{all_mistakes, expression_mistakes}
-use Rattle.trick_names.specs.FileMistakes.{mistakes}
-use Rattle.trick_names.specs.Names.{Names}
-use Rattle.trick_names.specs.Tables.{tables_of}
-use Rattle.trick_names.specs.declared.tables.Local.{Local as Declared}
-use Rattle.trick_places.specs.Named.{AreNamed}
+use Rattle.trick_check_meaning.specs.Meaning.{Setting, State, run_all, value}
+use Rattle.trick_check_meaning_kept.specs.Alike.{AreAlike, AreBelow, AreInOnePlace, AreSameTables, BlocksAreBelow, CanRunAll, EndAlike, HasBlocks, HaveElements, RunBlocks, SeeTheSame}
+use Rattle.trick_check_names.specs.BodyMistakes as names
+use Rattle.trick_check_names.specs.BodyMistakes.{all_mistakes, expression_mistakes}
+use Rattle.trick_check_names.specs.FileMistakes.{mistakes}
+use Rattle.trick_check_names.specs.Names.{Names}
+use Rattle.trick_check_names.specs.Tables.{tables_of}
+use Rattle.trick_check_names.specs.declared.tables.Local.{Local as Declared}
+use Rattle.trick_check_bodies.specs.Named.{AreNamed}
 
 -- What a file without a mistake in its names declares is the same by names and by cells: where no array in it
 -- is without elements, and its objects have at most 65,536 cells together.

@@ -1,10 +1,10 @@
 //! Laws of what resolving keeps, for every file, body, memory and state. A function that calls one of these laws may
 //! rest on what it says; the call itself does nothing.
 
-ghost use Rattle.trick_meaning_kept.specs.Kept.{ExpressionsKeep, StatementsKeep, TablesKeep};
+ghost use Rattle.trick_check_meaning_kept.specs.Kept.{ExpressionsKeep, StatementsKeep, TablesKeep};
 
 use trick_lang::laws::wrap_law;
-use trick_places::laws::{object_law, place_law};
+use trick_check_bodies::laws::{object_law, place_law};
 
 /// What a file declares is the same by names and by cells.
 pub fn tables_keep()

@@ -2,12 +2,12 @@
 use Rattle.std.proofs.Common.{◌≡◌, ◌⊎◌, ℕ, zero, suc, ◌+◌, ◌≤◌, ℤ, true, is_some, List, [], ◌∷◌, ◌++◌, length, slice_get, Option, Some, None, Result, Ok, Err, inl, inr, refl, ap, sym, ◌∙◌, subst, arith}
 use Rattle.std.proofs.lemmas.List.{append-nil, append_assoc, length-append}
 use Rattle.std.specs.List.{slice_index_or}
-use Rattle.trick_blocks.specs.Codes as codes
-use Rattle.trick_blocks.specs.Codes.{all_codes, all_count, all_inner}
-use Rattle.trick_blocks.specs.Kept.{codes_in}
-use Rattle.trick_blocks.specs.Methods.{Progress, block_slots, body_blocks, with_method, with_part, with_parts}
-use Rattle.trick_blocks.specs.declared.start.Local.{Local as InSlot}
-use Rattle.trick_blocks.specs.declared.scope.ClassScope.{ClassScope}
+use Rattle.trick_check_blocks.specs.Codes as codes
+use Rattle.trick_check_blocks.specs.Codes.{all_codes, all_count, all_inner}
+use Rattle.trick_check_blocks.specs.Kept.{codes_in}
+use Rattle.trick_check_blocks.specs.Methods.{Progress, block_slots, body_blocks, with_method, with_part, with_parts}
+use Rattle.trick_check_blocks.specs.declared.start.Local.{Local as InSlot}
+use Rattle.trick_check_blocks.specs.declared.scope.ClassScope.{ClassScope}
 use Rattle.trick_lang.specs.Blocks.{block_at}
 use Rattle.trick_lang.specs.Effect.{scalars_of}
 use Rattle.trick_lang.specs.Laws.{WrapsRight}
@@ -20,30 +20,30 @@ use Rattle.trick_lang.specs.SyntaxTree.{HasMethod, Name, Part}
 use Rattle.trick_lang.specs.Tree.{Code}
 use Rattle.trick_lang.specs.declared.fault.StatementFault.{StatementFault}
 use Rattle.trick_lang.specs.declared.variable.Variable.{Variable}
-use Rattle.trick_layout.specs.declared.layout.Site.TheVariants as site
-use Rattle.trick_meaning.specs.Meaning as meaning
-use Rattle.trick_meaning.specs.Meaning.{Setting, State, Stored}
-use Rattle.trick_meaning.specs.Methods.{body_does, body_in, method_does}
-use Rattle.trick_meaning_kept.proofs.Statements.{all_end, all_inner_count, below_behind, below_front, has_behind, has_front}
-use Rattle.trick_meaning_kept.specs.Alike.{AreInOnePlace, AreSameTables, BlocksAreBelow, CallAlike, CanRunAll, EndAlike, HasBlocks, KeepsFrom, RunBlocks}
-use Rattle.trick_meaning_of_jobs.proofs.Bodies.{all_run}
-use Rattle.trick_meaning_of_jobs.proofs.Known.{new_case, new_known, grows_with}
-use Rattle.trick_meaning_of_jobs.proofs.Lists.{has_push, stand_first}
-use Rattle.trick_meaning_of_jobs.proofs.Made.{Begin, begin_parts, blocks_below, codes_many, codes_with, has_made, parts_slots, slots_grow}
-use Rattle.trick_meaning_of_jobs.proofs.Parts.{AreNumbered}
+use Rattle.trick_check_names.specs.declared.layout.Site.TheVariants as site
+use Rattle.trick_check_meaning.specs.Meaning as meaning
+use Rattle.trick_check_meaning.specs.Meaning.{Setting, State, Stored}
+use Rattle.trick_check_meaning.specs.Methods.{body_does, body_in, method_does}
+use Rattle.trick_check_meaning_kept.proofs.Statements.{all_end, all_inner_count, below_behind, below_front, has_behind, has_front}
+use Rattle.trick_check_meaning_kept.specs.Alike.{AreInOnePlace, AreSameTables, BlocksAreBelow, CallAlike, CanRunAll, EndAlike, HasBlocks, KeepsFrom, RunBlocks}
+use Rattle.trick_check_meaning_of_jobs.proofs.Bodies.{all_run}
+use Rattle.trick_check_meaning_of_jobs.proofs.Known.{new_case, new_known, grows_with}
+use Rattle.trick_check_meaning_of_jobs.proofs.Lists.{has_push, stand_first}
+use Rattle.trick_check_meaning_of_jobs.proofs.Made.{Begin, begin_parts, blocks_below, codes_many, codes_with, has_made, parts_slots, slots_grow}
+use Rattle.trick_check_meaning_of_jobs.proofs.Parts.{AreNumbered}
 use Rattle.trick_lang.specs.Loops.{are_short_loops}
-use Rattle.trick_names.specs.BodyMistakes as names
-use Rattle.trick_names.specs.BodyMistakes.{all_mistakes}
-use Rattle.trick_names.specs.Calls.{all_calls}
-use Rattle.trick_names.specs.Names.{Names, meaning_of, with_name}
-use Rattle.trick_names.specs.Places.{members_at}
-use Rattle.trick_names.specs.declared.tables.Base.TheVariants.{Group}
-use Rattle.trick_names.specs.declared.tables.Global.TheVariants as the
-use Rattle.trick_names.specs.declared.tables.Local.{Local as Declared}
-use Rattle.trick_names.specs.declared.tables.Member.TheVariants.{Method}
-use Rattle.trick_names.specs.declared.scope.FileScope as by_name
-use Rattle.trick_order.specs.Calls.{all_in, callees, has, stand_after}
-use Rattle.trick_places.specs.Named.{AreNamed, IsNamed, LeadToTheirNames, ObjectsHoldNames}
+use Rattle.trick_check_names.specs.BodyMistakes as names
+use Rattle.trick_check_names.specs.BodyMistakes.{all_mistakes}
+use Rattle.trick_check_names.specs.Calls.{all_calls}
+use Rattle.trick_check_names.specs.Names.{Names, meaning_of, with_name}
+use Rattle.trick_check_names.specs.Places.{members_at}
+use Rattle.trick_check_names.specs.declared.tables.Base.TheVariants.{Group}
+use Rattle.trick_check_names.specs.declared.tables.Global.TheVariants as the
+use Rattle.trick_check_names.specs.declared.tables.Local.{Local as Declared}
+use Rattle.trick_check_names.specs.declared.tables.Member.TheVariants.{Method}
+use Rattle.trick_check_names.specs.declared.scope.FileScope as by_name
+use Rattle.trick_check_order.specs.Calls.{all_in, callees, has, stand_after}
+use Rattle.trick_check_bodies.specs.Named.{AreNamed, IsNamed, LeadToTheirNames, ObjectsHoldNames}
 
 -- In one object of a class: the parts of the class, what the file declares, the name of the object, the memory by
 -- names, the cells of each struct and class and of all objects, how many slots there are, all blocks, and where they

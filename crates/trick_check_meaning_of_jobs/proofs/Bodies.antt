@@ -1,32 +1,32 @@
 -- The bodies of a file without mistakes have none by all names of the file, and what they call is known.
 use Rattle.std.proofs.Common.{◌≡◌, ℕ, Bool, true, false, ◌&&◌, is_some, nat_le, List, [], ◌++◌, Option, Some, None, refl, ap, sym, ◌∙◌}
 use Rattle.std.proofs.lemmas.Bool.{and_parts}
-use Rattle.trick_blocks.specs.declared.scope.ClassScope as blocks
+use Rattle.trick_check_blocks.specs.declared.scope.ClassScope as blocks
 use Rattle.trick_lang.specs.Locals.{bound_number}
 use Rattle.trick_lang.specs.SyntaxTree.{Name, Expression, Whole, Truth, Named, Prefixed, Chain, Choose, Links, NoLink, Link, Choices, Last, Choice, Path, path, Parts, NoPart, Member, Index, TypeName, Basic, Custom, Change, Set, Update, Increase, Decrease, Statement, Empty, Block, Declare, Assign, If, For, Call, Branches, NoElse, Else, Test, Statements, NoStatement, Then}
-use Rattle.trick_meaning_kept.proofs.Values.{none_left, none_right}
-use Rattle.trick_meaning_kept.specs.Alike.{CanBranch, CanRun, CanRunAll}
-use Rattle.trick_meaning_of_jobs.proofs.Known.{Grow}
-use Rattle.trick_meaning_of_jobs.proofs.Lists.{all_in_two, none_both, two}
+use Rattle.trick_check_meaning_kept.proofs.Values.{none_left, none_right}
+use Rattle.trick_check_meaning_kept.specs.Alike.{CanBranch, CanRun, CanRunAll}
+use Rattle.trick_check_meaning_of_jobs.proofs.Known.{Grow}
+use Rattle.trick_check_meaning_of_jobs.proofs.Lists.{all_in_two, none_both, two}
 use Rattle.trick_lang.specs.Loops.{branches_have_short_loops, has_short_loops, are_short_loops}
-use Rattle.trick_names.specs.BodyMistakes.{after, all_mistakes, astray, branch_mistakes, call_mistakes, change_mistakes, choice_mistakes, declared, ends, expression_mistakes, first_value_mistakes, line_of, link_mistakes, local_type_mistakes, loop_in, part_mistakes, path_mistakes, statement_mistakes, strays, type_mistakes, unless_fixed}
-use Rattle.trick_names.specs.Calls.{all_calls, branch_calls, method_of, statement_calls}
-use Rattle.trick_names.specs.Mistakes.{twice}
-use Rattle.trick_names.specs.Names.{Names, meaning_of}
-use Rattle.trick_names.specs.Places.{followed, is_fixed, literal_of, member_in, members_at, named, to_element, to_member}
-use Rattle.trick_names.specs.declared.follow.State.{State}
-use Rattle.trick_names.specs.declared.follow.State.TheVariants.{Stands, Astray, Misfit}
-use Rattle.trick_names.specs.declared.tables.Base.{Base}
-use Rattle.trick_names.specs.declared.tables.Base.TheVariants.{Single, Group}
-use Rattle.trick_names.specs.declared.tables.Global.{Global}
-use Rattle.trick_names.specs.declared.tables.Global.TheVariants as the
-use Rattle.trick_names.specs.declared.tables.Lengths.{Lengths}
-use Rattle.trick_names.specs.declared.tables.Lengths.TheVariants.{Plain, One, Two}
-use Rattle.trick_names.specs.declared.tables.Local.{Local}
-use Rattle.trick_names.specs.declared.tables.Member.{Member as InGroup}
-use Rattle.trick_names.specs.declared.tables.Member.TheVariants.{Variable, Method}
-use Rattle.trick_names.specs.declared.scope.FileScope.{FileScope}
-use Rattle.trick_order.specs.Calls.{all_in, has}
+use Rattle.trick_check_names.specs.BodyMistakes.{after, all_mistakes, astray, branch_mistakes, call_mistakes, change_mistakes, choice_mistakes, declared, ends, expression_mistakes, first_value_mistakes, line_of, link_mistakes, local_type_mistakes, loop_in, part_mistakes, path_mistakes, statement_mistakes, strays, type_mistakes, unless_fixed}
+use Rattle.trick_check_names.specs.Calls.{all_calls, branch_calls, method_of, statement_calls}
+use Rattle.trick_check_names.specs.Mistakes.{twice}
+use Rattle.trick_check_names.specs.Names.{Names, meaning_of}
+use Rattle.trick_check_names.specs.Places.{followed, is_fixed, literal_of, member_in, members_at, named, to_element, to_member}
+use Rattle.trick_check_names.specs.declared.follow.State.{State}
+use Rattle.trick_check_names.specs.declared.follow.State.TheVariants.{Stands, Astray, Misfit}
+use Rattle.trick_check_names.specs.declared.tables.Base.{Base}
+use Rattle.trick_check_names.specs.declared.tables.Base.TheVariants.{Single, Group}
+use Rattle.trick_check_names.specs.declared.tables.Global.{Global}
+use Rattle.trick_check_names.specs.declared.tables.Global.TheVariants as the
+use Rattle.trick_check_names.specs.declared.tables.Lengths.{Lengths}
+use Rattle.trick_check_names.specs.declared.tables.Lengths.TheVariants.{Plain, One, Two}
+use Rattle.trick_check_names.specs.declared.tables.Local.{Local}
+use Rattle.trick_check_names.specs.declared.tables.Member.{Member as InGroup}
+use Rattle.trick_check_names.specs.declared.tables.Member.TheVariants.{Variable, Method}
+use Rattle.trick_check_names.specs.declared.scope.FileScope.{FileScope}
+use Rattle.trick_check_order.specs.Calls.{all_in, has}
 
 -- ---- more names of types
 

@@ -6,12 +6,12 @@ use Rattle.std.specs.Str.{bytes_eq}
 use Rattle.trick_lang.specs.Names.{are_apart, of_one_name}
 use Rattle.trick_lang.specs.SyntaxTree.{Name}
 use Rattle.trick_lang.specs.declared.variable.Variable.{Variable}
-use Rattle.trick_meaning.specs.Meaning.{Stored}
-use Rattle.trick_meaning_kept.proofs.Cells.{IsAt, is_at}
-use Rattle.trick_meaning_of_jobs.proofs.Known.{name_same, same_name}
-use Rattle.trick_meaning_of_jobs.specs.Jobs.{by_cell, number_named}
-use Rattle.trick_names.specs.Names.{meaning_of}
-use Rattle.trick_places.specs.Named.{IsNamed}
+use Rattle.trick_check_meaning.specs.Meaning.{Stored}
+use Rattle.trick_check_meaning_kept.proofs.Cells.{IsAt, is_at}
+use Rattle.trick_check_meaning_of_jobs.proofs.Known.{name_same, same_name}
+use Rattle.trick_check_meaning_of_jobs.specs.Jobs.{by_cell, number_named}
+use Rattle.trick_check_names.specs.Names.{meaning_of}
+use Rattle.trick_check_bodies.specs.Named.{IsNamed}
 
 -- ---- a cell with a name
 

@@ -1,19 +1,19 @@
 -- Where the methods of a program come from: class by class.
 use Rattle.std.proofs.Common.{◌≡◌, ◌⊎◌, ℕ, zero, suc, ◌+◌, ◌<◌, ◌≤◌, Bool, true, false, List, [], ◌∷◌, slice_get, unwrap_or, Some, inl, inr, refl, ap, sym, subst, arith}
-use Rattle.trick_blocks.specs.Kept.{codes_in}
-use Rattle.trick_blocks.specs.Methods.{Progress, progress}
-use Rattle.trick_bodies.specs.Classes.{class_progress}
+use Rattle.trick_check_blocks.specs.Kept.{codes_in}
+use Rattle.trick_check_blocks.specs.Methods.{Progress, progress}
+use Rattle.trick_check_bodies.specs.Classes.{class_progress}
 use Rattle.trick_check.specs.Parts.{order_at, parts_at}
 use Rattle.trick_check.specs.Walk.{has_object, made_of_first, with_class_if}
-use Rattle.trick_jobs.specs.Methods.{class_methods}
+use Rattle.trick_check_bodies.specs.Methods.{class_methods}
 use Rattle.trick_lang.specs.SyntaxTree as tree
 use Rattle.trick_lang.specs.SyntaxTree.{HasMethod, Part, SDefine}
 use Rattle.trick_lang.specs.Tree.{Code}
 use Rattle.trick_lang.specs.declared.method.Method as program
 use Rattle.trick_lang.specs.declared.object.Object.{Object}
-use Rattle.trick_meaning_of_jobs.proofs.Lists.{get_case}
-use Rattle.trick_meaning_of_jobs.proofs.Made.{Begin, begin_parts, parts_slots}
-use Rattle.trick_names.specs.Names.{Names, meaning_of}
+use Rattle.trick_check_meaning_of_jobs.proofs.Lists.{get_case}
+use Rattle.trick_check_meaning_of_jobs.proofs.Made.{Begin, begin_parts, parts_slots}
+use Rattle.trick_check_names.specs.Names.{Names, meaning_of}
 
 -- ---- the methods of a class
 

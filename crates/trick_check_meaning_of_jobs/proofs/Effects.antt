@@ -4,12 +4,12 @@ use Rattle.std.proofs.lemmas.Bool.{and_parts, eqb-true}
 use Rattle.std.proofs.lemmas.List.{append-nil, length-replicate}
 use Rattle.std.specs.List.{list_all, slice_index_or}
 use Rattle.trick_base.specs.Capped.{capped}
-use Rattle.trick_blocks.specs.Held.{bodies_of}
-use Rattle.trick_blocks.specs.Kept.{codes_in}
-use Rattle.trick_blocks.specs.Methods.{Progress, progress, with_parts}
-use Rattle.trick_cells.specs.Cells.{all_groups, group_cells, memory_cells}
-use Rattle.trick_cells.specs.Counts.{counts, names_count}
-use Rattle.trick_cells.specs.Unfolding.{Unfolds, are_declared_first}
+use Rattle.trick_check_blocks.specs.Held.{bodies_of}
+use Rattle.trick_check_blocks.specs.Kept.{codes_in}
+use Rattle.trick_check_blocks.specs.Methods.{Progress, progress, with_parts}
+use Rattle.trick_check_cells.specs.Cells.{all_groups, group_cells, memory_cells}
+use Rattle.trick_check_cells.specs.Counts.{counts, names_count}
+use Rattle.trick_check_cells.specs.Unfolding.{Unfolds, are_declared_first}
 use Rattle.trick_check.proofs.Calls.{callees_there, calls_many}
 use Rattle.trick_check.proofs.Joining.{count_is}
 use Rattle.trick_check.proofs.Walked.{first_layout}
@@ -34,32 +34,32 @@ use Rattle.trick_lang.specs.declared.object.Object.{Object}
 use Rattle.trick_lang.specs.declared.program.Program.{Program}
 use Rattle.trick_lang.specs.declared.tree.Block.{Block}
 use Rattle.trick_lang.specs.declared.variable.Variable.{Variable}
-use Rattle.trick_layout.specs.declared.layout.Layout.{Layout}
-use Rattle.trick_layout.specs.declared.layout.Site.TheVariants as site
-use Rattle.trick_meaning.specs.Meaning.{Stored}
-use Rattle.trick_meaning.specs.Methods.{class_does, class_of, does, method_does, world_of}
-use Rattle.trick_meaning_kept.proofs.Tabled.{file_once}
-use Rattle.trick_meaning_kept.specs.Alike.{AreSameTables}
-use Rattle.trick_meaning_kept.specs.Kept.{TablesKeep}
-use Rattle.trick_meaning_of_jobs.proofs.Along.{EndAsMeant, IsAlong, IsThere, StoreAlike, parts_along}
-use Rattle.trick_meaning_of_jobs.proofs.Cells.{nothing_stored, number_is, stored_is}
-use Rattle.trick_meaning_of_jobs.proofs.Classes.{IsMade, IsWithin, is_made, it_within, with_it}
-use Rattle.trick_meaning_of_jobs.proofs.Lists.{order_short}
-use Rattle.trick_meaning_of_jobs.proofs.Objects.{class_used, object_told}
-use Rattle.trick_meaning_of_jobs.proofs.Parts.{calls_are, class_numbered, is_method, parts_are}
-use Rattle.trick_meaning_of_jobs.specs.Jobs.{IsReadable, MethodsKeep, by_cell, meant, meant_by, number_named}
-use Rattle.trick_names.specs.FileMistakes.{mistakes}
-use Rattle.trick_names.specs.Mistakes.{Mistake, Twice, Unknown, NotScalar, fault_of, first_twice, first_unknown, twice_fault}
-use Rattle.trick_names.specs.Names.{Names, meaning_of}
-use Rattle.trick_names.specs.Places.{members_at}
-use Rattle.trick_names.specs.Tables.{tables_of}
-use Rattle.trick_names.specs.declared.tables.Base.TheVariants.{Group}
-use Rattle.trick_names.specs.declared.tables.Global.TheVariants as the
-use Rattle.trick_names.specs.declared.tables.Member.{Member}
-use Rattle.trick_names.specs.declared.tables.Tables.{Tables}
-use Rattle.trick_names.specs.declared.scope.FileScope as by_name
-use Rattle.trick_order.specs.Calls.{AreCallees, IsOrderOf, ReachesItself, order_of}
-use Rattle.trick_places.specs.Named.{AreNamed, LeadToTheirNames, ObjectsHoldNames, TablesTell}
+use Rattle.trick_check_names.specs.declared.layout.Layout.{Layout}
+use Rattle.trick_check_names.specs.declared.layout.Site.TheVariants as site
+use Rattle.trick_check_meaning.specs.Meaning.{Stored}
+use Rattle.trick_check_meaning.specs.Methods.{class_does, class_of, does, method_does, world_of}
+use Rattle.trick_check_meaning_kept.proofs.Tabled.{file_once}
+use Rattle.trick_check_meaning_kept.specs.Alike.{AreSameTables}
+use Rattle.trick_check_meaning_kept.specs.Kept.{TablesKeep}
+use Rattle.trick_check_meaning_of_jobs.proofs.Along.{EndAsMeant, IsAlong, IsThere, StoreAlike, parts_along}
+use Rattle.trick_check_meaning_of_jobs.proofs.Cells.{nothing_stored, number_is, stored_is}
+use Rattle.trick_check_meaning_of_jobs.proofs.Classes.{IsMade, IsWithin, is_made, it_within, with_it}
+use Rattle.trick_check_meaning_of_jobs.proofs.Lists.{order_short}
+use Rattle.trick_check_meaning_of_jobs.proofs.Objects.{class_used, object_told}
+use Rattle.trick_check_meaning_of_jobs.proofs.Parts.{calls_are, class_numbered, is_method, parts_are}
+use Rattle.trick_check_meaning_of_jobs.specs.Jobs.{IsReadable, MethodsKeep, by_cell, meant, meant_by, number_named}
+use Rattle.trick_check_names.specs.FileMistakes.{mistakes}
+use Rattle.trick_check_names.specs.Mistakes.{Mistake, Twice, Unknown, NotScalar, fault_of, first_twice, first_unknown, twice_fault}
+use Rattle.trick_check_names.specs.Names.{Names, meaning_of}
+use Rattle.trick_check_names.specs.Places.{members_at}
+use Rattle.trick_check_names.specs.Tables.{tables_of}
+use Rattle.trick_check_names.specs.declared.tables.Base.TheVariants.{Group}
+use Rattle.trick_check_names.specs.declared.tables.Global.TheVariants as the
+use Rattle.trick_check_names.specs.declared.tables.Member.{Member}
+use Rattle.trick_check_names.specs.declared.tables.Tables.{Tables}
+use Rattle.trick_check_names.specs.declared.scope.FileScope as by_name
+use Rattle.trick_check_order.specs.Calls.{AreCallees, IsOrderOf, ReachesItself, order_of}
+use Rattle.trick_check_bodies.specs.Named.{AreNamed, LeadToTheirNames, ObjectsHoldNames, TablesTell}
 
 -- ---- lists
 
@@ -279,7 +279,7 @@ module _ (laws : Laws) (ds : SDefine) (p : Program) (named : IsNamed ds p) (read
         → and_then (ran p object.first method.block numbers (begun p))
         (λ s. Ok s.stored) ≡ meant ds p.cells object.name method.name numbers
     method_keeps method made same =
-        let of_it = subst (λ k. Rattle.trick_meaning_of_jobs.proofs.Classes.IsOfPart k
+        let of_it = subst (λ k. Rattle.trick_check_meaning_of_jobs.proofs.Classes.IsOfPart k
         (with_it ds (objects_of ds) k).scope.methods (parts_at ds k) method) same made.of_it in
         let m = of_it.1 in
         let known = meaning_of m.name (with_parts order parts begins).scope.methods in

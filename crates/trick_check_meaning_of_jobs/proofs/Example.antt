@@ -16,10 +16,10 @@ use Rattle.trick_lang.specs.declared.tree.Block.{Block}
 use Rattle.trick_lang.specs.declared.tree.Change.TheVariants.{Update, Decrease}
 use Rattle.trick_lang.specs.declared.tree.Expr.{Local, Number}
 use Rattle.trick_lang.specs.declared.tree.Stmt.TheVariants.{Declare, SetLocal, For, Run}
-use Rattle.trick_meaning.specs.Worked.{m, n, o}
-use Rattle.trick_meaning_of_jobs.proofs.Lengths.{have_elements}
-use Rattle.trick_meaning_of_jobs.specs.Example.{HasProgram, file}
-use Rattle.trick_order.specs.Calls.{Reaches, callees, has}
+use Rattle.trick_check_meaning.specs.Worked.{m, n, o}
+use Rattle.trick_check_meaning_of_jobs.proofs.Lengths.{have_elements}
+use Rattle.trick_check_meaning_of_jobs.specs.Example.{HasProgram, file}
+use Rattle.trick_check_order.specs.Calls.{Reaches, callees, has}
 
 -- ---- no method reaches itself
 

@@ -1,7 +1,7 @@
 -- Lists, their items, and numbers in them.
 use Rattle.std.proofs.Common.{◌≡◌, ◌≢◌, ◌⊎◌, ℕ, zero, suc, ◌+◌, ◌<◌, ◌≤◌, ◌==◌, Bool, true, false, not, ◌&&◌, ◌||◌, if◌then◌else◌, List, [], ◌∷◌, ◌++◌, length, Some, slice_get, inl, inr, refl, ap, sym, ◌∙◌, subst, arith, eq-eqb}
 use Rattle.std.proofs.lemmas.Bool.{and_parts, eqb-true, not-true, or_cases, or_left, or_right}
-use Rattle.trick_order.specs.Calls.{all_in, callees, has, stand_after}
+use Rattle.trick_check_order.specs.Calls.{all_in, callees, has, stand_after}
 
 -- ---- tests
 

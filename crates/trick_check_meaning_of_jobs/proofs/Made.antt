@@ -2,13 +2,13 @@
 use Rattle.std.proofs.Common.{◌≡◌, ℕ, suc, ◌+◌, ◌≤◌, max, nat_lt, true, List, [], ◌∷◌, ◌++◌, length, Option, Some, slice_get, refl, ap, sym, ◌∙◌, subst, arith}
 use Rattle.std.proofs.lemmas.Bool.{lt-ltb}
 use Rattle.std.proofs.lemmas.List.{append-nil, append_assoc}
-use Rattle.trick_blocks.specs.Bodies.{Body, with_bodies, with_body}
-use Rattle.trick_blocks.specs.Kept.{codes_in}
-use Rattle.trick_blocks.specs.Methods.{Progress, all_slots, block_slots, body_blocks, code_slots, with_part, with_parts}
+use Rattle.trick_check_blocks.specs.Bodies.{Body, with_bodies, with_body}
+use Rattle.trick_check_blocks.specs.Kept.{codes_in}
+use Rattle.trick_check_blocks.specs.Methods.{Progress, all_slots, block_slots, body_blocks, code_slots, with_part, with_parts}
 use Rattle.trick_lang.specs.Blocks.{block_at}
 use Rattle.trick_lang.specs.SyntaxTree as tree
 use Rattle.trick_lang.specs.Tree.{Code, Empty, Declare, For}
-use Rattle.trick_meaning_kept.specs.Alike.{AreBelow, BlocksAreBelow, HasBlocks, is_code_below}
+use Rattle.trick_check_meaning_kept.specs.Alike.{AreBelow, BlocksAreBelow, HasBlocks, is_code_below}
 
 -- ---- blocks
 

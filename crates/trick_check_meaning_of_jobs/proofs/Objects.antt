@@ -2,19 +2,19 @@
 use Rattle.std.proofs.Common.{◌≡◌, ℕ, zero, suc, ◌+◌, ◌==◌, Bool, true, false, if◌then◌else◌, List, [], ◌∷◌, ◌++◌, Some, None, slice_get, refl, ap, sym, ◌∙◌, subst, eq-eqb}
 use Rattle.std.proofs.lemmas.Bool.{or_left, or_right}
 use Rattle.std.specs.Str.{bytes_eq}
-use Rattle.trick_cells.specs.Counts.{global_count}
-use Rattle.trick_cells.specs.Tables.{narrow, object_row, object_rows, with_site, with_sites}
+use Rattle.trick_check_cells.specs.Counts.{global_count}
+use Rattle.trick_check_cells.specs.Tables.{narrow, object_row, object_rows, with_site, with_sites}
 use Rattle.trick_check.specs.Walk.{has_object}
 use Rattle.trick_lang.specs.SyntaxTree.{Name}
 use Rattle.trick_lang.specs.declared.object.Object.{Object}
-use Rattle.trick_layout.specs.declared.layout.Site.{Site}
-use Rattle.trick_layout.specs.declared.layout.Site.TheVariants as site
-use Rattle.trick_meaning_kept.proofs.Tabled.{Once, new_site, site_other, sites_none}
-use Rattle.trick_meaning_of_jobs.proofs.Known.{name_same, same_name}
-use Rattle.trick_names.specs.Names.{Names, meaning_of}
-use Rattle.trick_names.specs.declared.tables.Base.TheVariants.{Single, Group}
-use Rattle.trick_names.specs.declared.tables.Global.{Global}
-use Rattle.trick_names.specs.declared.tables.Global.TheVariants as the
+use Rattle.trick_check_names.specs.declared.layout.Site.{Site}
+use Rattle.trick_check_names.specs.declared.layout.Site.TheVariants as site
+use Rattle.trick_check_meaning_kept.proofs.Tabled.{Once, new_site, site_other, sites_none}
+use Rattle.trick_check_meaning_of_jobs.proofs.Known.{name_same, same_name}
+use Rattle.trick_check_names.specs.Names.{Names, meaning_of}
+use Rattle.trick_check_names.specs.declared.tables.Base.TheVariants.{Single, Group}
+use Rattle.trick_check_names.specs.declared.tables.Global.{Global}
+use Rattle.trick_check_names.specs.declared.tables.Global.TheVariants as the
 
 -- ---- names of objects
 

@@ -8,31 +8,31 @@ use Rattle.std.specs.Str.{bytes_eq}
 use Rattle.trick_check.specs.Parts.{parts_at, parts_in}
 use Rattle.trick_lang.specs.SyntaxTree as tree
 use Rattle.trick_lang.specs.SyntaxTree.{Declarator, Definition, Members, Name, Part, SDefine, ClassOf, HasMethod}
-use Rattle.trick_meaning.specs.Methods as meaning
-use Rattle.trick_meaning.specs.Methods.{body_in, world_of}
-use Rattle.trick_meaning_kept.proofs.Statements.{not_known}
-use Rattle.trick_meaning_kept.proofs.Values.{none_left, none_right}
-use Rattle.trick_meaning_of_jobs.proofs.Bodies.{all_none}
-use Rattle.trick_meaning_of_jobs.proofs.Known.{Grow, definitions_grow, name_same, new_case, new_known, part_grows, same_name, unknown_before}
-use Rattle.trick_meaning_of_jobs.proofs.Lists.{get_behind}
+use Rattle.trick_check_meaning.specs.Methods as meaning
+use Rattle.trick_check_meaning.specs.Methods.{body_in, world_of}
+use Rattle.trick_check_meaning_kept.proofs.Statements.{not_known}
+use Rattle.trick_check_meaning_kept.proofs.Values.{none_left, none_right}
+use Rattle.trick_check_meaning_of_jobs.proofs.Bodies.{all_none}
+use Rattle.trick_check_meaning_of_jobs.proofs.Known.{Grow, definitions_grow, name_same, new_case, new_known, part_grows, same_name, unknown_before}
+use Rattle.trick_check_meaning_of_jobs.proofs.Lists.{get_behind}
 use Rattle.trick_lang.specs.Facts.{have_short_loops}
 use Rattle.trick_lang.specs.Loops.{are_short_loops}
-use Rattle.trick_names.specs.BodyMistakes.{all_mistakes}
-use Rattle.trick_names.specs.Calls.{all_calls, class_calls}
-use Rattle.trick_names.specs.FileMistakes.{at_start, class_mistakes, declared_mistakes, definition_mistakes, definitions_mistakes, done_mistakes, mistakes, past}
-use Rattle.trick_names.specs.Mistakes.{twice}
-use Rattle.trick_names.specs.Names.{Names, meaning_of, with_name}
-use Rattle.trick_names.specs.Places.{members_at}
-use Rattle.trick_names.specs.Tables.{behind_definition, behind_definitions, behind_part, behind_parts, members_in, names_behind, nothing_inside, tables_of, with_all_members, with_declarator, with_declarators, with_members}
-use Rattle.trick_names.specs.declared.tables.Base.{Base}
-use Rattle.trick_names.specs.declared.tables.Global.{Global}
-use Rattle.trick_names.specs.declared.tables.Inside.{Inside}
-use Rattle.trick_names.specs.declared.tables.Member.{Member}
-use Rattle.trick_names.specs.declared.tables.Member.TheVariants.{Variable as Holds, Method}
-use Rattle.trick_names.specs.declared.tables.Shape.{Shape}
-use Rattle.trick_names.specs.declared.tables.Tables.{Tables}
-use Rattle.trick_names.specs.declared.scope.FileScope.{FileScope}
-use Rattle.trick_order.specs.Calls.{callees}
+use Rattle.trick_check_names.specs.BodyMistakes.{all_mistakes}
+use Rattle.trick_check_names.specs.Calls.{all_calls, class_calls}
+use Rattle.trick_check_names.specs.FileMistakes.{at_start, class_mistakes, declared_mistakes, definition_mistakes, definitions_mistakes, done_mistakes, mistakes, past}
+use Rattle.trick_check_names.specs.Mistakes.{twice}
+use Rattle.trick_check_names.specs.Names.{Names, meaning_of, with_name}
+use Rattle.trick_check_names.specs.Places.{members_at}
+use Rattle.trick_check_names.specs.Tables.{behind_definition, behind_definitions, behind_part, behind_parts, members_in, names_behind, nothing_inside, tables_of, with_all_members, with_declarator, with_declarators, with_members}
+use Rattle.trick_check_names.specs.declared.tables.Base.{Base}
+use Rattle.trick_check_names.specs.declared.tables.Global.{Global}
+use Rattle.trick_check_names.specs.declared.tables.Inside.{Inside}
+use Rattle.trick_check_names.specs.declared.tables.Member.{Member}
+use Rattle.trick_check_names.specs.declared.tables.Member.TheVariants.{Variable as Holds, Method}
+use Rattle.trick_check_names.specs.declared.tables.Shape.{Shape}
+use Rattle.trick_check_names.specs.declared.tables.Tables.{Tables}
+use Rattle.trick_check_names.specs.declared.scope.FileScope.{FileScope}
+use Rattle.trick_check_order.specs.Calls.{callees}
 use Rattle.trick_lang.specs.PartTests.{anything, definition_passes, part_passes}
 
 -- ---- methods by number and by name

@@ -12,8 +12,8 @@ use Rattle.trick_lang.specs.declared.job.Job.{Job}
 use Rattle.trick_lang.specs.declared.operator.Arithmetic.TheVariants.{Divide}
 use Rattle.trick_lang.specs.declared.program.Program.{Program}
 use Rattle.trick_lang.specs.declared.scalar.Scalar.TheVariants.{Long}
-use Rattle.trick_meaning.specs.Worked.{a, b, call, g, i, lit, local, m, method, n, o, v, var}
-use Rattle.trick_meaning_of_jobs.specs.Jobs.{IsReadable, meant_by}
+use Rattle.trick_check_meaning.specs.Worked.{a, b, call, g, i, lit, local, m, method, n, o, v, var}
+use Rattle.trick_check_meaning_of_jobs.specs.Jobs.{IsReadable, meant_by}
 
 -- `name--;`
 abbrev pub less : Name → Statement

@@ -14,11 +14,11 @@ use Rattle.trick_lang.specs.declared.method.Method.{Method}
 use Rattle.trick_lang.specs.declared.object.Object.{Object}
 use Rattle.trick_lang.specs.declared.program.Program.{Program}
 use Rattle.trick_lang.specs.declared.variable.Variable.{Variable}
-use Rattle.trick_meaning.specs.Meaning.{Stored}
-use Rattle.trick_meaning.specs.Methods.{does}
-use Rattle.trick_meaning_kept.specs.Alike.{HaveElements}
-use Rattle.trick_names.specs.Names.{meaning_of}
-use Rattle.trick_names.specs.Tables.{tables_of}
+use Rattle.trick_check_meaning.specs.Meaning.{Stored}
+use Rattle.trick_check_meaning.specs.Methods.{does}
+use Rattle.trick_check_meaning_kept.specs.Alike.{HaveElements}
+use Rattle.trick_check_names.specs.Names.{meaning_of}
+use Rattle.trick_check_names.specs.Tables.{tables_of}
 use Rattle.trick_sdef.specs.Answers.{IsSDefine}
 use Rattle.trick_lang.specs.Facts.{have_short_loops}
 

@@ -4,7 +4,7 @@ use Rattle.std.specs.Str.{bytes_eq}
 use Rattle.std.specs.Map.{lookup}
 use Rattle.std.specs.Cmp.Lexicographic.{pointwise}
 use Rattle.indexmap.specs.IndexMap.{insert_entry}
-use Rattle.trick_names.specs.Names.{Names, meaning_of, with_name}
+use Rattle.trick_check_names.specs.Names.{Names, meaning_of, with_name}
 
 abbrev pub shown : {T : Type 0} → List (Vec ℕ Global × T) → Names T
 shown = map (λ entry. (entry.0.items, entry.1))

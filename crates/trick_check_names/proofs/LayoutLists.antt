@@ -1,8 +1,8 @@
 -- The variables of a struct or class, by its number.
 use Rattle.std.proofs.Common.{◌≡◌, ℕ, zero, suc, ◌<◌, ◌≤◌, List, [], ◌∷◌, length, get_or, refl, arith}
-use Rattle.trick_layout.specs.Laid.{fields_at}
-use Rattle.trick_layout.specs.declared.layout.Field.{Field}
-use Rattle.trick_names.specs.Names.{Names}
+use Rattle.trick_check_names.specs.Laid.{fields_at}
+use Rattle.trick_check_names.specs.declared.layout.Field.{Field}
+use Rattle.trick_check_names.specs.Names.{Names}
 
 pub fields_past : (gs : List (Names Field)) (k : ℕ) → length gs ≤ k → fields_at gs k ≡ []
 fields_past [] k h = refl

@@ -5,3 +5,4 @@ mod Noted
 mod Trees
 mod Weights
 mod Worked
+mod LayoutLists

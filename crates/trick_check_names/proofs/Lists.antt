@@ -1,8 +1,8 @@
 -- What is left of lists, one item after another.
 use Rattle.std.proofs.Common.{◌≡◌, ℕ, zero, suc, ◌<◌, ◌≤◌, List, [], ◌∷◌, length, get_or, refl, arith}
-use Rattle.trick_names.specs.Names.{Names}
-use Rattle.trick_names.specs.Places.{members_at}
-use Rattle.trick_names.specs.declared.tables.Member.{Member}
+use Rattle.trick_check_names.specs.Names.{Names}
+use Rattle.trick_check_names.specs.Places.{members_at}
+use Rattle.trick_check_names.specs.declared.tables.Member.{Member}
 
 pub groups_past : (gs : List (Names Member)) (k : ℕ) → length gs ≤ k → members_at gs k ≡ []
 groups_past [] k h = refl

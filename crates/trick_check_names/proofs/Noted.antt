@@ -1,8 +1,8 @@
 -- What is noted of one list after another.
 use Rattle.std.proofs.Common.{◌≡◌, ℕ, List, [], ◌∷◌, ◌++◌, Option, Some, None, refl, ap, sym, ◌∙◌}
 use Rattle.trick_lang.specs.SyntaxTree.{Name}
-use Rattle.trick_names.specs.Mistakes.{Mistake, Twice, Unknown, NotScalar, first_twice, first_unknown, first_not_scalar, fault_of, fault_of_found, nothing_found, or_first, note, noted}
-use Rattle.trick_names.specs.declared.found.Found.{Found}
+use Rattle.trick_check_names.specs.Mistakes.{Mistake, Twice, Unknown, NotScalar, first_twice, first_unknown, first_not_scalar, fault_of, fault_of_found, nothing_found, or_first, note, noted}
+use Rattle.trick_check_names.specs.declared.found.Found.{Found}
 
 pub noted_both : (ms ns : List Mistake) (f : Found) → noted (ms ++ ns) f ≡ noted ns (noted ms f)
 noted_both [] ns f = refl

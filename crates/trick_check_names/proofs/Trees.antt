@@ -10,13 +10,13 @@ use Rattle.trick_lang.specs.declared.syntax.expression.Link.{Link}
 use Rattle.trick_lang.specs.declared.syntax.expression.Part.{Part, Member, Index}
 use Rattle.trick_lang.specs.declared.syntax.statement.Branch.{Branch}
 use Rattle.trick_lang.specs.declared.syntax.statement.Stmt.{Stmt}
-use Rattle.trick_names.proofs.Weights.{part_weight}
-use Rattle.trick_names.specs.declared.scope.FileScope.{FileScope}
-use Rattle.trick_names.specs.BodyMistakes.{after, after_all, expression_mistakes, line_of, part_mistakes, strays}
-use Rattle.trick_names.specs.Names.{Names, meaning_of, with_name}
-use Rattle.trick_names.specs.Places.{to_member, to_element, literal_of, followed}
-use Rattle.trick_names.specs.declared.tables.Local.{Local}
-use Rattle.trick_names.specs.declared.follow.State.{State}
+use Rattle.trick_check_names.proofs.Weights.{part_weight}
+use Rattle.trick_check_names.specs.declared.scope.FileScope.{FileScope}
+use Rattle.trick_check_names.specs.BodyMistakes.{after, after_all, expression_mistakes, line_of, part_mistakes, strays}
+use Rattle.trick_check_names.specs.Names.{Names, meaning_of, with_name}
+use Rattle.trick_check_names.specs.Places.{to_member, to_element, literal_of, followed}
+use Rattle.trick_check_names.specs.declared.tables.Local.{Local}
+use Rattle.trick_check_names.specs.declared.follow.State.{State}
 
 pub links_next : (xs : List Link) (i : ℕ) (item : Link) → i < length xs → item ≡ get_or xs i item → links_of_list (drop i xs) ≡ SyntaxTree.Link item.operator (expression_of item.operand) (links_of_list (drop (i + 1) xs))
 links_next xs i item h is = ap links_of_list (next_item xs i item h is)

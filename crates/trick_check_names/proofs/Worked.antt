@@ -1,6 +1,6 @@
 -- The worked files are answered so, as the rules compute.
 use Rattle.std.proofs.Common.{refl}
-use Rattle.trick_names.specs.Worked.{AreAnswered}
+use Rattle.trick_check_names.specs.Worked.{AreAnswered}
 
 pub answered : AreAnswered
 answered = record {

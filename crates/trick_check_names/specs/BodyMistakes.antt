@@ -3,21 +3,21 @@ use Rattle.std.specs.Prelude.{ℕ, Bool, true, false, if◌then◌else◌, ◌&&
 use Rattle.trick_lang.specs.SyntaxTree.{Name, Expression, Whole, Truth, Named, Prefixed, Chain, Choose, Links, NoLink, Link, Choices, Last, Choice, Path, path, Parts, NoPart, Member, Index, TypeName, Basic, Custom, Change, Set, Update, Increase, Decrease, Statement, Empty, Block, Declare, Assign, If, For, Call, Branches, NoElse, Else, Test, Statements, NoStatement, Then}
 use Rattle.trick_lang.specs.declared.scalar.Scalar.{Scalar}
 use Rattle.trick_lang.specs.declared.scalar.Scalar.TheVariants.{Int, Long}
-use Rattle.trick_names.specs.Mistakes.{Mistake, Unknown, NotScalar, twice}
-use Rattle.trick_names.specs.Names.{Names, meaning_of, with_name}
-use Rattle.trick_names.specs.Places.{named, is_fixed, own_member, to_member, to_element, literal_of, followed}
-use Rattle.trick_names.specs.declared.follow.State.{State}
-use Rattle.trick_names.specs.declared.follow.State.TheVariants.{Stands, Astray, Misfit}
-use Rattle.trick_names.specs.declared.tables.Base.{Base}
-use Rattle.trick_names.specs.declared.tables.Base.TheVariants.{Single}
-use Rattle.trick_names.specs.declared.tables.Global.{Global}
-use Rattle.trick_names.specs.declared.tables.Global.TheVariants as the
-use Rattle.trick_names.specs.declared.tables.Lengths.{Lengths}
-use Rattle.trick_names.specs.declared.tables.Lengths.TheVariants.{Plain}
-use Rattle.trick_names.specs.declared.tables.Local.{Local}
-use Rattle.trick_names.specs.declared.tables.Member.{Member as InGroup}
-use Rattle.trick_names.specs.declared.tables.Member.TheVariants.{Method}
-use Rattle.trick_names.specs.declared.scope.FileScope.{FileScope}
+use Rattle.trick_check_names.specs.Mistakes.{Mistake, Unknown, NotScalar, twice}
+use Rattle.trick_check_names.specs.Names.{Names, meaning_of, with_name}
+use Rattle.trick_check_names.specs.Places.{named, is_fixed, own_member, to_member, to_element, literal_of, followed}
+use Rattle.trick_check_names.specs.declared.follow.State.{State}
+use Rattle.trick_check_names.specs.declared.follow.State.TheVariants.{Stands, Astray, Misfit}
+use Rattle.trick_check_names.specs.declared.tables.Base.{Base}
+use Rattle.trick_check_names.specs.declared.tables.Base.TheVariants.{Single}
+use Rattle.trick_check_names.specs.declared.tables.Global.{Global}
+use Rattle.trick_check_names.specs.declared.tables.Global.TheVariants as the
+use Rattle.trick_check_names.specs.declared.tables.Lengths.{Lengths}
+use Rattle.trick_check_names.specs.declared.tables.Lengths.TheVariants.{Plain}
+use Rattle.trick_check_names.specs.declared.tables.Local.{Local}
+use Rattle.trick_check_names.specs.declared.tables.Member.{Member as InGroup}
+use Rattle.trick_check_names.specs.declared.tables.Member.TheVariants.{Method}
+use Rattle.trick_check_names.specs.declared.scope.FileScope.{FileScope}
 
 -- ---- places
 

@@ -2,9 +2,9 @@
 use Rattle.std.specs.Prelude.{ℕ, List, [], ◌∷◌, ◌++◌, Option, Some, None}
 use Rattle.trick_lang.specs.SyntaxTree as tree
 use Rattle.trick_lang.specs.SyntaxTree.{Statement, Empty, Block, Declare, Assign, If, For, Call, Branches, NoElse, Else, Test, Statements, NoStatement, Then, HasMethod}
-use Rattle.trick_names.specs.Names.{Names, meaning_of}
-use Rattle.trick_names.specs.declared.tables.Member.{Member}
-use Rattle.trick_names.specs.declared.tables.Member.TheVariants.{Method}
+use Rattle.trick_check_names.specs.Names.{Names, meaning_of}
+use Rattle.trick_check_names.specs.declared.tables.Member.{Member}
+use Rattle.trick_check_names.specs.declared.tables.Member.TheVariants.{Method}
 
 -- the method of that name; what is no method is not called
 abbrev pub method_of : Option Member → List ℕ

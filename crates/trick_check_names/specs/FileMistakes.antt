@@ -3,18 +3,18 @@ use Rattle.std.specs.Prelude.{ℕ, ◌+◌, ℤ, pos, ◌+ℤ◌, if◌then◌el
 use Rattle.std.specs.Str.{bytes_eq}
 use Rattle.trick_lang.specs.SyntaxTree as tree
 use Rattle.trick_lang.specs.SyntaxTree.{Name, TypeName, Basic, Custom, Declarator, EnumItem, JobLine, Members, SDefine, Include, Enum, Struct, ClassOf, Object, Public, HasMembers, HasMethod, Constructor}
-use Rattle.trick_names.specs.BodyMistakes.{all_mistakes, call_mistakes}
-use Rattle.trick_names.specs.Mistakes.{Mistake, Twice, Unknown, NotScalar, twice}
-use Rattle.trick_names.specs.Names.{Names, meaning_of, with_name}
-use Rattle.trick_names.specs.Places.{own_member}
-use Rattle.trick_names.specs.Tables.{base_of, item_value, is_int, with_item, with_declarator, with_members, nothing_inside, behind_part, names_behind, tables_of, taken_value}
-use Rattle.trick_names.specs.declared.tables.Base.{Base}
-use Rattle.trick_names.specs.declared.tables.Global.{Global}
-use Rattle.trick_names.specs.declared.tables.Global.TheVariants as the
-use Rattle.trick_names.specs.declared.tables.Inside.{Inside}
-use Rattle.trick_names.specs.declared.tables.Member.{Member}
-use Rattle.trick_names.specs.declared.tables.Tables.{Tables}
-use Rattle.trick_names.specs.declared.scope.FileScope.{FileScope}
+use Rattle.trick_check_names.specs.BodyMistakes.{all_mistakes, call_mistakes}
+use Rattle.trick_check_names.specs.Mistakes.{Mistake, Twice, Unknown, NotScalar, twice}
+use Rattle.trick_check_names.specs.Names.{Names, meaning_of, with_name}
+use Rattle.trick_check_names.specs.Places.{own_member}
+use Rattle.trick_check_names.specs.Tables.{base_of, item_value, is_int, with_item, with_declarator, with_members, nothing_inside, behind_part, names_behind, tables_of, taken_value}
+use Rattle.trick_check_names.specs.declared.tables.Base.{Base}
+use Rattle.trick_check_names.specs.declared.tables.Global.{Global}
+use Rattle.trick_check_names.specs.declared.tables.Global.TheVariants as the
+use Rattle.trick_check_names.specs.declared.tables.Inside.{Inside}
+use Rattle.trick_check_names.specs.declared.tables.Member.{Member}
+use Rattle.trick_check_names.specs.declared.tables.Tables.{Tables}
+use Rattle.trick_check_names.specs.declared.scope.FileScope.{FileScope}
 
 -- ---- enums
 

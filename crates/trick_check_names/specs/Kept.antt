@@ -1,9 +1,9 @@
 -- What the tables of a file keep.
 use Rattle.std.specs.Prelude.{ℕ, ◌≤◌}
 use Rattle.trick_lang.specs.SyntaxTree.{Name}
-use Rattle.trick_layout.specs.Laid.{fields_at, size_at, LiesIn, LiesInMemory}
-use Rattle.trick_layout.specs.declared.layout.Layout.{Layout}
-use Rattle.trick_names.specs.Names.{meaning_of}
+use Rattle.trick_check_names.specs.Laid.{fields_at, size_at, LiesIn, LiesInMemory}
+use Rattle.trick_check_names.specs.declared.layout.Layout.{Layout}
+use Rattle.trick_check_names.specs.Names.{meaning_of}
 
 pub record AreLaid (layout : Layout) : Type 0 where
   -- each variable lies in its struct or class

@@ -1,15 +1,15 @@
 -- What lies where: look-ups in the tables, sizes, and what it is to lie in so many cells.
 use Rattle.std.specs.List.{slice_index_or}
 use Rattle.std.specs.Prelude.{◌≡◌, ℕ, zero, suc, ◌+◌, ◌*◌, ◌≤◌, List, [], ◌∷◌, Option, Some, None}
-use Rattle.trick_layout.specs.declared.layout.Dim.{Dim}
-use Rattle.trick_layout.specs.declared.layout.Dims.{Dims}
-use Rattle.trick_layout.specs.declared.layout.Dims.TheVariants.{Plain, One, Two}
-use Rattle.trick_layout.specs.declared.layout.Field.{Field}
-use Rattle.trick_layout.specs.declared.layout.Site.{Site}
-use Rattle.trick_layout.specs.declared.layout.Site.TheVariants.{Item, Object}
-use Rattle.trick_names.specs.Names.{Names}
-use Rattle.trick_names.specs.declared.tables.Base.{Base}
-use Rattle.trick_names.specs.declared.tables.Base.TheVariants.{Single, Group}
+use Rattle.trick_check_names.specs.declared.layout.Dim.{Dim}
+use Rattle.trick_check_names.specs.declared.layout.Dims.{Dims}
+use Rattle.trick_check_names.specs.declared.layout.Dims.TheVariants.{Plain, One, Two}
+use Rattle.trick_check_names.specs.declared.layout.Field.{Field}
+use Rattle.trick_check_names.specs.declared.layout.Site.{Site}
+use Rattle.trick_check_names.specs.declared.layout.Site.TheVariants.{Item, Object}
+use Rattle.trick_check_names.specs.Names.{Names}
+use Rattle.trick_check_names.specs.declared.tables.Base.{Base}
+use Rattle.trick_check_names.specs.declared.tables.Base.TheVariants.{Single, Group}
 
 -- the variables of a struct or class, by its number
 abbrev pub fields_at : List (Names Field) → ℕ → Names Field

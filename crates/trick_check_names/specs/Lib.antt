@@ -14,3 +14,7 @@ pub mod FileMistakes
 pub mod Calls
 -- Worked files.
 pub mod Worked
+-- What lies where.
+pub mod Laid
+-- What the tables of a file keep.
+pub mod Kept

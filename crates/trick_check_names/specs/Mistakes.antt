@@ -1,10 +1,10 @@
 -- Mistakes in names, as one list in the order of the text, and which of them decides.
 use Rattle.std.specs.Prelude.{ℕ, List, [], ◌∷◌, Option, Some, None, if◌then◌else◌, is_some}
 use Rattle.trick_lang.specs.SyntaxTree.{Name}
-use Rattle.trick_names.specs.Names.{Names, meaning_of}
-use Rattle.trick_names.specs.declared.fault.NameFault.{NameFault}
-use Rattle.trick_names.specs.declared.fault.NameFault.TheVariants as fault
-use Rattle.trick_names.specs.declared.found.Found.{Found}
+use Rattle.trick_check_names.specs.Names.{Names, meaning_of}
+use Rattle.trick_check_names.specs.declared.fault.NameFault.{NameFault}
+use Rattle.trick_check_names.specs.declared.fault.NameFault.TheVariants as fault
+use Rattle.trick_check_names.specs.declared.found.Found.{Found}
 
 pub data Mistake : Type 0 where
   -- a name that is given twice

@@ -3,20 +3,20 @@ use Rattle.std.specs.Prelude.{ℕ, zero, suc, Bool, true, false, if◌then◌els
 use Rattle.trick_lang.specs.SyntaxTree.{Name, Expression, Whole, Truth, Parts, NoPart, Member, Index}
 use Rattle.trick_lang.specs.declared.scalar.Scalar.{Scalar}
 use Rattle.trick_lang.specs.declared.scalar.Scalar.TheVariants.{Int}
-use Rattle.trick_names.specs.Names.{Names, meaning_of}
-use Rattle.trick_names.specs.declared.follow.State.{State}
-use Rattle.trick_names.specs.declared.follow.State.TheVariants.{Stands, Astray, Misfit}
-use Rattle.trick_names.specs.declared.tables.Base.{Base}
-use Rattle.trick_names.specs.declared.tables.Base.TheVariants.{Single, Group}
-use Rattle.trick_names.specs.declared.tables.Global.{Global}
-use Rattle.trick_names.specs.declared.tables.Global.TheVariants.{Item, Object}
-use Rattle.trick_names.specs.declared.tables.Lengths.{Lengths}
-use Rattle.trick_names.specs.declared.tables.Lengths.TheVariants.{Plain, One, Two}
-use Rattle.trick_names.specs.declared.tables.Local.{Local}
-use Rattle.trick_names.specs.declared.tables.Member.{Member as InGroup}
-use Rattle.trick_names.specs.declared.tables.Member.TheVariants.{Variable, Method}
-use Rattle.trick_names.specs.declared.tables.Shape.{Shape}
-use Rattle.trick_names.specs.declared.scope.FileScope.{FileScope}
+use Rattle.trick_check_names.specs.Names.{Names, meaning_of}
+use Rattle.trick_check_names.specs.declared.follow.State.{State}
+use Rattle.trick_check_names.specs.declared.follow.State.TheVariants.{Stands, Astray, Misfit}
+use Rattle.trick_check_names.specs.declared.tables.Base.{Base}
+use Rattle.trick_check_names.specs.declared.tables.Base.TheVariants.{Single, Group}
+use Rattle.trick_check_names.specs.declared.tables.Global.{Global}
+use Rattle.trick_check_names.specs.declared.tables.Global.TheVariants.{Item, Object}
+use Rattle.trick_check_names.specs.declared.tables.Lengths.{Lengths}
+use Rattle.trick_check_names.specs.declared.tables.Lengths.TheVariants.{Plain, One, Two}
+use Rattle.trick_check_names.specs.declared.tables.Local.{Local}
+use Rattle.trick_check_names.specs.declared.tables.Member.{Member as InGroup}
+use Rattle.trick_check_names.specs.declared.tables.Member.TheVariants.{Variable, Method}
+use Rattle.trick_check_names.specs.declared.tables.Shape.{Shape}
+use Rattle.trick_check_names.specs.declared.scope.FileScope.{FileScope}
 
 -- the members of a struct or class, by its number
 abbrev pub members_at : List (Names InGroup) → ℕ → Names InGroup

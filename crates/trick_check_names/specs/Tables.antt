@@ -4,17 +4,17 @@ use Rattle.std.specs.Prelude.{ℕ, ◌+◌, ℤ, pos, negsuc, ◌+ℤ◌, int_lt
 use Rattle.trick_lang.specs.SyntaxTree.{Name, TypeName, Basic, Custom, Declarator, EnumItem, Members, SDefine, Include, Enum, Struct, ClassOf, Object, Public, HasMembers, HasMethod, Constructor}
 use Rattle.trick_lang.specs.SyntaxTree as tree
 use Rattle.trick_lang.specs.declared.scalar.Scalar.TheVariants.{Int}
-use Rattle.trick_names.specs.Names.{Names, meaning_of, with_name}
-use Rattle.trick_names.specs.declared.tables.Base.{Base}
-use Rattle.trick_names.specs.declared.tables.Base.TheVariants.{Single, Group}
-use Rattle.trick_names.specs.declared.tables.Global.{Global}
-use Rattle.trick_names.specs.declared.tables.Global.TheVariants as the
-use Rattle.trick_names.specs.declared.tables.Inside.{Inside}
-use Rattle.trick_names.specs.declared.tables.Lengths.{Lengths}
-use Rattle.trick_names.specs.declared.tables.Lengths.TheVariants.{Plain, One, Two}
-use Rattle.trick_names.specs.declared.tables.Member.{Member}
-use Rattle.trick_names.specs.declared.tables.Member.TheVariants.{Variable, Method}
-use Rattle.trick_names.specs.declared.tables.Tables.{Tables}
+use Rattle.trick_check_names.specs.Names.{Names, meaning_of, with_name}
+use Rattle.trick_check_names.specs.declared.tables.Base.{Base}
+use Rattle.trick_check_names.specs.declared.tables.Base.TheVariants.{Single, Group}
+use Rattle.trick_check_names.specs.declared.tables.Global.{Global}
+use Rattle.trick_check_names.specs.declared.tables.Global.TheVariants as the
+use Rattle.trick_check_names.specs.declared.tables.Inside.{Inside}
+use Rattle.trick_check_names.specs.declared.tables.Lengths.{Lengths}
+use Rattle.trick_check_names.specs.declared.tables.Lengths.TheVariants.{Plain, One, Two}
+use Rattle.trick_check_names.specs.declared.tables.Member.{Member}
+use Rattle.trick_check_names.specs.declared.tables.Member.TheVariants.{Variable, Method}
+use Rattle.trick_check_names.specs.declared.tables.Tables.{Tables}
 
 -- ---- types
 

@@ -5,10 +5,10 @@ use Rattle.trick_lang.specs.SyntaxTree.{Name, Expression, Whole, Truth, Named, p
 use Rattle.trick_lang.specs.declared.bound.Bound.TheVariants.{Below}
 use Rattle.trick_lang.specs.declared.class.Class.TheVariants.{Initialization}
 use Rattle.trick_lang.specs.declared.scalar.Scalar.TheVariants.{Long}
-use Rattle.trick_names.specs.FileMistakes.{mistakes}
-use Rattle.trick_names.specs.Mistakes.{fault_of}
-use Rattle.trick_names.specs.declared.fault.NameFault.{NameFault}
-use Rattle.trick_names.specs.declared.fault.NameFault.TheVariants.{Twice, Unknown, NotScalar}
+use Rattle.trick_check_names.specs.FileMistakes.{mistakes}
+use Rattle.trick_check_names.specs.Mistakes.{fault_of}
+use Rattle.trick_check_names.specs.declared.fault.NameFault.{NameFault}
+use Rattle.trick_check_names.specs.declared.fault.NameFault.TheVariants.{Twice, Unknown, NotScalar}
 
 -- ---- parts of files; names are of one letter
 

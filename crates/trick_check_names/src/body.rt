@@ -2,9 +2,9 @@ ghost use Rattle.std.specs.Prelude.{◌≡◌, ◌∷◌, [], OnOk};
 ghost use Rattle.trick_lang.specs.SyntaxTree.{Declare, For};
 ghost use Rattle.trick_lang.specs.declared.bound.Bound.TheVariants.{Below};
 ghost use Rattle.trick_lang.specs.Syntax.{branches_of_list, change_of, choices_of_list, else_of_option, expression_of, first_value_of, links_of_list, parts_of_list, path_of, statement_of, statements_of_list, written_of};
-ghost use Rattle.trick_names.specs.BodyMistakes.{after, after_all, all_mistakes, astray, branch_mistakes, call_mistakes, change_mistakes, choice_mistakes, declared, ends, expression_mistakes, line_of, link_mistakes, part_mistakes, path_mistakes, scalar_of, statement_mistakes, strays, type_mistakes, unless_fixed};
-ghost use Rattle.trick_names.specs.Mistakes.{noted};
-ghost use Rattle.trick_names.specs.Places.{followed, own_member};
+ghost use Rattle.trick_check_names.specs.BodyMistakes.{after, after_all, all_mistakes, astray, branch_mistakes, call_mistakes, change_mistakes, choice_mistakes, declared, ends, expression_mistakes, line_of, link_mistakes, part_mistakes, path_mistakes, scalar_of, statement_mistakes, strays, type_mistakes, unless_fixed};
+ghost use Rattle.trick_check_names.specs.Mistakes.{noted};
+ghost use Rattle.trick_check_names.specs.Places.{followed, own_member};
 
 use crate::follow::{State, element, fixed, follow, literal, member, start};
 use crate::found::{Found, declare};

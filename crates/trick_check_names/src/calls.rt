@@ -2,8 +2,8 @@
 
 ghost use Rattle.std.specs.Prelude.{◌≡◌, ◌++◌, IfOk, OnOk};
 ghost use Rattle.trick_lang.specs.Syntax.{branches_of_list, class_part_of, class_parts_of, else_of_option, statement_of, statements_of_list};
-ghost use Rattle.trick_names.specs.Calls.{all_calls, branch_calls, class_calls, method_of, part_calls, statement_calls};
-ghost use Rattle.trick_names.specs.Names.{meaning_of};
+ghost use Rattle.trick_check_names.specs.Calls.{all_calls, branch_calls, class_calls, method_of, part_calls, statement_calls};
+ghost use Rattle.trick_check_names.specs.Names.{meaning_of};
 
 use crate::{Member, Names};
 use std::alloc::{AllocError, Global};

@@ -2,10 +2,10 @@
 
 ghost use Rattle.std.specs.Prelude.{◌≡◌, ◌+◌, [], length, IfOk, OnOk};
 ghost use Rattle.trick_lang.specs.Syntax.{class_part_of, class_parts_of, jobs_of, statements_of_list};
-ghost use Rattle.trick_names.specs.BodyMistakes.{all_mistakes};
-ghost use Rattle.trick_names.specs.FileMistakes.{class_mistakes, declared_mistakes, done_mistakes, job_mistakes};
-ghost use Rattle.trick_names.specs.Mistakes.{noted};
-ghost use Rattle.trick_names.specs.Tables.{behind_part, behind_parts, nothing_inside};
+ghost use Rattle.trick_check_names.specs.BodyMistakes.{all_mistakes};
+ghost use Rattle.trick_check_names.specs.FileMistakes.{class_mistakes, declared_mistakes, done_mistakes, job_mistakes};
+ghost use Rattle.trick_check_names.specs.Mistakes.{noted};
+ghost use Rattle.trick_check_names.specs.Tables.{behind_part, behind_parts, nothing_inside};
 
 use crate::body::{look_all, look_call};
 use crate::found::{Found, declare};

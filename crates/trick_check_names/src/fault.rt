@@ -1,5 +1,5 @@
 ghost use Rattle.std.specs.Prelude.{◌≡◌};
-ghost use Rattle.trick_names.specs.declared.fault.NameFault.TheVariants.{OutOfMemory};
+ghost use Rattle.trick_check_names.specs.declared.fault.NameFault.TheVariants.{OutOfMemory};
 
 use std::alloc::{AllocError, AllocFailed};
 use trick_base::Word;

@@ -1,12 +1,12 @@
 ghost use Rattle.std.specs.Prelude.{◌≡◌, ◌≢◌, ◌++◌, [], None, Some, IfErr, IfOk, OnOk, pos};
 ghost use Rattle.trick_lang.specs.SDefineOf.{sdefine_of};
 ghost use Rattle.trick_lang.specs.Syntax.{all_members_of, class_parts_of, definition_of, definitions_of, items_of};
-ghost use Rattle.trick_names.specs.FileMistakes.{all_members_mistakes, class_mistakes, definition_mistakes, definitions_mistakes, item_mistakes, mistakes, unless_class};
-ghost use Rattle.trick_names.specs.Mistakes.{fault_of, noted, twice};
-ghost use Rattle.trick_names.specs.Names.{with_name};
-ghost use Rattle.trick_names.specs.Tables.{behind_definition, members_in, names_behind, nothing_inside, object_base, tables_of, with_all_members, with_items};
-ghost use Rattle.trick_names.specs.declared.fault.NameFault.TheVariants.{OutOfMemory};
-ghost use Rattle.trick_names.specs.declared.tables.Global.TheVariants.{Class as OfClass, Enum as OfEnum, Struct as OfStruct};
+ghost use Rattle.trick_check_names.specs.FileMistakes.{all_members_mistakes, class_mistakes, definition_mistakes, definitions_mistakes, item_mistakes, mistakes, unless_class};
+ghost use Rattle.trick_check_names.specs.Mistakes.{fault_of, noted, twice};
+ghost use Rattle.trick_check_names.specs.Names.{with_name};
+ghost use Rattle.trick_check_names.specs.Tables.{behind_definition, members_in, names_behind, nothing_inside, object_base, tables_of, with_all_members, with_items};
+ghost use Rattle.trick_check_names.specs.declared.fault.NameFault.TheVariants.{OutOfMemory};
+ghost use Rattle.trick_check_names.specs.declared.tables.Global.TheVariants.{Class as OfClass, Enum as OfEnum, Struct as OfStruct};
 
 use crate::class::{look_class, read_class};
 use crate::found::{Found, declare};

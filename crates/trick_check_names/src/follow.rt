@@ -1,7 +1,7 @@
 ghost use Rattle.std.specs.Prelude.{◌≡◌};
 ghost use Rattle.trick_lang.specs.Syntax.{expression_of, parts_of_list};
-ghost use Rattle.trick_names.specs.Places.{element_in, followed, global_state, in_array, is_fixed, is_fixed_global, literal_of, member_in, named, single, to_element, to_member};
-ghost use Rattle.trick_names.specs.declared.follow.State.TheVariants.{Stands};
+ghost use Rattle.trick_check_names.specs.Places.{element_in, followed, global_state, in_array, is_fixed, is_fixed_global, literal_of, member_in, named, single, to_element, to_member};
+ghost use Rattle.trick_check_names.specs.declared.follow.State.TheVariants.{Stands};
 
 use crate::tables::Local;
 use crate::scope::FileScope;

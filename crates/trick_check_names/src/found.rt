@@ -1,7 +1,7 @@
 ghost use Rattle.std.specs.Prelude.{◌≡◌, [], ◌∷◌, None, OnOk};
-ghost use Rattle.trick_names.specs.Mistakes.{fault_of_found, noted, nothing_found, twice};
-ghost use Rattle.trick_names.specs.Names.{with_name};
-ghost use Rattle.trick_names.specs.Mistakes.{Twice, Unknown, NotScalar};
+ghost use Rattle.trick_check_names.specs.Mistakes.{fault_of_found, noted, nothing_found, twice};
+ghost use Rattle.trick_check_names.specs.Names.{with_name};
+ghost use Rattle.trick_check_names.specs.Mistakes.{Twice, Unknown, NotScalar};
 
 use crate::{NameFault, Names};
 use std::alloc::AllocError;

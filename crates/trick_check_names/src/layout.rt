@@ -1,9 +1,9 @@
 ghost use Rattle.std.specs.Prelude.{◌≡◌};
-ghost use Rattle.trick_layout.specs.Laid.{fields_at};
-ghost use Rattle.trick_names.specs.Names.{meaning_of};
+ghost use Rattle.trick_check_names.specs.Laid.{fields_at};
+ghost use Rattle.trick_check_names.specs.Names.{meaning_of};
 
 use trick_base::{Items, Word};
-use trick_names::{Base, Names};
+use crate::{Base, Names};
 
 /// An index of an array.
 #[derive(Clone, Copy)]

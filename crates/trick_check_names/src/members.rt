@@ -2,9 +2,9 @@
 
 ghost use Rattle.std.specs.Prelude.{◌≡◌, ◌+ℤ◌, pos, OnOk, IfOk};
 ghost use Rattle.trick_lang.specs.Syntax.{all_members_of, declarators_of, items_of, members_of, written_of};
-ghost use Rattle.trick_names.specs.FileMistakes.{all_members_mistakes, declarator_mistakes, item_mistakes, member_type_mistakes, members_mistakes, value_mistakes};
-ghost use Rattle.trick_names.specs.Mistakes.{noted};
-ghost use Rattle.trick_names.specs.Tables.{base_of, int_or_zero, is_int, item_value, lengths_of, with_all_members, with_declarators, with_items, with_members};
+ghost use Rattle.trick_check_names.specs.FileMistakes.{all_members_mistakes, declarator_mistakes, item_mistakes, member_type_mistakes, members_mistakes, value_mistakes};
+ghost use Rattle.trick_check_names.specs.Mistakes.{noted};
+ghost use Rattle.trick_check_names.specs.Tables.{base_of, int_or_zero, is_int, item_value, lengths_of, with_all_members, with_declarators, with_items, with_members};
 
 use crate::found::{Found, declare};
 use crate::{Base, Global, Lengths, Member, Names, Shape};

@@ -1,5 +1,5 @@
 ghost use Rattle.std.specs.Prelude.{◌≡◌, ◌++◌, ◌∷◌, ◌<◌, [], OnOk, OnErr, IfOk, Some, is_some, length, slice_get, take};
-ghost use Rattle.trick_names.specs.Names.{meaning_of, with_name};
+ghost use Rattle.trick_check_names.specs.Names.{meaning_of, with_name};
 
 use indexmap::IndexMap;
 use std::alloc::{AllocError, Global};

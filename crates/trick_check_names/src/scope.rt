@@ -1,6 +1,6 @@
 ghost use Rattle.std.specs.Prelude.{◌≡◌};
-ghost use Rattle.trick_names.specs.Names.{meaning_of};
-ghost use Rattle.trick_names.specs.Places.{members_at, own_member};
+ghost use Rattle.trick_check_names.specs.Names.{meaning_of};
+ghost use Rattle.trick_check_names.specs.Places.{members_at, own_member};
 
 use crate::{Global, Member, Names, Tables};
 use trick_base::Word;

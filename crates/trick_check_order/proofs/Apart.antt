@@ -1,10 +1,10 @@
 -- Distinct numbers below a bound are no more than the bound.
 use Rattle.std.proofs.Common.{◌≡◌, ℕ, zero, suc, ◌+◌, ◌<◌, ◌≤◌, ◌==◌, Bool, true, false, not, List, [], ◌∷◌, ◌++◌, length, inl, inr, eq-eqb, refl, ap, subst, arith}
 use Rattle.std.proofs.lemmas.Bool.{and_from, and_parts, cases_eq, eqb-true, false_from_ne_true, ne_eqb, not-true, or_cases, or_left, or_right}
-use Rattle.trick_order.proofs.Has.{has_kept, has_push}
-use Rattle.trick_order.proofs.Steps.{true_false}
-use Rattle.trick_order.specs.Calls.{are_distinct, has, stand_after}
-use Rattle.trick_order.specs.Searching.{total}
+use Rattle.trick_check_order.proofs.Has.{has_kept, has_push}
+use Rattle.trick_check_order.proofs.Steps.{true_false}
+use Rattle.trick_check_order.specs.Calls.{are_distinct, has, stand_after}
+use Rattle.trick_check_order.specs.Searching.{total}
 
 abbrev one : Bool → ℕ
 one true = 1

@@ -8,12 +8,12 @@ use Rattle.std.proofs.lemmas.List.{append-nil, at_drop_all, at_drop_more, drop_m
 use Rattle.std.specs.List.{range_with_len}
 use Rattle.std.specs.Ordering.{is_lt, nat_cmp, ord_max}
 use Rattle.std.specs.declared.cmp.Ordering.TheVariants.{Less, Equal, Greater}
-use Rattle.trick_order.proofs.Apart.{distinct_short, stand_distinct}
-use Rattle.trick_order.proofs.Has.{all_has, all_in_has, has_at, has_kept, has_split}
-use Rattle.trick_order.proofs.Placed.{filter_has, filter_same, has_all_in, has_either, has_filter, has_later, has_range, range_has, rounds_below, rounds_stand, stand_split}
-use Rattle.trick_order.proofs.Steps.{closed_push, true_false}
-use Rattle.trick_order.specs.Calls.{AreCallees, IsOrderOf, all_in, callees, first_rounds, has, is_next, order_of, stand_after}
-use Rattle.trick_order.specs.Rounds.{AreRounds, AreRoundsOf, in_round, round_behind}
+use Rattle.trick_check_order.proofs.Apart.{distinct_short, stand_distinct}
+use Rattle.trick_check_order.proofs.Has.{all_has, all_in_has, has_at, has_kept, has_split}
+use Rattle.trick_check_order.proofs.Placed.{filter_has, filter_same, has_all_in, has_either, has_filter, has_later, has_range, range_has, rounds_below, rounds_stand, stand_split}
+use Rattle.trick_check_order.proofs.Steps.{closed_push, true_false}
+use Rattle.trick_check_order.specs.Calls.{AreCallees, IsOrderOf, all_in, callees, first_rounds, has, is_next, order_of, stand_after}
+use Rattle.trick_check_order.specs.Rounds.{AreRounds, AreRoundsOf, in_round, round_behind}
 
 abbrev get_at : List (List ℕ) → ℕ → List ℕ
 get_at xs k = get_or xs k []

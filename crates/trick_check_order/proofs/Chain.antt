@@ -2,11 +2,11 @@
 use Rattle.std.proofs.Common.{◌≡◌, ℕ, zero, suc, ◌<◌, ◌≤◌, ◌==◌, Bool, true, false, not, List, [], ◌∷◌, length, inl, inr, refl, ap, sym, ◌∙◌, subst, arith}
 use Rattle.std.proofs.lemmas.Bool.{and_cases, and_from, and_parts, cases_Bool, eqb-true, false_from_ne_true, or_cases, or_left, or_right}
 use Rattle.std.specs.List.{range_with_len}
-use Rattle.trick_order.proofs.Apart.{distinct_short}
-use Rattle.trick_order.proofs.Has.{has_kept}
-use Rattle.trick_order.proofs.Placed.{has_filter, has_later, has_range, rounds_below, rounds_stand}
-use Rattle.trick_order.proofs.Steps.{true_false}
-use Rattle.trick_order.specs.Calls.{AreCallees, IsOrderOf, Reaches, ReachesItself, all_in, are_distinct, callees, first_rounds, has, is_linked, is_next, order_of}
+use Rattle.trick_check_order.proofs.Apart.{distinct_short}
+use Rattle.trick_check_order.proofs.Has.{has_kept}
+use Rattle.trick_check_order.proofs.Placed.{has_filter, has_later, has_range, rounds_below, rounds_stand}
+use Rattle.trick_check_order.proofs.Steps.{true_false}
+use Rattle.trick_check_order.specs.Calls.{AreCallees, IsOrderOf, Reaches, ReachesItself, all_in, are_distinct, callees, first_rounds, has, is_linked, is_next, order_of}
 
 missing : (cs q : List ℕ) → all_in cs q ≡ false → (c : ℕ) × (has cs c ≡ true) × (has q c ≡ false)
 missing [] q h = absurd (cc h)

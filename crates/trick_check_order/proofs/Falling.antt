@@ -1,8 +1,8 @@
 -- Ranks that calls do not raise.
 use Rattle.std.proofs.Common.{◌≡◌, ℕ, zero, suc, ◌<◌, ◌≤◌, true, List, [], ◌∷◌, length, get_or, inl, inr, subst, arith}
 use Rattle.std.proofs.lemmas.Bool.{and_parts, eqb-true, ltb-true, or_cases}
-use Rattle.trick_order.specs.Calls.{Reaches, ReachesItself, callees, has}
-use Rattle.trick_order.specs.Ranked.{FallsBefore, NeverRises, are_lower}
+use Rattle.trick_check_order.specs.Calls.{Reaches, ReachesItself, callees, has}
+use Rattle.trick_check_order.specs.Ranked.{FallsBefore, NeverRises, are_lower}
 
 -- those of a list whose ranks are below a limit
 lower_has :

@@ -2,7 +2,7 @@
 use Rattle.std.proofs.Common.{◌≡◌, ◌≢◌, ℕ, zero, suc, ◌<◌, ◌==◌, true, false, ◌||◌, List, [], ◌∷◌, ◌++◌, All, length, get_or, ◌⊎◌, inl, inr, eq-eqb, refl, ap, subst, arith}
 use Rattle.std.proofs.lemmas.Bool.{and_from, and_parts, eqb-true, ne_eqb, or_cases, or_left, or_right}
 use Rattle.std.proofs.lemmas.List.{get_or_default}
-use Rattle.trick_order.specs.Calls.{has, all_in, callees}
+use Rattle.trick_check_order.specs.Calls.{has, all_in, callees}
 
 pub has_push : (xs : List ℕ) (c : ℕ) → has (xs ++ c ∷ []) c ≡ true
 has_push [] c = or_left (c == c) false (eq-eqb c c refl)

@@ -3,9 +3,9 @@ use Rattle.std.proofs.Common.{◌≡◌, ℕ, zero, suc, ◌+◌, ◌<◌, ◌�
 use Rattle.std.proofs.lemmas.Bool.{and_from, and_parts, cases_eq, eqb-true, false_from_ne_true, not-true, or_cases, or_left, or_right}
 use Rattle.std.proofs.lemmas.List.{append-nil, append_assoc}
 use Rattle.std.specs.List.{range_with_len}
-use Rattle.trick_order.proofs.Has.{all_in_more, has_kept, has_split}
-use Rattle.trick_order.proofs.Steps.{true_false}
-use Rattle.trick_order.specs.Calls.{all_in, callees, first_rounds, has, is_next, stand_after}
+use Rattle.trick_check_order.proofs.Has.{all_in_more, has_kept, has_split}
+use Rattle.trick_check_order.proofs.Steps.{true_false}
+use Rattle.trick_check_order.specs.Calls.{all_in, callees, first_rounds, has, is_next, stand_after}
 
 pub has_later : (xs ys : List ℕ) (k : ℕ) → has ys k ≡ true → has (xs ++ ys) k ≡ true
 has_later [] ys k h = h

@@ -3,9 +3,9 @@ use Rattle.std.proofs.Common.{◌≡◌, ℕ, zero, suc, ◌+◌, ◌<◌, ◌�
 use Rattle.std.proofs.Math.ListN.{length-append, length-set}
 use Rattle.std.proofs.lemmas.Bool.{and_from, and_parts, cases_eq, cases_lt}
 use Rattle.std.proofs.lemmas.List.{get_or-set_same, get_or-set_other, append_assoc, append-nil}
-use Rattle.trick_order.proofs.Has.{has_push, has_kept, has_other, has_split, all_in_has, all_in_more, get_front, place_of}
-use Rattle.trick_order.specs.Calls.{AreCallees, has, all_in, callees, Reaches}
-use Rattle.trick_order.specs.Reached.{unseen, Adds, Reached}
+use Rattle.trick_check_order.proofs.Has.{has_push, has_kept, has_other, has_split, all_in_has, all_in_more, get_front, place_of}
+use Rattle.trick_check_order.specs.Calls.{AreCallees, has, all_in, callees, Reaches}
+use Rattle.trick_check_order.specs.Reached.{unseen, Adds, Reached}
 
 seen_less : (seen : List Bool) (c : ℕ) → c < length seen → get_or seen c false ≡ false → suc (unseen (set seen c true)) ≡ unseen seen
 seen_less [] c h e = absurd (omega arith)
@@ -101,7 +101,7 @@ reached_next g method head s t p q r h a = record {
   within = omega (arith, longer);
 } where
   has_at' : (xs : List ℕ) (i : ℕ) → i < length xs → has xs (get_or xs i 0) ≡ true
-  has_at' xs i h = Rattle.trick_order.proofs.Has.has_at xs i h
+  has_at' xs i h = Rattle.trick_check_order.proofs.Has.has_at xs i h
 
   kept : (k : ℕ) → has p k ≡ true → has q k ≡ true
   kept k x = subst (λ xs. has xs k ≡ true) (sym a.behind.1) (has_kept p a.behind.0 k x)

@@ -3,9 +3,9 @@ use Rattle.std.proofs.Common.{◌≡◌, ◌≢◌, ℕ, zero, suc, ◌+◌, ◌
 use Rattle.std.proofs.Math.ListN.{length-set, length-replicate}
 use Rattle.std.proofs.lemmas.Bool.{and_from, and_parts, cases_eq, cases_lt, false_from_ne_true, not-true, or_cases, or_left, or_right}
 use Rattle.std.proofs.lemmas.List.{get_or-set_same, get_or-set_other, append_assoc, take_more}
-use Rattle.trick_order.proofs.Has.{has_push, has_kept, has_other, has_split, all_in_has, all_in_more, all_in_push}
-use Rattle.trick_order.specs.Calls.{has, all_in, callees, are_distinct, is_linked, stand_after, Reaches, ReachesItself, IsOrderOf}
-use Rattle.trick_order.specs.Searching.{Searching, left_in, left_at, left_of, total}
+use Rattle.trick_check_order.proofs.Has.{has_push, has_kept, has_other, has_split, all_in_has, all_in_more, all_in_push}
+use Rattle.trick_check_order.specs.Calls.{has, all_in, callees, are_distinct, is_linked, stand_after, Reaches, ReachesItself, IsOrderOf}
+use Rattle.trick_check_order.specs.Searching.{Searching, left_in, left_at, left_of, total}
 
 -- ---- totals
 

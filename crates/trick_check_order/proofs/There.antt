@@ -1,7 +1,7 @@
 -- What is called is there, as a test and as a fact.
 use Rattle.std.proofs.Common.{◌≡◌, ℕ, zero, suc, ◌<◌, true, List, [], ◌∷◌, inl, inr, eq-eqb, refl, subst}
 use Rattle.std.proofs.lemmas.Bool.{eqb-true, ltb-true, lt-ltb, and_parts, and_from, or_left, or_right, or_cases}
-use Rattle.trick_order.specs.Calls.{all_below, callees, each_below, has}
+use Rattle.trick_check_order.specs.Calls.{all_below, callees, each_below, has}
 
 all_below_has : (n : ℕ) (xs : List ℕ) (k : ℕ) → all_below n xs ≡ true → has xs k ≡ true → k < n
 all_below_has n [] k all h = absurd (cc h)

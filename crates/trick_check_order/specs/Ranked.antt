@@ -1,6 +1,6 @@
 -- Ranks of methods, and what keeps a method from reaching itself by them.
 use Rattle.std.specs.Prelude.{◌≡◌, ◌<◌, ℕ, suc, Bool, true, ◌&&◌, nat_lt, List, [], ◌∷◌, length, slice_index_or}
-use Rattle.trick_order.specs.Calls.{callees}
+use Rattle.trick_check_order.specs.Calls.{callees}
 
 -- each of these methods has a rank below the limit
 abbrev pub are_lower : List ℕ → ℕ → List ℕ → Bool

@@ -1,6 +1,6 @@
 -- What a search from one method keeps.
 use Rattle.std.specs.Prelude.{◌≡◌, ◌<◌, ◌≤◌, ◌+◌, ◌⊎◌, ℕ, suc, Bool, true, false, List, [], ◌∷◌, ◌++◌, length, slice_index_or}
-use Rattle.trick_order.specs.Calls.{callees, has, all_in, Reaches}
+use Rattle.trick_check_order.specs.Calls.{callees, has, all_in, Reaches}
 
 -- how many were not seen
 abbrev pub unseen : List Bool → ℕ

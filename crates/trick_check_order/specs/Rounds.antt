@@ -1,7 +1,7 @@
 -- The number of the round in which each method stands, from 0.
 use Rattle.std.specs.List.{range_with_len}
 use Rattle.std.specs.Prelude.{◌≡◌, ◌<◌, ◌==◌, ℕ, suc, true, List, [], ◌∷◌, filter, length, max, slice_index_or}
-use Rattle.trick_order.specs.Calls.{callees, has}
+use Rattle.trick_check_order.specs.Calls.{callees, has}
 
 -- the first round after those of these methods
 abbrev pub round_behind : List ℕ → List ℕ → ℕ

@@ -1,7 +1,7 @@
 -- What a search for an order keeps.
 use Rattle.std.specs.Prelude.{◌≡◌, ◌<◌, ◌+◌, ◌-◌, ℕ, zero, suc, Bool, true, false, ◌||◌, List, [], length, take, slice_index_or}
-use Rattle.trick_order.specs.Calls.{callees, has, all_in, stand_after, is_linked, are_distinct}
-use Rattle.trick_order.specs.declared.search.Search.{Search}
+use Rattle.trick_check_order.specs.Calls.{callees, has, all_in, stand_after, is_linked, are_distinct}
+use Rattle.trick_check_order.specs.declared.search.Search.{Search}
 
 pub record Searching (g : List (List ℕ)) (done stacked : List Bool) (next order stack : List ℕ) (root : ℕ) : Type 0
   where

@@ -1,6 +1,6 @@
 -- Worked orders.
 use Rattle.std.specs.Prelude.{◌≡◌, [], ◌∷◌}
-use Rattle.trick_order.specs.Calls.{order_of}
+use Rattle.trick_check_order.specs.Calls.{order_of}
 
 -- each list of calls has its order
 abbrev pub AreOrdersWorked : Type 0

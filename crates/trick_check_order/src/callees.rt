@@ -1,5 +1,5 @@
 ghost use Rattle.std.specs.Prelude.{◌≡◌, ◌↔◌, IsTrue};
-ghost use Rattle.trick_order.specs.Calls.{AreCallees, all_below, each_below};
+ghost use Rattle.trick_check_order.specs.Calls.{AreCallees, all_below, each_below};
 
 use trick_base::Items;
 

@@ -2,8 +2,8 @@
 //! nothing.
 
 ghost use Rattle.std.specs.Prelude.{ℕ};
-ghost use Rattle.trick_order.specs.Calls.{AreCallees, IsOrderOf, ReachesItself, order_of};
-ghost use Rattle.trick_order.specs.Worked.{AreOrdersWorked};
+ghost use Rattle.trick_check_order.specs.Calls.{AreCallees, IsOrderOf, ReachesItself, order_of};
+ghost use Rattle.trick_check_order.specs.Worked.{AreOrdersWorked};
 
 /// In an order no method reaches itself.
 pub fn order_law()

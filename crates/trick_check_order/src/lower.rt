@@ -1,7 +1,7 @@
 //! Tests of ranks: which methods do not reach themselves, by ranks that calls do not raise.
 
 ghost use Rattle.std.specs.Prelude.{◌≡◌, slice_index_or, true};
-ghost use Rattle.trick_order.specs.Ranked.{FallsBefore, NeverRises, are_lower};
+ghost use Rattle.trick_check_order.specs.Ranked.{FallsBefore, NeverRises, are_lower};
 
 use crate::reach::callees;
 use trick_base::Items;

@@ -1,6 +1,6 @@
 ghost use Rattle.std.specs.Prelude.{◌≡◌, ℕ, ◌<◌, ◌∷◌, [], false, true, length, slice_index_or, IfOk, IfSome, MatchOption, OnOk};
-ghost use Rattle.trick_order.specs.Calls.{AreCallees, IsFirst, ReachesItself, callees, has};
-ghost use Rattle.trick_order.specs.Reached.{Adds};
+ghost use Rattle.trick_check_order.specs.Calls.{AreCallees, IsFirst, ReachesItself, callees, has};
+ghost use Rattle.trick_check_order.specs.Reached.{Adds};
 
 use crate::lower::{first_level, never_rises};
 use crate::ranks::ranks;

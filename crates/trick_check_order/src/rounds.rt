@@ -1,8 +1,8 @@
 //! Methods in their one order, by rounds.
 
 ghost use Rattle.std.specs.Prelude.{◌≡◌, ◌<◌, ◌++◌, ◌∷◌, [], All, IfOk, OnOk, length, replicate, set, slice_index_or, ℕ};
-ghost use Rattle.trick_order.specs.Calls.{AreCallees, IsOrderOf, order_of};
-ghost use Rattle.trick_order.specs.Rounds.{AreRounds, in_round, round_behind};
+ghost use Rattle.trick_check_order.specs.Calls.{AreCallees, IsOrderOf, order_of};
+ghost use Rattle.trick_check_order.specs.Rounds.{AreRounds, in_round, round_behind};
 
 use crate::reach::callees;
 use std::alloc::{AllocError, Global};

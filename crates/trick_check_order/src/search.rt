@@ -1,7 +1,7 @@
 ghost use Rattle.std.specs.Prelude.{◌≡◌, ◌+◌, ◌^◌, ◌<◌, ◌≤◌, ◌∷◌, ◌++◌, ℕ, [], false, true, length, slice_index_or, IfNone, IfOk, IfSome, OnOk, MatchBool, MatchOption, Err};
-ghost use Rattle.trick_order.specs.Calls.{AreCallees, EndsWith, IsFirst, IsOrderOf, ReachesItself, callees, has, is_linked, order_of};
-ghost use Rattle.trick_order.specs.Searching.{Keeps, left};
-ghost use Rattle.trick_order.specs.declared.search.OrderFault.TheVariants.{Recursive};
+ghost use Rattle.trick_check_order.specs.Calls.{AreCallees, EndsWith, IsFirst, IsOrderOf, ReachesItself, callees, has, is_linked, order_of};
+ghost use Rattle.trick_check_order.specs.Searching.{Keeps, left};
+ghost use Rattle.trick_check_order.specs.declared.search.OrderFault.TheVariants.{Recursive};
 
 use crate::reach::{callees, first_recursive};
 use crate::rounds::by_rounds;

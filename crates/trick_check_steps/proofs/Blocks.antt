@@ -7,8 +7,8 @@ use Rattle.trick_lang.specs.Run.{turn_count}
 use Rattle.trick_lang.specs.Tree.{Code, Empty, Declare, SetLocal, Assign, If, For, Run, Branches, NoElse, Else, Test}
 use Rattle.trick_lang.specs.TreeOf.{code_list, codes_of}
 use Rattle.trick_lang.specs.declared.tree.Block.{Block}
-use Rattle.trick_steps.proofs.Capped.{cap_twice, mul_same}
-use Rattle.trick_steps.specs.Steps.{all_capped, blocks_steps, count_at}
+use Rattle.trick_check_steps.proofs.Capped.{cap_twice, mul_same}
+use Rattle.trick_check_steps.specs.Steps.{all_capped, blocks_steps, count_at}
 
 -- the same up to the cap, for each block
 abbrev pub Same : (ℕ → ℕ) → (ℕ → ℕ) → Type 0

@@ -5,7 +5,7 @@ ghost use Rattle.trick_base.specs.Capped.{capped};
 ghost use Rattle.trick_lang.specs.Count.{all_steps, branch_steps, code_steps};
 ghost use Rattle.trick_lang.specs.Run.{turn_count};
 ghost use Rattle.trick_lang.specs.TreeOf.{branches_of, code_list, code_of, codes_of, else_of};
-ghost use Rattle.trick_steps.specs.Steps.{blocks_steps, count_at};
+ghost use Rattle.trick_check_steps.specs.Steps.{blocks_steps, count_at};
 
 use crate::expression::{change_steps, expression_steps, first_steps, index_steps};
 use std::alloc::{AllocError, Global};

@@ -3,7 +3,7 @@
 ghost use Rattle.std.specs.Prelude.{◌≡◌};
 ghost use Rattle.trick_base.specs.Capped.{capped};
 ghost use Rattle.trick_lang.specs.Count.{block_steps};
-ghost use Rattle.trick_steps.specs.Steps.{blocks_steps, count_at};
+ghost use Rattle.trick_check_steps.specs.Steps.{blocks_steps, count_at};
 
 /// The counts are those of the blocks.
 pub fn steps_law()

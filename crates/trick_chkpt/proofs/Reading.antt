@@ -3,9 +3,9 @@ use Rattle.std.proofs.Common.{◌≡◌, ℕ, suc, ◌+◌, ◌<◌, Bool, false
 use Rattle.std.proofs.lemmas.List.{at_drop_more}
 use Rattle.std.specs.List.{enumerate_from, zip}
 use Rattle.std.specs.Prelude.{ℤ, codes}
-use Rattle.trick_load.specs.CheckpointLines.{Head, checkpoint, flags_of, group_of, groups_of, head_lines, last_line, memory_of, records_of, state_at}
-use Rattle.trick_load.specs.Faults.{faults_lines, job_texts}
-use Rattle.trick_load.specs.Ranges.{ranges_at}
+use Rattle.trick_chkpt.specs.CheckpointLines.{Head, checkpoint, flags_of, group_of, groups_of, head_lines, last_line, memory_of, records_of, state_at}
+use Rattle.trick_chkpt.specs.Faults.{faults_lines, job_texts}
+use Rattle.trick_chkpt.specs.Ranges.{ranges_at}
 use Rattle.trick_codes.proofs.Each.{lines_go_on, lines_left}
 use Rattle.trick_codes.specs.Forms.{kind_of}
 use Rattle.trick_codes.specs.Lines.{Seen, line, read_lines}

@@ -1,7 +1,7 @@
 -- Numbers that are read are in the ranges of their cells.
 use Rattle.std.proofs.Common.{◌≡◌, ℕ, zero, suc, ◌<◌, ℤ, pos, negsuc, List, [], ◌∷◌, length, get_or, refl, sym, ap, ◌∙◌, subst, arith}
 use Rattle.std.proofs.lemmas.Int.{ints}
-use Rattle.trick_load.specs.Ranges.{range_of}
+use Rattle.trick_chkpt.specs.Ranges.{range_of}
 use Rattle.trick_codes.specs.Code.{IsWithin}
 use Rattle.trick_lang.proofs.WrapLaw.{wraps_right}
 use Rattle.trick_lang.specs.Effect.{scalars_of}

@@ -1,8 +1,8 @@
 -- The checkpoints of a plan as a file of lines, each with what is wrong with another line in its place.
 use Rattle.std.specs.List.{enumerate_from, zip}
 use Rattle.std.specs.Prelude.{ℕ, zero, suc, ◌+◌, ℤ, pos, Bool, true, false, List, [], ◌∷◌, ◌++◌, length, map, codes, Option, None}
-use Rattle.trick_load.specs.Faults.{faults_lines, job_texts}
-use Rattle.trick_load.specs.Ranges.{full_name, range_at, range_of, ranges_at}
+use Rattle.trick_chkpt.specs.Faults.{faults_lines, job_texts}
+use Rattle.trick_chkpt.specs.Ranges.{full_name, range_at, range_of, ranges_at}
 use Rattle.trick_codes.specs.Forms.{kind_of}
 use Rattle.trick_codes.specs.Lines.{Lines, and_then, each, line, no_line, numbered, seen_as}
 use Rattle.trick_codes.specs.Named.{end_line, indexed, integer_line, named, none_or, number_line, row, word_line}

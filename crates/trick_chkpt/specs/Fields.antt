@@ -1,8 +1,8 @@
 -- The fields of a fault, as a reader in code gives them.
 use Rattle.std.proofs.Common.{Bor}
 use Rattle.std.specs.Prelude.{◌≡◌, ℕ, List, Option, Some, None, Ok, Err}
-use Rattle.trick_load.specs.Faults.{Fields}
-use Rattle.trick_load.specs.declared.fault_kind.FaultFields.{FaultFields}
+use Rattle.trick_chkpt.specs.Faults.{Fields}
+use Rattle.trick_chkpt.specs.declared.fault_kind.FaultFields.{FaultFields}
 use Rattle.trick_codes.specs.Code.{Told}
 
 -- the bytes of the fields

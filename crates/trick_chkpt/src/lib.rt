@@ -1,16 +1,15 @@
-//! Checkpoints as they are printed: the text of a state of a plan, with the jobs and the cells of the
-//! threads of which it has records. `trick_load` loads it.
+//! Checkpoints as they are loaded: the state of a text, or why it is the checkpoint of none, with the laws
+//! of these texts.
 #![tactic(auto)]
 
-mod cells;
-mod faults;
-mod line;
-mod plan_jobs;
-mod printer;
-mod records;
-mod thread_scope;
+mod fault_kind;
+mod job_texts;
+pub mod laws;
+mod loader;
+mod ranges;
+mod read_cells;
+mod read_faults;
+mod read_groups;
+mod read_records;
 
-pub use faults::push_fault;
-pub use plan_jobs::{jobs_of, threads_beside};
-pub use printer::print;
-pub use thread_scope::scope;
+pub use loader::load;

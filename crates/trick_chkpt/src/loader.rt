@@ -1,7 +1,7 @@
 //! Loading.
 
 ghost use Rattle.std.specs.Prelude.{◌≡◌, IfOk};
-ghost use Rattle.trick_load.specs.CheckpointLines.{checkpoint, head_lines, mode_at, mode_line};
+ghost use Rattle.trick_chkpt.specs.CheckpointLines.{checkpoint, head_lines, mode_at, mode_line};
 ghost use Rattle.trick_codes.specs.Gives.{beside, Gives};
 ghost use Rattle.trick_codes.specs.Lines.{read_lines};
 ghost use Rattle.trick_codes.specs.Loads.{Loads};

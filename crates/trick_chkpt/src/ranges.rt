@@ -1,7 +1,7 @@
 //! The ranges of cells.
 
 ghost use Rattle.std.specs.Prelude.{◌≡◌, IfOk};
-ghost use Rattle.trick_load.specs.Ranges.{range_at as range_at_of, range_of as range_of_type, ranges_at as ranges_at_of};
+ghost use Rattle.trick_chkpt.specs.Ranges.{range_at as range_at_of, range_of as range_of_type, ranges_at as ranges_at_of};
 
 use std::alloc::{AllocError, Global};
 use trick_codes::Range;

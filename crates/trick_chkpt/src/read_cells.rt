@@ -1,8 +1,8 @@
 //! Reading the lines of cells and flags.
 
 ghost use Rattle.std.specs.Prelude.{◌≡◌, ◌++◌, IfOk, codes, length};
-ghost use Rattle.trick_load.specs.CheckpointLines.{cells_of, flag_line, flags_of, job_flags_of, memory_of};
-ghost use Rattle.trick_load.specs.Ranges.{full_name, range_at as range_at_of, range_of as range_of_type};
+ghost use Rattle.trick_chkpt.specs.CheckpointLines.{cells_of, flag_line, flags_of, job_flags_of, memory_of};
+ghost use Rattle.trick_chkpt.specs.Ranges.{full_name, range_at as range_at_of, range_of as range_of_type};
 ghost use Rattle.trick_codes.specs.Gives.{beside, Gives};
 ghost use Rattle.trick_codes.specs.Lines.{read_lines};
 ghost use Rattle.trick_codes.specs.Named.{indexed, integer_line as integer_line_of};

@@ -1,7 +1,7 @@
 //! Reading the lines of faults.
 
 ghost use Rattle.std.specs.Prelude.{◌≡◌, ◌≤◌, ◌<◌, IfOk, length, min};
-ghost use Rattle.trick_load.specs.Faults.{fault_code, fault_line, faults_lines, faults_of, job_code, job_texts as job_texts_of, kind_code, kind_word_at, most_faults, no_fault};
+ghost use Rattle.trick_chkpt.specs.Faults.{fault_code, fault_line, faults_lines, faults_of, job_code, job_texts as job_texts_of, kind_code, kind_word_at, most_faults, no_fault};
 ghost use Rattle.trick_codes.specs.Code.{number as number_code, read};
 ghost use Rattle.trick_codes.specs.Gives.{beside, bytes_of, Gives, Reads};
 ghost use Rattle.trick_codes.specs.Lines.{fed, numbered, read_lines};

@@ -2,7 +2,7 @@
 
 ghost use Rattle.std.specs.List.{enumerate_from, zip};
 ghost use Rattle.std.specs.Prelude.{◌≡◌, IfOk, None, false, length};
-ghost use Rattle.trick_load.specs.CheckpointLines.{group_of, groups_of, last_line, last_of};
+ghost use Rattle.trick_chkpt.specs.CheckpointLines.{group_of, groups_of, last_line, last_of};
 ghost use Rattle.trick_codes.specs.Code.{read};
 ghost use Rattle.trick_codes.specs.Gives.{beside, Gives, Reads};
 ghost use Rattle.trick_codes.specs.Lines.{each, fed, line, read_lines};

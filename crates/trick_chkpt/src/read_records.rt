@@ -1,14 +1,14 @@
 //! Reading the records of threads.
 
 ghost use Rattle.std.specs.Prelude.{◌≡◌, ◌++◌, IfOk, true};
-ghost use Rattle.trick_load.specs.CheckpointLines.{held_of, record_name as record_name_of, record_of, records_of, scope_cells, thread_jobs};
+ghost use Rattle.trick_chkpt.specs.CheckpointLines.{held_of, record_name as record_name_of, record_of, records_of, scope_cells, thread_jobs};
 ghost use Rattle.trick_codes.specs.Gives.{beside, Gives};
 ghost use Rattle.trick_codes.specs.Lines.{read_lines};
 
 use crate::read_cells::{read_cells, read_job_flags};
 use std::alloc::{AllocError, Global};
 use trick_base::Items;
-use trick_chkpt::{jobs_of, scope, threads_beside};
+use trick_chkpt_printer::{jobs_of, scope, threads_beside};
 use trick_codes::{LineStop, set_indexed, word_line};
 use trick_lang::{Cell, JobId};
 use trick_model::{Flags, Plan, Taken, Thread};

@@ -1,7 +1,7 @@
 -- The cells that are marked when the jobs of a thread have been walked are its scope.
 use Rattle.std.proofs.Common.{◌≡◌, ℕ, zero, suc, ◌+◌, ◌<◌, ◌≤◌, cond, Bool, List, [], ◌∷◌, length, drop, refl, sym, ap, ◌∙◌, arith}
 use Rattle.std.specs.Prelude.{filter, ◌||◌}
-use Rattle.trick_chkpt.specs.Marks.{is_marked, marked_cells, numbers_of, touched_by}
+use Rattle.trick_chkpt_printer.specs.Marks.{is_marked, marked_cells, numbers_of, touched_by}
 use Rattle.trick_lang.specs.declared.job.JobId.{JobId}
 use Rattle.trick_lang.specs.declared.variable.Variable.{Variable}
 use Rattle.trick_model.specs.Access.{may_read, may_write, scope}

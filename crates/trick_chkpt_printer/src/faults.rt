@@ -2,7 +2,7 @@
 
 ghost use Rattle.std.specs.Prelude.{◌≡◌, ◌++◌, OnOk, codes, decimal};
 ghost use Rattle.trick_model.specs.Checkpoint.{fault_lines, fault_text, kind_text, at, line};
-ghost use Rattle.trick_chkpt.specs.Parts.{when_text};
+ghost use Rattle.trick_chkpt_printer.specs.Parts.{when_text};
 ghost use Rattle.trick_model.specs.PlanOf.{plan_of};
 
 use crate::line::{push_indexed, push_number, push_number_line};

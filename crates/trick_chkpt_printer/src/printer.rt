@@ -1,7 +1,7 @@
 //! Printing.
 
 ghost use Rattle.std.specs.Prelude.{◌≡◌, ◌++◌, IfOk, OnOk};
-ghost use Rattle.trick_chkpt.specs.Parts.{first_lines, middle_lines, end_lines};
+ghost use Rattle.trick_chkpt_printer.specs.Parts.{first_lines, middle_lines, end_lines};
 ghost use Rattle.trick_model.specs.Checkpoint.{checkpoint_text, mode_text};
 ghost use Rattle.trick_model.specs.PlanOf.{plan_of};
 ghost use Rattle.trick_model.specs.State.{seen};

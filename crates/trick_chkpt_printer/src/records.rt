@@ -1,7 +1,7 @@
 //! Lines of groups, and of the records of threads.
 
 ghost use Rattle.std.specs.Prelude.{◌≡◌, ◌++◌, [], OnOk, IfOk, codes};
-ghost use Rattle.trick_chkpt.specs.Parts.{held_of};
+ghost use Rattle.trick_chkpt_printer.specs.Parts.{held_of};
 ghost use Rattle.trick_model.specs.Checkpoint.{all_taken_lines, at, group_lines, held_lines, last_lines, taken_lines, line, with_commas};
 ghost use Rattle.trick_model.specs.Plan.{threads_beside as threads_beside_of};
 ghost use Rattle.trick_model.specs.PlanOf.{plan_of};

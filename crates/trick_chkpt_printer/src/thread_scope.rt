@@ -2,7 +2,7 @@
 
 ghost use Rattle.std.specs.List.{slice_index_or};
 ghost use Rattle.std.specs.Prelude.{◌≡◌, ◌<◌, ◌≤◌, ◌||◌, ◌&&◌, ℕ, IfOk, OnOk, false, filter, length, map, nat_le};
-ghost use Rattle.trick_chkpt.specs.Marks.{is_marked, marked_cells};
+ghost use Rattle.trick_chkpt_printer.specs.Marks.{is_marked, marked_cells};
 ghost use Rattle.trick_lang.specs.Access.{is_in};
 ghost use Rattle.trick_lang.specs.Effect.{reads, writes};
 ghost use Rattle.trick_lang.specs.declared.cells.Cell.{Cell};

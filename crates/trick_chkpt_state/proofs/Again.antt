@@ -3,14 +3,14 @@ use Rattle.std.proofs.Common.{◌≡◌, ◌∙◌, ℕ, List, [], ◌∷◌, �
 use Rattle.std.proofs.lemmas.List.{length-map}
 use Rattle.std.specs.List.{slice_index_or}
 use Rattle.std.specs.Prelude.{IfOk, Result, length, map, if◌then◌else◌}
-use Rattle.trick_load.specs.CheckpointLines.{checkpoint}
-use Rattle.trick_load.specs.Laws.{NoPrefix, OneText}
+use Rattle.trick_chkpt.specs.CheckpointLines.{checkpoint}
+use Rattle.trick_chkpt.specs.Laws.{NoPrefix, OneText}
 use Rattle.trick_codes.specs.Lines.{Holds, first_line, text}
 use Rattle.trick_codes.specs.Loads.{IsRefusedAt, Loads}
 use Rattle.trick_codes.specs.declared.kind.Kind.{Kind}
 use Rattle.trick_codes.specs.declared.load_fault.LoadFault.TheVariants as fault
 use Rattle.trick_codes.specs.declared.load_fault.LoadFault.{LoadFault}
-use Rattle.trick_job.specs.Belongs.{IsMemoryOf}
+use Rattle.trick_phase_jobs.specs.Belongs.{IsMemoryOf}
 use Rattle.trick_lang.specs.Effect.{scalars_of}
 use Rattle.trick_lang.specs.declared.scalar.Scalar.{Scalar}
 use Rattle.trick_lang.specs.declared.variable.Variable.{Variable}
@@ -18,8 +18,8 @@ use Rattle.trick_model.specs.Checkpoint.{checkpoint_text}
 use Rattle.trick_model.specs.PlanOf.{plan_of}
 use Rattle.trick_model.specs.State.{State}
 use Rattle.trick_model.specs.declared.plan.Plan.{Plan}
-use Rattle.trick_resume.specs.Loaded.{IsCheckpointOf, IsLoadedAs}
-use Rattle.trick_resume.specs.States.{CheckpointsAreOfStates, CheckpointsHaveNumbers}
+use Rattle.trick_chkpt_state.specs.Loaded.{IsCheckpointOf, IsLoadedAs}
+use Rattle.trick_chkpt_state.specs.States.{CheckpointsAreOfStates, CheckpointsHaveNumbers}
 
 -- what stands after the first line
 behind_line : List ℕ → List ℕ

@@ -3,9 +3,9 @@ use Rattle.std.proofs.Common.{◌≡◌, ◌∙◌, ℕ, zero, suc, ◌<◌, ◌
 use Rattle.std.proofs.lemmas.List.{length-map}
 use Rattle.std.specs.List.{slice_index_or}
 use Rattle.std.specs.Prelude.{◌⊎◌, codes, map}
-use Rattle.trick_load.proofs.Within.{in_range_of, of_type}
-use Rattle.trick_load.specs.CheckpointLines.{cells_of, memory_of}
-use Rattle.trick_load.specs.Ranges.{range_at, range_of, ranges_at}
+use Rattle.trick_chkpt.proofs.Within.{in_range_of, of_type}
+use Rattle.trick_chkpt.specs.CheckpointLines.{cells_of, memory_of}
+use Rattle.trick_chkpt.specs.Ranges.{range_at, range_of, ranges_at}
 use Rattle.trick_codes.specs.Code.{Fits, IsWithin}
 use Rattle.trick_codes.specs.Lines.{Holds, each, split_first}
 use Rattle.trick_codes.specs.Named.{each_code, integer_line, row, row_number}
@@ -17,7 +17,7 @@ use Rattle.trick_lang.specs.declared.scalar.Scalar.TheVariants as scalar
 use Rattle.trick_lang.specs.declared.variable.Variable.{Variable}
 use Rattle.trick_model.specs.ValidState.{AreInRange, AreNumbersOf}
 use Rattle.trick_model.specs.declared.plan.Plan.{Plan}
-use Rattle.trick_resume.proofs.Items.{each_item, each_length}
+use Rattle.trick_chkpt_state.proofs.Items.{each_item, each_length}
 
 -- 0 is a number of each type
 zero_of : (s : Scalar) → IsOf s (pos 0)

@@ -3,7 +3,7 @@ use Rattle.std.proofs.Common.{◌≡◌, ◌∙◌, ℕ, zero, suc, ◌<◌, ◌
 use Rattle.std.proofs.lemmas.List.{length-map}
 use Rattle.std.specs.List.{enumerate_from, slice_index_or, zip}
 use Rattle.std.specs.Prelude.{codes, map}
-use Rattle.trick_load.specs.CheckpointLines.{checkpoint, flag_line, flags_of, group_of, groups_of, head_lines, last_of, mode_line, record_of, records_of, state_at, values_of}
+use Rattle.trick_chkpt.specs.CheckpointLines.{checkpoint, flag_line, flags_of, group_of, groups_of, head_lines, last_of, mode_line, record_of, records_of, state_at, values_of}
 use Rattle.trick_codes.specs.Lines.{Holds, each}
 use Rattle.trick_codes.specs.Named.{indexed}
 use Rattle.trick_lang.specs.Effect.{scalars_of}
@@ -18,10 +18,10 @@ use Rattle.trick_model.specs.declared.group.Group.{Group}
 use Rattle.trick_model.specs.declared.plan.Plan.{Plan}
 use Rattle.trick_model.specs.declared.taken.Taken.{Taken}
 use Rattle.trick_model.specs.declared.thread.Thread.{Thread}
-use Rattle.trick_resume.proofs.Items.{each_item, each_length, numbered_at, numbered_length, numbered_many}
-use Rattle.trick_resume.proofs.Numbers.{memory_many, memory_right}
-use Rattle.trick_resume.proofs.Parts.{faults_fit, faults_right, last_right, record_right}
-use Rattle.trick_resume.specs.States.{CheckpointsAreOfStates, CheckpointsHaveNumbers}
+use Rattle.trick_chkpt_state.proofs.Items.{each_item, each_length, numbered_at, numbered_length, numbered_many}
+use Rattle.trick_chkpt_state.proofs.Numbers.{memory_many, memory_right}
+use Rattle.trick_chkpt_state.proofs.Parts.{faults_fit, faults_right, last_right, record_right}
+use Rattle.trick_chkpt_state.specs.States.{CheckpointsAreOfStates, CheckpointsHaveNumbers}
 
 flags_many : (stem : List ℕ) (count : ℕ) (on : List Bool) → Holds (flags_of stem count) on → length on ≡ count
 unfolding flags_of

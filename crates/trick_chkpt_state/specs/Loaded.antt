@@ -7,7 +7,7 @@ use Rattle.trick_model.specs.PlanOf.{plan_of}
 use Rattle.trick_model.specs.State.{State}
 use Rattle.trick_model.specs.ValidState.{IsStateOf}
 use Rattle.trick_model.specs.declared.plan.Plan.{Plan}
-use Rattle.trick_resume.specs.States.{HasNumbers}
+use Rattle.trick_chkpt_state.specs.States.{HasNumbers}
 
 -- The text is the checkpoint of this state, which is a valid one of the plan.
 pub record IsCheckpointOf (plan : Plan) (given : List ℕ) (s : State) : Type 0 where

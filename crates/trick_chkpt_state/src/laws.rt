@@ -1,7 +1,7 @@
 //! Laws of checkpoints and states, for every plan. A function that calls one of them may rest on what it
 //! says; the call itself does nothing.
 
-ghost use Rattle.trick_resume.specs.States.{CheckpointsAreOfStates, CheckpointsHaveNumbers, StatesHaveCheckpoints};
+ghost use Rattle.trick_chkpt_state.specs.States.{CheckpointsAreOfStates, CheckpointsHaveNumbers, StatesHaveCheckpoints};
 
 /// What has a checkpoint is a valid state of the plan.
 pub fn checkpoints_are_of_states()

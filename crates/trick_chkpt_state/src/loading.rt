@@ -1,17 +1,17 @@
 //! The state of a checkpoint.
 
 ghost use Rattle.std.specs.Prelude.{IfOk};
-ghost use Rattle.trick_load.specs.CheckpointLines.{checkpoint};
+ghost use Rattle.trick_chkpt.specs.CheckpointLines.{checkpoint};
 ghost use Rattle.trick_codes.specs.Loads.{Loads};
-ghost use Rattle.trick_job.specs.Belongs.{IsMemoryOf};
+ghost use Rattle.trick_phase_jobs.specs.Belongs.{IsMemoryOf};
 ghost use Rattle.trick_model.specs.State.{State as StateOf, seen};
-ghost use Rattle.trick_resume.specs.Loaded.{IsCheckpointOf, IsLoadedAs};
+ghost use Rattle.trick_chkpt_state.specs.Loaded.{IsCheckpointOf, IsLoadedAs};
 
 use crate::laws;
 use std::alloc::Global;
 use trick_codes::LoadFault;
-use trick_load::laws::{lines_are_the_text, no_checkpoint_is_a_proper_prefix};
-use trick_load::load;
+use trick_chkpt::laws::{lines_are_the_text, no_checkpoint_is_a_proper_prefix};
+use trick_chkpt::load;
 use trick_memory::Memory;
 use trick_model::{Plan, State};
 

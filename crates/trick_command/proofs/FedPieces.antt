@@ -3,7 +3,7 @@ use Rattle.std.proofs.Common.{◌≡◌, ℕ, ◌+◌, ◌<◌, Bool, true, fals
 use Rattle.std.proofs.lemmas.Bool.Decides.{Decides-eqb}
 use Rattle.std.proofs.lemmas.List.{take_more}
 use Rattle.std.specs.Prelude.{◌==◌}
-use Rattle.trick_feed.specs.Fed.{Fed, fed, held_behind}
+use Rattle.trick_command.specs.Fed.{Fed, fed, held_behind}
 use Rattle.trick_model.specs.Commands.{lines_behind, without_return}
 
 -- ---- a carriage return

@@ -4,3 +4,5 @@ pub mod Words
 pub mod Pieces
 -- an index in a full name
 pub mod Indexes
+-- bytes that come in two pieces, and a carriage return at the end of a line
+pub mod FedPieces

@@ -1,6 +1,6 @@
 -- Laws of feeds.
 use Rattle.std.specs.Prelude.{◌≡◌, ℕ, List, ◌++◌}
-use Rattle.trick_feed.specs.Fed.{Fed, fed, nothing_fed}
+use Rattle.trick_command.specs.Fed.{Fed, fed, nothing_fed}
 use Rattle.trick_model.specs.Commands.{lines}
 
 -- Two pieces are as good as one.

@@ -10,3 +10,7 @@ pub mod Rows
 pub mod Answers
 -- The parts of words between `;`.
 pub mod Parts
+-- What a feed of a client's bytes stands for.
+pub mod Fed
+-- Laws of feeds.
+pub mod Laws

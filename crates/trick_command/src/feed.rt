@@ -2,7 +2,7 @@
 
 ghost use Rattle.std.specs.Prelude.{◌≡◌, ◌≢◌, ◌↔◌, ◌++◌, ◌∷◌, [], Err, None, OnErr, OnOk};
 ghost use Rattle.std.specs.Option.{option_to_list};
-ghost use Rattle.trick_feed.specs.Fed.{HasTaken, fed, nothing_fed};
+ghost use Rattle.trick_command.specs.Fed.{HasTaken, fed, nothing_fed};
 ghost use Rattle.trick_model.specs.Commands.{without_return};
 
 use crate::FeedFault;
@@ -27,7 +27,7 @@ pub struct Feed {
 
 impl Model for Feed {
     ghost use Rattle.std.specs.Prelude.{option_map};
-    ghost use Rattle.trick_feed.specs.Fed.{Fed};
+    ghost use Rattle.trick_command.specs.Fed.{Fed};
 
     ghost Value = { Fed };
 

@@ -1,5 +1,5 @@
 ghost use Rattle.std.specs.Prelude.{◌≡◌};
-ghost use Rattle.trick_feed.specs.declared.fault.FeedFault.TheVariants.{OutOfMemory};
+ghost use Rattle.trick_command.specs.declared.feed_fault.FeedFault.TheVariants.{OutOfMemory};
 
 use std::alloc::AllocError;
 use thiserror::Error;

@@ -1,7 +1,7 @@
 //! Laws of feeds. A function that calls one of them may rest on what it says; the call itself does
 //! nothing.
 
-ghost use Rattle.trick_feed.specs.Laws.{CutsDoNotMatter, WaitsForLines};
+ghost use Rattle.trick_command.specs.Laws.{CutsDoNotMatter, WaitsForLines};
 
 /// To push two pieces one after the other is to push their bytes at once.
 pub fn cuts_do_not_matter()

@@ -3,7 +3,7 @@
 use crate::bytes::push_named;
 use crate::runs::Runs;
 use std::alloc::{AllocError, Global};
-use trick_feed::{Feed, FeedFault};
+use trick_command::{Feed, FeedFault};
 
 /// Calls of a feed.
 #[derive(Clone, Copy)]

@@ -6,7 +6,7 @@ use crate::sessions::{applied, sampled, stopped};
 use crate::texts::Texts;
 use std::alloc::{AllocError, Global};
 use trick_model::Plan;
-use trick_ready::Unready;
+use trick_top_texts::Unready;
 
 /// Calls that are made with a plan.
 #[derive(Clone, Copy)]

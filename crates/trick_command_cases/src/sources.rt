@@ -6,10 +6,9 @@ use crate::journals::refusal;
 use crate::texts::Texts;
 use std::alloc::{AllocError, Global};
 use trick_journal::{push_entry_line, read};
-use trick_journal_turns::JournalTurns;
+use trick_exec_sources::{JournalTurns, Next, Turns};
 use trick_memory::Memory;
 use trick_model::{Entry, Journal, Mode, Plan, State};
-use trick_turns::{Next, Turns};
 
 /// Calls of a source of entries.
 #[derive(Clone, Copy)]

@@ -4,10 +4,10 @@ use crate::directive::{Call, Directive, PlannedCall, directive_of};
 use crate::texts::Texts;
 use crate::{clients, deeds, faults, feeds, plans, sources};
 use std::alloc::{AllocError, Global};
-use trick_feed::Feed;
-use trick_journal_turns::JournalTurns;
+use trick_command::Feed;
+use trick_exec_sources::JournalTurns;
 use trick_model::Plan;
-use trick_ready::ready;
+use trick_top_texts::ready;
 
 /// The texts, the feed to which bytes are pushed, and the source of entries, where one was made.
 #[derive(Drop)]

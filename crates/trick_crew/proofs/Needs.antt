@@ -2,16 +2,16 @@
 use Rattle.std.proofs.Common.{◌≡◌, ◌||◌, ℕ, ◌==◌, Bool, true, false, cond, List, [], ◌∷◌, refl, subst}
 use Rattle.std.specs.List.{list_any}
 use Rattle.std.specs.Prelude.{filter}
-use Rattle.trick_crew_whole.specs.Needs.{needs_clerks}
-use Rattle.trick_desk.specs.Clerks.{clerked, has_clerk, numbers}
+use Rattle.trick_crew.specs.Needs.{needs_clerks}
+use Rattle.trick_post.specs.Clerks.{clerked, has_clerk, numbers}
 use Rattle.trick_model.specs.Beside.{find_thread}
 use Rattle.trick_model.specs.Plan.{is_beside, process_in}
 use Rattle.trick_model.specs.PlanOf.{plan_of}
 use Rattle.trick_model.specs.declared.plan.Plan.{Plan}
 use Rattle.trick_model.specs.declared.taken.Taken.{Taken}
 use Rattle.trick_model.specs.declared.thread.Thread.{Thread}
-use Rattle.trick_post.specs.Work.{CanStart, IsKindOf, found_or_none}
-use Rattle.trick_post.specs.declared.posts.Job1.{Job1}
+use Rattle.trick_post_work.specs.Work.{CanStart, IsKindOf, found_or_none}
+use Rattle.trick_post_work.specs.declared.posts.Job1.{Job1}
 
 kept_none : {A : Type 0} (test : A → Bool) (xs : List A) → list_any test xs ≡ false → filter test xs ≡ []
 kept_none test [] none = refl

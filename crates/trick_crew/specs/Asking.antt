@@ -1,14 +1,14 @@
 -- How the clerks of a crew were asked.
 use Rattle.std.proofs.Common.{refl, subst, sym}
 use Rattle.std.specs.Prelude.{◌≡◌, List, [], ◌++◌}
-use Rattle.trick_crew_whole.specs.InHand.{lateness_of}
-use Rattle.trick_crew_whole.specs.declared.clerks.Clerks.{Clerks}
-use Rattle.trick_crew_whole.specs.declared.clerks.Clerks.TheVariants as clerks
-use Rattle.trick_crew_yard.specs.Tending.{AreTended, WasAsked, tended_join, tended_none}
-use Rattle.trick_desk.specs.Lateness.{counts_join, late_through, rose_counted}
+use Rattle.trick_crew.specs.InHand.{lateness_of}
+use Rattle.trick_crew.specs.declared.clerks.Clerks.{Clerks}
+use Rattle.trick_crew.specs.declared.clerks.Clerks.TheVariants as clerks
+use Rattle.trick_crew_clerks.specs.Tending.{AreTended, WasAsked, tended_join, tended_none}
+use Rattle.trick_post.specs.Lateness.{counts_join, late_through, rose_counted}
 use Rattle.trick_model.specs.declared.planned.Planned.{Ghosts}
 use Rattle.trick_outside.specs.Causes.{RoseBy}
-use Rattle.trick_post.specs.Polls.{Poll, not_ready}
+use Rattle.trick_post_work.specs.Polls.{Poll, not_ready}
 
 module _ {P G R : Type 0} {planned : Ghosts P} where
   -- The clerks go from one state to the other by these polls: the desk counts them, and for a clerk that stayed nothing

@@ -1,13 +1,13 @@
 -- Which clerks a crew has.
 use Rattle.std.specs.Arc.{arc_value}
 use Rattle.std.specs.Prelude.{◌≡◌, ℕ, List, [], map, reverse}
-use Rattle.trick_crew_whole.specs.declared.clerks.Clerks.{Clerks}
-use Rattle.trick_crew_whole.specs.declared.clerks.Clerks.TheVariants as clerks
-use Rattle.trick_crew_whole.specs.declared.listing.Listing.{Listing}
-use Rattle.trick_crew_whole.specs.declared.listing.Listing.TheVariants as listing
-use Rattle.trick_crew_yard.specs.Staffs.{AreStaffed, StayedAny}
-use Rattle.trick_crew_yard.specs.declared.shift.Shift.{Shift}
-use Rattle.trick_desk.specs.Clerks.{clerked}
+use Rattle.trick_crew.specs.declared.clerks.Clerks.{Clerks}
+use Rattle.trick_crew.specs.declared.clerks.Clerks.TheVariants as clerks
+use Rattle.trick_crew.specs.declared.listing.Listing.{Listing}
+use Rattle.trick_crew.specs.declared.listing.Listing.TheVariants as listing
+use Rattle.trick_crew_clerks.specs.Staffs.{AreStaffed, StayedAny}
+use Rattle.trick_crew_clerks.specs.declared.shift.Shift.{Shift}
+use Rattle.trick_post.specs.Clerks.{clerked}
 use Rattle.trick_model.specs.declared.accepted.Accepted.{Accepted}
 use Rattle.trick_model.specs.declared.planned.Planned.{Ghosts}
 use Rattle.trick_turn.specs.Passes.{own}

@@ -1,12 +1,12 @@
 -- How the clerks of a crew end.
 use Rattle.std.specs.Prelude.{◌≡◌, true, All, Option, Some, None}
 use mathlib.Core.List.{IsPrefix}
-use Rattle.trick_crew_whole.specs.declared.clerks.Clerks.{Clerks}
-use Rattle.trick_crew_whole.specs.declared.clerks.Clerks.TheVariants as clerks
-use Rattle.trick_crew_yard.specs.Staffs.{HasEnded, IsTakenIn}
-use Rattle.trick_crew_yard.specs.declared.yard.Yard.{Yard}
-use Rattle.trick_desk.specs.Histories.{has_shut}
-use Rattle.trick_desk.specs.declared.shut_post.ShutPost.{ShutPost}
+use Rattle.trick_crew.specs.declared.clerks.Clerks.{Clerks}
+use Rattle.trick_crew.specs.declared.clerks.Clerks.TheVariants as clerks
+use Rattle.trick_crew_clerks.specs.Staffs.{HasEnded, IsTakenIn}
+use Rattle.trick_crew_clerks.specs.declared.yard.Yard.{Yard}
+use Rattle.trick_post.specs.Histories.{has_shut}
+use Rattle.trick_post.specs.declared.shut_post.ShutPost.{ShutPost}
 use Rattle.trick_model.specs.declared.planned.Planned.{Ghosts}
 use Rattle.trick_turn.specs.Passes.{own, seen}
 

@@ -1,12 +1,12 @@
 -- What the clerks of a crew were handed.
 use Rattle.std.specs.Arc.{arc_value}
 use Rattle.std.specs.Prelude.{ℕ, Option, None}
-use Rattle.trick_crew_whole.specs.declared.clerks.Clerks.{Clerks}
-use Rattle.trick_crew_whole.specs.declared.clerks.Clerks.TheVariants as clerks
-use Rattle.trick_desk.specs.Histories.{started_in}
+use Rattle.trick_crew.specs.declared.clerks.Clerks.{Clerks}
+use Rattle.trick_crew.specs.declared.clerks.Clerks.TheVariants as clerks
+use Rattle.trick_post.specs.Histories.{started_in}
 use Rattle.trick_model.specs.declared.plan.Plan.{Plan as PlanValue}
 use Rattle.trick_model.specs.declared.planned.Planned.{Ghosts}
-use Rattle.trick_post.specs.Work.{Started}
+use Rattle.trick_post_work.specs.Work.{Started}
 use Rattle.trick_turn.specs.Passes.{own}
 
 module _ {P G R : Type 0} {planned : Ghosts P} where

@@ -1,15 +1,15 @@
 //! The clerks of a crew.
-ghost use Rattle.trick_crew_whole.specs.Ends.{HaveEnded};
+ghost use Rattle.trick_crew.specs.Ends.{HaveEnded};
 
 use crate::nobody::Nobody;
 use std::sync::Wait;
 use std::thread::Threads;
-use trick_crew_yard::Yard;
-use trick_desk::ShutPost;
+use trick_crew_clerks::Yard;
+use trick_post::ShutPost;
 use trick_lang::Cells;
 use trick_model::{Faults, Planned, Taken};
 use trick_outside::Gate;
-use trick_post::{Job1, Posted, Posts};
+use trick_post_work::{Job1, Posted, Posts};
 
 /// Who does the work of must-finish and asynchronous threads.
 #[derive(Drop)]
@@ -45,8 +45,8 @@ impl<
     G: Gate + Send + Sync + Drop + 'static,
     R: Threads + Wait + Copy + Send + Drop + 'static,
 > Posts for Clerks<P, G, R> {
-    ghost use Rattle.trick_crew_whole.specs.Asking.{WereAsked, asked_join, asked_late, asked_none};
-    ghost use Rattle.trick_crew_whole.specs.InHand.{in_hand, lateness_of, plan_for};
+    ghost use Rattle.trick_crew.specs.Asking.{WereAsked, asked_join, asked_late, asked_none};
+    ghost use Rattle.trick_crew.specs.InHand.{in_hand, lateness_of, plan_for};
 
     ghost plan = { plan_for };
 

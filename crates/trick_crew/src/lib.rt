@@ -1,21 +1,12 @@
-//! The jobs of a tic in threads: a worker for each scheduled child thread that has a job, and the caller, who does
-//! thread 0 and each thread whose worker could not be started. Whatever the threads do, a tic comes to what one thread
-//! makes of it.
+//! Who does all the work of a run in threads: the team of its tics, and the clerks of must-finish and asynchronous
+//! threads where its plan has such threads. All memory is taken before the first start, and one call ends all threads.
 #![tactic(auto)]
 
-mod children;
-mod crew;
-mod held;
-pub mod laws;
-mod members;
-mod share;
-mod step;
-mod team;
-mod worker;
+mod clerks;
+mod listing;
+mod nobody;
+mod whole;
 
-pub use crew::Crew;
-pub use held::Held;
-pub use share::Share;
-pub use step::Stepped;
-pub use team::Team;
-pub use worker::Worker;
+pub use clerks::Clerks;
+pub use nobody::Nobody;
+pub use whole::{CrewEnd, WholeCrew};

@@ -1,9 +1,9 @@
 //! The clerks of a crew before they are started.
 ghost use Rattle.std.specs.Arc.{arc_value};
 ghost use Rattle.std.specs.Prelude.{◌≡◌, ℕ, IfOk, None};
-ghost use Rattle.trick_crew_whole.specs.Clerks.{AreStaffedBy, IsListedFor, StayedAmong};
-ghost use Rattle.trick_crew_whole.specs.InHand.{in_hand, plan_for};
-ghost use Rattle.trick_desk.specs.Clerks.{clerked};
+ghost use Rattle.trick_crew.specs.Clerks.{AreStaffedBy, IsListedFor, StayedAmong};
+ghost use Rattle.trick_crew.specs.InHand.{in_hand, plan_for};
+ghost use Rattle.trick_post.specs.Clerks.{clerked};
 ghost use Rattle.trick_model.specs.declared.accepted.Accepted.{Accepted};
 ghost use Rattle.trick_outside.specs.Causes.{HasCause};
 
@@ -12,8 +12,8 @@ use crate::nobody::{Nobody, needs_clerks};
 use std::alloc::{AllocError, Global};
 use std::sync::{Arc, Wait};
 use std::thread::Threads;
-use trick_crew_yard::Roster;
-use trick_desk::Held;
+use trick_crew_clerks::Roster;
+use trick_post::Held;
 use trick_model::Planned;
 use trick_outside::{Gate, Spawner};
 

@@ -1,9 +1,9 @@
 //! Plans that need no clerks.
 ghost use Rattle.std.specs.Arc.{arc_value};
 ghost use Rattle.std.specs.Prelude.{◌≡◌, false};
-ghost use Rattle.trick_crew_whole.specs.Needs.{needs_clerks};
+ghost use Rattle.trick_crew.specs.Needs.{needs_clerks};
 
-use trick_desk::Held;
+use trick_post::Held;
 use trick_model::{Plan, Planned};
 
 /// Stands for the clerks where no thread of the plan works beside the tics: nothing can be handed over. It has no

@@ -1,14 +1,14 @@
 //! How a whole crew is made, and how it ends.
 ghost use Rattle.std.specs.Arc.{arc_value};
 ghost use Rattle.std.specs.Prelude.{◌≡◌, ◌∷◌, ℕ, All, IfErr, IfOk, None, Some, reverse, true};
-ghost use Rattle.trick_crew.specs.Children.{children};
-ghost use Rattle.trick_crew.specs.Hands.{IsTakenIn};
-ghost use Rattle.trick_crew.specs.Members.{AreFor, IsRefusedAny, refused};
-ghost use Rattle.trick_crew.specs.Working.{HasWorked};
-ghost use Rattle.trick_crew_whole.specs.Clerks.{AreStaffedBy, StayedAmong};
-ghost use Rattle.trick_crew_whole.specs.Ends.{HaveEnded};
-ghost use Rattle.trick_crew_whole.specs.InHand.{in_hand, plan_for};
-ghost use Rattle.trick_desk.specs.Clerks.{clerked};
+ghost use Rattle.trick_crew_team.specs.Children.{children};
+ghost use Rattle.trick_crew_team.specs.Hands.{IsTakenIn};
+ghost use Rattle.trick_crew_team.specs.Members.{AreFor, IsRefusedAny, refused};
+ghost use Rattle.trick_crew_team.specs.Working.{HasWorked};
+ghost use Rattle.trick_crew.specs.Clerks.{AreStaffedBy, StayedAmong};
+ghost use Rattle.trick_crew.specs.Ends.{HaveEnded};
+ghost use Rattle.trick_crew.specs.InHand.{in_hand, plan_for};
+ghost use Rattle.trick_post.specs.Clerks.{clerked};
 ghost use Rattle.trick_hall.specs.Histories.{has_shut};
 ghost use Rattle.trick_outside.specs.Causes.{HasCause};
 ghost use Rattle.trick_turn.specs.Passes.{own, seen};
@@ -19,8 +19,8 @@ use crate::listing::Listing;
 use std::alloc::{AllocError, Global};
 use std::sync::{Arc, Wait};
 use std::thread::Threads;
-use trick_crew::{Crew, Team};
-use trick_desk::ShutPost;
+use trick_crew_team::{Crew, Team};
+use trick_post::ShutPost;
 use trick_hall::Chief;
 use trick_lang::Cells;
 use trick_model::{Accepted, Planned};
@@ -80,9 +80,9 @@ impl<
             (StayedAmong crew.posts)) }
         ensures none { IfErr result (λ _. spawner.new ≡ spawner.old) }
     {
-        let held = trick_desk::Held::<P>::new(Arc::try_clone(accepted)?);
+        let held = trick_post::Held::<P>::new(Arc::try_clone(accepted)?);
         let listing = Listing::new(rt, alloc, held, &gate)?;
-        let held = trick_crew::Held::<P>::new(Arc::try_clone(accepted)?);
+        let held = trick_crew_team::Held::<P>::new(Arc::try_clone(accepted)?);
         let Crew { phases } = Crew::new(rt, alloc, held, spawner, gate)?;
         let posts = listing.start(alloc, spawner);
         Ok(WholeCrew { phases, posts })

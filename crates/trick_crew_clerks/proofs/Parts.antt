@@ -2,10 +2,10 @@
 use denote.Param.Send.{sendable}
 use Rattle.std.proofs.Crossing.{crosses}
 use Rattle.std.proofs.marker.PhantomData.TheSendSync as phantom
-use Rattle.trick_desk.proofs.places.Places.TheSendSync as places
+use Rattle.trick_post.proofs.places.Places.TheSendSync as places
 use Rattle.trick_model.proofs.Crossings.{shared_send}
-use Rattle.trick_tray.proofs.outputs.Parcel.TheSendSync as parcel
-use Rattle.trick_tray.proofs.worker.Worker.TheSendSync as worker
+use Rattle.trick_post_trays.proofs.outputs.Parcel.TheSendSync as parcel
+use Rattle.trick_post_trays.proofs.worker.Worker.TheSendSync as worker
 use Rattle.trick_turn.proofs.lock.TurnLock.TheSendSync as lock
 use Rattle.trick_turn.proofs.pass.Pass.TheSendSync as pass
 

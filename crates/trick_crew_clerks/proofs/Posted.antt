@@ -5,15 +5,15 @@ use Rattle.std.proofs.lemmas.List.Elements.{All-cons, All-head, All-tail}
 use Rattle.std.specs.Arc.{arc_value}
 use Rattle.std.specs.Prelude.{All}
 use Rattle.trick_base.proofs.ListLemmas.{all_unmapped}
-use Rattle.trick_crew_yard.proofs.Lists.{all_unreversed}
-use Rattle.trick_crew_yard.proofs.Sharing.{shared_away, shared_here}
-use Rattle.trick_crew_yard.specs.Serving.{HasServed}
-use Rattle.trick_crew_yard.specs.Staffs.{AreOfPost, AreShared, RunsAtPost}
-use Rattle.trick_crew_yard.specs.Tending.{AreTended}
-use Rattle.trick_crew_yard.specs.declared.shift.Shift.{Shift}
-use Rattle.trick_desk.specs.Places.{PostView}
-use Rattle.trick_desk.specs.declared.clerk.Clerk.{Clerk}
-use Rattle.trick_desk.specs.declared.event.Event.{Event}
+use Rattle.trick_crew_clerks.proofs.Lists.{all_unreversed}
+use Rattle.trick_crew_clerks.proofs.Sharing.{shared_away, shared_here}
+use Rattle.trick_crew_clerks.specs.Serving.{HasServed}
+use Rattle.trick_crew_clerks.specs.Staffs.{AreOfPost, AreShared, RunsAtPost}
+use Rattle.trick_crew_clerks.specs.Tending.{AreTended}
+use Rattle.trick_crew_clerks.specs.declared.shift.Shift.{Shift}
+use Rattle.trick_post.specs.Places.{PostView}
+use Rattle.trick_post.specs.declared.clerk.Clerk.{Clerk}
+use Rattle.trick_post.specs.declared.event.Event.{Event}
 use Rattle.trick_model.specs.declared.planned.Planned.{Ghosts}
 use Rattle.trick_outside.specs.declared.work.Running.{Running}
 use Rattle.trick_turn.specs.declared.lock.TurnLock.{TurnLock}

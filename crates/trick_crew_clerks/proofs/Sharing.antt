@@ -3,7 +3,7 @@ use Rattle.std.proofs.Common.{◌≡◌, ◌∙◌, ℕ, List, [], ◌∷◌, �
 use Rattle.std.proofs.lemmas.List.{reverse-append}
 use Rattle.std.proofs.lemmas.List.Elements.{All-cons, All-head, All-nil, All-tail}
 use Rattle.std.specs.Prelude.{All}
-use Rattle.trick_crew_yard.specs.Staffs.{AreShared, StayedAny, is_empty}
+use Rattle.trick_crew_clerks.specs.Staffs.{AreShared, StayedAny, is_empty}
 use Rattle.trick_outside.proofs.CauseLemmas.{rose_earlier, rose_later}
 use Rattle.trick_outside.specs.Causes.{HasCause}
 use Rattle.trick_outside.specs.Works.{IsRefused, MatchBegun, Runs}

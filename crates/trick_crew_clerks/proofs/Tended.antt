@@ -1,9 +1,9 @@
 -- Clerks that are tended one after another.
 use Rattle.std.proofs.Common.{◌≡◌, ◌∙◌, ℕ, zero, suc, ◌<◌, ◌≤◌, ◌+◌, List, [], ◌∷◌, ap, arith, length, refl, slice_index_or, slice_set, subst, sym}
 use Rattle.std.proofs.Math.Numerals.{suc-eq-add-one}
-use Rattle.trick_crew_yard.specs.Serving.{IsIdle}
-use Rattle.trick_crew_yard.specs.Tending.{AreTended, IsTended}
-use Rattle.trick_crew_yard.specs.declared.shift.Shift.{Shift}
+use Rattle.trick_crew_clerks.specs.Serving.{IsIdle}
+use Rattle.trick_crew_clerks.specs.Tending.{AreTended, IsTended}
+use Rattle.trick_crew_clerks.specs.declared.shift.Shift.{Shift}
 use Rattle.trick_model.specs.declared.planned.Planned.{Ghosts}
 
 module _ {A : Type 0} (Now : A → A → Type 0) where

@@ -2,11 +2,11 @@
 use Rattle.std.specs.Arc.{arc_value}
 use Rattle.std.specs.Prelude.{◌≡◌, ◌⊎◌, ℕ, Bool, true, false, All, List, [], ◌∷◌, map}
 use mathlib.Core.List.{IsPrefix}
-use Rattle.trick_crew_yard.specs.Serving.{HasServed}
-use Rattle.trick_crew_yard.specs.declared.shift.Shift.{Shift}
-use Rattle.trick_desk.specs.Places.{PostView}
-use Rattle.trick_desk.specs.declared.clerk.Clerk.{Clerk}
-use Rattle.trick_desk.specs.declared.event.Event.{Event}
+use Rattle.trick_crew_clerks.specs.Serving.{HasServed}
+use Rattle.trick_crew_clerks.specs.declared.shift.Shift.{Shift}
+use Rattle.trick_post.specs.Places.{PostView}
+use Rattle.trick_post.specs.declared.clerk.Clerk.{Clerk}
+use Rattle.trick_post.specs.declared.event.Event.{Event}
 use Rattle.trick_model.specs.declared.planned.Planned.{Ghosts}
 use Rattle.trick_outside.specs.Works.{Runs}
 use Rattle.trick_outside.specs.declared.work.Running.{Running}

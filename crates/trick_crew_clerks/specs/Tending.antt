@@ -1,10 +1,10 @@
 -- What the caller does for clerks that stayed.
 use Rattle.std.proofs.Common.{◌∙◌, ⊎_elim, inl, inr, refl, subst, sym}
 use Rattle.std.specs.Prelude.{◌≡◌, ◌⊎◌, ℕ, List, [], ◌∷◌, ◌++◌}
-use Rattle.trick_crew_yard.specs.Serving.{IsIdle}
-use Rattle.trick_crew_yard.specs.declared.shift.Shift.{Shift}
+use Rattle.trick_crew_clerks.specs.Serving.{IsIdle}
+use Rattle.trick_crew_clerks.specs.declared.shift.Shift.{Shift}
 use Rattle.trick_model.specs.declared.planned.Planned.{Ghosts}
-use Rattle.trick_post.specs.Polls.{Poll}
+use Rattle.trick_post_work.specs.Polls.{Poll}
 
 -- the round of the thread was asked for
 abbrev pub WasAsked : List Poll → ℕ → Type 0

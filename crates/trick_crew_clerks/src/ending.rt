@@ -1,14 +1,14 @@
 //! How the clerks of a yard are taken in.
 ghost use Rattle.std.specs.Arc.{arc_value};
 ghost use Rattle.std.specs.Prelude.{◌≡◌, All};
-ghost use Rattle.trick_crew_yard.specs.Staffs.{AreOfPost, HasEnded, IsLeftBy, IsTakenIn, RunsAtPost};
+ghost use Rattle.trick_crew_clerks.specs.Staffs.{AreOfPost, HasEnded, IsLeftBy, IsTakenIn, RunsAtPost};
 ghost use Rattle.trick_turn.specs.Passes.{own, seen};
 ghost use mathlib.Core.List.{IsPrefix};
 
 use crate::shift::Shift;
 use std::sync::Wait;
 use std::thread::Threads;
-use trick_desk::{Clerk, ShutPost};
+use trick_post::{Clerk, ShutPost};
 use trick_model::Planned;
 use trick_outside::{Gate, Running};
 

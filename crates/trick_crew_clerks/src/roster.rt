@@ -1,9 +1,9 @@
 //! A yard before its shifts are started.
 ghost use Rattle.std.specs.Arc.{arc_value};
 ghost use Rattle.std.specs.Prelude.{◌≡◌, ◌+◌, ◌≤◌, [], IfOk, map, reverse, true, vec_capacity, vec_len};
-ghost use Rattle.trick_crew_yard.specs.Serving.{HasServed};
-ghost use Rattle.trick_crew_yard.specs.Staffs.{AreOfPost, AreShared, StayedAny, is_empty};
-ghost use Rattle.trick_desk.specs.Clerks.{clerked};
+ghost use Rattle.trick_crew_clerks.specs.Serving.{HasServed};
+ghost use Rattle.trick_crew_clerks.specs.Staffs.{AreOfPost, AreShared, StayedAny, is_empty};
+ghost use Rattle.trick_post.specs.Clerks.{clerked};
 ghost use Rattle.trick_outside.specs.Causes.{HasCause};
 ghost use Rattle.trick_turn.specs.Passes.{own};
 
@@ -13,7 +13,7 @@ use crate::yard::Yard;
 use std::alloc::{AllocError, Global};
 use std::sync::{Arc, Wait};
 use std::thread::Threads;
-use trick_desk::{Clerk, Desk, Held, Post};
+use trick_post::{Clerk, Desk, Held, Post};
 use trick_model::Planned;
 use trick_outside::{Gate, Spawner};
 

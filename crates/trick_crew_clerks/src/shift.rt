@@ -1,13 +1,13 @@
 //! The shift of a clerk: what the clerk does until the post is shut.
 ghost use Rattle.std.specs.Prelude.{◌≡◌, ◌++◌, IfOk, true};
-ghost use Rattle.trick_crew_yard.specs.Serving.{IsIdle, HasServedFrom, errand};
-ghost use Rattle.trick_desk.specs.Histories.{has_shut};
-ghost use Rattle.trick_desk.specs.declared.picked.Picked.TheVariants as picked;
+ghost use Rattle.trick_crew_clerks.specs.Serving.{IsIdle, HasServedFrom, errand};
+ghost use Rattle.trick_post.specs.Histories.{has_shut};
+ghost use Rattle.trick_post.specs.declared.picked.Picked.TheVariants as picked;
 ghost use Rattle.trick_turn.specs.Passes.{own, seen};
 
 use std::alloc::{AllocError, Global};
 use std::sync::{Arc, Wait};
-use trick_desk::{Clerk, Picked};
+use trick_post::{Clerk, Picked};
 use trick_model::Planned;
 use trick_outside::{Gate, NoGate, Work};
 
@@ -91,7 +91,7 @@ impl<P: Planned, G: Gate + Drop, R: Wait + Drop> Shift<P, G, R> {
 
 impl<P: Planned + Send, G: Gate + Send + Sync + Drop, R: Wait + Send + Drop> Work
     for Shift<P, G, R> {
-    ghost use Rattle.trick_crew_yard.specs.Serving.{HasServed};
+    ghost use Rattle.trick_crew_clerks.specs.Serving.{HasServed};
 
     type Out = Clerk<P>;
 

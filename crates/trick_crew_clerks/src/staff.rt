@@ -1,7 +1,7 @@
 //! How the shifts of a yard are started.
 ghost use Rattle.std.specs.Prelude.{◌≡◌, ◌+◌, ◌++◌, ◌∷◌, ◌<◌, ◌≤◌, [], reverse, vec_capacity, vec_len};
-ghost use Rattle.trick_crew_yard.specs.Serving.{HasServed};
-ghost use Rattle.trick_crew_yard.specs.Staffs.{AreShared, StayedAny};
+ghost use Rattle.trick_crew_clerks.specs.Serving.{HasServed};
+ghost use Rattle.trick_crew_clerks.specs.Staffs.{AreShared, StayedAny};
 ghost use Rattle.trick_outside.specs.Causes.{HasCause};
 ghost use Rattle.trick_outside.specs.Works.{IsRefused, MatchBegun, Runs};
 

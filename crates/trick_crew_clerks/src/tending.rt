@@ -1,6 +1,6 @@
 //! What the caller does for clerks that stayed.
 ghost use Rattle.std.specs.Prelude.{◌≡◌, ℕ};
-ghost use Rattle.trick_crew_yard.specs.Tending.{AreTended, IsTended};
+ghost use Rattle.trick_crew_clerks.specs.Tending.{AreTended, IsTended};
 
 use crate::shift::Shift;
 use std::sync::Wait;

@@ -1,8 +1,8 @@
 //! A desk with the shifts of its clerks.
 ghost use Rattle.std.specs.Arc.{arc_value};
 ghost use Rattle.std.specs.Prelude.{◌≡◌, All, true};
-ghost use Rattle.trick_crew_yard.specs.Staffs.{AreOfPost, HasEnded, IsTakenIn, RunsAtPost};
-ghost use Rattle.trick_desk.specs.Histories.{has_shut};
+ghost use Rattle.trick_crew_clerks.specs.Staffs.{AreOfPost, HasEnded, IsTakenIn, RunsAtPost};
+ghost use Rattle.trick_post.specs.Histories.{has_shut};
 ghost use Rattle.trick_turn.specs.Passes.{own, seen};
 ghost use mathlib.Core.List.{IsPrefix};
 
@@ -11,11 +11,11 @@ use crate::staff::Staff;
 use crate::tending::attend_each;
 use std::sync::Wait;
 use std::thread::Threads;
-use trick_desk::{Desk, ShutPost};
+use trick_post::{Desk, ShutPost};
 use trick_lang::Cells;
 use trick_model::{Faults, Planned, Taken};
 use trick_outside::Gate;
-use trick_post::{Job1, Posted, Posts};
+use trick_post_work::{Job1, Posted, Posts};
 
 /// A desk, and the shifts of its clerks. What waits for a clerk whose shift was not started is done by the caller, in
 /// `poll` and in `finish`. Each thread of a yard ends in [`Yard::close`].
@@ -60,9 +60,9 @@ impl<
 > Posts for Yard<P, G, R> {
     ghost use Rattle.std.specs.Arc.{arc_value};
     ghost use Rattle.std.specs.Prelude.{◌≡◌};
-    ghost use Rattle.trick_crew_yard.specs.Tending.{AreTended, WasAsked, tended_join, tended_none};
-    ghost use Rattle.trick_desk.specs.Histories.{started_in};
-    ghost use Rattle.trick_desk.specs.Lateness.{counts_join, late_through, rose_counted};
+    ghost use Rattle.trick_crew_clerks.specs.Tending.{AreTended, WasAsked, tended_join, tended_none};
+    ghost use Rattle.trick_post.specs.Histories.{started_in};
+    ghost use Rattle.trick_post.specs.Lateness.{counts_join, late_through, rose_counted};
     ghost use Rattle.trick_turn.specs.Passes.{own};
     ghost use Rattle.std.proofs.Common.{refl};
 

@@ -8,8 +8,8 @@ use Rattle.std.specs.List.{list_any}
 use Rattle.std.specs.Prelude.{filter}
 use Rattle.trick_base.proofs.Numbers.{equal_to_itself}
 use Rattle.trick_base.proofs.Truths.{second_holds}
-use Rattle.trick_board.proofs.Firsts.{among_tested, tested}
-use Rattle.trick_crew.specs.Children.{child_numbers, children, is_child}
+use Rattle.trick_phase_board.proofs.Firsts.{among_tested, tested}
+use Rattle.trick_crew_team.specs.Children.{child_numbers, children, is_child}
 use Rattle.trick_lang.specs.Valid.{have_right_threads}
 use Rattle.trick_lang.specs.declared.job.Job.{Job}
 use Rattle.trick_model.proofs.Keys.{key_order_is_one}

@@ -1,7 +1,7 @@
 -- Workers that are started one after another, the last one first.
 use Rattle.std.proofs.Common.{◌≡◌, ◌∙◌, ◌+◌, ℕ, List, [], ◌∷◌, ◌++◌, ap, drop, map, refl, reverse, subst, sym, append-nil, arith, ◌⊎◌, inl, inr, ⊎_elim}
 use Rattle.std.proofs.lemmas.List.{append_assoc, reverse-append}
-use Rattle.trick_crew.specs.Members.{AddsRefused, AreFor, AreMembers, IsMember, IsRefusedAny, refused}
+use Rattle.trick_crew_team.specs.Members.{AddsRefused, AreFor, AreMembers, IsMember, IsRefusedAny, refused}
 use Rattle.trick_outside.proofs.CauseLemmas.{rose_earlier, rose_later}
 use Rattle.trick_outside.specs.Causes.{HasCause}
 use Rattle.trick_outside.specs.Works.{IsRefused, MatchBegun, Runs}

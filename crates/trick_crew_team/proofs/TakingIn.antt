@@ -8,11 +8,11 @@ use base.Stored.{Coded-set}
 use mathlib.Core.List.{IsPrefix}
 use Rattle.atomic_table.specs.Seated.{TableId, table_id_coded}
 use Rattle.trick_base.proofs.ListLemmas.{all_unmapped}
-use Rattle.trick_crew.proofs.Lists.{all_left, all_right, all_unreversed, prefix_of_prefix}
-use Rattle.trick_crew.specs.Hands.{AreOfHall, IsLeftBy, IsTakenIn}
-use Rattle.trick_crew.specs.Members.{AreMembers, IsMember}
-use Rattle.trick_crew.specs.Working.{HasWorked}
-use Rattle.trick_crew.specs.declared.worker.Worker.{Worker}
+use Rattle.trick_crew_team.proofs.Lists.{all_left, all_right, all_unreversed, prefix_of_prefix}
+use Rattle.trick_crew_team.specs.Hands.{AreOfHall, IsLeftBy, IsTakenIn}
+use Rattle.trick_crew_team.specs.Members.{AreMembers, IsMember}
+use Rattle.trick_crew_team.specs.Working.{HasWorked}
+use Rattle.trick_crew_team.specs.declared.worker.Worker.{Worker}
 use Rattle.trick_hall.specs.HallView.{HallView}
 use Rattle.trick_hall.specs.declared.entry.Entry.{Entry}
 use Rattle.trick_hall.specs.declared.hand.Hand.{Hand}

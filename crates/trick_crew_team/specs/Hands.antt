@@ -2,9 +2,9 @@
 use Rattle.std.specs.Arc.{arc_value}
 use Rattle.std.specs.Prelude.{◌≡◌, All, List}
 use mathlib.Core.List.{IsPrefix}
-use Rattle.trick_crew.specs.Members.{IsMember}
-use Rattle.trick_crew.specs.Working.{HasWorked}
-use Rattle.trick_crew.specs.declared.worker.Worker.{Worker}
+use Rattle.trick_crew_team.specs.Members.{IsMember}
+use Rattle.trick_crew_team.specs.Working.{HasWorked}
+use Rattle.trick_crew_team.specs.declared.worker.Worker.{Worker}
 use Rattle.trick_hall.specs.HallView.{HallView}
 use Rattle.trick_hall.specs.declared.entry.Entry.{Entry}
 use Rattle.trick_hall.specs.declared.hand.Hand.{Hand}

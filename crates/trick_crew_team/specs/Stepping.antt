@@ -1,7 +1,7 @@
 -- What one step comes to: p is the pass of the hand before it, and q after it.
 use Rattle.std.specs.Prelude.{ℕ, Some}
-use Rattle.trick_crew.specs.declared.step.Stepped.{Stepped}
-use Rattle.trick_crew.specs.declared.step.Stepped.TheVariants.{Ends, Idles, Waits, Worked}
+use Rattle.trick_crew_team.specs.declared.step.Stepped.{Stepped}
+use Rattle.trick_crew_team.specs.declared.step.Stepped.TheVariants.{Ends, Idles, Waits, Worked}
 use Rattle.trick_eval.specs.Bench.{BenchView, the_job}
 use Rattle.trick_hall.specs.Answers.{CommitsAt, TakesAt}
 use Rattle.trick_hall.specs.declared.answers.HandCommit.{HandCommit}

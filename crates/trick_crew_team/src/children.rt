@@ -1,7 +1,7 @@
 //! The threads that get a worker.
 ghost use Rattle.std.specs.Prelude.{◌≡◌, ◌==◌, ◌≤◌, IfOk, filter, length};
 ghost use Rattle.std.specs.List.{list_any};
-ghost use Rattle.trick_crew.specs.Children.{children, is_child};
+ghost use Rattle.trick_crew_team.specs.Children.{children, is_child};
 
 use std::alloc::{AllocError, Global};
 use trick_lang::Job;

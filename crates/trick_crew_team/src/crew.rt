@@ -1,10 +1,10 @@
 //! How a crew is made, and how it ends.
 ghost use Rattle.std.specs.Arc.{arc_value};
 ghost use Rattle.std.specs.Prelude.{◌≡◌, ◌+◌, ◌++◌, ◌∷◌, ◌≤◌, All, IfErr, IfOk, OnOk, length, map, reverse, true, vec_len};
-ghost use Rattle.trick_crew.specs.Children.{children};
-ghost use Rattle.trick_crew.specs.Hands.{IsTakenIn};
-ghost use Rattle.trick_crew.specs.Members.{AreFor, IsRefusedAny, refused};
-ghost use Rattle.trick_crew.specs.Working.{HasWorked};
+ghost use Rattle.trick_crew_team.specs.Children.{children};
+ghost use Rattle.trick_crew_team.specs.Hands.{IsTakenIn};
+ghost use Rattle.trick_crew_team.specs.Members.{AreFor, IsRefusedAny, refused};
+ghost use Rattle.trick_crew_team.specs.Working.{HasWorked};
 ghost use Rattle.trick_hall.specs.Histories.{has_shut};
 ghost use Rattle.trick_outside.specs.Causes.{HasCause};
 ghost use Rattle.trick_turn.specs.Passes.{own, seen};

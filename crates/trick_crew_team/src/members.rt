@@ -1,8 +1,8 @@
 //! The workers of a crew, each started in a thread of its own or refused.
 ghost use Rattle.std.specs.Prelude.{◌≡◌, ◌+◌, ◌++◌, ◌<◌, ◌≤◌, [], All, length, reverse, vec_capacity, vec_len};
-ghost use Rattle.trick_crew.specs.Hands.{AreOfHall, IsLeftBy, IsTakenIn};
-ghost use Rattle.trick_crew.specs.Members.{AddsRefused, AreMembers, IsRefusedAny, refused};
-ghost use Rattle.trick_crew.specs.Working.{HasWorked};
+ghost use Rattle.trick_crew_team.specs.Hands.{AreOfHall, IsLeftBy, IsTakenIn};
+ghost use Rattle.trick_crew_team.specs.Members.{AddsRefused, AreMembers, IsRefusedAny, refused};
+ghost use Rattle.trick_crew_team.specs.Working.{HasWorked};
 ghost use Rattle.trick_outside.specs.Causes.{HasCause};
 ghost use Rattle.trick_turn.specs.Passes.{own, seen};
 ghost use mathlib.Core.List.{IsPrefix};

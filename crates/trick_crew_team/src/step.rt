@@ -1,6 +1,6 @@
 //! One step of whoever does the jobs of a thread.
 ghost use Rattle.std.specs.Prelude.{◌≡◌, Some};
-ghost use Rattle.trick_crew.specs.Stepping.{StepsAt};
+ghost use Rattle.trick_crew_team.specs.Stepping.{StepsAt};
 ghost use Rattle.trick_eval.specs.Bench.{IsFor};
 
 use std::sync::Wait;

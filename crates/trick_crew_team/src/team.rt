@@ -1,7 +1,7 @@
 //! Who runs the due jobs of a tic: the caller, and whatever workers there are.
 ghost use Rattle.std.specs.Arc.{arc_value};
 ghost use Rattle.std.specs.Prelude.{◌≡◌, IsSome, None, Some, false, is_some};
-ghost use Rattle.trick_crew.specs.Hands.{AreOfHall};
+ghost use Rattle.trick_crew_team.specs.Hands.{AreOfHall};
 ghost use Rattle.trick_eval.specs.Bench.{IsFor};
 ghost use Rattle.trick_hall.specs.Answers.{IsSerial};
 ghost use Rattle.trick_hall.specs.Histories.{Opening, has_shut};
@@ -14,12 +14,12 @@ use crate::share::Share;
 use crate::worker::Worker;
 use std::sync::Wait;
 use std::thread::Threads;
-use trick_board::Closed;
+use trick_phase_board::Closed;
 use trick_hall::Chief;
 use trick_lang::{Cells, JobId};
 use trick_model::{Accepted, Faults, Flags, Planned};
 use trick_outside::{Begun, Gate};
-use trick_phase::Phases;
+use trick_phase_jobs::Phases;
 
 /// The scheduled threads of a crew: the chief of their hall, the caller's share, and the workers. Between two tics no
 /// tic is open, and the hall is not shut. All hands are of that hall.

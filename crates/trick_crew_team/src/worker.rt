@@ -94,7 +94,7 @@ impl<
     G: Gate + Send + Sync + Drop,
     R: Wait + Send + Drop,
 > Work for Worker<M, P, G, R> {
-    ghost use Rattle.trick_crew.specs.Working.{HasWorked};
+    ghost use Rattle.trick_crew_team.specs.Working.{HasWorked};
 
     type Out = Hand<M, P>;
 

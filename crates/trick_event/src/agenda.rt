@@ -5,7 +5,7 @@ ghost use Rattle.trick_cycle.specs.Due.{IsInRange};
 ghost use Rattle.trick_cycle.specs.Least.{FindsLeast};
 ghost use Rattle.trick_event.specs.Asking.{asking};
 ghost use Rattle.trick_event.specs.Due.{AreLeft, AreLeftBy, cycle_of, IsFor, IsNextEvent, IsNextWhere, IsStirred, tic_left, tic_of};
-ghost use Rattle.trick_job.specs.Belongs.{IsMemoryOf};
+ghost use Rattle.trick_phase_jobs.specs.Belongs.{IsMemoryOf};
 ghost use Rattle.trick_model.specs.Events.{fire as fired_of, reads_done};
 ghost use Rattle.trick_model.specs.PlanOf.{plan_of};
 ghost use Rattle.trick_model.specs.State.{State as StateOf};

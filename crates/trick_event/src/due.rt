@@ -5,7 +5,7 @@ ghost use Rattle.std.specs.Prelude.{◌≡◌, ◌<◌, ◌≤◌, All, IsTrue, 
 ghost use Rattle.trick_event.specs.Asking.{asking};
 ghost use Rattle.trick_event.specs.Deeds.{CanDo, CanDoLists};
 ghost use Rattle.trick_event.specs.Event.{event_done, read_done};
-ghost use Rattle.trick_job.specs.Belongs.{IsMemoryOf};
+ghost use Rattle.trick_phase_jobs.specs.Belongs.{IsMemoryOf};
 ghost use Rattle.trick_model.specs.Condition.{is_condition_of};
 ghost use Rattle.trick_model.specs.Events.{act_all, event_acts, events_done, fire as fired_of, fires, reads_done};
 ghost use Rattle.trick_model.specs.Plan.{Event as EventOf};

@@ -14,15 +14,15 @@ use Rattle.trick_model.specs.Time.{last_turn}
 use Rattle.trick_model.specs.Turn.{counted}
 use Rattle.trick_model.specs.declared.plan.Plan.{Plan as PlanValue}
 use Rattle.trick_model.specs.declared.session.Session.{Session}
-use Rattle.trick_pass.specs.Pass.{IsEquipped}
-use Rattle.trick_pass.specs.declared.equipment.Equipment.{Equipment}
-use Rattle.trick_post.specs.Work.{Started}
-use Rattle.trick_runs.proofs.Gaps.{AreQuiet, AreStill, GivesTurn, going_gap, later}
-use Rattle.trick_runs.proofs.Going.{Laws}
-use Rattle.trick_runs.specs.Hosts.{Hosts, Place, at}
-use Rattle.trick_turns.specs.Gap as gap
-use Rattle.trick_turns.specs.Gap.{Gap}
-use Rattle.trick_turns.specs.declared.turns.Turns.{Ghosts as TurnsGhosts}
+use Rattle.trick_exec_frame.specs.Pass.{IsEquipped}
+use Rattle.trick_exec_frame.specs.declared.equipment.Equipment.{Equipment}
+use Rattle.trick_post_work.specs.Work.{Started}
+use Rattle.trick_exec_meaning.proofs.Gaps.{AreQuiet, AreStill, GivesTurn, going_gap, later}
+use Rattle.trick_exec_meaning.proofs.Going.{Laws}
+use Rattle.trick_exec_meaning.specs.Hosts.{Hosts, Place, at}
+use Rattle.trick_exec_sources.specs.Gap as gap
+use Rattle.trick_exec_sources.specs.Gap.{Gap}
+use Rattle.trick_exec_sources.specs.declared.turns.Turns.{Ghosts as TurnsGhosts}
 
 -- a gap that was given where these sessions are there
 pub gap_as : {U M : Type 0} (turns : TurnsGhosts U M) (live there : List Session) (s : State) (count : ℕ) (old now : U) → live ≡ there

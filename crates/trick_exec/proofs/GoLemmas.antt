@@ -15,19 +15,19 @@ use Rattle.trick_model.specs.declared.entry.Entry.{Entry}
 use Rattle.trick_model.specs.declared.session.Session.{Session}
 use Rattle.trick_outside.specs.Does.{IsPartOf}
 use Rattle.trick_outside.specs.declared.stop.Stop.{Stop}
-use Rattle.trick_post.specs.declared.posts.Posts.{Ghosts as PostsGhosts}
-use Rattle.trick_runs.proofs.Ending.{stops_in}
-use Rattle.trick_runs.proofs.Going.{Gave, IsGoing, Laws, going_more}
-use Rattle.trick_runs.specs.Answers.{given}
-use Rattle.trick_runs.specs.Hosts.{Hosts, Place, at}
-use Rattle.trick_runs.specs.Over.{AreStopped}
-use Rattle.trick_runs.specs.Rounds.{IsChosen, heard_state, publications, waited}
-use Rattle.trick_runs.specs.Turned.{Asks, line_notes}
+use Rattle.trick_post_work.specs.declared.posts.Posts.{Ghosts as PostsGhosts}
+use Rattle.trick_exec_meaning.proofs.Ending.{stops_in}
+use Rattle.trick_exec_meaning.proofs.Going.{Gave, IsGoing, Laws, going_more}
+use Rattle.trick_exec_meaning.specs.Answers.{given}
+use Rattle.trick_exec_meaning.specs.Hosts.{Hosts, Place, at}
+use Rattle.trick_exec_meaning.specs.Over.{AreStopped}
+use Rattle.trick_exec_meaning.specs.Rounds.{IsChosen, heard_state, publications, waited}
+use Rattle.trick_exec_meaning.specs.Turned.{Asks, line_notes}
 use Rattle.trick_session.specs.Kept.{IsSession}
-use Rattle.trick_tic.specs.Steps.{steps_of}
-use Rattle.trick_turns.specs.Turns.{Gives, GoesOn, Pays, Sessions, Told, answered, no_sessions}
-use Rattle.trick_turns.specs.declared.turns.Next.TheVariants as next
-use Rattle.trick_turns.specs.declared.turns.Turns.{Ghosts as TurnsGhosts}
+use Rattle.trick_exec_tic.specs.Steps.{steps_of}
+use Rattle.trick_exec_sources.specs.Turns.{Gives, GoesOn, Pays, Sessions, Told, answered, no_sessions}
+use Rattle.trick_exec_sources.specs.declared.turns.Next.TheVariants as next
+use Rattle.trick_exec_sources.specs.declared.turns.Turns.{Ghosts as TurnsGhosts}
 
 -- So many turns were done, with the waits that the code keeps.
 pub record IsUnder {S U M Q : Type 0} (h : Hosts S U M Q) (p : Plan) (start : State) (old now : Place S U Q) (w : World) (kept : List ℕ) : Type 0 where

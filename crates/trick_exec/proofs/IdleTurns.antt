@@ -17,15 +17,15 @@ use Rattle.trick_outside.proofs.DoesLemmas.{does_nothing, does_ok}
 use Rattle.trick_outside.specs.Calls.{Call}
 use Rattle.trick_outside.specs.Does.{Does}
 use Rattle.trick_outside.specs.declared.stop.Stop.{Stop}
-use Rattle.trick_pass.specs.Pass.{passed, unasked}
-use Rattle.trick_post.specs.Polls.{Poll}
-use Rattle.trick_runs.specs.Answers.{given}
-use Rattle.trick_runs.specs.Hosts.{Hosts, Place}
-use Rattle.trick_runs.specs.Rounds.{Chooses, IsChosen, none, waited, waited_from}
-use Rattle.trick_runs.specs.Turned.{Asks}
-use Rattle.trick_tic.proofs.Doing.{fine}
-use Rattle.trick_tic.specs.Steps.{steps_of}
-use Rattle.trick_turns.specs.Turns.{Sessions, in_next}
+use Rattle.trick_exec_frame.specs.Pass.{passed, unasked}
+use Rattle.trick_post_work.specs.Polls.{Poll}
+use Rattle.trick_exec_meaning.specs.Answers.{given}
+use Rattle.trick_exec_meaning.specs.Hosts.{Hosts, Place}
+use Rattle.trick_exec_meaning.specs.Rounds.{Chooses, IsChosen, none, waited, waited_from}
+use Rattle.trick_exec_meaning.specs.Turned.{Asks}
+use Rattle.trick_exec_tic.proofs.Doing.{fine}
+use Rattle.trick_exec_tic.specs.Steps.{steps_of}
+use Rattle.trick_exec_sources.specs.Turns.{Sessions, in_next}
 
 given_none : (decides : Bool) → given decides [] ≡ []
 given_none true = refl

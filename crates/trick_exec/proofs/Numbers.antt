@@ -7,7 +7,7 @@ use Rattle.std.specs.List.{list_any}
 use Rattle.std.specs.Prelude.{◌==◌, ◌||◌, cond, filter}
 use Rattle.trick_base.proofs.Numbers.{equal_to_itself}
 use Rattle.trick_exec.specs.Known.{Below}
-use Rattle.trick_hear.proofs.PlaceLemmas.{rises_head, rises_tail}
+use Rattle.trick_exec_entries.proofs.PlaceLemmas.{rises_head, rises_tail}
 use Rattle.trick_model.specs.Valid.{rises}
 
 -- all of these numbers are above one

@@ -4,7 +4,7 @@ use Rattle.std.proofs.Math.Seq.{get_or-append_seam}
 use Rattle.std.proofs.lemmas.Bool.{or_from}
 use Rattle.std.specs.List.{list_any, slice_index_or}
 use Rattle.std.specs.Prelude.{◌||◌, ◌<◌, ℕ, filter, nat_le}
-use Rattle.trick_beside.proofs.Threads.{AreFound, found_at}
+use Rattle.trick_exec_posts.proofs.Threads.{AreFound, found_at}
 use Rattle.trick_model.specs.Beside.{find_thread, has_round, is_in_flight}
 use Rattle.trick_model.specs.Journal.{is_of_session}
 use Rattle.trick_model.specs.Plan.{Plan, threads_beside}
@@ -15,13 +15,13 @@ use Rattle.trick_model.specs.Turn.{Hearing, begun, is_frozen, runs, turn}
 use Rattle.trick_model.specs.declared.entry.Entry.{Entry}
 use Rattle.trick_model.specs.declared.entry.Entry.TheVariants.{Join, Said, Leave, Publish}
 use Rattle.trick_model.specs.declared.thread.Thread.{Thread}
-use Rattle.trick_one_post.specs.Posting.{AllReady}
-use Rattle.trick_post.specs.Polls.{Poll}
-use Rattle.trick_runs.proofs.Goes.{has_one}
-use Rattle.trick_runs.proofs.Idle.{heard_nothing}
-use Rattle.trick_runs.specs.Answers.{answers}
-use Rattle.trick_runs.specs.Rounds.{AreChosen, Chooses, IsChosen, heard_state, idle, no_turn, none, not_yet, one_more, publications, ready, unasked}
-use Rattle.trick_turns.specs.Turns.{Answer, AreSilent, has_line}
+use Rattle.trick_post_trays.specs.Posting.{AllReady}
+use Rattle.trick_post_work.specs.Polls.{Poll}
+use Rattle.trick_exec_meaning.proofs.Goes.{has_one}
+use Rattle.trick_exec_meaning.proofs.Idle.{heard_nothing}
+use Rattle.trick_exec_meaning.specs.Answers.{answers}
+use Rattle.trick_exec_meaning.specs.Rounds.{AreChosen, Chooses, IsChosen, heard_state, idle, no_turn, none, not_yet, one_more, publications, ready, unasked}
+use Rattle.trick_exec_sources.specs.Turns.{Answer, AreSilent, has_line}
 
 -- ---- what a silent source gave
 

@@ -22,26 +22,26 @@ use Rattle.trick_outside.proofs.DoesLemmas.{does_ok, not_ok}
 use Rattle.trick_outside.specs.Calls.{Call}
 use Rattle.trick_outside.specs.Does.{IsPartOf}
 use Rattle.trick_outside.specs.declared.stop.Stop.{Stop}
-use Rattle.trick_post.specs.Polls.{Poll}
-use Rattle.trick_post.specs.declared.posts.Posts.{Ghosts as PostsGhosts}
-use Rattle.trick_one_post.specs.Posting.{AllReady}
+use Rattle.trick_post_work.specs.Polls.{Poll}
+use Rattle.trick_post_work.specs.declared.posts.Posts.{Ghosts as PostsGhosts}
+use Rattle.trick_post_trays.specs.Posting.{AllReady}
 use Rattle.trick_exec.proofs.Own.{all_serial, given_silent, goes_same, no_sessions_after, serial_more, serial_silent, silent_parts}
 use Rattle.trick_exec.specs.Own.{AreAlone, IsAlone, RunsAs, RunsOwn}
-use Rattle.trick_runs.proofs.Goes.{goes_paid}
-use Rattle.trick_runs.proofs.Going.{writes_one}
-use Rattle.trick_runs.proofs.PartLemmas.{no_line}
-use Rattle.trick_beside.proofs.Threads.{AreFound, beside_found}
-use Rattle.trick_runs.specs.Answers.{answers}
-use Rattle.trick_runs.specs.Chosen.{AreAsked, ChoseTo, but_last, of_all}
-use Rattle.trick_runs.specs.Goes.{goes_owing}
-use Rattle.trick_runs.specs.Hosts.{Hosts, Place}
-use Rattle.trick_runs.specs.Ran.{last_answer}
-use Rattle.trick_runs.specs.Rounds.{AreChosen}
-use Rattle.trick_runs.specs.Stops.{StopsAt, StopsInTurn, in_turn}
-use Rattle.trick_runs.specs.Turned.{Asks, line_notes}
-use Rattle.trick_tic.proofs.StepLemmas.{steps_of-append}
-use Rattle.trick_tic.specs.Steps.{steps_of}
-use Rattle.trick_turns.specs.Turns.{Answer, AreSilent, has_line}
+use Rattle.trick_exec_meaning.proofs.Goes.{goes_paid}
+use Rattle.trick_exec_meaning.proofs.Going.{writes_one}
+use Rattle.trick_exec_meaning.proofs.PartLemmas.{no_line}
+use Rattle.trick_exec_posts.proofs.Threads.{AreFound, beside_found}
+use Rattle.trick_exec_meaning.specs.Answers.{answers}
+use Rattle.trick_exec_meaning.specs.Chosen.{AreAsked, ChoseTo, but_last, of_all}
+use Rattle.trick_exec_meaning.specs.Goes.{goes_owing}
+use Rattle.trick_exec_meaning.specs.Hosts.{Hosts, Place}
+use Rattle.trick_exec_meaning.specs.Ran.{last_answer}
+use Rattle.trick_exec_meaning.specs.Rounds.{AreChosen}
+use Rattle.trick_exec_meaning.specs.Stops.{StopsAt, StopsInTurn, in_turn}
+use Rattle.trick_exec_meaning.specs.Turned.{Asks, line_notes}
+use Rattle.trick_exec_tic.proofs.StepLemmas.{steps_of-append}
+use Rattle.trick_exec_tic.specs.Steps.{steps_of}
+use Rattle.trick_exec_sources.specs.Turns.{Answer, AreSilent, has_line}
 
 module _ {S U M Q : Type 0} (h : Hosts S U M Q) (p : Plan) (s : State) (old new : Place S U Q) (alone : IsAlone h old new) where
   -- no join, line or leave was given

@@ -7,9 +7,9 @@ use Rattle.std.specs.Prelude.{◌==◌, ◌||◌, All, IsTrue, cond, filter, map
 use Rattle.trick_base.proofs.Truths.{first_holds, second_holds}
 use Rattle.trick_exec.proofs.Numbers.{Above, any_first, any_later, any_more, below_push, filter_above, rises_above, rises_cons, rises_push}
 use Rattle.trick_exec.specs.Known.{AreKnown, Below}
-use Rattle.trick_hear.proofs.Kept.{answered_number, changed_numbers, session_number}
-use Rattle.trick_hear.proofs.PlaceLemmas.{rises_tail}
-use Rattle.trick_hear.specs.Sessions.{joining, numbers_of}
+use Rattle.trick_exec_entries.proofs.Kept.{answered_number, changed_numbers, session_number}
+use Rattle.trick_exec_entries.proofs.PlaceLemmas.{rises_tail}
+use Rattle.trick_exec_entries.specs.Sessions.{joining, numbers_of}
 use Rattle.trick_model.specs.Events.{names_of}
 use Rattle.trick_model.specs.Journal.{is_entry}
 use Rattle.trick_model.specs.Names.{deed_of}
@@ -25,7 +25,7 @@ use Rattle.trick_model.specs.declared.entry.Entry.{Entry}
 use Rattle.trick_model.specs.declared.entry.Entry.TheVariants.{Join, Said, Leave, Publish}
 use Rattle.trick_model.specs.declared.session.Session.{Session}
 use Rattle.trick_session.specs.Kept.{IsSession}
-use Rattle.trick_turns.specs.Turns.{Sessions, after_entries, after_entry, in_next, is_among, may_all_come, may_come}
+use Rattle.trick_exec_sources.specs.Turns.{Sessions, after_entries, after_entry, in_next, is_among, may_all_come, may_come}
 
 -- ---- a session that a line is said to
 

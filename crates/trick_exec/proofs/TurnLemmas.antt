@@ -2,15 +2,15 @@
 use Rattle.std.proofs.Common.{◌≡◌, ◌∙◌, ℕ, ℤ, List, [], ◌++◌, length, Bool, true, false, Err, Ok, IsOk, ap, append-nil, arith, drop, inl, inr, refl, subst, sym, take}
 use Rattle.std.proofs.lemmas.List.{drop_all, take_all}
 use Rattle.std.specs.Prelude.{◌⊎◌, All, IfOk, IsTrue, Option, Result, cond}
-use Rattle.trick_beside.specs.Flight.{GoesWith, IsInFlight}
+use Rattle.trick_exec_posts.specs.Flight.{GoesWith, IsInFlight}
 use Rattle.trick_exec.proofs.LineLemmas.{after_lines, entries_given, lines_come, publications_are}
 use Rattle.trick_exec.proofs.SessionLemmas.{AreAlong, all_entries, along_all, along_starts, joins_rise, known_after, replies_reach}
 use Rattle.trick_exec.specs.CameTo.{CameTo, HasGiven}
 use Rattle.trick_exec.specs.Known.{AreKnown}
 use Rattle.trick_exec.specs.Worlds.{world_of}
 use Rattle.trick_model.specs.declared.world.World.{World as WorldValue}
-use Rattle.trick_hear.specs.Sessions.{AreHeard, numbers_of}
-use Rattle.trick_job.specs.Belongs.{IsMemoryOf}
+use Rattle.trick_exec_entries.specs.Sessions.{AreHeard, numbers_of}
+use Rattle.trick_phase_jobs.specs.Belongs.{IsMemoryOf}
 use Rattle.trick_lang.specs.declared.scalar.Scalar.{Scalar}
 use Rattle.trick_model.proofs.Turns.{heard_right}
 use Rattle.trick_model.specs.Files.{note}
@@ -27,20 +27,20 @@ use Rattle.trick_model.specs.declared.session.Session.{Session}
 use Rattle.trick_model.specs.declared.taken.Taken.{Taken}
 use Rattle.trick_outside.specs.Does.{Does, IsPartOf}
 use Rattle.trick_outside.specs.declared.stop.Stop.{Stop}
-use Rattle.trick_post.specs.Polls.{Poll}
-use Rattle.trick_post.specs.Work.{Started}
-use Rattle.trick_post.specs.declared.posts.Posts.{Ghosts as PostsGhosts}
-use Rattle.trick_runs.proofs.Going.{Laws, PollsJoin}
-use Rattle.trick_runs.proofs.PartLemmas.{IsMade, heard_apart, turn_made}
-use Rattle.trick_runs.proofs.Times.{heard_time}
-use Rattle.trick_runs.proofs.TurnedLemmas.{turned_lines}
-use Rattle.trick_runs.specs.Answers.{given}
-use Rattle.trick_runs.specs.Hosts.{Hosts, Place, at}
-use Rattle.trick_runs.specs.Parts.{AreApart}
-use Rattle.trick_runs.specs.Rounds.{IsChosen, heard_state, publications, waited}
-use Rattle.trick_runs.specs.Turned.{Asks, Turned, line_notes}
-use Rattle.trick_tic.specs.Steps.{steps_of}
-use Rattle.trick_turns.specs.Turns.{Sessions, after_entries, has_line, in_next, is_among, may_all_come}
+use Rattle.trick_post_work.specs.Polls.{Poll}
+use Rattle.trick_post_work.specs.Work.{Started}
+use Rattle.trick_post_work.specs.declared.posts.Posts.{Ghosts as PostsGhosts}
+use Rattle.trick_exec_meaning.proofs.Going.{Laws, PollsJoin}
+use Rattle.trick_exec_meaning.proofs.PartLemmas.{IsMade, heard_apart, turn_made}
+use Rattle.trick_exec_meaning.proofs.Times.{heard_time}
+use Rattle.trick_exec_meaning.proofs.TurnedLemmas.{turned_lines}
+use Rattle.trick_exec_meaning.specs.Answers.{given}
+use Rattle.trick_exec_meaning.specs.Hosts.{Hosts, Place, at}
+use Rattle.trick_exec_meaning.specs.Parts.{AreApart}
+use Rattle.trick_exec_meaning.specs.Rounds.{IsChosen, heard_state, publications, waited}
+use Rattle.trick_exec_meaning.specs.Turned.{Asks, Turned, line_notes}
+use Rattle.trick_exec_tic.specs.Steps.{steps_of}
+use Rattle.trick_exec_sources.specs.Turns.{Sessions, after_entries, has_line, in_next, is_among, may_all_come}
 
 -- ---- small facts
 

@@ -1,8 +1,8 @@
 -- A run, as the code does it.
 use Rattle.std.proofs.Common.{◌≡◌, ◌∙◌, ℕ, ℤ, List, [], ◌∷◌, Err, Ok, IsOk, ap, refl, subst, sym}
 use Rattle.std.specs.Prelude.{Result, map}
-use Rattle.trick_beside.specs.Stations.{AreStations}
-use Rattle.trick_beside.specs.declared.station.Station.{Station}
+use Rattle.trick_exec_posts.specs.Stations.{AreStations}
+use Rattle.trick_exec_posts.specs.declared.station.Station.{Station}
 use Rattle.trick_model.specs.Plan.{Plan}
 use Rattle.trick_exec.specs.Ended.{AreTurns, Closes, IsRun}
 use Rattle.trick_exec.specs.declared.ended.Ended.{Ended as EndedValue}
@@ -14,13 +14,13 @@ use Rattle.trick_model.specs.declared.entry.Entry.{Entry}
 use Rattle.trick_model.specs.declared.thread.Thread.{Thread}
 use Rattle.trick_outside.specs.Does.{Does}
 use Rattle.trick_outside.specs.declared.stop.Stop.{Stop}
-use Rattle.trick_runs.proofs.Going.{Laws}
-use Rattle.trick_runs.proofs.Whole.{missed_over, missed_short, missed_started, ran, started, stopped_at_end, stopped_in_turns, stopped_started}
-use Rattle.trick_runs.specs.Hosts.{Hosts, Place, at}
-use Rattle.trick_runs.specs.Over.{AreOver, AreShort}
-use Rattle.trick_runs.specs.Ran.{Missed}
-use Rattle.trick_runs.specs.Rounds.{no_waits}
-use Rattle.trick_tic.specs.Steps.{steps_of}
+use Rattle.trick_exec_meaning.proofs.Going.{Laws}
+use Rattle.trick_exec_meaning.proofs.Whole.{missed_over, missed_short, missed_started, ran, started, stopped_at_end, stopped_in_turns, stopped_started}
+use Rattle.trick_exec_meaning.specs.Hosts.{Hosts, Place, at}
+use Rattle.trick_exec_meaning.specs.Over.{AreOver, AreShort}
+use Rattle.trick_exec_meaning.specs.Ran.{Missed}
+use Rattle.trick_exec_meaning.specs.Rounds.{no_waits}
+use Rattle.trick_exec_tic.specs.Steps.{steps_of}
 
 zeros : (stations : List Station) → map {B = ℕ} (λ (station : Station). 0) stations ≡ map {B = ℕ} (λ (thread : Thread). 0) (map (λ (station : Station). station.thread) stations)
 zeros [] = refl

@@ -11,8 +11,8 @@ use Rattle.trick_model.specs.declared.entry.Entry.{Entry}
 use Rattle.trick_outside.specs.Does.{Does}
 use Rattle.trick_outside.specs.declared.shelf.Shelf.{Ghosts}
 use Rattle.trick_outside.specs.declared.stop.Stop.{Stop}
-use Rattle.trick_runs.specs.Stops.{StopsAt}
-use Rattle.trick_tic.specs.Steps.{steps_of}
+use Rattle.trick_exec_meaning.specs.Stops.{StopsAt}
+use Rattle.trick_exec_tic.specs.Steps.{steps_of}
 
 -- A run from a state did these turns, under the entries of a run without clients. Where it stopped, it
 -- did a part of what it writes, the last turn of the list included.

@@ -11,12 +11,12 @@ use Rattle.trick_model.specs.Turn.{turn}
 use Rattle.trick_model.specs.declared.entry.Entry.{Entry}
 use Rattle.trick_outside.specs.Does.{IsPartOf}
 use Rattle.trick_outside.specs.declared.stop.Stop.{Stop}
-use Rattle.trick_runs.specs.Answers.{given}
-use Rattle.trick_runs.specs.Hosts.{Hosts, Place}
-use Rattle.trick_runs.specs.Rounds.{IsChosen, heard_state, publications, waited}
-use Rattle.trick_runs.specs.Turned.{Asks, Turned, line_notes}
-use Rattle.trick_tic.specs.Steps.{steps_of}
-use Rattle.trick_turns.specs.Turns.{Sessions, after_entries, in_next, may_all_come}
+use Rattle.trick_exec_meaning.specs.Answers.{given}
+use Rattle.trick_exec_meaning.specs.Hosts.{Hosts, Place}
+use Rattle.trick_exec_meaning.specs.Rounds.{IsChosen, heard_state, publications, waited}
+use Rattle.trick_exec_meaning.specs.Turned.{Asks, Turned, line_notes}
+use Rattle.trick_exec_tic.specs.Steps.{steps_of}
+use Rattle.trick_exec_sources.specs.Turns.{Sessions, after_entries, in_next, may_all_come}
 
 -- A source whose sessions are those of a world has given this list.
 pub record HasGiven (p : Plan) (decides : Bool) (w : World) (list : List Entry) (now : Sessions) : Type 0 where

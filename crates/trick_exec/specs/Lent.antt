@@ -1,22 +1,22 @@
 -- What a run is lent.
 use Rattle.std.specs.Prelude.{◌≡◌, List, false}
-use Rattle.trick_beside.specs.Flight.{IsFree}
+use Rattle.trick_exec_posts.specs.Flight.{IsFree}
 use Rattle.trick_exec.specs.declared.lent.Run.{Run}
 use Rattle.trick_eval.specs.Bench.{IsFor}
-use Rattle.trick_job.specs.Belongs.{IsMemoryOf}
+use Rattle.trick_phase_jobs.specs.Belongs.{IsMemoryOf}
 use Rattle.trick_lang.specs.declared.scalar.Scalar.{Scalar}
 use Rattle.trick_model.specs.PlanOf.{plan_of}
 use Rattle.trick_model.specs.State.{State}
 use Rattle.trick_model.specs.ValidState.{IsStateOf}
 use Rattle.trick_model.specs.declared.plan.Plan.{Plan as PlanValue}
-use Rattle.trick_pass.specs.Pass.{IsEquipped}
-use Rattle.trick_phase.specs.declared.phases.Phases.{Ghosts as PhasesGhosts}
-use Rattle.trick_post.specs.declared.posts.Posts.{Ghosts as PostsGhosts}
-use Rattle.trick_runs.specs.Hosts.{Place, at}
-use Rattle.trick_runs.specs.Rounds.{no_waits}
-use Rattle.trick_tic.specs.Course.{IsCourseOf}
-use Rattle.trick_turns.specs.Turns.{no_sessions}
-use Rattle.trick_turns.specs.declared.turns.Turns.{Ghosts as TurnsGhosts}
+use Rattle.trick_exec_frame.specs.Pass.{IsEquipped}
+use Rattle.trick_phase_jobs.specs.declared.phases.Phases.{Ghosts as PhasesGhosts}
+use Rattle.trick_post_work.specs.declared.posts.Posts.{Ghosts as PostsGhosts}
+use Rattle.trick_exec_meaning.specs.Hosts.{Place, at}
+use Rattle.trick_exec_meaning.specs.Rounds.{no_waits}
+use Rattle.trick_exec_tic.specs.Course.{IsCourseOf}
+use Rattle.trick_exec_sources.specs.Turns.{no_sessions}
+use Rattle.trick_exec_sources.specs.declared.turns.Turns.{Ghosts as TurnsGhosts}
 
 -- A run works with the shelf, the workers and the source that another worked with.
 abbrev pub IsSame : {F H Q U L : Type 0} → Run F H Q U L → Run F H Q U L → Type 0

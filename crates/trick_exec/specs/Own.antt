@@ -13,14 +13,14 @@ use Rattle.trick_model.specs.Session.{Message}
 use Rattle.trick_model.specs.State.{State}
 use Rattle.trick_model.specs.declared.entry.Entry.{Entry}
 use Rattle.trick_model.specs.declared.plan.Plan.{Plan as PlanValue}
-use Rattle.trick_one_post.specs.Posting.{AllReady}
+use Rattle.trick_post_trays.specs.Posting.{AllReady}
 use Rattle.trick_outside.specs.Does.{Does}
 use Rattle.trick_outside.specs.declared.shelf.Shelf.{Ghosts as ShelfGhosts}
 use Rattle.trick_outside.specs.declared.stop.Stop.{Stop}
-use Rattle.trick_post.specs.Polls.{Poll}
-use Rattle.trick_runs.specs.Hosts.{Hosts, Place}
-use Rattle.trick_tic.specs.Steps.{steps_of}
-use Rattle.trick_turns.specs.Turns.{Answer, AreSilent}
+use Rattle.trick_post_work.specs.Polls.{Poll}
+use Rattle.trick_exec_meaning.specs.Hosts.{Hosts, Place}
+use Rattle.trick_exec_tic.specs.Steps.{steps_of}
+use Rattle.trick_exec_sources.specs.Turns.{Answer, AreSilent}
 
 -- Between two moments a source gave no entry, and posts that were asked for a round had it ready. The source
 -- decides nothing and tells no journal.

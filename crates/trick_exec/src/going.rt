@@ -8,9 +8,9 @@ ghost use Rattle.trick_model.specs.PlanOf.{plan_of};
 ghost use Rattle.trick_model.specs.Run.{is_shut};
 ghost use Rattle.trick_model.specs.State.{seen};
 ghost use Rattle.trick_model.specs.Time.{last_turn};
-ghost use Rattle.trick_runs.specs.Hosts.{hosts};
-ghost use Rattle.trick_runs.specs.Rounds.{no_waits};
-ghost use Rattle.trick_turns.specs.Turns.{no_sessions};
+ghost use Rattle.trick_exec_meaning.specs.Hosts.{hosts};
+ghost use Rattle.trick_exec_meaning.specs.Rounds.{no_waits};
+ghost use Rattle.trick_exec_sources.specs.Turns.{no_sessions};
 
 use crate::idle::idles;
 use crate::lent::Run;
@@ -21,9 +21,9 @@ use std::sync::ledger::Ledger;
 use trick_lang::Cells;
 use trick_model::{Accepted, LAST_TURN, Mode, State, laws};
 use trick_outside::{Shelf, Stop};
-use trick_phase::Phases;
-use trick_post::Posts;
-use trick_turns::{Next, Turns};
+use trick_phase_jobs::Phases;
+use trick_post_work::Posts;
+use trick_exec_sources::{Next, Turns};
 
 // Whether a run is over without a question to its source.
 fn is_over<M: Cells>(state: &State<M>) -> bool

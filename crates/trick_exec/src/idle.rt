@@ -4,14 +4,14 @@ ghost use Rattle.std.specs.Prelude.{◌≡◌, [], false, true};
 ghost use Rattle.trick_model.specs.Plan.{threads_beside};
 ghost use Rattle.trick_model.specs.PlanOf.{plan_of};
 ghost use Rattle.trick_model.specs.State.{seen};
-ghost use Rattle.trick_pass.specs.Pass.{IsEquipped, passed, unasked};
+ghost use Rattle.trick_exec_frame.specs.Pass.{IsEquipped, passed, unasked};
 
 use crate::World;
 use std::sync::ledger::Ledger;
 use trick_lang::Cells;
 use trick_model::Accepted;
-use trick_pass::{Equipment, pass_idle};
-use trick_post::Posts;
+use trick_exec_frame::{Equipment, pass_idle};
+use trick_post_work::Posts;
 
 /// Passes a turn without entries in place, where no session is there and nothing is due in it; and tells whether it was
 /// such a turn. Else it changes nothing. It costs next to nothing, and takes no memory.

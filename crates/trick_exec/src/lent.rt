@@ -4,8 +4,8 @@ ghost use Rattle.std.specs.Prelude.{◌≡◌};
 
 use std::alloc::Global;
 use std::sync::ledger::Ledger;
-use trick_pass::Equipment;
-use trick_tic::Workers;
+use trick_exec_frame::Equipment;
+use trick_exec_tic::Workers;
 
 /// What a run keeps beside its world: where its memory comes from, its equipment, and at how many run frames
 /// the round of each thread beside the tics has stayed unpublished.

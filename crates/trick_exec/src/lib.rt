@@ -12,11 +12,11 @@ mod publish;
 mod rest;
 mod sending;
 mod source;
-mod start;
+mod beginning;
 mod turn;
 mod whole;
 
 pub use ended::Ended;
-pub use start::Start;
+pub use beginning::Start;
 pub use whole::run;
 pub use trick_model::World;

@@ -2,9 +2,9 @@
 
 ghost use Rattle.std.specs.Prelude.{◌≡◌, ◌+◌, ◌≤◌, All, IfOk, IsTrue, [], drop, length, not, take};
 ghost use Rattle.trick_eval.specs.Bench.{IsFor};
-ghost use Rattle.trick_hear.specs.Hearing.{hearing_of, said_of};
-ghost use Rattle.trick_hear.specs.Sessions.{AreHeard};
-ghost use Rattle.trick_job.specs.Belongs.{IsMemoryOf};
+ghost use Rattle.trick_exec_entries.specs.Hearing.{hearing_of, said_of};
+ghost use Rattle.trick_exec_entries.specs.Sessions.{AreHeard};
+ghost use Rattle.trick_phase_jobs.specs.Belongs.{IsMemoryOf};
 ghost use Rattle.trick_model.specs.Files.{note};
 ghost use Rattle.trick_model.specs.Journal.{is_entry, is_of_session as is_of_session_of};
 ghost use Rattle.trick_model.specs.PlanOf.{plan_of};
@@ -14,19 +14,19 @@ ghost use Rattle.trick_model.specs.Turn.{heard, replies as replies_of};
 ghost use Rattle.trick_model.specs.ValidState.{IsStateOf};
 ghost use Rattle.trick_model.specs.declared.entry.Entry.{Entry as EntryValue};
 ghost use Rattle.trick_outside.specs.Does.{Does};
-ghost use Rattle.trick_runs.specs.Parts.{AreApart};
-ghost use Rattle.trick_tic.specs.Course.{IsCourseOf, IsMadeFor};
-ghost use Rattle.trick_tic.specs.Steps.{steps_of};
-ghost use Rattle.trick_turns.specs.Turns.{Sessions as SessionsOf, may_all_come};
+ghost use Rattle.trick_exec_meaning.specs.Parts.{AreApart};
+ghost use Rattle.trick_exec_tic.specs.Course.{IsCourseOf, IsMadeFor};
+ghost use Rattle.trick_exec_tic.specs.Steps.{steps_of};
+ghost use Rattle.trick_exec_sources.specs.Turns.{Sessions as SessionsOf, may_all_come};
 
 use std::sync::ledger::Ledger;
-use trick_files::note;
-use trick_hear::{Hearing, Message, hear};
+use trick_exec_files::note;
+use trick_exec_entries::{Hearing, Message, hear};
 use trick_lang::Cells;
 use trick_model::{Accepted, Entry, Plan, State, laws};
 use trick_outside::{Shelf, Stop};
-use trick_pass::Equipment;
-use trick_tic::Course;
+use trick_exec_frame::Equipment;
+use trick_exec_tic::Course;
 
 // Whether an entry is a join, a line or a leave.
 fn is_of_session(entry: &Entry) -> bool

@@ -1,34 +1,34 @@
 //! The rest of a turn, after its notes: its replies, its frame, and its samples.
 
 ghost use Rattle.std.specs.Prelude.{◌≡◌, ◌++◌, [], All, IfOk, IsTrue, length};
-ghost use Rattle.trick_beside.specs.Flight.{AsksNothing};
+ghost use Rattle.trick_exec_posts.specs.Flight.{AsksNothing};
 ghost use Rattle.trick_exec.specs.Lent.{IsReady, IsSame};
-ghost use Rattle.trick_hear.specs.Hearing.{said_of};
-ghost use Rattle.trick_hear.specs.Sessions.{AreHeard, numbers_of};
+ghost use Rattle.trick_exec_entries.specs.Hearing.{said_of};
+ghost use Rattle.trick_exec_entries.specs.Sessions.{AreHeard, numbers_of};
 ghost use Rattle.trick_model.specs.PlanOf.{plan_of};
 ghost use Rattle.trick_model.specs.Session.{Message as MessageOf, samples as samples_of, staying};
 ghost use Rattle.trick_model.specs.State.{seen};
 ghost use Rattle.trick_outside.specs.Does.{Does};
-ghost use Rattle.trick_runs.specs.Answers.{Says};
-ghost use Rattle.trick_runs.specs.Parts.{state_after, writes_after};
+ghost use Rattle.trick_exec_meaning.specs.Answers.{Says};
+ghost use Rattle.trick_exec_meaning.specs.Parts.{state_after, writes_after};
 ghost use Rattle.trick_session.specs.Kept.{IsSession};
-ghost use Rattle.trick_tic.specs.Current.{asking_of};
-ghost use Rattle.trick_tic.specs.Steps.{steps_of};
-ghost use Rattle.trick_turns.specs.Turns.{is_among};
+ghost use Rattle.trick_exec_tic.specs.Current.{asking_of};
+ghost use Rattle.trick_exec_tic.specs.Steps.{steps_of};
+ghost use Rattle.trick_exec_sources.specs.Turns.{is_among};
 
 use crate::World;
 use crate::lent::Run;
 use crate::sending::send_all;
 use std::alloc::{AllocError, Global};
 use std::sync::ledger::Ledger;
-use trick_hear::{Hearing, Message, samples, stay};
+use trick_exec_entries::{Hearing, Message, samples, stay};
 use trick_lang::Cells;
 use trick_model::{Accepted, Entry, Session, State};
 use trick_outside::{Shelf, Stop};
-use trick_pass::{Rest, pass};
-use trick_phase::Phases;
-use trick_post::Posts;
-use trick_turns::Turns;
+use trick_exec_frame::{Rest, pass};
+use trick_phase_jobs::Phases;
+use trick_post_work::Posts;
+use trick_exec_sources::Turns;
 
 // Hands over the samples of a turn, at whose start the tic was `from`.
 fn send_samples<M: Cells, T: Turns<M>>(

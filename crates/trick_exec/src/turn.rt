@@ -8,7 +8,7 @@ ghost use Rattle.trick_exec.specs.Worlds.{world_of};
 ghost use Rattle.trick_model.specs.Plan.{threads_beside};
 ghost use Rattle.trick_model.specs.PlanOf.{plan_of};
 ghost use Rattle.trick_model.specs.State.{seen};
-ghost use Rattle.trick_runs.specs.Hosts.{hosts};
+ghost use Rattle.trick_exec_meaning.specs.Hosts.{hosts};
 
 use crate::World;
 use crate::lent::Run;
@@ -16,14 +16,14 @@ use crate::lines::{count_lines, hear_lines};
 use crate::publish::{choose_publications, decided, note_publications};
 use std::sync::ledger::Ledger;
 use trick_event::Asked;
-use trick_hear::Hearing;
+use trick_exec_entries::Hearing;
 use trick_lang::Cells;
 use trick_model::{Accepted, Entry, laws};
 use trick_outside::{Shelf, Stop};
-use trick_phase::Phases;
-use trick_post::Posts;
-use trick_tic::Current;
-use trick_turns::Turns;
+use trick_phase_jobs::Phases;
+use trick_post_work::Posts;
+use trick_exec_tic::Current;
+use trick_exec_sources::Turns;
 
 /// What the source of a run gives for a turn: its entries, and whether these decide the publications.
 #[derive(Clone, Copy)]

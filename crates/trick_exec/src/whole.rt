@@ -1,14 +1,14 @@
 //! A whole run.
 
 ghost use Rattle.std.specs.Prelude.{◌≡◌, ◌+◌, ◌<◌, ◌≤◌, IfOk, false, map};
-ghost use Rattle.trick_beside.specs.Flight.{AsksNothing, GoesWith, IsFree};
-ghost use Rattle.trick_beside.specs.Stations.{AreStations};
-ghost use Rattle.trick_beside.specs.declared.station.Station.{Station as StationValue};
+ghost use Rattle.trick_exec_posts.specs.Flight.{AsksNothing, GoesWith, IsFree};
+ghost use Rattle.trick_exec_posts.specs.Stations.{AreStations};
+ghost use Rattle.trick_exec_posts.specs.declared.station.Station.{Station as StationValue};
 ghost use Rattle.trick_eval.specs.Bench.{IsFor};
 ghost use Rattle.trick_exec.specs.Ended.{Closes, IsRun};
 ghost use Rattle.trick_exec.specs.Lent.{IsSame, MayStart, place};
 ghost use Rattle.trick_exec.specs.Worlds.{world_of};
-ghost use Rattle.trick_job.specs.Belongs.{IsMemoryOf};
+ghost use Rattle.trick_phase_jobs.specs.Belongs.{IsMemoryOf};
 ghost use Rattle.trick_model.specs.Files.{end_writes};
 ghost use Rattle.trick_model.specs.PlanOf.{plan_of};
 ghost use Rattle.trick_model.specs.Run.{shut as shut_of};
@@ -16,30 +16,30 @@ ghost use Rattle.trick_model.specs.State.{seen};
 ghost use Rattle.trick_base.specs.Time.{tic_limit};
 ghost use Rattle.trick_model.specs.ValidState.{IsStateOf};
 ghost use Rattle.trick_outside.specs.Does.{Does};
-ghost use Rattle.trick_runs.specs.Hosts.{at, hosts};
-ghost use Rattle.trick_runs.specs.Rounds.{no_waits};
-ghost use Rattle.trick_tic.specs.Course.{IsCourseOf};
-ghost use Rattle.trick_tic.specs.Steps.{steps_of};
-ghost use Rattle.trick_turns.specs.Turns.{no_sessions};
+ghost use Rattle.trick_exec_meaning.specs.Hosts.{at, hosts};
+ghost use Rattle.trick_exec_meaning.specs.Rounds.{no_waits};
+ghost use Rattle.trick_exec_tic.specs.Course.{IsCourseOf};
+ghost use Rattle.trick_exec_tic.specs.Steps.{steps_of};
+ghost use Rattle.trick_exec_sources.specs.Turns.{no_sessions};
 
 use crate::lent::{Keeping, Run};
 use crate::{Ended, Start, World};
 use std::alloc::{AllocError, Global};
 use std::marker::Brand;
 use std::sync::ledger::{Blank, Ledger};
-use trick_beside::{Station, start_held};
+use trick_exec_posts::{Station, start_held};
 use trick_eval::Bench;
-use trick_files::{begin_files, end_files};
+use trick_exec_files::{begin_files, end_files};
 use trick_lang::Cells;
 use trick_model::{Accepted, Plan, State, laws};
-use trick_moments::shut;
+use trick_exec_classes::shut;
 use trick_outside::{Shelf, Stop};
-use trick_pass::Equipment;
-use trick_phase::Phases;
-use trick_post::Posts;
+use trick_exec_frame::Equipment;
+use trick_phase_jobs::Phases;
+use trick_post_work::Posts;
 use trick_queue::Steps;
-use trick_tic::Workers;
-use trick_turns::Turns;
+use trick_exec_tic::Workers;
+use trick_exec_sources::Turns;
 
 // For each of these threads that its round has not waited.
 fn no_wait(alloc: Global, stations: &[Station]) -> Result<Vec<u64>, AllocError>

@@ -2,7 +2,7 @@
 use Rattle.std.proofs.Common.{◌≡◌, [], ◌∷◌, refl}
 use Rattle.std.specs.Int.{int_wrap}
 use Rattle.std.specs.Prelude.{pos, negsuc}
-use Rattle.trick_serial.specs.Sum.{wrapped_sum}
+use Rattle.trick_exec_alone.specs.Sum.{wrapped_sum}
 
 -- no cell
 none : wrapped_sum [] ≡ pos 0

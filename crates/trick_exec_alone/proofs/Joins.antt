@@ -8,8 +8,8 @@ use Rattle.trick_model.specs.State.{State, World}
 use Rattle.trick_model.specs.Turn.{begun, heard, noted, publishes, turn}
 use Rattle.trick_model.specs.declared.entry.Entry.{Entry}
 use Rattle.trick_model.specs.declared.entry.Entry.TheVariants.{Join, Said, Leave, Publish}
-use Rattle.trick_replay.specs.Laws.{noted_lists}
-use Rattle.trick_turns.specs.Joins.{is_join, joins_of}
+use Rattle.trick_exec_alone.specs.Laws.{noted_lists}
+use Rattle.trick_exec_sources.specs.Joins.{is_join, joins_of}
 
 count_more : (entry : Entry) (entries : List Entry) → count_by is_join (entry ∷ entries) ≡ cond (is_join entry) 1 0 + count_by is_join entries
 count_more entry entries = sum_by-cons (λ (e : Entry). cond (is_join e) 1 0) entry entries

@@ -15,18 +15,18 @@ use Rattle.trick_outside.specs.Does.{Does}
 use Rattle.trick_outside.specs.declared.shelf.Shelf.{Ghosts}
 use Rattle.trick_outside.specs.declared.stop.Stop.TheVariants.{Memory}
 use Rattle.trick_outside.specs.declared.stop.Stop.{Stop}
-use Rattle.trick_replay.specs.Replay.{RunsReplay, RunsShort, RunsWhole, lists_below, lists_for}
-use Rattle.trick_replay.specs.declared.replayed.Replayed.{Replayed}
-use Rattle.trick_runs.proofs.DidLemmas.{did_fail, did_none}
-use Rattle.trick_runs.specs.Hosts.{Hosts, Place}
-use Rattle.trick_runs.specs.Laws.{JournalsShow, told_by}
-use Rattle.trick_runs.specs.Ran.{Missed, Ran, Stopped, writes_so_far}
-use Rattle.trick_runs.specs.Stops.{StopsAt, before as at_start}
-use Rattle.trick_serial.specs.Serial.{summary_of}
-use Rattle.trick_serial.specs.declared.summary.Summary.{Summary}
-use Rattle.trick_tic.specs.Steps.{steps_of}
-use Rattle.trick_turns.specs.Joins.{joins_of}
-use Rattle.trick_turns.specs.Turns.{Told}
+use Rattle.trick_exec_alone.specs.Replay.{RunsReplay, RunsShort, RunsWhole, lists_below, lists_for}
+use Rattle.trick_exec_alone.specs.declared.replayed.Replayed.{Replayed}
+use Rattle.trick_exec_meaning.proofs.DidLemmas.{did_fail, did_none}
+use Rattle.trick_exec_meaning.specs.Hosts.{Hosts, Place}
+use Rattle.trick_exec_meaning.specs.Laws.{JournalsShow, told_by}
+use Rattle.trick_exec_meaning.specs.Ran.{Missed, Ran, Stopped, writes_so_far}
+use Rattle.trick_exec_meaning.specs.Stops.{StopsAt, before as at_start}
+use Rattle.trick_exec_alone.specs.Serial.{summary_of}
+use Rattle.trick_exec_alone.specs.declared.summary.Summary.{Summary}
+use Rattle.trick_exec_tic.specs.Steps.{steps_of}
+use Rattle.trick_exec_sources.specs.Joins.{joins_of}
+use Rattle.trick_exec_sources.specs.Turns.{Told}
 
 -- there was no memory for what it keeps
 pub none_kept : {S : Type 0} {shelf : Ghosts S} (old : S) (p : Plan) (s : State) (journal : Journal) → shelf.called old [] old

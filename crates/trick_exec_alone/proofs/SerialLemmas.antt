@@ -12,11 +12,11 @@ use Rattle.trick_outside.specs.Calls.{Call}
 use Rattle.trick_outside.specs.declared.shelf.Shelf.{Ghosts}
 use Rattle.trick_outside.specs.declared.stop.Stop.TheVariants.{Memory}
 use Rattle.trick_outside.specs.declared.stop.Stop.{Stop}
-use Rattle.trick_runs.proofs.DidLemmas.{did_fail, did_none}
-use Rattle.trick_runs.specs.Stops.{StopsAt, before}
-use Rattle.trick_serial.specs.Serial.{RunsSerially, summary_of}
-use Rattle.trick_serial.specs.declared.summary.Summary.{Summary}
-use Rattle.trick_tic.specs.Steps.{steps_of}
+use Rattle.trick_exec_meaning.proofs.DidLemmas.{did_fail, did_none}
+use Rattle.trick_exec_meaning.specs.Stops.{StopsAt, before}
+use Rattle.trick_exec_alone.specs.Serial.{RunsSerially, summary_of}
+use Rattle.trick_exec_alone.specs.declared.summary.Summary.{Summary}
+use Rattle.trick_exec_tic.specs.Steps.{steps_of}
 
 not_ok : {T : Type 0} (result : Result T Stop) (e : Stop) → result ≡ Err e → IsOk result → ⊥
 not_ok (Ok x) e is ok = cc

@@ -6,7 +6,7 @@ use Rattle.std.proofs.lemmas.List.{take_all}
 use Rattle.std.proofs.lemmas.List.Sums.{fold_more}
 use Rattle.std.specs.Int.{cast_signed, cast_unsigned, int_wrap, w64}
 use Rattle.std.specs.List.{fold, slice_index_or}
-use Rattle.trick_serial.specs.Sum.{wrapped_sum}
+use Rattle.trick_exec_alone.specs.Sum.{wrapped_sum}
 
 -- the wrapped sum of no cell
 pub sum_none : pos 0 ≡ wrapped_sum []

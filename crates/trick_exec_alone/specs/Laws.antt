@@ -4,7 +4,7 @@ use Rattle.trick_model.specs.Plan.{Plan}
 use Rattle.trick_model.specs.State.{World}
 use Rattle.trick_model.specs.Turn.{turn}
 use Rattle.trick_model.specs.declared.entry.Entry.{Entry}
-use Rattle.trick_turns.specs.Joins.{joins_of}
+use Rattle.trick_exec_sources.specs.Joins.{joins_of}
 
 -- the entries that turns note in the journal, a list for each
 abbrev pub noted_lists : Plan → World → List (List Entry) → List (List Entry)

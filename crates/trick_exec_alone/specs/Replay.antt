@@ -13,16 +13,16 @@ use Rattle.trick_model.specs.declared.journal.Journal.{Journal}
 use Rattle.trick_outside.specs.Does.{Does}
 use Rattle.trick_outside.specs.declared.shelf.Shelf.{Ghosts}
 use Rattle.trick_outside.specs.declared.stop.Stop.{Stop}
-use Rattle.trick_replay.specs.declared.replayed.Replayed.{Replayed}
-use Rattle.trick_replay.specs.declared.replayed.Replayed.TheVariants as replayed
-use Rattle.trick_runs.specs.Follows.{Follows}
-use Rattle.trick_runs.specs.Laws.{told_by}
-use Rattle.trick_runs.specs.Ran.{writes_so_far}
-use Rattle.trick_runs.specs.Stops.{StopsAt}
-use Rattle.trick_serial.specs.Serial.{summary_of}
-use Rattle.trick_serial.specs.declared.summary.Summary.{Summary}
-use Rattle.trick_tic.specs.Steps.{steps_of}
-use Rattle.trick_turns.specs.Joins.{joins_of}
+use Rattle.trick_exec_alone.specs.declared.replayed.Replayed.{Replayed}
+use Rattle.trick_exec_alone.specs.declared.replayed.Replayed.TheVariants as replayed
+use Rattle.trick_exec_meaning.specs.Follows.{Follows}
+use Rattle.trick_exec_meaning.specs.Laws.{told_by}
+use Rattle.trick_exec_meaning.specs.Ran.{writes_so_far}
+use Rattle.trick_exec_meaning.specs.Stops.{StopsAt}
+use Rattle.trick_exec_alone.specs.Serial.{summary_of}
+use Rattle.trick_exec_alone.specs.declared.summary.Summary.{Summary}
+use Rattle.trick_exec_tic.specs.Steps.{steps_of}
+use Rattle.trick_exec_sources.specs.Joins.{joins_of}
 
 -- the lists that a journal gives a run from a state, one for each turn
 abbrev pub lists_for : Journal → State → List (List Entry)

@@ -7,8 +7,8 @@ use Rattle.trick_model.specs.State.{State}
 use Rattle.trick_model.specs.declared.entry.Entry.{Entry}
 use Rattle.trick_outside.specs.declared.shelf.Shelf.{Ghosts}
 use Rattle.trick_outside.specs.declared.stop.Stop.{Stop}
-use Rattle.trick_serial.specs.Sum.{wrapped_sum}
-use Rattle.trick_serial.specs.declared.summary.Summary.{Summary}
+use Rattle.trick_exec_alone.specs.Sum.{wrapped_sum}
+use Rattle.trick_exec_alone.specs.declared.summary.Summary.{Summary}
 
 -- what is said of the last state of a run: its turn, its next tic, how many faults it counts, and the
 -- sum of its cells

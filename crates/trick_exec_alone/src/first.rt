@@ -1,7 +1,7 @@
 //! Where a run starts.
 
 ghost use Rattle.std.specs.Prelude.{◌≡◌, IfOk};
-ghost use Rattle.trick_job.specs.Belongs.{IsMemoryOf};
+ghost use Rattle.trick_phase_jobs.specs.Belongs.{IsMemoryOf};
 ghost use Rattle.trick_model.specs.PlanOf.{plan_of};
 ghost use Rattle.trick_model.specs.Run.{start as start_of};
 ghost use Rattle.trick_model.specs.State.{seen};
@@ -9,7 +9,7 @@ ghost use Rattle.trick_model.specs.State.{seen};
 use std::alloc::{AllocError, Global};
 use trick_memory::Memory;
 use trick_model::{Accepted, State};
-use trick_moments::start;
+use trick_exec_classes::start;
 
 /// The state in which a run of the plan starts.
 pub fn first_state(alloc: Global, accepted: &Accepted) -> Result<State<Memory>, AllocError>

@@ -1,4 +1,4 @@
-use trick_serial::Summary;
+use crate::Summary;
 
 /// How a replay ended.
 #[derive(Clone, Copy, Debug, PartialEq, Eq)]

@@ -1,7 +1,7 @@
 //! The sum of all cells of a memory.
 
 ghost use Rattle.std.specs.Prelude.{◌≡◌};
-ghost use Rattle.trick_serial.specs.Sum.{wrapped_sum};
+ghost use Rattle.trick_exec_alone.specs.Sum.{wrapped_sum};
 
 use trick_lang::{Cell, Cells};
 

@@ -1,6 +1,6 @@
 ghost use Rattle.std.specs.Prelude.{◌≡◌};
 ghost use Rattle.trick_model.specs.State.{seen};
-ghost use Rattle.trick_serial.specs.Serial.{summary_of};
+ghost use Rattle.trick_exec_alone.specs.Serial.{summary_of};
 
 use crate::sum::sum_of;
 use trick_lang::Cells;

@@ -2,26 +2,25 @@
 
 ghost use Rattle.std.specs.Arc.{arc_value};
 ghost use Rattle.std.specs.Prelude.{◌≡◌, ℕ, None};
-ghost use Rattle.trick_job.specs.Belongs.{IsMemoryOf};
+ghost use Rattle.trick_phase_jobs.specs.Belongs.{IsMemoryOf};
 ghost use Rattle.trick_model.specs.PlanOf.{plan_of};
 ghost use Rattle.trick_model.specs.Run.{start as start_of};
 ghost use Rattle.trick_model.specs.State.{seen};
 ghost use Rattle.trick_model.specs.ValidState.{IsStateOf};
-ghost use Rattle.trick_replay.specs.Replay.{RunsReplay};
+ghost use Rattle.trick_exec_alone.specs.Replay.{RunsReplay};
 
-use crate::Replayed;
+use crate::{Replayed, first_state, one_thread, summary_of};
 use std::alloc::Global;
 use std::sync::Arc;
 use trick_exec::{Ended, Start, run};
-use trick_journal_turns::JournalTurns;
+use trick_exec_sources::JournalTurns;
 use trick_lang::Cells;
 use trick_model::{Accepted, Journal, State, laws};
 use trick_outside::{Shelf, Stop};
-use trick_phase::Phases;
-use trick_post::Posts;
-use trick_runs::laws::journals_show;
-use trick_serial::{summary_of, first_state, one_thread};
-use trick_tic::Workers;
+use trick_phase_jobs::Phases;
+use trick_post_work::Posts;
+use trick_exec_meaning::laws::journals_show;
+use trick_exec_tic::Workers;
 
 // Replays a journal from a state by these workers.
 fn replay_by<M: Cells + Drop, F: Shelf, H: Phases<M> + Drop, P: Posts + Drop>(

@@ -2,13 +2,13 @@
 
 ghost use Rattle.std.specs.Arc.{arc_value};
 ghost use Rattle.std.specs.Prelude.{◌≡◌, ℕ, None};
-ghost use Rattle.trick_job.specs.Belongs.{IsMemoryOf};
+ghost use Rattle.trick_phase_jobs.specs.Belongs.{IsMemoryOf};
 ghost use Rattle.trick_model.specs.PlanOf.{plan_of};
 ghost use Rattle.trick_model.specs.Run.{start as start_of};
 ghost use Rattle.trick_model.specs.State.{seen};
 ghost use Rattle.trick_model.specs.ValidState.{IsStateOf};
-ghost use Rattle.trick_one_post.specs.Posting.{started_at};
-ghost use Rattle.trick_serial.specs.Serial.{RunsSerially};
+ghost use Rattle.trick_post_trays.specs.Posting.{started_at};
+ghost use Rattle.trick_exec_alone.specs.Serial.{RunsSerially};
 
 use crate::Summary;
 use crate::summary::summary_of;
@@ -20,11 +20,11 @@ use trick_exec::laws::{runs_are_alone, serial_forms_are_alone};
 use trick_exec::{Start, run};
 use trick_lang::Cells;
 use trick_model::{Accepted, State, laws};
-use trick_one_post::OnePost;
+use trick_post_trays::OnePost;
 use trick_outside::{Shelf, Stop};
-use trick_phase::Phases;
-use trick_tic::Workers;
-use trick_turns::NoTurns;
+use trick_phase_jobs::Phases;
+use trick_exec_tic::Workers;
+use trick_exec_sources::NoTurns;
 
 /// Runs an accepted plan from a state by these workers, who have nothing in flight, without clients, until the run
 /// is over; whoever does the jobs, it comes to what one thread makes of it. It writes the files of the run, and where

@@ -2,16 +2,16 @@
 
 ghost use Rattle.std.specs.Arc.{arc_value};
 ghost use Rattle.std.specs.Prelude.{◌≡◌, ℕ, IfOk, None};
-ghost use Rattle.trick_one_post.specs.Posting.{started_at};
-ghost use Rattle.trick_play.specs.Single.{IsSingleOf};
+ghost use Rattle.trick_post_trays.specs.Posting.{started_at};
+ghost use Rattle.trick_phase.specs.Single.{IsSingleOf};
 
 use std::alloc::{AllocError, Global};
 use std::sync::Arc;
 use trick_lang::Cells;
 use trick_model::Accepted;
-use trick_one_post::OnePost;
-use trick_play::Single;
-use trick_tic::Workers;
+use trick_post_trays::OnePost;
+use trick_phase::Single;
+use trick_exec_tic::Workers;
 
 /// The workers of a run on the caller's thread, with nothing started: the jobs of a tic go through a board, one
 /// after another. This call alone takes memory.

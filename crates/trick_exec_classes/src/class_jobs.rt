@@ -2,14 +2,14 @@
 
 ghost use Rattle.std.specs.Prelude.{◌≡◌, [], false};
 ghost use Rattle.trick_eval.specs.Bench.{IsFor};
-ghost use Rattle.trick_job.specs.Belongs.{IsMemoryOf};
+ghost use Rattle.trick_phase_jobs.specs.Belongs.{IsMemoryOf};
 ghost use Rattle.trick_model.specs.Order.{jobs_in};
 ghost use Rattle.trick_model.specs.PlanOf.{plan_of};
 ghost use Rattle.trick_model.specs.Running.{run_class as class_ran};
 ghost use Rattle.trick_model.specs.State.{seen};
 
 use trick_eval::Bench;
-use trick_job::{Setting, run_jobs};
+use trick_phase_jobs::{Setting, run_jobs};
 use trick_lang::{Cells, Class};
 use trick_model::{Plan, State};
 

@@ -2,7 +2,7 @@
 use Rattle.std.proofs.Common.{◌≡◌, Some, ap, refl, sym}
 use Rattle.trick_event.proofs.Deeds.{can_do}
 use Rattle.trick_event.specs.Deeds.{CanDo}
-use Rattle.trick_job.specs.Belongs.{IsMemoryOf}
+use Rattle.trick_phase_jobs.specs.Belongs.{IsMemoryOf}
 use Rattle.trick_lang.specs.declared.scalar.Scalar.{Scalar}
 use Rattle.std.specs.Prelude.{ℤ, List, length}
 use Rattle.trick_model.specs.Events.{Asking, Between, do_deed, enter_freeze, names_of}

@@ -3,8 +3,8 @@ use Rattle.std.proofs.Common.{◌≡◌, ◌∙◌, ℕ, ◌<◌, ◌≤◌, Lis
 use Rattle.std.proofs.lemmas.Bool.{eqb-true}
 use Rattle.std.proofs.lemmas.List.Elements.{All-cons, All-head, All-push, All-tail}
 use Rattle.std.specs.Prelude.{◌==◌, All, map}
-use Rattle.trick_hear.specs.Sessions.{AreHeard, joining, numbers_of}
-use Rattle.trick_hear.proofs.PlaceLemmas.{rises_front}
+use Rattle.trick_exec_entries.specs.Sessions.{AreHeard, joining, numbers_of}
+use Rattle.trick_exec_entries.proofs.PlaceLemmas.{rises_front}
 use Rattle.trick_model.specs.Commands.{command_of}
 use Rattle.trick_model.specs.Events.{names_of}
 use Rattle.trick_model.specs.Names.{deed_of}

@@ -6,8 +6,8 @@ use Rattle.std.proofs.lemmas.Cmp.{ranked}
 use Rattle.std.specs.List.Sorted.{IsNonDecreasingBy, IsPartitionPoint}
 use Rattle.std.specs.Ordering.{nat_cmp, ordering_index}
 use Rattle.std.specs.Prelude.{HoldsAt}
-use Rattle.trick_hear.specs.Places.{IsPlaceOf}
-use Rattle.trick_hear.specs.Sessions.{numbers_of}
+use Rattle.trick_exec_entries.specs.Places.{IsPlaceOf}
+use Rattle.trick_exec_entries.specs.Sessions.{numbers_of}
 use Rattle.trick_model.specs.Session.{joined}
 use Rattle.trick_model.specs.Turn.{changed, session_of}
 use Rattle.trick_model.specs.Valid.{rises}

@@ -1,7 +1,7 @@
 -- Samples, one after another.
 use Rattle.std.proofs.Common.{◌≡◌, ◌∙◌, ℕ, List, [], ◌∷◌, ◌++◌, Bool, true, false, not, cond, Option, Some, None, ap, refl, sym}
 use Rattle.std.specs.List.{retain_mut}
-use Rattle.trick_hear.specs.Samples.{awake, samples_of_one}
+use Rattle.trick_exec_entries.specs.Samples.{awake, samples_of_one}
 use Rattle.trick_model.specs.Session.{Message, is_sampled, sample, samples, staying}
 use Rattle.trick_model.specs.State.{State}
 use Rattle.trick_model.specs.declared.session.Session.{Session}

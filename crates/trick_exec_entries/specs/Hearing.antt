@@ -1,10 +1,10 @@
 -- A turn's entries as they are heard, and messages, as values of the code hold them.
 use Rattle.std.specs.Prelude.{ℤ, List, [], ◌∷◌, map, Option, Some, None}
-use Rattle.trick_hear.specs.declared.hearing.Hearing.{Hearing as HearingValue}
-use Rattle.trick_hear.specs.declared.hearing.Message.{Message as MessageValue}
+use Rattle.trick_exec_entries.specs.declared.hearing.Hearing.{Hearing as HearingValue}
+use Rattle.trick_exec_entries.specs.declared.hearing.Message.{Message as MessageValue}
 use Rattle.trick_model.specs.Session.{Message}
 use Rattle.trick_model.specs.Turn.{Hearing}
-use Rattle.trick_tic.specs.Current.{asking_of}
+use Rattle.trick_exec_tic.specs.Current.{asking_of}
 
 -- the state in its turn with the sessions; `numbers` are those of its memory
 abbrev pub hearing_of : {M : Type 0} → (M → List ℤ) → HearingValue M → Hearing

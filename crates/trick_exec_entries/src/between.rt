@@ -2,20 +2,20 @@
 
 ghost use Rattle.std.specs.Prelude.{◌≡◌, IfSome, Some};
 ghost use Rattle.trick_eval.specs.Bench.{IsFor};
-ghost use Rattle.trick_job.specs.Belongs.{IsMemoryOf};
+ghost use Rattle.trick_phase_jobs.specs.Belongs.{IsMemoryOf};
 ghost use Rattle.trick_model.specs.Events.{names_of};
 ghost use Rattle.trick_model.specs.PlanOf.{plan_of};
 ghost use Rattle.trick_model.specs.Turn.{do_between, resumed};
 ghost use Rattle.trick_model.specs.Valid.{IsDeedAmong};
-ghost use Rattle.trick_tic.specs.Current.{asking_of};
+ghost use Rattle.trick_exec_tic.specs.Current.{asking_of};
 
 use trick_eval::Bench;
 use trick_event::{Moment, act};
 use trick_lang::Cells;
 use trick_model::{Deed, Plan};
-use trick_moments::{enter_freeze, leave_freeze};
+use trick_exec_classes::{enter_freeze, leave_freeze};
 use trick_session::Reply;
-use trick_tic::Current;
+use trick_exec_tic::Current;
 
 // Does a deed of a client between two tics. Freeze is entered at once.
 fn act_between<M: Cells>(plan: &Plan, deed: Deed, current: &mut Current<M>, bench: &mut Bench)

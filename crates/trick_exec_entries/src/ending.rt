@@ -1,8 +1,8 @@
 //! The end of a turn.
 
 ghost use Rattle.std.specs.Prelude.{◌≡◌, ◌++◌, All, IfOk, OnOk, length, not};
-ghost use Rattle.trick_hear.specs.Hearing.{said_of};
-ghost use Rattle.trick_hear.specs.Samples.{awake, samples_of_one};
+ghost use Rattle.trick_exec_entries.specs.Hearing.{said_of};
+ghost use Rattle.trick_exec_entries.specs.Samples.{awake, samples_of_one};
 ghost use Rattle.trick_model.specs.Session.{samples as samples_of, staying};
 ghost use Rattle.trick_model.specs.State.{seen};
 ghost use Rattle.trick_session.specs.Kept.{IsSession};

@@ -2,9 +2,9 @@
 
 ghost use Rattle.std.specs.Prelude.{◌≡◌, ◌++◌, [], All, IfOk, IsTrue, OnOk};
 ghost use Rattle.trick_eval.specs.Bench.{IsFor};
-ghost use Rattle.trick_hear.specs.Hearing.{hearing_of, messages_in, said_of};
-ghost use Rattle.trick_hear.specs.Sessions.{AreHeard, numbers_of};
-ghost use Rattle.trick_job.specs.Belongs.{IsMemoryOf};
+ghost use Rattle.trick_exec_entries.specs.Hearing.{hearing_of, messages_in, said_of};
+ghost use Rattle.trick_exec_entries.specs.Sessions.{AreHeard, numbers_of};
+ghost use Rattle.trick_phase_jobs.specs.Belongs.{IsMemoryOf};
 ghost use Rattle.trick_model.specs.Journal.{is_entry};
 ghost use Rattle.trick_model.specs.PlanOf.{plan_of};
 ghost use Rattle.trick_model.specs.Turn.{hear as hear_of, heard, replies as replies_of, reply as reply_of};

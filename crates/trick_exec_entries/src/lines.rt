@@ -1,8 +1,8 @@
 //! A client's line, and its reply.
 
 ghost use Rattle.std.specs.Prelude.{◌≡◌, ◌≤◌, IfOk, IfSome, IsTrue, length, map};
-ghost use Rattle.trick_hear.specs.Hearing.{messages_in};
-ghost use Rattle.trick_hear.specs.Sessions.{numbers_of};
+ghost use Rattle.trick_exec_entries.specs.Hearing.{messages_in};
+ghost use Rattle.trick_exec_entries.specs.Sessions.{numbers_of};
 ghost use Rattle.trick_model.specs.Events.{names_of};
 ghost use Rattle.trick_model.specs.PlanOf.{plan_of};
 ghost use Rattle.trick_model.specs.Session.{answered};

@@ -1,8 +1,8 @@
 //! Sessions by their numbers.
 
 ghost use Rattle.std.specs.Prelude.{◌≡◌, IsTrue, true};
-ghost use Rattle.trick_hear.specs.Places.{IsPlaceOf};
-ghost use Rattle.trick_hear.specs.Sessions.{numbers_of};
+ghost use Rattle.trick_exec_entries.specs.Places.{IsPlaceOf};
+ghost use Rattle.trick_exec_entries.specs.Sessions.{numbers_of};
 ghost use Rattle.trick_model.specs.Turn.{changed};
 ghost use Rattle.trick_model.specs.Valid.{rises};
 ghost use Rattle.trick_model.specs.declared.session.Session.{Session as SessionValue};

@@ -9,8 +9,8 @@ ghost use Rattle.trick_model.specs.Turn.{file_writes};
 ghost use Rattle.trick_model.specs.declared.group.Group.{Group as GroupValue};
 ghost use Rattle.trick_outside.specs.Does.{Does};
 ghost use Rattle.trick_record.specs.Added.{group_at};
-ghost use Rattle.trick_tic.specs.Due.{AreLogsOf};
-ghost use Rattle.trick_tic.specs.Steps.{steps_of};
+ghost use Rattle.trick_exec_tic.specs.Due.{AreLogsOf};
+ghost use Rattle.trick_exec_tic.specs.Steps.{steps_of};
 
 use std::alloc::{AllocError, Global};
 use trick_base::Word;

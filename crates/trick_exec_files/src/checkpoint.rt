@@ -5,12 +5,12 @@ ghost use Rattle.trick_model.specs.PlanOf.{plan_of};
 ghost use Rattle.trick_model.specs.State.{seen};
 ghost use Rattle.trick_model.specs.Turn.{checkpoint_name, checkpoint_writes};
 ghost use Rattle.trick_outside.specs.Does.{Does};
-ghost use Rattle.trick_tic.specs.Steps.{steps_of};
+ghost use Rattle.trick_exec_tic.specs.Steps.{steps_of};
 
 use itoa::Buffer;
 use std::alloc::{AllocError, Global};
 use trick_base::{Items, Word};
-use trick_chkpt::print;
+use trick_chkpt_printer::print;
 use trick_lang::Cells;
 use trick_model::{Plan, State};
 use trick_outside::{Shelf, Stop, write_file};

@@ -9,12 +9,12 @@ ghost use Rattle.trick_model.specs.PlanOf.{plan_of};
 ghost use Rattle.trick_model.specs.State.{seen};
 ghost use Rattle.trick_model.specs.Turn.{file_writes};
 ghost use Rattle.trick_outside.specs.Does.{Does};
-ghost use Rattle.trick_tic.specs.Steps.{steps_of};
+ghost use Rattle.trick_exec_tic.specs.Steps.{steps_of};
 
 use itoa::Buffer;
 use std::alloc::{AllocError, Global};
 use trick_base::Word;
-use trick_chkpt::{print, push_fault};
+use trick_chkpt_printer::{print, push_fault};
 use trick_journal::push_last_line;
 use trick_lang::{Cells, JobFault};
 use trick_model::{Faults, Plan, State};

@@ -4,7 +4,7 @@ ghost use Rattle.std.specs.Prelude.{◌≡◌, IfOk};
 ghost use Rattle.trick_model.specs.Files.{note};
 ghost use Rattle.trick_model.specs.Journal.{entry_lines};
 ghost use Rattle.trick_outside.specs.Does.{Does};
-ghost use Rattle.trick_tic.specs.Steps.{steps_of};
+ghost use Rattle.trick_exec_tic.specs.Steps.{steps_of};
 
 use std::alloc::{AllocError, Global};
 use trick_base::Word;

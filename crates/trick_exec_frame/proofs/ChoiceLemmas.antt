@@ -7,13 +7,13 @@ use Rattle.std.proofs.lemmas.List.{drop-set-lt, drop_all, drop_more, get_or_defa
 use Rattle.std.proofs.lemmas.List.Elements.{filter-append}
 use Rattle.std.specs.List.{position, slice_index_or}
 use Rattle.std.specs.Prelude.{◌⊎◌, ◌==◌, ◌&&◌, cond, min, nat_le, not}
-use Rattle.trick_beside.proofs.Seats.{place_found, seat_of}
-use Rattle.trick_beside.proofs.RoundLemmas.{place_none}
-use Rattle.trick_beside.proofs.Threads.{beside_found}
-use Rattle.trick_beside.specs.Flight.{GoesWith, thread_in}
-use Rattle.trick_beside.specs.Stations.{AreStations, IsSeat}
-use Rattle.trick_beside.specs.declared.station.Station.{Station}
-use Rattle.trick_choice.specs.Adds.{Adds, AreAsIs, answer_of, counted_of, polls_for}
+use Rattle.trick_exec_posts.proofs.Seats.{place_found, seat_of}
+use Rattle.trick_exec_posts.proofs.RoundLemmas.{place_none}
+use Rattle.trick_exec_posts.proofs.Threads.{beside_found}
+use Rattle.trick_exec_posts.specs.Flight.{GoesWith, thread_in}
+use Rattle.trick_exec_posts.specs.Stations.{AreStations, IsSeat}
+use Rattle.trick_exec_posts.specs.declared.station.Station.{Station}
+use Rattle.trick_exec_frame.specs.Adds.{Adds, AreAsIs, answer_of, counted_of, polls_for}
 use Rattle.trick_lang.specs.declared.scalar.Scalar.{Scalar}
 use Rattle.trick_model.specs.Beside.{has_round, is_in_flight}
 use Rattle.trick_model.specs.Plan.{Plan, threads_beside}
@@ -24,11 +24,11 @@ use Rattle.trick_model.specs.declared.entry.Entry.{Entry}
 use Rattle.trick_model.specs.declared.entry.Entry.TheVariants.{Publish}
 use Rattle.trick_model.specs.declared.plan.Plan.{Plan as PlanValue}
 use Rattle.trick_model.specs.declared.thread.Thread.{Thread}
-use Rattle.trick_post.specs.Polls.{Poll}
-use Rattle.trick_post.specs.Work.{no_thread}
-use Rattle.trick_post.specs.declared.posts.Posts.{Ghosts}
-use Rattle.trick_runs.specs.Parts.{counting}
-use Rattle.trick_runs.specs.Rounds.{Chooses, idle, is_published, not_yet, patience, ready, unasked, wait_at, waited_at, waited_from}
+use Rattle.trick_post_work.specs.Polls.{Poll}
+use Rattle.trick_post_work.specs.Work.{no_thread}
+use Rattle.trick_post_work.specs.declared.posts.Posts.{Ghosts}
+use Rattle.trick_exec_meaning.specs.Parts.{counting}
+use Rattle.trick_exec_meaning.specs.Rounds.{Chooses, idle, is_published, not_yet, patience, ready, unasked, wait_at, waited_at, waited_from}
 
 -- ---- rounds in flight
 

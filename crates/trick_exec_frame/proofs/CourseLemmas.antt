@@ -1,8 +1,8 @@
 -- What a turn leaves as it is, so that a run is under way after each of its parts.
 use Rattle.std.proofs.Common.{◌≡◌, ◌∙◌, ℕ, ◌+◌, List, [], ◌∷◌, Bool, true, false, Option, Some, None, refl, subst, sym}
 use Rattle.std.specs.Prelude.{slice_set}
-use Rattle.trick_beside.specs.Flight.{GoesWith, IsInFlight}
-use Rattle.trick_job.specs.Belongs.{IsMemoryOf}
+use Rattle.trick_exec_posts.specs.Flight.{GoesWith, IsInFlight}
+use Rattle.trick_phase_jobs.specs.Belongs.{IsMemoryOf}
 use Rattle.trick_lang.specs.declared.class.Class.TheVariants as class
 use Rattle.trick_lang.specs.declared.class.Class.{Class}
 use Rattle.trick_lang.specs.declared.scalar.Scalar.{Scalar}
@@ -24,9 +24,9 @@ use Rattle.trick_model.specs.declared.plan.Plan.{Plan as PlanValue}
 use Rattle.trick_model.specs.declared.thread.Process.TheVariants as process
 use Rattle.trick_model.specs.declared.thread.Process.{Process}
 use Rattle.trick_model.specs.declared.thread.Thread.{Thread}
-use Rattle.trick_post.specs.Work.{Started}
-use Rattle.trick_tic.specs.Course.{IsCourseOf, IsUnderWay}
-use Rattle.trick_tic.specs.declared.course.Course.{Course}
+use Rattle.trick_post_work.specs.Work.{Started}
+use Rattle.trick_exec_tic.specs.Course.{IsCourseOf, IsUnderWay}
+use Rattle.trick_exec_tic.specs.declared.course.Course.{Course}
 
 -- The two states have one next tic and one limit, and the same flags of events and groups.
 pub record SameCourse (s t : State) : Type 0 where

@@ -3,8 +3,8 @@ use Rattle.std.proofs.Common.{◌≡◌, ◌∙◌, ◌==◌, ℕ, suc, List, []
 use Rattle.std.proofs.lemmas.Bool.Decides.{nat_tests}
 use Rattle.std.specs.Prelude.{map}
 use Rattle.trick_base.specs.Files.{Write}
-use Rattle.trick_beside.specs.Stations.{AreStations}
-use Rattle.trick_beside.specs.declared.station.Station.{Station}
+use Rattle.trick_exec_posts.specs.Stations.{AreStations}
+use Rattle.trick_exec_posts.specs.declared.station.Station.{Station}
 use Rattle.trick_lang.specs.declared.class.Class.{Class}
 use Rattle.trick_lang.specs.declared.class.Class.TheVariants as class
 use Rattle.trick_model.specs.Beside.{each_thread, start_round}
@@ -16,7 +16,7 @@ use Rattle.trick_model.specs.State.{State}
 use Rattle.trick_model.specs.Tic.{Ticked, frame}
 use Rattle.trick_model.specs.Turn.{checkpoint_jobs, checkpoint_writes, counted, framed, frozen, rounds, runs}
 use Rattle.trick_model.specs.declared.thread.Thread.{Thread}
-use Rattle.trick_pass.specs.Pass.{Passed, passed, unasked}
+use Rattle.trick_exec_frame.specs.Pass.{Passed, passed, unasked}
 
 -- a class without jobs does nothing
 pub class_idles : (p : Plan) (of : Class) (s : State) → jobs_in p.jobs of ≡ [] → run_class p of s ≡ s

@@ -15,9 +15,9 @@ use Rattle.trick_outside.specs.Does.{Does}
 use Rattle.trick_outside.specs.declared.shelf.Shelf.{Ghosts}
 use Rattle.trick_outside.specs.declared.stop.Stop.TheVariants.{Shelf}
 use Rattle.trick_outside.specs.declared.stop.Stop.{Stop}
-use Rattle.trick_pass.specs.Pass.{Passed, passed}
-use Rattle.trick_tic.proofs.StepLemmas.{steps_of-append}
-use Rattle.trick_tic.specs.Steps.{steps_of}
+use Rattle.trick_exec_frame.specs.Pass.{Passed, passed}
+use Rattle.trick_exec_tic.proofs.StepLemmas.{steps_of-append}
+use Rattle.trick_exec_tic.specs.Steps.{steps_of}
 
 -- ---- a run frame
 

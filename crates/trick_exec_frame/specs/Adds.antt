@@ -5,11 +5,11 @@ use Rattle.trick_model.specs.State.{State}
 use Rattle.trick_model.specs.Turn.{publishes}
 use Rattle.trick_model.specs.declared.entry.Entry.{Entry}
 use Rattle.trick_model.specs.declared.thread.Thread.{Thread}
-use Rattle.trick_post.specs.Polls.{Poll}
-use Rattle.trick_post.specs.declared.posts.Posted.{Posted}
-use Rattle.trick_post.specs.declared.posts.Posted.TheVariants.{Ready, NotYet}
-use Rattle.trick_post.specs.declared.posts.Posts.{Ghosts}
-use Rattle.trick_runs.specs.Rounds.{Chooses, patience}
+use Rattle.trick_post_work.specs.Polls.{Poll}
+use Rattle.trick_post_work.specs.declared.posts.Posted.{Posted}
+use Rattle.trick_post_work.specs.declared.posts.Posted.TheVariants.{Ready, NotYet}
+use Rattle.trick_post_work.specs.declared.posts.Posts.{Ghosts}
+use Rattle.trick_exec_meaning.specs.Rounds.{Chooses, patience}
 
 -- an entry, if it is a publication that counts
 abbrev pub counted_of : Plan → State → Entry → List Entry

@@ -9,9 +9,9 @@ use Rattle.trick_model.specs.State.{State}
 use Rattle.trick_model.specs.Turn.{checkpoint_jobs, checkpoint_writes, counted, framed, rounds, runs}
 use Rattle.trick_model.specs.declared.entry.Entry.{Entry}
 use Rattle.trick_model.specs.declared.plan.Plan.{Plan as PlanValue}
-use Rattle.trick_pass.specs.declared.equipment.Equipment.{Equipment}
-use Rattle.trick_post.specs.Work.{Started}
-use Rattle.trick_tic.specs.Course.{IsUnderWay}
+use Rattle.trick_exec_frame.specs.declared.equipment.Equipment.{Equipment}
+use Rattle.trick_post_work.specs.Work.{Started}
+use Rattle.trick_exec_tic.specs.Course.{IsUnderWay}
 
 -- what is left of a turn whose entries were heard: the state after it, and what is written
 pub record Passed : Type 0 where

@@ -1,22 +1,22 @@
 //! The choice of the publications of a run frame.
 
 ghost use Rattle.std.specs.Prelude.{◌≡◌, ◌<◌, ◌≤◌, List, IfOk, IsSome, OnOk, length, slice_index_or, true};
-ghost use Rattle.trick_beside.specs.Flight.{GoesWith};
-ghost use Rattle.trick_beside.specs.Stations.{AreStations, IsSeat};
-ghost use Rattle.trick_choice.specs.Adds.{Adds, AreAsIs, polls_for};
+ghost use Rattle.trick_exec_posts.specs.Flight.{GoesWith};
+ghost use Rattle.trick_exec_posts.specs.Stations.{AreStations, IsSeat};
+ghost use Rattle.trick_exec_frame.specs.Adds.{Adds, AreAsIs, polls_for};
 ghost use Rattle.trick_model.specs.Plan.{threads_beside};
 ghost use Rattle.trick_model.specs.PlanOf.{plan_of};
 ghost use Rattle.trick_model.specs.State.{seen};
-ghost use Rattle.trick_post.specs.Polls.{Poll};
-ghost use Rattle.trick_runs.specs.Rounds.{Chooses, patience, wait_at};
+ghost use Rattle.trick_post_work.specs.Polls.{Poll};
+ghost use Rattle.trick_exec_meaning.specs.Rounds.{Chooses, patience, wait_at};
 
 use crate::round::has_round;
 use crate::waiting::PATIENCE;
 use std::alloc::{AllocError, Global};
-use trick_beside::Station;
+use trick_exec_posts::Station;
 use trick_lang::Cells;
 use trick_model::{Entry, State};
-use trick_post::{Posted, Posts};
+use trick_post_work::{Posted, Posts};
 
 // Whether a round in flight is published that has waited so long: it is ready, or it waited long enough.
 fn is_published<P: Posts>(thread: u8, waited: u64, turn: u64, posts: &mut P) -> bool

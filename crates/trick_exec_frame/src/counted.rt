@@ -1,16 +1,16 @@
 //! The publications that count.
 
 ghost use Rattle.std.specs.Prelude.{◌≡◌, ◌++◌, IfOk, OnOk};
-ghost use Rattle.trick_beside.specs.Stations.{AreStations};
-ghost use Rattle.trick_choice.specs.Adds.{counted_of};
+ghost use Rattle.trick_exec_posts.specs.Stations.{AreStations};
+ghost use Rattle.trick_exec_frame.specs.Adds.{counted_of};
 ghost use Rattle.trick_model.specs.PlanOf.{plan_of};
 ghost use Rattle.trick_model.specs.State.{seen};
 ghost use Rattle.trick_model.specs.declared.plan.Plan.{Plan as PlanValue};
-ghost use Rattle.trick_runs.specs.Parts.{counting};
+ghost use Rattle.trick_exec_meaning.specs.Parts.{counting};
 
 use crate::round::is_in_flight;
 use std::alloc::{AllocError, Global};
-use trick_beside::Station;
+use trick_exec_posts::Station;
 use trick_lang::Cells;
 use trick_model::{Entry, State};
 

@@ -4,7 +4,7 @@ ghost use Rattle.std.specs.Prelude.{◌≡◌, ◌+◌, ◌≤◌, IfOk};
 ghost use Rattle.trick_eval.specs.Bench.{IsFor};
 ghost use Rattle.trick_model.specs.State.{seen};
 ghost use Rattle.trick_base.specs.Time.{tic_limit};
-ghost use Rattle.trick_tic.specs.Course.{IsCourseOf};
+ghost use Rattle.trick_exec_tic.specs.Course.{IsCourseOf};
 
 use std::alloc::{AllocError, Global};
 use std::sync::ledger::Ledger;
@@ -12,7 +12,7 @@ use trick_eval::Bench;
 use trick_lang::Cells;
 use trick_model::{Accepted, State};
 use trick_queue::Steps;
-use trick_tic::Course;
+use trick_exec_tic::Course;
 
 /// What a run keeps beside its state: its course, and a bench for the jobs of classes. It is made once.
 #[derive(Drop)]

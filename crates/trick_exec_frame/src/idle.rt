@@ -2,13 +2,13 @@
 
 ghost use Rattle.std.specs.Prelude.{◌≡◌, [], false, true};
 ghost use Rattle.trick_eval.specs.Bench.{IsFor};
-ghost use Rattle.trick_job.specs.Belongs.{IsMemoryOf};
+ghost use Rattle.trick_phase_jobs.specs.Belongs.{IsMemoryOf};
 ghost use Rattle.trick_lang.specs.declared.class.Class.TheVariants.{EndOfFrame};
 ghost use Rattle.trick_model.specs.Plan.{threads_beside};
 ghost use Rattle.trick_model.specs.PlanOf.{plan_of};
 ghost use Rattle.trick_model.specs.Running.{run_class as class_ran};
 ghost use Rattle.trick_model.specs.State.{seen};
-ghost use Rattle.trick_pass.specs.Pass.{IsEquipped, passed, unasked};
+ghost use Rattle.trick_exec_frame.specs.Pass.{IsEquipped, passed, unasked};
 
 use crate::Equipment;
 use crate::rest::count;
@@ -16,9 +16,9 @@ use std::sync::ledger::Ledger;
 use trick_eval::Bench;
 use trick_lang::{Cells, Class};
 use trick_model::{Accepted, Plan, State, laws};
-use trick_moments::{has_jobs, run_class};
-use trick_post::Posts;
-use trick_tic::skip;
+use trick_exec_classes::{has_jobs, run_class};
+use trick_post_work::Posts;
+use trick_exec_tic::skip;
 
 // Runs the end_of_frame jobs. It looks first whether there are some, which costs less than a call.
 fn run_end_of_frame<M: Cells>(plan: &Plan, state: &mut State<M>, bench: &mut Bench)

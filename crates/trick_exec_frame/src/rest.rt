@@ -1,28 +1,28 @@
 //! A turn after its entries were heard.
 
 ghost use Rattle.std.specs.Prelude.{◌≡◌, IfOk, OnOk};
-ghost use Rattle.trick_beside.specs.Flight.{AsksNothing, GoesWith};
-ghost use Rattle.trick_beside.specs.Stations.{AreStations};
+ghost use Rattle.trick_exec_posts.specs.Flight.{AsksNothing, GoesWith};
+ghost use Rattle.trick_exec_posts.specs.Stations.{AreStations};
 ghost use Rattle.trick_model.specs.PlanOf.{plan_of};
 ghost use Rattle.trick_model.specs.State.{seen};
 ghost use Rattle.trick_model.specs.Turn.{counted, framed, rounds as rounds_of, run_frame, runs as runs_of};
 ghost use Rattle.trick_outside.specs.Does.{Does};
-ghost use Rattle.trick_pass.specs.Pass.{IsEquipped, passed};
-ghost use Rattle.trick_tic.specs.Current.{asking_of};
-ghost use Rattle.trick_tic.specs.Steps.{steps_of};
+ghost use Rattle.trick_exec_frame.specs.Pass.{IsEquipped, passed};
+ghost use Rattle.trick_exec_tic.specs.Current.{asking_of};
+ghost use Rattle.trick_exec_tic.specs.Steps.{steps_of};
 
 use crate::Equipment;
 use std::alloc::{AllocError, Global};
 use std::sync::ledger::Ledger;
-use trick_beside::{Station, publish_all, start_rounds};
-use trick_files::write_checkpoint;
+use trick_exec_posts::{Station, publish_all, start_rounds};
+use trick_exec_files::write_checkpoint;
 use trick_lang::{Cells, Class};
 use trick_model::{Accepted, Entry, LAST_TURN, State, laws};
-use trick_moments::{checkpoint_jobs, freeze_if_asked, run_class};
+use trick_exec_classes::{checkpoint_jobs, freeze_if_asked, run_class};
 use trick_outside::{Shelf, Stop};
-use trick_phase::Phases;
-use trick_post::Posts;
-use trick_tic::{Current, Workers, frame};
+use trick_phase_jobs::Phases;
+use trick_post_work::Posts;
+use trick_exec_tic::{Current, Workers, frame};
 
 /// What is left of a turn whose entries were heard: where it is, and the rounds that its frame publishes first.
 #[derive(Drop)]

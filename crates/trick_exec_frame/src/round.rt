@@ -2,14 +2,14 @@
 
 ghost use Rattle.std.specs.List.{position};
 ghost use Rattle.std.specs.Prelude.{◌≡◌, ◌==◌};
-ghost use Rattle.trick_beside.specs.Stations.{AreStations};
-ghost use Rattle.trick_beside.specs.declared.station.Station.{Station as StationValue};
+ghost use Rattle.trick_exec_posts.specs.Stations.{AreStations};
+ghost use Rattle.trick_exec_posts.specs.declared.station.Station.{Station as StationValue};
 ghost use Rattle.trick_model.specs.Beside.{has_round as has_round_of, is_in_flight as is_in_flight_of};
 ghost use Rattle.trick_model.specs.PlanOf.{plan_of};
 ghost use Rattle.trick_model.specs.State.{seen};
 ghost use Rattle.trick_model.specs.declared.plan.Plan.{Plan as PlanValue};
 
-use trick_beside::Station;
+use trick_exec_posts::Station;
 use trick_lang::Cells;
 use trick_model::{State, Thread};
 

@@ -2,15 +2,15 @@
 
 ghost use Rattle.std.specs.List.{slice_index_or};
 ghost use Rattle.std.specs.Prelude.{◌≡◌, ◌<◌, ◌+◌, min, length};
-ghost use Rattle.trick_beside.specs.Stations.{AreStations};
+ghost use Rattle.trick_exec_posts.specs.Stations.{AreStations};
 ghost use Rattle.trick_model.specs.Plan.{threads_beside};
 ghost use Rattle.trick_model.specs.PlanOf.{plan_of};
 ghost use Rattle.trick_model.specs.State.{seen};
 ghost use Rattle.trick_model.specs.declared.plan.Plan.{Plan as PlanValue};
-ghost use Rattle.trick_runs.specs.Rounds.{patience, is_publication_of as is_publication, is_published as is_published_of, waited_at as waited_of, waited_from};
+ghost use Rattle.trick_exec_meaning.specs.Rounds.{patience, is_publication_of as is_publication, is_published as is_published_of, waited_at as waited_of, waited_from};
 
 use crate::round::has_round;
-use trick_beside::Station;
+use trick_exec_posts::Station;
 use trick_lang::Cells;
 use trick_model::{Entry, State, Thread};
 

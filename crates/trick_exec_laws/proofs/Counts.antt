@@ -6,7 +6,7 @@ use Rattle.std.proofs.lemmas.Bool.{and_left, eq-eqb, or_from, or_right}
 use Rattle.std.proofs.lemmas.List.Folds.{list_any-append}
 use Rattle.std.specs.List.{slice_index_or}
 use Rattle.std.specs.Prelude.{◌||◌}
-use Rattle.trick_beside.proofs.Threads.{AreFound, beside_found, found_at}
+use Rattle.trick_exec_posts.proofs.Threads.{AreFound, beside_found, found_at}
 use Rattle.trick_model.specs.Beside.{find_thread, has_round, one_later}
 use Rattle.trick_model.specs.Plan.{Plan, threads_beside}
 use Rattle.trick_model.specs.PlanOf.{plan_of}
@@ -17,9 +17,9 @@ use Rattle.trick_model.specs.declared.entry.Entry.{Entry}
 use Rattle.trick_model.specs.declared.entry.Entry.TheVariants.{Publish}
 use Rattle.trick_model.specs.declared.plan.Plan.{Plan as PlanValue}
 use Rattle.trick_model.specs.declared.thread.Thread.{Thread}
-use Rattle.trick_post.specs.Polls.{Poll, is_ready, not_ready}
-use Rattle.trick_run_facts.specs.Counted.{left_among, left_by, left_in}
-use Rattle.trick_runs.specs.Rounds.{AreChosen, Chooses, IsChosen, heard_state, idle, is_publication_of, is_published, no_turn, none, not_yet, one_more, publications, ready, unasked}
+use Rattle.trick_post_work.specs.Polls.{Poll, is_ready, not_ready}
+use Rattle.trick_exec_laws.specs.Counted.{left_among, left_by, left_in}
+use Rattle.trick_exec_meaning.specs.Rounds.{AreChosen, Chooses, IsChosen, heard_state, idle, is_publication_of, is_published, no_turn, none, not_yet, one_more, publications, ready, unasked}
 
 -- ---- threads of other numbers
 

@@ -13,15 +13,15 @@ use Rattle.trick_model.specs.Session.{Message}
 use Rattle.trick_model.specs.State.{World}
 use Rattle.trick_model.specs.Turn.{turn}
 use Rattle.trick_model.specs.declared.entry.Entry.{Entry}
-use Rattle.trick_remainder.proofs.Contents.{added_append, kept_append}
-use Rattle.trick_remainder.proofs.Ends.{journal_is_no_checkpoint}
-use Rattle.trick_remainder.proofs.Turns.{turns_kept}
-use Rattle.trick_remainder.specs.Remainder.{added}
-use Rattle.trick_run_facts.proofs.Lasting.{AllOn, IsOn}
-use Rattle.trick_run_facts.proofs.Fronts.{NoneOf, none_added, none_content, none_front, none_kept, kept_front}
-use Rattle.trick_run_facts.proofs.Notes.{front_adds, front_order, notes, notes_add, notes_cut, notes_kept, notes_none, no_journal, turn_adds, turn_is}
-use Rattle.trick_run_facts.proofs.Same.{worlds_same}
-use Rattle.trick_run_facts.specs.Left.{IsCutOf, IsTorn, in_note_order, journal_lists, one_of}
+use Rattle.trick_model_remainder.proofs.Contents.{added_append, kept_append}
+use Rattle.trick_model_remainder.proofs.Ends.{journal_is_no_checkpoint}
+use Rattle.trick_model_remainder.proofs.Turns.{turns_kept}
+use Rattle.trick_model_remainder.specs.Remainder.{added}
+use Rattle.trick_exec_laws.proofs.Lasting.{AllOn, IsOn}
+use Rattle.trick_exec_laws.proofs.Fronts.{NoneOf, none_added, none_content, none_front, none_kept, kept_front}
+use Rattle.trick_exec_laws.proofs.Notes.{front_adds, front_order, notes, notes_add, notes_cut, notes_kept, notes_none, no_journal, turn_adds, turn_is}
+use Rattle.trick_exec_laws.proofs.Same.{worlds_same}
+use Rattle.trick_exec_laws.specs.Left.{IsCutOf, IsTorn, in_note_order, journal_lists, one_of}
 
 -- ---- turns whose writes were done in part
 

@@ -4,7 +4,7 @@ use Rattle.trick_model.specs.Plan.{Plan}
 use Rattle.trick_model.specs.State.{World}
 use Rattle.trick_model.specs.declared.entry.Entry.{Entry}
 use Rattle.trick_model.specs.declared.entry.Entry.TheVariants.{Join}
-use Rattle.trick_run_facts.specs.Left.{IsCutOf, journal_lists, one_of}
+use Rattle.trick_exec_laws.specs.Left.{IsCutOf, journal_lists, one_of}
 
 abbrev given : List (List Entry)
 given = (Join 1 ∷ []) ∷ (Join 2 ∷ Join 3 ∷ []) ∷ []

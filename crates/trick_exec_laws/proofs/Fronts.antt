@@ -7,8 +7,8 @@ use Rattle.trick_base.specs.Fronts.{IsFrontOf, IsPrefix}
 use Rattle.trick_model.specs.Files.{journal_name, note}
 use Rattle.trick_model.specs.Journal.{entry_line, entry_lines}
 use Rattle.trick_model.specs.declared.entry.Entry.{Entry}
-use Rattle.trick_remainder.specs.Remainder.{added}
-use Rattle.trick_run_facts.specs.Left.{IsShort, IsTorn}
+use Rattle.trick_model_remainder.specs.Remainder.{added}
+use Rattle.trick_exec_laws.specs.Left.{IsShort, IsTorn}
 
 -- ---- fronts of two parts
 

@@ -16,8 +16,8 @@ use Rattle.trick_model.specs.Turn.{Hearing, begun, checkpoint_jobs, checkpoint_w
 use Rattle.trick_model.specs.declared.entry.Entry.{Entry}
 use Rattle.trick_model.specs.declared.entry.Entry.TheVariants.{Join, Said, Leave, Publish}
 use Rattle.trick_model.specs.declared.session.Session.{Session}
-use Rattle.trick_runs.proofs.Idle.{heard_nothing, idle_turn}
-use Rattle.trick_runs.specs.Goes.{goes_owing, is_over_owing}
+use Rattle.trick_exec_meaning.proofs.Idle.{heard_nothing, idle_turn}
+use Rattle.trick_exec_meaning.specs.Goes.{goes_owing, is_over_owing}
 
 -- ---- turns before the run was over
 

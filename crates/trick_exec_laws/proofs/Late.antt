@@ -6,12 +6,12 @@ use Rattle.trick_model.specs.State.{State}
 use Rattle.trick_model.specs.declared.entry.Entry.{Entry}
 use Rattle.trick_model.specs.declared.plan.Plan.{Plan as PlanValue}
 use Rattle.trick_outside.specs.Causes.{RoseBy}
-use Rattle.trick_post.specs.Polls.{Poll, not_ready}
-use Rattle.trick_post.specs.declared.posts.Posts.{Ghosts}
-use Rattle.trick_run_facts.proofs.Counts.{left_counted}
-use Rattle.trick_run_facts.specs.Counted.{left_by}
-use Rattle.trick_runs.specs.Rounds.{AreChosen}
-use Rattle.trick_runs.specs.Turned.{Asks}
+use Rattle.trick_post_work.specs.Polls.{Poll, not_ready}
+use Rattle.trick_post_work.specs.declared.posts.Posts.{Ghosts}
+use Rattle.trick_exec_laws.proofs.Counts.{left_counted}
+use Rattle.trick_exec_laws.specs.Counted.{left_by}
+use Rattle.trick_exec_meaning.specs.Rounds.{AreChosen}
+use Rattle.trick_exec_meaning.specs.Turned.{Asks}
 
 pub left_late : {Q : Type 0} (posts : Ghosts Q)
     → ((old new : Q) (polls : List Poll) → posts.asked old polls new → RoseBy (posts.lateness old) (not_ready polls) (posts.lateness new))

@@ -20,20 +20,20 @@ use Rattle.trick_model.specs.Turn.{file_writes}
 use Rattle.trick_model.specs.declared.entry.Entry.{Entry}
 use Rattle.trick_model.specs.declared.group.Group.{Group}
 use Rattle.trick_outside.specs.Calls.{AllLeave, Call}
-use Rattle.trick_remainder.proofs.Contents.{kept_adds}
-use Rattle.trick_remainder.proofs.Ends.{journal_is_no_checkpoint, starts_journal}
-use Rattle.trick_remainder.proofs.Turns.{turns_kept}
-use Rattle.trick_remainder.specs.Remainder.{added}
-use Rattle.trick_run_facts.proofs.Lasting.{AllOn, lasts_front, lasts_said}
-use Rattle.trick_run_facts.proofs.Cuts.{InTurns, all_turns, cut_noted, in_last, noted_on}
-use Rattle.trick_run_facts.proofs.Fronts.{InTwo, NoneOf, in_two, none_content, none_front}
-use Rattle.trick_run_facts.proofs.Notes.{journal_is_no_log}
-use Rattle.trick_run_facts.proofs.Others.{headers_none}
-use Rattle.trick_run_facts.proofs.Same.{fits_same, said_same, worlds_same, writes_same}
-use Rattle.trick_run_facts.proofs.Stops.{all_of_steps, front_of_steps, joined, leave_split, turn_leaves}
-use Rattle.trick_run_facts.specs.Left.{HasLines, IsCutOf, Left, begun, ended, lines, journal_lists, untouched}
-use Rattle.trick_runs.specs.Stops.{StopsAt, at_end, before as at_start, between, in_turn}
-use Rattle.trick_tic.specs.Steps.{steps_of}
+use Rattle.trick_model_remainder.proofs.Contents.{kept_adds}
+use Rattle.trick_model_remainder.proofs.Ends.{journal_is_no_checkpoint, starts_journal}
+use Rattle.trick_model_remainder.proofs.Turns.{turns_kept}
+use Rattle.trick_model_remainder.specs.Remainder.{added}
+use Rattle.trick_exec_laws.proofs.Lasting.{AllOn, lasts_front, lasts_said}
+use Rattle.trick_exec_laws.proofs.Cuts.{InTurns, all_turns, cut_noted, in_last, noted_on}
+use Rattle.trick_exec_laws.proofs.Fronts.{InTwo, NoneOf, in_two, none_content, none_front}
+use Rattle.trick_exec_laws.proofs.Notes.{journal_is_no_log}
+use Rattle.trick_exec_laws.proofs.Others.{headers_none}
+use Rattle.trick_exec_laws.proofs.Same.{fits_same, said_same, worlds_same, writes_same}
+use Rattle.trick_exec_laws.proofs.Stops.{all_of_steps, front_of_steps, joined, leave_split, turn_leaves}
+use Rattle.trick_exec_laws.specs.Left.{HasLines, IsCutOf, Left, begun, ended, lines, journal_lists, untouched}
+use Rattle.trick_exec_meaning.specs.Stops.{StopsAt, at_end, before as at_start, between, in_turn}
+use Rattle.trick_exec_tic.specs.Steps.{steps_of}
 
 -- What a part of the writes of a run makes of its files, where these messages were handed over.
 pub record Leaves (p : Plan) (s : State) (lists : List (List Entry)) (sent : List Message) (part : List Write) : Type 0 where

@@ -12,16 +12,16 @@ use Rattle.trick_model.specs.State.{State, World}
 use Rattle.trick_model.specs.Turn.{Hearing, Turned, begun, hear, heard, noted, publishes, turn}
 use Rattle.trick_model.specs.declared.entry.Entry.{Entry}
 use Rattle.trick_model.specs.declared.entry.Entry.TheVariants.{Join, Said, Leave, Publish}
-use Rattle.trick_remainder.proofs.Contents.{added_append, kept_append}
-use Rattle.trick_remainder.proofs.Turns.{note_kept}
-use Rattle.trick_remainder.specs.Remainder.{added}
-use Rattle.trick_run_facts.proofs.Fronts.{InLines, InTwo, NoneOf, in_two, lines_append, none_added, none_append, note_adds, note_cut, note_none}
-use Rattle.trick_run_facts.proofs.Others.{IsNoLog, rest_none}
-use Rattle.trick_run_facts.specs.Left.{IsTorn, in_note_order, one_of}
-use Rattle.trick_runs.proofs.PartLemmas.{heard_apart, lines_of, publications_of}
-use Rattle.trick_runs.specs.Parts.{AreApart, counting}
-use Rattle.trick_runs.specs.Turned.{notes as turn_notes}
-use Rattle.trick_turns.specs.Turns.{has_line}
+use Rattle.trick_model_remainder.proofs.Contents.{added_append, kept_append}
+use Rattle.trick_model_remainder.proofs.Turns.{note_kept}
+use Rattle.trick_model_remainder.specs.Remainder.{added}
+use Rattle.trick_exec_laws.proofs.Fronts.{InLines, InTwo, NoneOf, in_two, lines_append, none_added, none_append, note_adds, note_cut, note_none}
+use Rattle.trick_exec_laws.proofs.Others.{IsNoLog, rest_none}
+use Rattle.trick_exec_laws.specs.Left.{IsTorn, in_note_order, one_of}
+use Rattle.trick_exec_meaning.proofs.PartLemmas.{heard_apart, lines_of, publications_of}
+use Rattle.trick_exec_meaning.specs.Parts.{AreApart, counting}
+use Rattle.trick_exec_meaning.specs.Turned.{notes as turn_notes}
+use Rattle.trick_exec_sources.specs.Turns.{has_line}
 
 -- ---- lines and publications among what is noted
 
@@ -242,7 +242,7 @@ pub turn_is : (p : Plan) (w : World) (entries : List Entry) → turn_writes w.st
 unfolding notes
 turn_is p w entries = refl
 
--- what a turn notes, as `trick_runs` says it
+-- what a turn notes, as `trick_exec_meaning` says it
 pub notes_are : (number : ℕ) (t : Turned) → turn_notes number t ≡ notes number t.noted
 unfolding notes
 notes_are number t = refl

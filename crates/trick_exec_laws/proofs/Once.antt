@@ -24,14 +24,14 @@ use Rattle.trick_model.specs.Valid.{all_differ, group_names}
 use Rattle.trick_model.specs.declared.entry.Entry.{Entry}
 use Rattle.trick_model.specs.declared.group.Group.{Group}
 use Rattle.trick_model.specs.declared.plan.Plan.{Plan as PlanValue}
-use Rattle.trick_remainder.proofs.Contents.{kept_append}
-use Rattle.trick_remainder.proofs.Ends.{log_is_no_checkpoint}
-use Rattle.trick_remainder.proofs.Turns.{turns_kept}
-use Rattle.trick_run_facts.proofs.Fronts.{NoneOf, none_append, none_kept}
-use Rattle.trick_run_facts.proofs.Notes.{notes, notes_none, turn_is}
-use Rattle.trick_run_facts.proofs.Others.{IsNoLog, framed_none, headers_none, rest_none}
-use Rattle.trick_run_facts.specs.Once.{MakesOnce}
-use Rattle.trick_runs.proofs.Counts.{turn_counts}
+use Rattle.trick_model_remainder.proofs.Contents.{kept_append}
+use Rattle.trick_model_remainder.proofs.Ends.{log_is_no_checkpoint}
+use Rattle.trick_model_remainder.proofs.Turns.{turns_kept}
+use Rattle.trick_exec_laws.proofs.Fronts.{NoneOf, none_append, none_kept}
+use Rattle.trick_exec_laws.proofs.Notes.{notes, notes_none, turn_is}
+use Rattle.trick_exec_laws.proofs.Others.{IsNoLog, framed_none, headers_none, rest_none}
+use Rattle.trick_exec_laws.specs.Once.{MakesOnce}
+use Rattle.trick_exec_meaning.proofs.Counts.{turn_counts}
 
 -- ---- writes of other names
 

@@ -14,7 +14,7 @@ use Rattle.trick_model.specs.Time.{tics_left}
 use Rattle.trick_model.specs.Turn.{begun, checkpoint_jobs, checkpoint_name, checkpoint_writes, counted, file_writes, framed, heard, publish_all, rounds, runs, turn}
 use Rattle.trick_model.specs.declared.entry.Entry.{Entry}
 use Rattle.trick_model.specs.declared.group.Group.{Group}
-use Rattle.trick_run_facts.proofs.Fronts.{NoneOf, none_append}
+use Rattle.trick_exec_laws.proofs.Fronts.{NoneOf, none_append}
 
 -- A name is that of no log.
 abbrev pub IsNoLog : List ℕ → Type 0

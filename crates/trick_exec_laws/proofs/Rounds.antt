@@ -24,17 +24,17 @@ use Rattle.trick_model.specs.declared.plan.Plan.{Plan as PlanValue}
 use Rattle.trick_model.specs.declared.thread.Process.TheVariants as process
 use Rattle.trick_model.specs.declared.thread.Process.{Process}
 use Rattle.trick_model.specs.declared.thread.Thread.{Thread}
-use Rattle.trick_one_post.specs.Posting.{AllReady}
+use Rattle.trick_post_trays.specs.Posting.{AllReady}
 use Rattle.trick_outside.specs.Calls.{Call}
 use Rattle.trick_outside.specs.declared.stop.Stop.{Stop}
-use Rattle.trick_post.specs.Polls.{Poll}
-use Rattle.trick_post.specs.declared.posts.Posts.{Ghosts as PostsGhosts}
-use Rattle.trick_run_facts.specs.Rounds.{GaveNothing, GivesNothing, has_async}
-use Rattle.trick_runs.specs.Chosen.{AreAsked, ChoseTo, but_last, of_all}
-use Rattle.trick_runs.specs.Hosts.{Hosts, Place}
-use Rattle.trick_runs.specs.Ran.{AreDone, Missed, Ran, Stopped}
-use Rattle.trick_runs.specs.Rounds.{AreChosen, Chooses, IsChosen, heard_state, idle, no_turn, none, not_yet, one_more, publications, ready, unasked}
-use Rattle.trick_turns.specs.Turns.{Answer}
+use Rattle.trick_post_work.specs.Polls.{Poll}
+use Rattle.trick_post_work.specs.declared.posts.Posts.{Ghosts as PostsGhosts}
+use Rattle.trick_exec_laws.specs.Rounds.{GaveNothing, GivesNothing, has_async}
+use Rattle.trick_exec_meaning.specs.Chosen.{AreAsked, ChoseTo, but_last, of_all}
+use Rattle.trick_exec_meaning.specs.Hosts.{Hosts, Place}
+use Rattle.trick_exec_meaning.specs.Ran.{AreDone, Missed, Ran, Stopped}
+use Rattle.trick_exec_meaning.specs.Rounds.{AreChosen, Chooses, IsChosen, heard_state, idle, no_turn, none, not_yet, one_more, publications, ready, unasked}
+use Rattle.trick_exec_sources.specs.Turns.{Answer}
 
 -- ---- no thread beside the tics has rounds
 

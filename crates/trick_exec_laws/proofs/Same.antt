@@ -4,7 +4,7 @@ use Rattle.std.proofs.lemmas.Bool.{and_from, and_parts, eq-eqb, eqb-true}
 use Rattle.std.specs.List.{list_any}
 use Rattle.std.specs.Prelude.{◌||◌, cond, nat_le}
 use Rattle.trick_base.specs.Files.{Write}
-use Rattle.trick_beside.proofs.Steps.{publish_none, publish_others, second_of}
+use Rattle.trick_exec_posts.proofs.Steps.{publish_none, publish_others, second_of}
 use Rattle.trick_lang.specs.declared.class.Class.TheVariants as class
 use Rattle.trick_model.specs.Beside.{find_thread, has_round, is_in_flight, publish, publish_round}
 use Rattle.trick_model.specs.Events.{Asking}
@@ -22,11 +22,11 @@ use Rattle.trick_model.specs.declared.entry.Entry.TheVariants.{Join, Said, Leave
 use Rattle.trick_model.specs.declared.session.Session.{Session}
 use Rattle.trick_model.specs.declared.taken.Taken.{Taken}
 use Rattle.trick_model.specs.declared.thread.Thread.{Thread}
-use Rattle.trick_run_facts.proofs.Notes.{all_counting, heard_lines, lines_in, lines_noted, no_line_counts, noted_count, only_lines, others_in}
-use Rattle.trick_run_facts.specs.Left.{in_note_order, journal_lists}
-use Rattle.trick_run_facts.specs.Noting.{DoAsNoted}
-use Rattle.trick_runs.proofs.PartLemmas.{IsMade, turn_made}
-use Rattle.trick_runs.specs.Parts.{AreApart}
+use Rattle.trick_exec_laws.proofs.Notes.{all_counting, heard_lines, lines_in, lines_noted, no_line_counts, noted_count, only_lines, others_in}
+use Rattle.trick_exec_laws.specs.Left.{in_note_order, journal_lists}
+use Rattle.trick_exec_laws.specs.Noting.{DoAsNoted}
+use Rattle.trick_exec_meaning.proofs.PartLemmas.{IsMade, turn_made}
+use Rattle.trick_exec_meaning.specs.Parts.{AreApart}
 
 -- ---- publications that do not count do nothing
 

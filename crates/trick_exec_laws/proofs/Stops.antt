@@ -13,14 +13,14 @@ use Rattle.trick_model.specs.declared.entry.Entry.{Entry}
 use Rattle.trick_outside.proofs.WriteLemmas.{all_done as all_left, front_of}
 use Rattle.trick_outside.specs.Calls.{AllLeave, Call}
 use Rattle.trick_outside.specs.Does.{IsPartOf}
-use Rattle.trick_run_facts.proofs.Lasting.{IsOn}
-use Rattle.trick_run_facts.proofs.Cuts.{InTurns, behind_notes, in_notes}
-use Rattle.trick_run_facts.proofs.Fronts.{InTwo, in_two}
-use Rattle.trick_run_facts.proofs.Notes.{notes, notes_are, turn_is}
-use Rattle.trick_runs.specs.Stops.{StopsInTurn}
-use Rattle.trick_runs.specs.Turned.{notes as turn_notes}
-use Rattle.trick_tic.proofs.StepLemmas.{all_done, steps_of-append, writes_of-steps_of}
-use Rattle.trick_tic.specs.Steps.{steps_of}
+use Rattle.trick_exec_laws.proofs.Lasting.{IsOn}
+use Rattle.trick_exec_laws.proofs.Cuts.{InTurns, behind_notes, in_notes}
+use Rattle.trick_exec_laws.proofs.Fronts.{InTwo, in_two}
+use Rattle.trick_exec_laws.proofs.Notes.{notes, notes_are, turn_is}
+use Rattle.trick_exec_meaning.specs.Stops.{StopsInTurn}
+use Rattle.trick_exec_meaning.specs.Turned.{notes as turn_notes}
+use Rattle.trick_exec_tic.proofs.StepLemmas.{all_done, steps_of-append, writes_of-steps_of}
+use Rattle.trick_exec_tic.specs.Steps.{steps_of}
 
 -- what steps leave that were all done
 pub all_of_steps : (writes : List Write) (files now : Files) → AllLeave (steps_of writes) files now → now ≡ all_written writes files

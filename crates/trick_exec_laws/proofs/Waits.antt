@@ -14,9 +14,9 @@ use Rattle.trick_model.specs.Turn.{runs, turn}
 use Rattle.trick_model.specs.declared.entry.Entry.{Entry}
 use Rattle.trick_model.specs.declared.entry.Entry.TheVariants.{Publish}
 use Rattle.trick_model.specs.declared.thread.Thread.{Thread}
-use Rattle.trick_post.specs.Polls.{Poll}
-use Rattle.trick_run_facts.specs.Waiting.{NoneWaitsLonger, StaysUnpublished, is_left, is_run_frame, run_frames}
-use Rattle.trick_runs.specs.Rounds.{AreChosen, Chooses, IsChosen, heard_state, idle, is_publication_of, is_published, no_turn, no_waits, none, not_yet, one_more, patience, publications, ready, unasked, wait_at, waited, waited_at, waited_from}
+use Rattle.trick_post_work.specs.Polls.{Poll}
+use Rattle.trick_exec_laws.specs.Waiting.{NoneWaitsLonger, StaysUnpublished, is_left, is_run_frame, run_frames}
+use Rattle.trick_exec_meaning.specs.Rounds.{AreChosen, Chooses, IsChosen, heard_state, idle, is_publication_of, is_published, no_turn, no_waits, none, not_yet, one_more, patience, publications, ready, unasked, wait_at, waited, waited_at, waited_from}
 
 -- ---- a round that has waited long enough
 

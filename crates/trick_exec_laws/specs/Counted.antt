@@ -10,11 +10,11 @@ use Rattle.trick_model.specs.declared.entry.Entry.{Entry}
 use Rattle.trick_model.specs.declared.plan.Plan.{Plan as PlanValue}
 use Rattle.trick_model.specs.declared.thread.Thread.{Thread}
 use Rattle.trick_outside.specs.Causes.{RoseBy}
-use Rattle.trick_post.specs.Polls.{Poll, not_ready}
-use Rattle.trick_runs.specs.Hosts.{Hosts, Place}
-use Rattle.trick_runs.specs.Ran.{AreDone}
-use Rattle.trick_runs.specs.Rounds.{AreChosen, heard_state, is_published, publications}
-use Rattle.trick_turns.specs.Turns.{Answer}
+use Rattle.trick_post_work.specs.Polls.{Poll, not_ready}
+use Rattle.trick_exec_meaning.specs.Hosts.{Hosts, Place}
+use Rattle.trick_exec_meaning.specs.Ran.{AreDone}
+use Rattle.trick_exec_meaning.specs.Rounds.{AreChosen, heard_state, is_published, publications}
+use Rattle.trick_exec_sources.specs.Turns.{Answer}
 
 -- Of these threads, how many have a round in flight that no entry publishes; `place` is that of the first.
 abbrev pub left_among : State → List Entry → ℕ → List Thread → ℕ

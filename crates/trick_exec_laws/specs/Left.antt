@@ -12,7 +12,7 @@ use Rattle.trick_model.specs.Session.{Message}
 use Rattle.trick_model.specs.State.{State, World}
 use Rattle.trick_model.specs.Turn.{turn}
 use Rattle.trick_model.specs.declared.entry.Entry.{Entry}
-use Rattle.trick_remainder.specs.Remainder.{added}
+use Rattle.trick_model_remainder.specs.Remainder.{added}
 
 -- ---- the whole lines of a journal
 

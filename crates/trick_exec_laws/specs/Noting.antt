@@ -5,7 +5,7 @@ use Rattle.trick_model.specs.Plan.{Plan}
 use Rattle.trick_model.specs.Run.{after_turns}
 use Rattle.trick_model.specs.State.{World}
 use Rattle.trick_model.specs.declared.entry.Entry.{Entry}
-use Rattle.trick_run_facts.specs.Left.{journal_lists}
+use Rattle.trick_exec_laws.specs.Left.{journal_lists}
 
 -- Turns that are given what they note in place of these lists come to the same world, and write and say the same.
 pub record DoAsNoted (p : Plan) (w : World) (lists : List (List Entry)) : Type 0 where

@@ -11,9 +11,9 @@ use Rattle.trick_model.specs.State.{State}
 use Rattle.trick_model.specs.declared.plan.Plan.{Plan as PlanValue}
 use Rattle.trick_model.specs.declared.thread.Thread.{Thread}
 use Rattle.trick_outside.specs.declared.stop.Stop.{Stop}
-use Rattle.trick_runs.specs.Hosts.{Hosts, Place}
-use Rattle.trick_turns.specs.Turns.{Answer, AreSilent}
-use Rattle.trick_turns.specs.declared.turns.Turns.{Ghosts as TurnsGhosts}
+use Rattle.trick_exec_meaning.specs.Hosts.{Hosts, Place}
+use Rattle.trick_exec_sources.specs.Turns.{Answer, AreSilent}
+use Rattle.trick_exec_sources.specs.declared.turns.Turns.{Ghosts as TurnsGhosts}
 
 -- Some thread of the plan is asynchronous: it has rounds, whether or not it has a job. A must-finish thread has none,
 -- since the tics at which it publishes are fixed.

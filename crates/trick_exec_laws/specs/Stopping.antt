@@ -6,9 +6,9 @@ use Rattle.trick_model.specs.Plan.{Plan}
 use Rattle.trick_model.specs.State.{State}
 use Rattle.trick_model.specs.declared.entry.Entry.{Entry}
 use Rattle.trick_outside.specs.declared.stop.Stop.{Stop}
-use Rattle.trick_run_facts.specs.Left.{Left}
-use Rattle.trick_runs.specs.Hosts.{Hosts, Place}
-use Rattle.trick_runs.specs.Ran.{Stopped}
+use Rattle.trick_exec_laws.specs.Left.{Left}
+use Rattle.trick_exec_meaning.specs.Hosts.{Hosts, Place}
+use Rattle.trick_exec_meaning.specs.Ran.{Stopped}
 
 -- Where the shelf tells what it holds, a run that stopped, with these lists given and these messages handed over,
 -- left its files so. `D` is the type of its memory.

@@ -8,8 +8,8 @@ use Rattle.trick_model.specs.State.{World}
 use Rattle.trick_model.specs.Turn.{runs, turn}
 use Rattle.trick_model.specs.declared.entry.Entry.{Entry}
 use Rattle.trick_model.specs.declared.thread.Thread.{Thread}
-use Rattle.trick_post.specs.Polls.{Poll}
-use Rattle.trick_runs.specs.Rounds.{AreChosen, heard_state, is_published, patience, publications}
+use Rattle.trick_post_work.specs.Polls.{Poll}
+use Rattle.trick_exec_meaning.specs.Rounds.{AreChosen, heard_state, is_published, patience, publications}
 
 -- whether a turn of a world with these entries is a run frame
 abbrev pub is_run_frame : Plan → World → List Entry → Bool

@@ -1,18 +1,18 @@
 //! What follows from what `trick_exec::run` says. A function that calls one of these may rest on what it says; the
 //! call itself does nothing.
 
-ghost use Rattle.trick_run_facts.specs.Counted.{LeftAreLate, LeftAreNotReady};
-ghost use Rattle.trick_run_facts.specs.Noting.{NotedDoSame};
-ghost use Rattle.trick_run_facts.specs.Once.{FilesAreMadeOnce};
-ghost use Rattle.trick_run_facts.specs.Rounds.{GivesNothing, RunsWithoutRoundsAreAlone, RunsWithoutRoundsAreOwn};
-ghost use Rattle.trick_run_facts.specs.Stopping.{StopsLeave};
-ghost use Rattle.trick_run_facts.specs.Waiting.{RoundsAreBounded};
-ghost use Rattle.trick_runs.specs.Hosts.{hosts};
+ghost use Rattle.trick_exec_laws.specs.Counted.{LeftAreLate, LeftAreNotReady};
+ghost use Rattle.trick_exec_laws.specs.Noting.{NotedDoSame};
+ghost use Rattle.trick_exec_laws.specs.Once.{FilesAreMadeOnce};
+ghost use Rattle.trick_exec_laws.specs.Rounds.{GivesNothing, RunsWithoutRoundsAreAlone, RunsWithoutRoundsAreOwn};
+ghost use Rattle.trick_exec_laws.specs.Stopping.{StopsLeave};
+ghost use Rattle.trick_exec_laws.specs.Waiting.{RoundsAreBounded};
+ghost use Rattle.trick_exec_meaning.specs.Hosts.{hosts};
 
 use trick_lang::Cells;
 use trick_outside::Shelf;
-use trick_post::Posts;
-use trick_turns::{NoTurns, Turns};
+use trick_post_work::Posts;
+use trick_exec_sources::{NoTurns, Turns};
 
 /// A run that stopped leaves whole lines in its journal; these are what was noted of all lists that it was given, or of
 /// all but the last and a part of that. Of each other file it leaves a prefix of what the run under these lines makes

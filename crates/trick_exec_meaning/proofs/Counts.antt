@@ -20,7 +20,7 @@ use Rattle.trick_model.specs.declared.read_at.ReadAt.{ReadAt}
 use Rattle.trick_model.specs.declared.thread.Process.{Process}
 use Rattle.trick_model.specs.declared.thread.Process.TheVariants as process
 use Rattle.trick_model.specs.declared.thread.Thread.{Thread}
-use Rattle.trick_runs.proofs.Times.{enter_time, heard_time}
+use Rattle.trick_exec_meaning.proofs.Times.{enter_time, heard_time}
 
 -- Two states have one count of turns.
 abbrev SameCount : State → State → Type 0

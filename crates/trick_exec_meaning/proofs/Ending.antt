@@ -15,23 +15,23 @@ use Rattle.trick_outside.specs.Calls.{Call}
 use Rattle.trick_outside.specs.Does.{IsPartOf}
 use Rattle.trick_outside.specs.declared.stop.Stop.{Stop}
 use Rattle.trick_outside.specs.declared.stop.Stop.TheVariants.{Shelf}
-use Rattle.trick_post.specs.Polls.{Poll}
-use Rattle.trick_post.specs.declared.posts.Posts.{Ghosts as PostsGhosts}
-use Rattle.trick_runs.proofs.DidLemmas.{did_as, did_fail}
-use Rattle.trick_runs.proofs.Goes.{given_lines, goes_given, goes_paid, goes_yet, paid_over}
-use Rattle.trick_runs.proofs.Going.{Gave, IsGoing, Laws, PollsJoin, asks_more, chosen_more, did_more, rest_more, said_more, step_more}
-use Rattle.trick_runs.proofs.Successions.{succession_more}
-use Rattle.trick_runs.specs.Answers.{answers, given, no_more}
-use Rattle.trick_runs.specs.Chosen.{ChoseTo, but_last, of_all}
-use Rattle.trick_runs.specs.Goes.{goes_owing, left_of}
-use Rattle.trick_runs.specs.Hosts.{Hosts, Place, at}
-use Rattle.trick_runs.specs.Over.{AreOver, AreShort, AreStopped}
-use Rattle.trick_runs.specs.Ran.{last_answer}
-use Rattle.trick_runs.specs.Rounds.{AreChosen, IsChosen, heard_state, publications, waited}
-use Rattle.trick_runs.specs.Stops.{StopsAt, StopsInTurn, between, in_turn}
-use Rattle.trick_runs.specs.Turned.{Asks, Turned, line_notes}
-use Rattle.trick_tic.specs.Steps.{steps_of}
-use Rattle.trick_turns.specs.Turns.{Answer, Told, no_sessions, owes_after}
+use Rattle.trick_post_work.specs.Polls.{Poll}
+use Rattle.trick_post_work.specs.declared.posts.Posts.{Ghosts as PostsGhosts}
+use Rattle.trick_exec_meaning.proofs.DidLemmas.{did_as, did_fail}
+use Rattle.trick_exec_meaning.proofs.Goes.{given_lines, goes_given, goes_paid, goes_yet, paid_over}
+use Rattle.trick_exec_meaning.proofs.Going.{Gave, IsGoing, Laws, PollsJoin, asks_more, chosen_more, did_more, rest_more, said_more, step_more}
+use Rattle.trick_exec_meaning.proofs.Successions.{succession_more}
+use Rattle.trick_exec_meaning.specs.Answers.{answers, given, no_more}
+use Rattle.trick_exec_meaning.specs.Chosen.{ChoseTo, but_last, of_all}
+use Rattle.trick_exec_meaning.specs.Goes.{goes_owing, left_of}
+use Rattle.trick_exec_meaning.specs.Hosts.{Hosts, Place, at}
+use Rattle.trick_exec_meaning.specs.Over.{AreOver, AreShort, AreStopped}
+use Rattle.trick_exec_meaning.specs.Ran.{last_answer}
+use Rattle.trick_exec_meaning.specs.Rounds.{AreChosen, IsChosen, heard_state, publications, waited}
+use Rattle.trick_exec_meaning.specs.Stops.{StopsAt, StopsInTurn, between, in_turn}
+use Rattle.trick_exec_meaning.specs.Turned.{Asks, Turned, line_notes}
+use Rattle.trick_exec_tic.specs.Steps.{steps_of}
+use Rattle.trick_exec_sources.specs.Turns.{Answer, Told, no_sessions, owes_after}
 
 -- ---- what was chosen where a turn stopped
 

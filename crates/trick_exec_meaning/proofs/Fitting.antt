@@ -12,11 +12,11 @@ use Rattle.trick_model.specs.Time.{last_turn}
 use Rattle.trick_model.specs.Turn.{counted, is_frozen, turn}
 use Rattle.trick_model.specs.declared.entry.Entry.{Entry}
 use Rattle.trick_model.specs.declared.mode.Mode.{Mode}
-use Rattle.trick_runs.proofs.Counts.{turn_counts}
-use Rattle.trick_runs.specs.Follows.{EndsElsewhere, Follows}
-use Rattle.trick_runs.specs.Goes.{left_of}
-use Rattle.trick_runs.specs.Laws.{Misfit, told_by}
-use Rattle.trick_turns.specs.Turns.{Told, behind}
+use Rattle.trick_exec_meaning.proofs.Counts.{turn_counts}
+use Rattle.trick_exec_meaning.specs.Follows.{EndsElsewhere, Follows}
+use Rattle.trick_exec_meaning.specs.Goes.{left_of}
+use Rattle.trick_exec_meaning.specs.Laws.{Misfit, told_by}
+use Rattle.trick_exec_sources.specs.Turns.{Told, behind}
 
 -- ---- the lists of a journal
 

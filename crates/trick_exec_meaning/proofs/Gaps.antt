@@ -17,19 +17,19 @@ use Rattle.trick_model.specs.declared.mode.Mode.TheVariants as mode
 use Rattle.trick_model.specs.declared.mode.Mode.{Mode}
 use Rattle.trick_outside.proofs.DoesLemmas.{does_nothing}
 use Rattle.trick_outside.specs.Does.{Does}
-use Rattle.trick_post.specs.Polls.{Poll}
-use Rattle.trick_post.specs.declared.posts.Posts.{Ghosts as PostsGhosts}
-use Rattle.trick_runs.proofs.Going.{Gave, IsGoing, Laws, going_more, never_err}
-use Rattle.trick_runs.specs.Answers.{given}
-use Rattle.trick_runs.specs.Hosts.{Hosts, Place, at}
-use Rattle.trick_runs.specs.Rounds.{Chooses, IsChosen, waited, waited_from}
-use Rattle.trick_runs.specs.Turned.{Asks, Turned}
-use Rattle.trick_tic.proofs.Doing.{fine}
-use Rattle.trick_tic.specs.Steps.{steps_of}
-use Rattle.trick_turns.specs.Gap as gap
-use Rattle.trick_turns.specs.Gap.{Gap, GivesNone, TellsNone}
-use Rattle.trick_turns.specs.Turns.{Told}
-use Rattle.trick_turns.specs.declared.turns.Turns.{Ghosts as TurnsGhosts}
+use Rattle.trick_post_work.specs.Polls.{Poll}
+use Rattle.trick_post_work.specs.declared.posts.Posts.{Ghosts as PostsGhosts}
+use Rattle.trick_exec_meaning.proofs.Going.{Gave, IsGoing, Laws, going_more, never_err}
+use Rattle.trick_exec_meaning.specs.Answers.{given}
+use Rattle.trick_exec_meaning.specs.Hosts.{Hosts, Place, at}
+use Rattle.trick_exec_meaning.specs.Rounds.{Chooses, IsChosen, waited, waited_from}
+use Rattle.trick_exec_meaning.specs.Turned.{Asks, Turned}
+use Rattle.trick_exec_tic.proofs.Doing.{fine}
+use Rattle.trick_exec_tic.specs.Steps.{steps_of}
+use Rattle.trick_exec_sources.specs.Gap as gap
+use Rattle.trick_exec_sources.specs.Gap.{Gap, GivesNone, TellsNone}
+use Rattle.trick_exec_sources.specs.Turns.{Told}
+use Rattle.trick_exec_sources.specs.declared.turns.Turns.{Ghosts as TurnsGhosts}
 
 -- No sample of these sessions was asked for, and none is leaving.
 pub record AreStill (sessions : List Session) : Type 0 where

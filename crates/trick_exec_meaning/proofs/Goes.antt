@@ -13,10 +13,10 @@ use Rattle.trick_model.specs.Turn.{is_frozen, turn}
 use Rattle.trick_model.specs.declared.entry.Entry.{Entry}
 use Rattle.trick_model.specs.declared.mode.Mode.{Mode}
 use Rattle.trick_model.specs.declared.mode.Mode.TheVariants as mode
-use Rattle.trick_runs.specs.Answers.{given}
-use Rattle.trick_runs.specs.Follows.{Follows}
-use Rattle.trick_runs.specs.Goes.{Waits, goes_owing, is_over_owing, left_of}
-use Rattle.trick_turns.specs.Turns.{Told, behind, has_line, owes_after}
+use Rattle.trick_exec_meaning.specs.Answers.{given}
+use Rattle.trick_exec_meaning.specs.Follows.{Follows}
+use Rattle.trick_exec_meaning.specs.Goes.{Waits, goes_owing, is_over_owing, left_of}
+use Rattle.trick_exec_sources.specs.Turns.{Told, behind, has_line, owes_after}
 
 -- ---- lines
 

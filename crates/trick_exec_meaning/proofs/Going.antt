@@ -13,25 +13,25 @@ use Rattle.trick_outside.proofs.DoesLemmas.{Joins, does_nothing, does_ok}
 use Rattle.trick_outside.specs.Does.{Does}
 use Rattle.trick_outside.specs.declared.stop.Stop.TheVariants.{Shelf}
 use Rattle.trick_outside.specs.declared.stop.Stop.{Stop}
-use Rattle.trick_post.specs.Polls.{Poll}
-use Rattle.trick_post.specs.declared.posts.Posts.{Ghosts as PostsGhosts}
-use Rattle.trick_runs.proofs.DidLemmas.{did_of, did_then}
-use Rattle.trick_runs.proofs.Goes.{follows_more, given_lines, goes_given, goes_yet, left_more}
-use Rattle.trick_runs.proofs.Idle.{waits_more}
-use Rattle.trick_runs.proofs.Successions.{sessions_more, succession_more}
-use Rattle.trick_tic.proofs.Doing.{fine}
-use Rattle.trick_tic.proofs.StepLemmas.{steps_of-append}
-use Rattle.trick_runs.specs.Answers.{IsSuccession, answers, given, list_answer}
-use Rattle.trick_runs.specs.Follows.{Follows}
-use Rattle.trick_runs.specs.Goes.{Waits, goes_owing, left_of}
-use Rattle.trick_runs.specs.Hosts.{Hosts, Place, at}
-use Rattle.trick_runs.specs.Ran as ran
-use Rattle.trick_runs.specs.Ran.{Handed}
-use Rattle.trick_runs.specs.Rounds.{AreChosen, IsChosen, no_turn, one_more, heard_state, no_waits, publications, waited}
-use Rattle.trick_tic.specs.Steps.{steps_of}
-use Rattle.trick_runs.specs.Turned.{Asks, Turned}
-use Rattle.trick_turns.specs.Turns.{Answer, Told, after_entries, after_lists, behind, has_line, in_next, may_all_come, no_sessions, owes_after}
-use Rattle.trick_turns.specs.declared.turns.Turns.{Ghosts as TurnsGhosts}
+use Rattle.trick_post_work.specs.Polls.{Poll}
+use Rattle.trick_post_work.specs.declared.posts.Posts.{Ghosts as PostsGhosts}
+use Rattle.trick_exec_meaning.proofs.DidLemmas.{did_of, did_then}
+use Rattle.trick_exec_meaning.proofs.Goes.{follows_more, given_lines, goes_given, goes_yet, left_more}
+use Rattle.trick_exec_meaning.proofs.Idle.{waits_more}
+use Rattle.trick_exec_meaning.proofs.Successions.{sessions_more, succession_more}
+use Rattle.trick_exec_tic.proofs.Doing.{fine}
+use Rattle.trick_exec_tic.proofs.StepLemmas.{steps_of-append}
+use Rattle.trick_exec_meaning.specs.Answers.{IsSuccession, answers, given, list_answer}
+use Rattle.trick_exec_meaning.specs.Follows.{Follows}
+use Rattle.trick_exec_meaning.specs.Goes.{Waits, goes_owing, left_of}
+use Rattle.trick_exec_meaning.specs.Hosts.{Hosts, Place, at}
+use Rattle.trick_exec_meaning.specs.Ran as ran
+use Rattle.trick_exec_meaning.specs.Ran.{Handed}
+use Rattle.trick_exec_meaning.specs.Rounds.{AreChosen, IsChosen, no_turn, one_more, heard_state, no_waits, publications, waited}
+use Rattle.trick_exec_tic.specs.Steps.{steps_of}
+use Rattle.trick_exec_meaning.specs.Turned.{Asks, Turned}
+use Rattle.trick_exec_sources.specs.Turns.{Answer, Told, after_entries, after_lists, behind, has_line, in_next, may_all_come, no_sessions, owes_after}
+use Rattle.trick_exec_sources.specs.declared.turns.Turns.{Ghosts as TurnsGhosts}
 
 pub never_err : IsErrOf fine Shelf → ⊥
 never_err f = cc

@@ -7,8 +7,8 @@ use Rattle.trick_model.specs.State.{State, World}
 use Rattle.trick_model.specs.Turn.{Hearing, begun, checkpoint_jobs, counted, framed, heard, is_frozen, rounds, runs, turn}
 use Rattle.trick_model.specs.declared.entry.Entry.{Entry}
 use Rattle.trick_model.specs.declared.entry.Entry.TheVariants.{Join, Said, Leave, Publish}
-use Rattle.trick_runs.specs.Goes.{Waits}
-use Rattle.trick_turns.specs.Turns.{has_line, owes_after}
+use Rattle.trick_exec_meaning.specs.Goes.{Waits}
+use Rattle.trick_exec_sources.specs.Turns.{has_line, owes_after}
 
 -- without a line nothing is heard
 pub heard_nothing : (p : Plan) (entries : List Entry) (h : Hearing) → has_line entries ≡ false → heard p entries h ≡ h

@@ -14,9 +14,9 @@ use Rattle.trick_model.specs.Tic.{Ticked, frame}
 use Rattle.trick_model.specs.Turn.{Hearing, begun, checkpoint_jobs, checkpoint_writes, counted, framed, frozen, hear, heard, noted, publish_all, publishes, replies, reply, rounds, runs, turn}
 use Rattle.trick_model.specs.declared.entry.Entry.{Entry}
 use Rattle.trick_model.specs.declared.entry.Entry.TheVariants.{Join, Said, Leave, Publish}
-use Rattle.trick_runs.proofs.Idle.{heard_nothing}
-use Rattle.trick_runs.specs.Parts.{AreApart, counting, state_after, writes_after}
-use Rattle.trick_turns.specs.Turns.{has_line}
+use Rattle.trick_exec_meaning.proofs.Idle.{heard_nothing}
+use Rattle.trick_exec_meaning.specs.Parts.{AreApart, counting, state_after, writes_after}
+use Rattle.trick_exec_sources.specs.Turns.{has_line}
 
 -- ---- lines and publications
 

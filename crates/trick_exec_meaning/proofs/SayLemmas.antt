@@ -2,9 +2,9 @@
 use Rattle.std.proofs.Common.{◌≡◌, ◌∙◌, List, [], ◌++◌, IsOk, ap, append_assoc, append-nil, refl, sym}
 use Rattle.std.specs.Prelude.{Result}
 use Rattle.trick_model.specs.Session.{Message}
-use Rattle.trick_runs.proofs.Going.{TurnsJoin}
-use Rattle.trick_runs.specs.Answers.{IsKept, Says}
-use Rattle.trick_turns.specs.declared.turns.Turns.{Ghosts}
+use Rattle.trick_exec_meaning.proofs.Going.{TurnsJoin}
+use Rattle.trick_exec_meaning.specs.Answers.{IsKept, Says}
+use Rattle.trick_exec_sources.specs.declared.turns.Turns.{Ghosts}
 
 pub kept_same : {U M : Type 0} (turns : Ghosts U M) (u : U) → IsKept turns u u
 kept_same turns u = record { owes = refl; journal = refl; decided = refl; sessions = refl }

@@ -8,11 +8,11 @@ use Rattle.trick_model.specs.Session.{Message}
 use Rattle.trick_model.specs.State.{State}
 use Rattle.trick_model.specs.declared.entry.Entry.{Entry}
 use Rattle.trick_outside.specs.Calls.{Call}
-use Rattle.trick_post.specs.declared.posts.Posts.{Ghosts as PostsGhosts}
-use Rattle.trick_runs.specs.Chosen.{AreAsked, ChoseTo, but_last, of_all}
-use Rattle.trick_runs.specs.Stops.{StopsAt, at_end, before, between, in_turn}
-use Rattle.trick_tic.proofs.StepLemmas.{steps_of-append}
-use Rattle.trick_tic.specs.Steps.{steps_of}
+use Rattle.trick_post_work.specs.declared.posts.Posts.{Ghosts as PostsGhosts}
+use Rattle.trick_exec_meaning.specs.Chosen.{AreAsked, ChoseTo, but_last, of_all}
+use Rattle.trick_exec_meaning.specs.Stops.{StopsAt, at_end, before, between, in_turn}
+use Rattle.trick_exec_tic.proofs.StepLemmas.{steps_of-append}
+use Rattle.trick_exec_tic.specs.Steps.{steps_of}
 
 -- writes, and then calls after them
 pub parts_of : (head writes : List Write) (calls : List Call) → steps_of (head ++ writes) ++ calls ≡ steps_of head ++ (steps_of writes ++ calls)

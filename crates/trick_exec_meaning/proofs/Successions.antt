@@ -5,8 +5,8 @@ use Rattle.std.proofs.lemmas.List.{map-append}
 use Rattle.std.specs.Prelude.{IsTrue, map}
 use Rattle.trick_base.proofs.Truths.{first_holds, second_holds}
 use Rattle.trick_model.specs.declared.entry.Entry.{Entry}
-use Rattle.trick_runs.specs.Answers.{given}
-use Rattle.trick_turns.specs.Turns.{Sessions, after_entries, after_lists, in_next, is_succession, may_all_come}
+use Rattle.trick_exec_meaning.specs.Answers.{given}
+use Rattle.trick_exec_sources.specs.Turns.{Sessions, after_entries, after_lists, in_next, is_succession, may_all_come}
 
 after_one : (lists : List (List Entry)) (list : List Entry) (s : Sessions)
     → after_lists (lists ++ list ∷ []) s ≡ after_entries list (in_next (after_lists lists s))

@@ -12,16 +12,16 @@ use Rattle.trick_model.specs.declared.entry.Entry.{Entry}
 use Rattle.trick_outside.proofs.DoesLemmas.{does_err, does_then, not_ok}
 use Rattle.trick_outside.specs.Does.{Does, IsPartOf}
 use Rattle.trick_outside.specs.declared.stop.Stop.{Stop}
-use Rattle.trick_runs.proofs.DidLemmas.{did_err, did_of, did_then}
-use Rattle.trick_runs.proofs.Going.{Laws}
-use Rattle.trick_runs.proofs.PartLemmas.{IsMade}
-use Rattle.trick_runs.proofs.SayLemmas.{says_as, says_none}
-use Rattle.trick_tic.proofs.StepLemmas.{steps_of-append}
-use Rattle.trick_runs.specs.Answers.{Says}
-use Rattle.trick_runs.specs.Hosts.{Hosts, Place, at}
-use Rattle.trick_runs.specs.Parts.{counting, state_after, writes_after}
-use Rattle.trick_tic.specs.Steps.{steps_of}
-use Rattle.trick_runs.specs.Turned.{Turned, line_notes, notes}
+use Rattle.trick_exec_meaning.proofs.DidLemmas.{did_err, did_of, did_then}
+use Rattle.trick_exec_meaning.proofs.Going.{Laws}
+use Rattle.trick_exec_meaning.proofs.PartLemmas.{IsMade}
+use Rattle.trick_exec_meaning.proofs.SayLemmas.{says_as, says_none}
+use Rattle.trick_exec_tic.proofs.StepLemmas.{steps_of-append}
+use Rattle.trick_exec_meaning.specs.Answers.{Says}
+use Rattle.trick_exec_meaning.specs.Hosts.{Hosts, Place, at}
+use Rattle.trick_exec_meaning.specs.Parts.{counting, state_after, writes_after}
+use Rattle.trick_exec_tic.specs.Steps.{steps_of}
+use Rattle.trick_exec_meaning.specs.Turned.{Turned, line_notes, notes}
 
 module _ {S U M Q : Type 0} (h : Hosts S U M Q) (laws : Laws h) (p : Plan) (w : World) (entries lines publications : List Entry) (heard : Hearing)
     (made : IsMade p w entries lines publications heard) where

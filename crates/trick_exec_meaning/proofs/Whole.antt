@@ -19,25 +19,25 @@ use Rattle.trick_outside.specs.Does.{Does}
 use Rattle.trick_outside.specs.declared.shelf.Shelf.{Ghosts}
 use Rattle.trick_outside.specs.declared.stop.Stop.TheVariants.{Shelf}
 use Rattle.trick_outside.specs.declared.stop.Stop.{Stop}
-use Rattle.trick_runs.proofs.DidLemmas.{did_err, did_none, did_of, did_then}
-use Rattle.trick_runs.proofs.Ending.{asks_behind}
-use Rattle.trick_runs.proofs.Goes.{follows_lasts, goes_paid}
-use Rattle.trick_runs.proofs.Going.{Laws, PollsJoin, asks_nothing}
-use Rattle.trick_runs.proofs.StopLemmas.{chose_behind, chose_from, parts_of, stops_behind}
-use Rattle.trick_tic.proofs.Doing.{fine}
-use Rattle.trick_tic.proofs.StepLemmas.{all_done, steps_of-append, writes_of-steps_of}
-use Rattle.trick_runs.specs.Answers.{answers}
-use Rattle.trick_runs.specs.Follows.{EndsElsewhere}
-use Rattle.trick_runs.specs.Goes.{left_of}
-use Rattle.trick_runs.specs.Hosts.{Hosts, Place, at}
-use Rattle.trick_runs.specs.Over.{AreOver, AreShort, AreStopped}
-use Rattle.trick_runs.specs.Chosen.{AreAsked, ChoseTo, of_all}
-use Rattle.trick_runs.specs.Rounds.{AreChosen, no_turn, no_waits}
-use Rattle.trick_runs.specs.Ran.{Missed, Ran, Stopped, last_answer, writes_so_far}
-use Rattle.trick_runs.specs.Stops as place
-use Rattle.trick_runs.specs.Stops.{StopsAt}
-use Rattle.trick_tic.specs.Steps.{steps_of}
-use Rattle.trick_turns.specs.Turns.{Answer, EndsAt, Told}
+use Rattle.trick_exec_meaning.proofs.DidLemmas.{did_err, did_none, did_of, did_then}
+use Rattle.trick_exec_meaning.proofs.Ending.{asks_behind}
+use Rattle.trick_exec_meaning.proofs.Goes.{follows_lasts, goes_paid}
+use Rattle.trick_exec_meaning.proofs.Going.{Laws, PollsJoin, asks_nothing}
+use Rattle.trick_exec_meaning.proofs.StopLemmas.{chose_behind, chose_from, parts_of, stops_behind}
+use Rattle.trick_exec_tic.proofs.Doing.{fine}
+use Rattle.trick_exec_tic.proofs.StepLemmas.{all_done, steps_of-append, writes_of-steps_of}
+use Rattle.trick_exec_meaning.specs.Answers.{answers}
+use Rattle.trick_exec_meaning.specs.Follows.{EndsElsewhere}
+use Rattle.trick_exec_meaning.specs.Goes.{left_of}
+use Rattle.trick_exec_meaning.specs.Hosts.{Hosts, Place, at}
+use Rattle.trick_exec_meaning.specs.Over.{AreOver, AreShort, AreStopped}
+use Rattle.trick_exec_meaning.specs.Chosen.{AreAsked, ChoseTo, of_all}
+use Rattle.trick_exec_meaning.specs.Rounds.{AreChosen, no_turn, no_waits}
+use Rattle.trick_exec_meaning.specs.Ran.{Missed, Ran, Stopped, last_answer, writes_so_far}
+use Rattle.trick_exec_meaning.specs.Stops as place
+use Rattle.trick_exec_meaning.specs.Stops.{StopsAt}
+use Rattle.trick_exec_tic.specs.Steps.{steps_of}
+use Rattle.trick_exec_sources.specs.Turns.{Answer, EndsAt, Told}
 
 -- the calls of a run, part by part
 whole : (p : Plan) (s : State) (lists : List (List Entry))

@@ -6,8 +6,8 @@ use Rattle.trick_model.specs.Session.{Message}
 use Rattle.trick_model.specs.State.{World}
 use Rattle.trick_model.specs.Turn.{turn}
 use Rattle.trick_model.specs.declared.entry.Entry.{Entry}
-use Rattle.trick_turns.specs.Turns.{Answer, is_succession, no_sessions}
-use Rattle.trick_turns.specs.declared.turns.Turns.{Ghosts}
+use Rattle.trick_exec_sources.specs.Turns.{Answer, is_succession, no_sessions}
+use Rattle.trick_exec_sources.specs.declared.turns.Turns.{Ghosts}
 
 -- ---- answers
 

@@ -9,10 +9,10 @@ use Rattle.trick_model.specs.Turn.{turn}
 use Rattle.trick_model.specs.declared.entry.Entry.{Entry}
 use Rattle.trick_outside.specs.Calls.{Call}
 use Rattle.trick_outside.specs.Does.{IsPartOf}
-use Rattle.trick_post.specs.declared.posts.Posts.{Ghosts}
-use Rattle.trick_runs.specs.Rounds.{AreChosen}
-use Rattle.trick_runs.specs.Turned.{Asks, line_notes}
-use Rattle.trick_tic.specs.Steps.{steps_of}
+use Rattle.trick_post_work.specs.declared.posts.Posts.{Ghosts}
+use Rattle.trick_exec_meaning.specs.Rounds.{AreChosen}
+use Rattle.trick_exec_meaning.specs.Turned.{Asks, line_notes}
+use Rattle.trick_exec_tic.specs.Steps.{steps_of}
 
 -- The publications of turns from a state on were chosen by polls of posts, or not at all where another decides.
 abbrev pub AreAsked : {Q : Type 0} → Ghosts Q → Bool → Plan → State → List (List Entry) → Q → Q → Type 0

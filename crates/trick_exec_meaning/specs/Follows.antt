@@ -5,7 +5,7 @@ use Rattle.trick_model.specs.Run.{is_over, next_of}
 use Rattle.trick_model.specs.State.{State, World}
 use Rattle.trick_model.specs.Turn.{turn}
 use Rattle.trick_model.specs.declared.entry.Entry.{Entry}
-use Rattle.trick_turns.specs.Turns.{Told, behind}
+use Rattle.trick_exec_sources.specs.Turns.{Told, behind}
 
 -- Turns from a world on were given these lists by a journal that is told: each the journal's next one, at a
 -- turn below the journal's end, and before the run was over.

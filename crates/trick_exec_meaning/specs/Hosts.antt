@@ -1,7 +1,7 @@
 -- Who a run works with: a shelf, a source of entries, and posts.
 use Rattle.trick_outside.specs.declared.shelf.Shelf.{Ghosts as ShelfGhosts}
-use Rattle.trick_post.specs.declared.posts.Posts.{Ghosts as PostsGhosts}
-use Rattle.trick_turns.specs.declared.turns.Turns.{Ghosts as TurnsGhosts}
+use Rattle.trick_post_work.specs.declared.posts.Posts.{Ghosts as PostsGhosts}
+use Rattle.trick_exec_sources.specs.declared.turns.Turns.{Ghosts as TurnsGhosts}
 
 -- the bounds of the three; `M` is the type of memories
 pub record Hosts (S U M Q : Type 0) : Type 1 where

@@ -6,9 +6,9 @@ use Rattle.trick_model.specs.Run.{Fits, JournalFits, after_turns, given, lists_o
 use Rattle.trick_model.specs.State.{State}
 use Rattle.trick_model.specs.Time.{last_turn}
 use Rattle.trick_model.specs.declared.entry.Entry.{Entry}
-use Rattle.trick_runs.specs.Follows.{EndsElsewhere, Follows}
-use Rattle.trick_runs.specs.Goes.{left_of}
-use Rattle.trick_turns.specs.Turns.{Told}
+use Rattle.trick_exec_meaning.specs.Follows.{EndsElsewhere, Follows}
+use Rattle.trick_exec_meaning.specs.Goes.{left_of}
+use Rattle.trick_exec_sources.specs.Turns.{Told}
 
 -- what a journal of these entries and this end tells a run from a state
 abbrev pub told_by : List Noted → ℕ → State → Told

@@ -8,15 +8,15 @@ use Rattle.trick_model.specs.State.{State, World}
 use Rattle.trick_model.specs.declared.entry.Entry.{Entry}
 use Rattle.trick_outside.specs.Does.{Does}
 use Rattle.trick_outside.specs.declared.stop.Stop.{Stop}
-use Rattle.trick_runs.specs.Answers.{IsSuccession, answers}
-use Rattle.trick_runs.specs.Chosen.{ChoseTo}
-use Rattle.trick_runs.specs.Follows.{EndsElsewhere, Follows}
-use Rattle.trick_runs.specs.Goes.{goes_owing, left_of}
-use Rattle.trick_runs.specs.Hosts.{Hosts, Place}
-use Rattle.trick_runs.specs.Ran.{AreDone, last_answer}
-use Rattle.trick_runs.specs.Stops.{StopsAt}
-use Rattle.trick_tic.specs.Steps.{steps_of}
-use Rattle.trick_turns.specs.Turns.{Told}
+use Rattle.trick_exec_meaning.specs.Answers.{IsSuccession, answers}
+use Rattle.trick_exec_meaning.specs.Chosen.{ChoseTo}
+use Rattle.trick_exec_meaning.specs.Follows.{EndsElsewhere, Follows}
+use Rattle.trick_exec_meaning.specs.Goes.{goes_owing, left_of}
+use Rattle.trick_exec_meaning.specs.Hosts.{Hosts, Place}
+use Rattle.trick_exec_meaning.specs.Ran.{AreDone, last_answer}
+use Rattle.trick_exec_meaning.specs.Stops.{StopsAt}
+use Rattle.trick_exec_tic.specs.Steps.{steps_of}
+use Rattle.trick_exec_sources.specs.Turns.{Told}
 
 -- The turns of a run from a state were done, and the run is over.
 pub record AreOver {S U M Q : Type 0} (h : Hosts S U M Q) (p : Plan) (s : State) (old new : Place S U Q)

@@ -8,7 +8,7 @@ use Rattle.trick_model.specs.Plan.{Plan}
 use Rattle.trick_model.specs.State.{State}
 use Rattle.trick_model.specs.Turn.{checkpoint_jobs, checkpoint_writes, counted, framed, publishes, rounds, runs}
 use Rattle.trick_model.specs.declared.entry.Entry.{Entry}
-use Rattle.trick_turns.specs.Turns.{has_line}
+use Rattle.trick_exec_sources.specs.Turns.{has_line}
 
 -- Entries are lines, which are joins, lines and leaves, and then publications.
 pub record AreApart (entries lines publications : List Entry) : Type 0 where

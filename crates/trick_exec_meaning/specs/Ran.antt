@@ -12,17 +12,17 @@ use Rattle.trick_model.specs.Turn.{is_frozen, turn}
 use Rattle.trick_model.specs.declared.entry.Entry.{Entry}
 use Rattle.trick_outside.specs.Does.{Does}
 use Rattle.trick_outside.specs.declared.stop.Stop.{Stop}
-use Rattle.trick_runs.specs.Answers.{IsSuccession, answers, list_answer, no_more}
-use Rattle.trick_runs.specs.Chosen.{ChoseTo}
-use Rattle.trick_runs.specs.Follows.{EndsElsewhere, Follows}
-use Rattle.trick_runs.specs.Goes.{goes_owing, left_of}
-use Rattle.trick_runs.specs.Hosts.{Hosts, Place}
-use Rattle.trick_runs.specs.Rounds.{AreChosen}
-use Rattle.trick_tic.specs.Steps.{steps_of}
-use Rattle.trick_runs.specs.Stops.{StopsAt}
-use Rattle.trick_runs.specs.Turned.{Asks}
-use Rattle.trick_turns.specs.Turns.{Answer, Told}
-use Rattle.trick_turns.specs.declared.turns.Turns.{Ghosts as TurnsGhosts}
+use Rattle.trick_exec_meaning.specs.Answers.{IsSuccession, answers, list_answer, no_more}
+use Rattle.trick_exec_meaning.specs.Chosen.{ChoseTo}
+use Rattle.trick_exec_meaning.specs.Follows.{EndsElsewhere, Follows}
+use Rattle.trick_exec_meaning.specs.Goes.{goes_owing, left_of}
+use Rattle.trick_exec_meaning.specs.Hosts.{Hosts, Place}
+use Rattle.trick_exec_meaning.specs.Rounds.{AreChosen}
+use Rattle.trick_exec_tic.specs.Steps.{steps_of}
+use Rattle.trick_exec_meaning.specs.Stops.{StopsAt}
+use Rattle.trick_exec_meaning.specs.Turned.{Asks}
+use Rattle.trick_exec_sources.specs.Turns.{Answer, Told}
+use Rattle.trick_exec_sources.specs.declared.turns.Turns.{Ghosts as TurnsGhosts}
 
 -- The answer that ends a run: that no line comes any more, where it is frozen below its limit; else its
 -- source is not asked.

@@ -10,8 +10,8 @@ use Rattle.trick_model.specs.Turn.{begun, heard, runs}
 use Rattle.trick_model.specs.declared.entry.Entry.{Entry}
 use Rattle.trick_model.specs.declared.entry.Entry.TheVariants.{Join, Said, Leave, Publish}
 use Rattle.trick_model.specs.declared.thread.Thread.{Thread}
-use Rattle.trick_post.specs.Polls.{Poll}
-use Rattle.trick_post.specs.declared.posts.Posted.TheVariants.{Ready, NotYet}
+use Rattle.trick_post_work.specs.Polls.{Poll}
+use Rattle.trick_post_work.specs.declared.posts.Posted.TheVariants.{Ready, NotYet}
 
 -- ---- how long rounds wait
 

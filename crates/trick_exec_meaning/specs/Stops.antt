@@ -10,8 +10,8 @@ use Rattle.trick_model.specs.Turn.{turn}
 use Rattle.trick_model.specs.declared.entry.Entry.{Entry}
 use Rattle.trick_outside.specs.Calls.{Call}
 use Rattle.trick_outside.specs.Does.{IsPartOf}
-use Rattle.trick_runs.specs.Turned.{notes}
-use Rattle.trick_tic.specs.Steps.{steps_of}
+use Rattle.trick_exec_meaning.specs.Turned.{notes}
+use Rattle.trick_exec_tic.specs.Steps.{steps_of}
 
 -- A turn of a world with these entries stopped when it had made these calls and handed over these messages: a part
 -- of its calls, the first of its messages, and none of them before its entries were noted.

@@ -10,10 +10,10 @@ use Rattle.trick_model.specs.declared.entry.Entry.{Entry}
 use Rattle.trick_outside.specs.Calls.{Call}
 use Rattle.trick_outside.specs.Does.{Does}
 use Rattle.trick_outside.specs.declared.stop.Stop.{Stop}
-use Rattle.trick_post.specs.Polls.{Poll}
-use Rattle.trick_runs.specs.Answers.{Says}
-use Rattle.trick_runs.specs.Hosts.{Hosts, Place}
-use Rattle.trick_tic.specs.Steps.{steps_of}
+use Rattle.trick_post_work.specs.Polls.{Poll}
+use Rattle.trick_exec_meaning.specs.Answers.{Says}
+use Rattle.trick_exec_meaning.specs.Hosts.{Hosts, Place}
+use Rattle.trick_exec_tic.specs.Steps.{steps_of}
 
 -- the lines that a turn adds to the journal
 abbrev pub line_notes : ℕ → TurnedOf → List Write

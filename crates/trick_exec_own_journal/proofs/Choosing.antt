@@ -1,9 +1,9 @@
 -- Publications that were chosen are of rising threads.
 use Rattle.std.proofs.Common.{◌≡◌, ℕ, ◌<◌, ◌≤◌, List, [], ◌∷◌, ◌++◌, Bool, true, false, ◌&&◌, ap, arith, subst, sym}
 use Rattle.std.proofs.lemmas.Bool.{and_parts}
-use Rattle.trick_journal_written.proofs.Coming.{KeepRules, between_higher, between_more, lines_after, lines_come, others_in, others_rise, publish_between}
-use Rattle.trick_journal_written.proofs.Threads.{all_but_last, stand_between}
-use Rattle.trick_journal_written.specs.Rules.{AreRight, chosen, decided}
+use Rattle.trick_exec_own_journal.proofs.Coming.{KeepRules, between_higher, between_more, lines_after, lines_come, others_in, others_rise, publish_between}
+use Rattle.trick_exec_own_journal.proofs.Threads.{all_but_last, stand_between}
+use Rattle.trick_exec_own_journal.specs.Rules.{AreRight, chosen, decided}
 use Rattle.trick_model.specs.Plan.{Plan, threads_beside}
 use Rattle.trick_model.specs.Run.{after_turns, opened}
 use Rattle.trick_model.specs.State.{State, World}
@@ -11,10 +11,10 @@ use Rattle.trick_model.specs.Turn.{runs}
 use Rattle.trick_model.specs.declared.entry.Entry.{Entry}
 use Rattle.trick_model.specs.declared.entry.Entry.TheVariants.{Publish}
 use Rattle.trick_model.specs.declared.thread.Thread.{Thread}
-use Rattle.trick_post.specs.Polls.{Poll}
-use Rattle.trick_runs.specs.Answers.{given}
-use Rattle.trick_runs.specs.Rounds.{AreChosen, Chooses, IsChosen, heard_state, idle, no_turn, none, not_yet, one_more, publications, ready, unasked}
-use Rattle.trick_turns.specs.Turns.{Sessions, after_entries, in_next, is_succession, may_all_come, no_sessions}
+use Rattle.trick_post_work.specs.Polls.{Poll}
+use Rattle.trick_exec_meaning.specs.Answers.{given}
+use Rattle.trick_exec_meaning.specs.Rounds.{AreChosen, Chooses, IsChosen, heard_state, idle, no_turn, none, not_yet, one_more, publications, ready, unasked}
+use Rattle.trick_exec_sources.specs.Turns.{Sessions, after_entries, in_next, is_succession, may_all_come, no_sessions}
 use Rattle.std.specs.Prelude.{map}
 
 -- ---- one turn

@@ -6,7 +6,7 @@ use Rattle.std.specs.Prelude.{cond, filter, nat_le}
 use Rattle.trick_model.specs.Journal.{is_entry, is_of_session, may_follow}
 use Rattle.trick_model.specs.declared.entry.Entry.{Entry}
 use Rattle.trick_model.specs.declared.entry.Entry.TheVariants.{Join, Said, Leave, Publish}
-use Rattle.trick_turns.specs.Turns.{Sessions, after_entries, after_entry, in_next, may_all_come, may_come}
+use Rattle.trick_exec_sources.specs.Turns.{Sessions, after_entries, after_entry, in_next, may_all_come, may_come}
 
 -- Lists keep the rules of entries one after another, from these sessions on.
 abbrev pub KeepRules : List (List Entry) → Sessions → Type 0

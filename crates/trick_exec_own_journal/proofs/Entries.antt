@@ -3,15 +3,15 @@ use Rattle.std.proofs.Common.{◌≡◌, ◌∙◌, ℕ, zero, suc, ◌+◌, ◌
 use Rattle.std.proofs.lemmas.Bool.{and_from, and_parts, le-leb, lt-ltb}
 use Rattle.std.proofs.lemmas.Bool.Decides.{nat_tests}
 use Rattle.std.specs.Prelude.{◌||◌, filter, nat_le}
-use Rattle.trick_journal_written.proofs.Coming.{KeepRules, comes}
-use Rattle.trick_journal_written.specs.Rules.{noted_at, noted_from}
+use Rattle.trick_exec_own_journal.proofs.Coming.{KeepRules, comes}
+use Rattle.trick_exec_own_journal.specs.Rules.{noted_at, noted_from}
 use Rattle.trick_model.specs.Journal.{Noted, are_in_range, are_joined, are_rising, are_within, entries_at, entry_line, entry_lines, is_entry, lists_from, live_after, live_before, may_follow, noted_lines}
 use Rattle.trick_model.specs.JournalText.{all_may_publish, may_publish}
 use Rattle.trick_model.specs.Plan.{Plan}
 use Rattle.trick_model.specs.Time.{last_turn}
 use Rattle.trick_model.specs.declared.entry.Entry.{Entry}
 use Rattle.trick_model.specs.declared.entry.Entry.TheVariants.{Join, Said, Leave, Publish}
-use Rattle.trick_turns.specs.Turns.{Sessions, after_entries, after_entry, in_next, is_among, may_all_come}
+use Rattle.trick_exec_sources.specs.Turns.{Sessions, after_entries, after_entry, in_next, is_among, may_all_come}
 
 -- ---- turns
 

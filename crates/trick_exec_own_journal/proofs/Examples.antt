@@ -2,16 +2,16 @@
 use Rattle.std.proofs.Common.{◌≡◌, List, [], ◌∷◌, ◌++◌, refl}
 use Rattle.std.specs.Fmt.{digits}
 use Rattle.std.specs.Prelude.{codes}
-use Rattle.trick_journal_written.proofs.Coming.{KeepRules}
-use Rattle.trick_journal_written.proofs.Entries.{lists_same}
-use Rattle.trick_journal_written.specs.Rules.{AreRight, decided, noted_from}
+use Rattle.trick_exec_own_journal.proofs.Coming.{KeepRules}
+use Rattle.trick_exec_own_journal.proofs.Entries.{lists_same}
+use Rattle.trick_exec_own_journal.specs.Rules.{AreRight, decided, noted_from}
 use Rattle.trick_model.specs.Journal.{journal_text, lists_from}
 use Rattle.trick_model.specs.Plan.{Plan}
 use Rattle.trick_model.specs.State.{State}
 use Rattle.trick_model.specs.declared.entry.Cause.TheVariants.{HungUp}
 use Rattle.trick_model.specs.declared.entry.Entry.{Entry}
 use Rattle.trick_model.specs.declared.entry.Entry.TheVariants.{Join, Said, Leave, Publish}
-use Rattle.trick_turns.specs.Turns.{no_sessions}
+use Rattle.trick_exec_sources.specs.Turns.{no_sessions}
 
 -- a session joins and speaks, two rounds are published, and it leaves
 abbrev pub two_turns : List (List Entry)

@@ -3,15 +3,15 @@ use Rattle.std.proofs.Common.{◌≡◌, ◌∙◌, ℕ, ◌+◌, ◌-◌, ◌�
 use Rattle.std.specs.Prelude.{Option}
 use Rattle.trick_base.specs.Content.{content}
 use Rattle.trick_base.specs.Files.{Write}
-use Rattle.trick_journal_written.proofs.Coming.{KeepRules}
-use Rattle.trick_journal_written.proofs.Choosing.{right_parts}
-use Rattle.trick_journal_written.proofs.Entries.{all_of_turns, all_publish, joined, lists_same, nobody_before, ranged, rising, within}
-use Rattle.trick_journal_written.proofs.Noting.{noted_keep, noted_many, noted_publish}
-use Rattle.trick_journal_written.proofs.Texts.{journal_held}
-use Rattle.trick_journal_written.proofs.Threads.{threads_stand}
-use Rattle.trick_journal_written.proofs.Turns.{final_turn}
-use Rattle.trick_journal_written.specs.Rules.{noted_from}
-use Rattle.trick_journal_written.specs.Written.{WrittenJournals}
+use Rattle.trick_exec_own_journal.proofs.Coming.{KeepRules}
+use Rattle.trick_exec_own_journal.proofs.Choosing.{right_parts}
+use Rattle.trick_exec_own_journal.proofs.Entries.{all_of_turns, all_publish, joined, lists_same, nobody_before, ranged, rising, within}
+use Rattle.trick_exec_own_journal.proofs.Noting.{noted_keep, noted_many, noted_publish}
+use Rattle.trick_exec_own_journal.proofs.Texts.{journal_held}
+use Rattle.trick_exec_own_journal.proofs.Threads.{threads_stand}
+use Rattle.trick_exec_own_journal.proofs.Turns.{final_turn}
+use Rattle.trick_exec_own_journal.specs.Rules.{noted_from}
+use Rattle.trick_exec_own_journal.specs.Written.{WrittenJournals}
 use Rattle.trick_model.specs.Files.{end_writes, file, start_writes, turns_writes}
 use Rattle.trick_model.specs.Journal.{Noted, lists_from, live_before, with_joins}
 use Rattle.trick_model.specs.Plan.{Plan}
@@ -23,9 +23,9 @@ use Rattle.trick_model.specs.Turn.{is_frozen}
 use Rattle.trick_model.specs.declared.entry.Entry.{Entry}
 use Rattle.trick_model.specs.declared.journal.Journal.{Journal}
 use Rattle.trick_model.specs.declared.mode.Mode.{Mode}
-use Rattle.trick_run_facts.proofs.Same.{fits_same, worlds_same, writes_same}
-use Rattle.trick_run_facts.specs.Left.{journal_lists}
-use Rattle.trick_turns.specs.Turns.{no_sessions}
+use Rattle.trick_exec_laws.proofs.Same.{fits_same, worlds_same, writes_same}
+use Rattle.trick_exec_laws.specs.Left.{journal_lists}
+use Rattle.trick_exec_sources.specs.Turns.{no_sessions}
 
 -- ---- the lists that it gives
 

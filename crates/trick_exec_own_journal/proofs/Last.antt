@@ -3,7 +3,7 @@ use Rattle.std.proofs.Common.{◌≡◌, ◌∙◌, ℕ, ◌-◌, ◌≤◌, Lis
 use Rattle.std.specs.Prelude.{◌||◌, Option, codes, nat_le}
 use Rattle.trick_base.proofs.ContentLemmas.{content-append}
 use Rattle.trick_base.specs.Content.{content}
-use Rattle.trick_journal_written.specs.Last.{LastGoesNoFurther}
+use Rattle.trick_exec_own_journal.specs.Last.{LastGoesNoFurther}
 use Rattle.trick_lang.specs.declared.class.Class.TheVariants as class
 use Rattle.trick_model.specs.Files.{end_writes, file, start_writes, turns_writes}
 use Rattle.trick_model.specs.Journal.{Noted, lists_from, live_before, with_joins}
@@ -15,7 +15,7 @@ use Rattle.trick_model.specs.Turn.{is_frozen}
 use Rattle.trick_model.specs.declared.entry.Entry.{Entry}
 use Rattle.trick_model.specs.declared.mode.Mode.TheVariants as mode
 use Rattle.trick_model.specs.declared.mode.Mode.{Mode}
-use Rattle.trick_remainder.proofs.Ends.{end_faults, end_final}
+use Rattle.trick_model_remainder.proofs.Ends.{end_faults, end_final}
 
 -- the last state is shut
 is_shut_then : (p : Plan) (s : State) → is_shut (shut p s).mode ≡ true

@@ -2,10 +2,10 @@
 use Rattle.std.proofs.Common.{◌≡◌, ◌∙◌, ℕ, suc, List, [], ◌∷◌, ◌++◌, Bool, true, false, ap, length, refl, subst, sym}
 use Rattle.std.proofs.lemmas.Bool.{and_from, and_parts}
 use Rattle.std.specs.Prelude.{Option, Some, None, cond, filter, map}
-use Rattle.trick_journal_written.proofs.Choosing.{AllRise}
-use Rattle.trick_journal_written.proofs.Coming.{KeepRules, after_apart, between_fewer, come_apart, lines_in, others_in, publish_between}
-use Rattle.trick_journal_written.proofs.Entries.{AllMayPublish, entries_may_publish}
-use Rattle.trick_journal_written.proofs.Threads.{async_of_found, found_async}
+use Rattle.trick_exec_own_journal.proofs.Choosing.{AllRise}
+use Rattle.trick_exec_own_journal.proofs.Coming.{KeepRules, after_apart, between_fewer, come_apart, lines_in, others_in, publish_between}
+use Rattle.trick_exec_own_journal.proofs.Entries.{AllMayPublish, entries_may_publish}
+use Rattle.trick_exec_own_journal.proofs.Threads.{async_of_found, found_async}
 use Rattle.trick_model.specs.Beside.{find_thread, has_round, is_in_flight}
 use Rattle.trick_model.specs.JournalText.{may_publish}
 use Rattle.trick_model.specs.Plan.{Plan, is_async, threads_beside}
@@ -15,10 +15,10 @@ use Rattle.trick_model.specs.Valid.{rises, thread_numbers}
 use Rattle.trick_model.specs.declared.entry.Entry.{Entry}
 use Rattle.trick_model.specs.declared.entry.Entry.TheVariants.{Join, Said, Leave, Publish}
 use Rattle.trick_model.specs.declared.thread.Thread.{Thread}
-use Rattle.trick_run_facts.proofs.Notes.{AllCount, lines_noted, noted_count}
-use Rattle.trick_run_facts.specs.Left.{in_note_order, journal_lists}
-use Rattle.trick_runs.specs.Answers.{given}
-use Rattle.trick_turns.specs.Turns.{Sessions, after_entries, in_next, may_all_come}
+use Rattle.trick_exec_laws.proofs.Notes.{AllCount, lines_noted, noted_count}
+use Rattle.trick_exec_laws.specs.Left.{in_note_order, journal_lists}
+use Rattle.trick_exec_meaning.specs.Answers.{given}
+use Rattle.trick_exec_sources.specs.Turns.{Sessions, after_entries, in_next, may_all_come}
 
 -- ---- the publications that a turn notes are some of those that it was given
 

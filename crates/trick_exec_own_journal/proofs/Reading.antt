@@ -2,9 +2,9 @@
 use Rattle.std.proofs.Common.{◌≡◌, ◌∙◌, ℕ, List, [], ap, append-nil, subst, sym}
 use Rattle.std.specs.FinMap.{get}
 use Rattle.trick_journal.specs.Laws.{NoPrefix}
-use Rattle.trick_journal_written.proofs.Journals.{last_same}
-use Rattle.trick_journal_written.specs.Replaying.{ReplaysRunAgain, WrittenTextsReadBack}
-use Rattle.trick_journal_written.specs.Written.{written_text}
+use Rattle.trick_exec_own_journal.proofs.Journals.{last_same}
+use Rattle.trick_exec_own_journal.specs.Replaying.{ReplaysRunAgain, WrittenTextsReadBack}
+use Rattle.trick_exec_own_journal.specs.Written.{written_text}
 use Rattle.trick_model.specs.Files.{file}
 use Rattle.trick_model.specs.Journal.{Noted}
 use Rattle.trick_model.specs.JournalText.{IsJournal}
@@ -13,9 +13,9 @@ use Rattle.trick_model.specs.Run.{JournalFits, final, lists_of}
 use Rattle.trick_model.specs.State.{State}
 use Rattle.trick_model.specs.declared.entry.Entry.{Entry}
 use Rattle.trick_outside.specs.declared.shelf.Shelf.{Ghosts}
-use Rattle.trick_replay.specs.Replay.{lists_for}
-use Rattle.trick_replay.specs.declared.replayed.Replayed.TheVariants as replayed
-use Rattle.trick_serial.specs.Serial.{summary_of}
+use Rattle.trick_exec_alone.specs.Replay.{lists_for}
+use Rattle.trick_exec_alone.specs.declared.replayed.Replayed.TheVariants as replayed
+use Rattle.trick_exec_alone.specs.Serial.{summary_of}
 
 -- what holds of entries and an end holds of the same ones
 read_same : (p : Plan) (s : State) (lists : List (List Entry)) (one other : List Noted) (end last : ℕ) → one ≡ other → end ≡ last

@@ -1,17 +1,17 @@
 -- The lists of a run are right.
 use Rattle.std.proofs.Common.{ℕ, List, Bool, true, false}
-use Rattle.trick_journal_written.specs.Rules.{AreRight, chosen, decided}
+use Rattle.trick_exec_own_journal.specs.Rules.{AreRight, chosen, decided}
 use Rattle.trick_model.specs.Plan.{Plan}
 use Rattle.trick_model.specs.Run.{opened}
 use Rattle.trick_model.specs.State.{State}
 use Rattle.trick_model.specs.declared.entry.Entry.{Entry}
-use Rattle.trick_post.specs.Polls.{Poll}
-use Rattle.trick_runs.specs.Answers.{IsSuccession}
-use Rattle.trick_runs.specs.Hosts.{Hosts, Place}
-use Rattle.trick_runs.specs.Ran.{AreDone}
-use Rattle.trick_runs.specs.Rounds.{AreChosen}
-use Rattle.trick_runs.specs.Turned.{Asks}
-use Rattle.trick_turns.specs.Turns.{Answer}
+use Rattle.trick_post_work.specs.Polls.{Poll}
+use Rattle.trick_exec_meaning.specs.Answers.{IsSuccession}
+use Rattle.trick_exec_meaning.specs.Hosts.{Hosts, Place}
+use Rattle.trick_exec_meaning.specs.Ran.{AreDone}
+use Rattle.trick_exec_meaning.specs.Rounds.{AreChosen}
+use Rattle.trick_exec_meaning.specs.Turned.{Asks}
+use Rattle.trick_exec_sources.specs.Turns.{Answer}
 
 -- whether the source decides or not
 right_so : {Q : Type 0} (p : Plan) (s : State) (lists : List (List Entry)) (decides : Bool) (asked : Q → List Poll → Q → Type 0) (old new : Q)

@@ -3,10 +3,10 @@ use Rattle.std.proofs.Common.{◌≡◌, ◌∙◌, ℕ, ◌+◌, ◌≤◌, Lis
 use Rattle.std.specs.Prelude.{Option}
 use Rattle.trick_base.proofs.ContentLemmas.{content-append}
 use Rattle.trick_base.specs.Content.{content}
-use Rattle.trick_journal_written.proofs.Entries.{lines_at}
-use Rattle.trick_journal_written.proofs.Turns.{next_turn, turns_left}
-use Rattle.trick_journal_written.specs.Rules.{noted_from}
-use Rattle.trick_journal_written.specs.Written.{written_text}
+use Rattle.trick_exec_own_journal.proofs.Entries.{lines_at}
+use Rattle.trick_exec_own_journal.proofs.Turns.{next_turn, turns_left}
+use Rattle.trick_exec_own_journal.specs.Rules.{noted_from}
+use Rattle.trick_exec_own_journal.specs.Written.{written_text}
 use Rattle.trick_model.specs.Files.{end_writes, file, journal_name, start_writes, turn_writes, turns_writes}
 use Rattle.trick_model.specs.Journal.{entry_lines, first_lines, last_line, noted_lines}
 use Rattle.trick_model.specs.Plan.{Plan}
@@ -15,12 +15,12 @@ use Rattle.trick_model.specs.State.{State, World}
 use Rattle.trick_model.specs.Time.{last_turn}
 use Rattle.trick_model.specs.Turn.{turn}
 use Rattle.trick_model.specs.declared.entry.Entry.{Entry}
-use Rattle.trick_remainder.proofs.Contents.{added_append, kept_adds}
-use Rattle.trick_remainder.proofs.Ends.{end_journal, journal_is_no_checkpoint, starts_journal}
-use Rattle.trick_remainder.proofs.Turns.{turns_kept}
-use Rattle.trick_remainder.specs.Remainder.{added}
-use Rattle.trick_run_facts.proofs.Notes.{turn_adds}
-use Rattle.trick_run_facts.specs.Left.{in_note_order, journal_lists}
+use Rattle.trick_model_remainder.proofs.Contents.{added_append, kept_adds}
+use Rattle.trick_model_remainder.proofs.Ends.{end_journal, journal_is_no_checkpoint, starts_journal}
+use Rattle.trick_model_remainder.proofs.Turns.{turns_kept}
+use Rattle.trick_model_remainder.specs.Remainder.{added}
+use Rattle.trick_exec_laws.proofs.Notes.{turn_adds}
+use Rattle.trick_exec_laws.specs.Left.{in_note_order, journal_lists}
 
 -- what turns add to the journal
 pub turns_add : (p : Plan) (w : World) (lists : List (List Entry)) → w.state.turn + length lists ≤ last_turn

@@ -11,8 +11,8 @@ use Rattle.trick_model.specs.Time.{last_turn}
 use Rattle.trick_model.specs.Turn.{turn}
 use Rattle.trick_model.specs.declared.entry.Entry.{Entry}
 use Rattle.trick_model.specs.declared.mode.Mode.TheVariants as mode
-use Rattle.trick_remainder.specs.Remainder.{early_lists, state_at}
-use Rattle.trick_runs.proofs.Counts.{turn_counts}
+use Rattle.trick_model_remainder.specs.Remainder.{early_lists, state_at}
+use Rattle.trick_exec_meaning.proofs.Counts.{turn_counts}
 
 one_turn : (turn count : ℕ) → turn + suc count ≤ last_turn → min (turn + 1) last_turn ≡ turn + 1
 one_turn turn count most = omega (arith, most)

@@ -2,7 +2,7 @@
 use Rattle.std.specs.FinMap.{get}
 use Rattle.std.specs.Prelude.{◌≡◌, ℕ, List, Ok, Option, Some}
 use Rattle.trick_base.specs.Files.{Files}
-use Rattle.trick_journal_written.specs.Written.{IsWritten, written_text}
+use Rattle.trick_exec_own_journal.specs.Written.{IsWritten, written_text}
 use Rattle.trick_model.specs.Files.{file}
 use Rattle.trick_model.specs.JournalText.{IsJournal}
 use Rattle.trick_model.specs.Plan.{Plan}
@@ -11,10 +11,10 @@ use Rattle.trick_model.specs.State.{State}
 use Rattle.trick_model.specs.declared.entry.Entry.{Entry}
 use Rattle.trick_model.specs.declared.journal.Journal.{Journal}
 use Rattle.trick_outside.specs.declared.shelf.Shelf.{Ghosts}
-use Rattle.trick_replay.specs.Replay.{RunsReplay, lists_for}
-use Rattle.trick_replay.specs.declared.replayed.Replayed.TheVariants.{Ended}
-use Rattle.trick_replay.specs.declared.replayed.Replayed.{Replayed}
-use Rattle.trick_serial.specs.Serial.{summary_of}
+use Rattle.trick_exec_alone.specs.Replay.{RunsReplay, lists_for}
+use Rattle.trick_exec_alone.specs.declared.replayed.Replayed.TheVariants.{Ended}
+use Rattle.trick_exec_alone.specs.declared.replayed.Replayed.{Replayed}
+use Rattle.trick_exec_alone.specs.Serial.{summary_of}
 
 -- Whatever journal is read from the text that a run wrote, it fits the run's first state, and its run writes the same
 -- files.

@@ -1,6 +1,6 @@
 -- The journal that a run writes is a journal.
 use Rattle.std.specs.Prelude.{◌≡◌, ◌+◌, ◌<◌, ◌≤◌, ℕ, List, length, Option, Some}
-use Rattle.trick_journal_written.specs.Rules.{AreRight, noted_from}
+use Rattle.trick_exec_own_journal.specs.Rules.{AreRight, noted_from}
 use Rattle.trick_model.specs.Acceptance.{IsAccepted}
 use Rattle.trick_model.specs.Files.{file, journal_name}
 use Rattle.trick_model.specs.Journal.{Noted, journal_text}
@@ -13,8 +13,8 @@ use Rattle.trick_model.specs.Time.{last_turn}
 use Rattle.trick_model.specs.declared.entry.Entry.{Entry}
 use Rattle.trick_model.specs.declared.journal.Journal.{Journal}
 use Rattle.trick_model.specs.declared.plan.Plan.{Plan as PlanValue}
-use Rattle.trick_remainder.specs.Remainder.{state_at}
-use Rattle.trick_run_facts.specs.Left.{journal_lists}
+use Rattle.trick_model_remainder.specs.Remainder.{state_at}
+use Rattle.trick_exec_laws.specs.Left.{journal_lists}
 
 -- the entries that a run from a state notes, each with its turn
 abbrev pub written_entries : Plan → State → List (List Entry) → List Noted

@@ -1,16 +1,16 @@
 //! Laws of the journal that a run writes. A function that calls one of these may rest on what it says; the call itself
 //! does nothing.
 
-ghost use Rattle.trick_journal_written.specs.Last.{LastGoesNoFurther};
-ghost use Rattle.trick_journal_written.specs.Rules.{RunsAreRight};
-ghost use Rattle.trick_journal_written.specs.Replaying.{ReplaysRunAgain, WrittenTextsReadBack};
-ghost use Rattle.trick_journal_written.specs.Written.{TurnsAreCounted, WrittenJournals};
-ghost use Rattle.trick_runs.specs.Hosts.{hosts};
+ghost use Rattle.trick_exec_own_journal.specs.Last.{LastGoesNoFurther};
+ghost use Rattle.trick_exec_own_journal.specs.Rules.{RunsAreRight};
+ghost use Rattle.trick_exec_own_journal.specs.Replaying.{ReplaysRunAgain, WrittenTextsReadBack};
+ghost use Rattle.trick_exec_own_journal.specs.Written.{TurnsAreCounted, WrittenJournals};
+ghost use Rattle.trick_exec_meaning.specs.Hosts.{hosts};
 
 use trick_lang::Cells;
 use trick_outside::Shelf;
-use trick_post::Posts;
-use trick_turns::Turns;
+use trick_post_work::Posts;
+use trick_exec_sources::Turns;
 
 /// The lists of a run that is done, or missed the end of a journal, are right: the premise of the laws below.
 pub fn runs_are_right<M: Cells, F: Shelf, P: Posts, T: Turns<M>>()

@@ -5,10 +5,10 @@ use Rattle.std.proofs.lemmas.List.{length-map, get_or-set_other, get_or-set_same
 use Rattle.std.specs.List.{slice_index_or}
 use Rattle.std.specs.Prelude.{IsSome, slice_set}
 use Rattle.trick_base.proofs.Numbers.{zero_at_most}
-use Rattle.trick_beside.proofs.Threads.{AreFound, apart, beside_found, cycle_here, found_at}
-use Rattle.trick_beside.proofs.Times.{end_here, next_end}
-use Rattle.trick_beside.specs.Flight.{GoesWith, HoldNothing, IsInFlight, IsOver, end_of, flight, frame_to, thread_in, work_at}
-use Rattle.trick_job.specs.Belongs.{IsMemoryOf}
+use Rattle.trick_exec_posts.proofs.Threads.{AreFound, apart, beside_found, cycle_here, found_at}
+use Rattle.trick_exec_posts.proofs.Times.{end_here, next_end}
+use Rattle.trick_exec_posts.specs.Flight.{GoesWith, HoldNothing, IsInFlight, IsOver, end_of, flight, frame_to, thread_in, work_at}
+use Rattle.trick_phase_jobs.specs.Belongs.{IsMemoryOf}
 use Rattle.trick_lang.specs.Effect.{scalars_of}
 use Rattle.trick_lang.specs.declared.scalar.Scalar.{Scalar}
 use Rattle.trick_lang.specs.declared.variable.Variable.{Variable}
@@ -25,10 +25,10 @@ use Rattle.trick_model.specs.declared.taken.Taken.{Taken}
 use Rattle.trick_model.specs.declared.thread.Process.{Process}
 use Rattle.trick_model.specs.declared.thread.Process.TheVariants as process
 use Rattle.trick_model.specs.declared.thread.Thread.{Thread}
-use Rattle.trick_post.specs.Laws.{IsFrameOf, IsPublished}
-use Rattle.trick_post.specs.Work.{CanStart, IsKindOf, Started, finished, found_or_none, no_thread, publication, thread_at}
-use Rattle.trick_post.specs.declared.posts.Job1.{Job1}
-use Rattle.trick_post.specs.declared.posts.Job1.TheVariants as work
+use Rattle.trick_post_work.specs.Laws.{IsFrameOf, IsPublished}
+use Rattle.trick_post_work.specs.Work.{CanStart, IsKindOf, Started, finished, found_or_none, no_thread, publication, thread_at}
+use Rattle.trick_post_work.specs.declared.posts.Job1.{Job1}
+use Rattle.trick_post_work.specs.declared.posts.Job1.TheVariants as work
 
 -- ---- the thread of a number
 

@@ -2,13 +2,13 @@
 use Rattle.std.proofs.Common.{◌≡◌, ◌≢◌, ◌∙◌, ℕ, ◌+◌, ◌<◌, ◌≤◌, ◌==◌, Bool, true, false, List, Option, None, ap, arith, length, refl, subst, sym}
 use Rattle.std.proofs.lemmas.Bool.{eq-eqb, eqb-true}
 use Rattle.std.specs.List.{slice_index_or}
-use Rattle.trick_beside.proofs.Threads.{AreFound, apart}
-use Rattle.trick_beside.specs.Flight.{flight, thread_in}
+use Rattle.trick_exec_posts.proofs.Threads.{AreFound, apart}
+use Rattle.trick_exec_posts.specs.Flight.{flight, thread_in}
 use Rattle.trick_model.specs.Plan.{Plan, threads_beside}
 use Rattle.trick_model.specs.State.{nothing_taken}
 use Rattle.trick_model.specs.declared.taken.Taken.{Taken}
 use Rattle.trick_model.specs.declared.thread.Thread.{Thread}
-use Rattle.trick_post.specs.Work.{Started, no_thread}
+use Rattle.trick_post_work.specs.Work.{Started, no_thread}
 
 -- So many threads are started, and of the others nothing is in flight.
 pub record AreStarted (p : Plan) (in_flight : ℕ → Option Started) (tic : ℕ) (taken : List Taken) (count : ℕ) : Type 0 where

@@ -1,15 +1,15 @@
 -- Threads that publish and take one after another.
 use Rattle.std.proofs.Common.{◌≡◌, ◌≢◌, ◌∙◌, ℕ, ◌+◌, ◌<◌, ◌≤◌, ◌==◌, Bool, true, false, List, [], ◌++◌, ap, arith, length, refl, subst, sym}
 use Rattle.std.proofs.lemmas.Bool.{eq-eqb, eqb-true}
-use Rattle.trick_beside.proofs.Steps.{either, publish_empties, publish_others, take_others}
-use Rattle.trick_beside.specs.Flight.{AsksNothing, HoldNothing, thread_in}
+use Rattle.trick_exec_posts.proofs.Steps.{either, publish_empties, publish_others, take_others}
+use Rattle.trick_exec_posts.specs.Flight.{AsksNothing, HoldNothing, thread_in}
 use Rattle.trick_model.specs.Beside.{ends_at, publish, take, where_ends}
 use Rattle.trick_model.specs.Plan.{Plan, threads_beside}
 use Rattle.trick_model.specs.State.{State, taken_at}
 use Rattle.trick_model.specs.declared.taken.Taken.{Taken}
 use Rattle.trick_model.specs.declared.thread.Thread.{Thread}
-use Rattle.trick_post.specs.Polls.{Poll}
-use Rattle.trick_post.specs.declared.posts.Posts.{Ghosts}
+use Rattle.trick_post_work.specs.Polls.{Poll}
+use Rattle.trick_post_work.specs.declared.posts.Posts.{Ghosts}
 
 -- ---- posts of which nothing is asked
 

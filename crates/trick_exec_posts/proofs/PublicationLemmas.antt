@@ -3,9 +3,9 @@ use Rattle.std.proofs.Common.{◌≡◌, ◌∙◌, ℕ, ◌+◌, ◌<◌, Bool,
 use Rattle.std.proofs.lemmas.Bool.{and_from, and_left}
 use Rattle.std.proofs.lemmas.List.{drop_more}
 use Rattle.std.specs.Prelude.{◌&&◌}
-use Rattle.trick_beside.proofs.Threads.{AreFound, found_at}
-use Rattle.trick_beside.specs.Flight.{thread_in}
-use Rattle.trick_beside.specs.Rounds.{publication_of}
+use Rattle.trick_exec_posts.proofs.Threads.{AreFound, found_at}
+use Rattle.trick_exec_posts.specs.Flight.{thread_in}
+use Rattle.trick_exec_posts.specs.Rounds.{publication_of}
 use Rattle.trick_model.specs.Beside.{has_round, is_in_flight}
 use Rattle.trick_model.specs.Plan.{Plan, is_async, threads_beside}
 use Rattle.trick_model.specs.Run.{all_published}
@@ -13,7 +13,7 @@ use Rattle.trick_model.specs.State.{State, taken_at}
 use Rattle.trick_model.specs.declared.entry.Entry.{Entry}
 use Rattle.trick_model.specs.declared.entry.Entry.TheVariants.{Publish}
 use Rattle.trick_model.specs.declared.thread.Thread.{Thread}
-use Rattle.trick_post.specs.Work.{no_thread}
+use Rattle.trick_post_work.specs.Work.{no_thread}
 
 -- ---- one thread
 

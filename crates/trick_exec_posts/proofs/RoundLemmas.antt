@@ -5,11 +5,11 @@ use Rattle.std.proofs.lemmas.List.{drop_more}
 use Rattle.std.proofs.lemmas.List.Sums.{prefix_len_passes}
 use Rattle.std.specs.List.{position, position_or_len, slice_index_or}
 use Rattle.std.specs.Prelude.{map}
-use Rattle.trick_beside.proofs.Seats.{place_found}
-use Rattle.trick_beside.proofs.Steps.{first_of, publish_none, second_of}
-use Rattle.trick_beside.proofs.Threads.{AreFound}
-use Rattle.trick_beside.specs.Stations.{AreStations}
-use Rattle.trick_beside.specs.declared.station.Station.{Station}
+use Rattle.trick_exec_posts.proofs.Seats.{place_found}
+use Rattle.trick_exec_posts.proofs.Steps.{first_of, publish_none, second_of}
+use Rattle.trick_exec_posts.proofs.Threads.{AreFound}
+use Rattle.trick_exec_posts.specs.Stations.{AreStations}
+use Rattle.trick_exec_posts.specs.declared.station.Station.{Station}
 use Rattle.trick_model.specs.Beside.{find_thread, has_round, one_later, publish, publish_round, start_round, take}
 use Rattle.trick_model.specs.Plan.{Plan, is_async, threads_beside}
 use Rattle.trick_model.specs.State.{State, taken_at}

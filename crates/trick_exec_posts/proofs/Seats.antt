@@ -6,11 +6,11 @@ use Rattle.std.proofs.lemmas.List.{get_or-map, get_or-set_same, get_or_default, 
 use Rattle.std.proofs.lemmas.List.Sums.{prefix_len_stops}
 use Rattle.std.specs.List.{position, position_or_len, slice_index_or}
 use Rattle.std.specs.Prelude.{map, slice_set}
-use Rattle.trick_beside.proofs.Flights.{as_many, can_start, goes_on}
-use Rattle.trick_beside.proofs.Threads.{AreFound, beside_found, beside_here, found_at}
-use Rattle.trick_beside.specs.Flight.{GoesWith, IsOver, work_at}
-use Rattle.trick_beside.specs.Stations.{AreStations, IsSeat, IsStation, record_of}
-use Rattle.trick_beside.specs.declared.station.Station.{Station}
+use Rattle.trick_exec_posts.proofs.Flights.{as_many, can_start, goes_on}
+use Rattle.trick_exec_posts.proofs.Threads.{AreFound, beside_found, beside_here, found_at}
+use Rattle.trick_exec_posts.specs.Flight.{GoesWith, IsOver, work_at}
+use Rattle.trick_exec_posts.specs.Stations.{AreStations, IsSeat, IsStation, record_of}
+use Rattle.trick_exec_posts.specs.declared.station.Station.{Station}
 use Rattle.trick_lang.specs.declared.cells.Cell.{Cell}
 use Rattle.trick_lang.specs.declared.job.JobId.{JobId}
 use Rattle.trick_lang.specs.declared.scalar.Scalar.{Scalar}
@@ -27,7 +27,7 @@ use Rattle.trick_model.specs.declared.taken.Taken.{Taken}
 use Rattle.trick_model.specs.declared.thread.Process.{Process}
 use Rattle.trick_model.specs.declared.thread.Process.TheVariants as process
 use Rattle.trick_model.specs.declared.thread.Thread.{Thread}
-use Rattle.trick_post.specs.Work.{CanStart, Started, no_thread}
+use Rattle.trick_post_work.specs.Work.{CanStart, Started, no_thread}
 
 -- ---- places
 

@@ -3,7 +3,7 @@ use Rattle.std.proofs.Common.{◌≡◌, ◌∙◌, ℕ, suc, ◌+◌, ◌-◌, 
 use Rattle.std.proofs.Math.Nat.{mod-eq_of_lt, mod_self, suc-mod}
 use Rattle.std.proofs.lemmas.Bool.{eqb-true}
 use Rattle.std.proofs.lemmas.Nat.{mod_below}
-use Rattle.trick_beside.specs.Flight.{end_of}
+use Rattle.trick_exec_posts.specs.Flight.{end_of}
 
 -- the end of a cycle, by the rest of a tic
 pick : ℕ → ℕ → ℕ → ℕ

@@ -1,7 +1,7 @@
 -- What is in flight of the threads beside the tics.
 use Rattle.std.specs.List.{slice_index_or}
 use Rattle.std.specs.Prelude.{◌≡◌, ℕ, ◌+◌, ◌-◌, ◌%◌, ◌==◌, ◌<◌, ◌≤◌, min, true, false, IsTrue, List, [], Option, Some, None, length}
-use Rattle.trick_job.specs.Belongs.{IsMemoryOf}
+use Rattle.trick_phase_jobs.specs.Belongs.{IsMemoryOf}
 use Rattle.trick_lang.specs.declared.scalar.Scalar.{Scalar}
 use Rattle.trick_model.specs.Beside.{each_thread, ends_at, publish, take, where_ends}
 use Rattle.trick_model.specs.Plan.{Plan, threads_beside}
@@ -14,10 +14,10 @@ use Rattle.trick_model.specs.declared.taken.Taken.{Taken}
 use Rattle.trick_model.specs.declared.thread.Process.TheVariants as process
 use Rattle.trick_model.specs.declared.thread.Process.{Process}
 use Rattle.trick_model.specs.declared.thread.Thread.{Thread}
-use Rattle.trick_post.specs.Work.{Started, no_thread}
-use Rattle.trick_post.specs.declared.posts.Job1.TheVariants as work
-use Rattle.trick_post.specs.declared.posts.Job1.{Job1}
-use Rattle.trick_post.specs.declared.posts.Posts.{Ghosts}
+use Rattle.trick_post_work.specs.Work.{Started, no_thread}
+use Rattle.trick_post_work.specs.declared.posts.Job1.TheVariants as work
+use Rattle.trick_post_work.specs.declared.posts.Job1.{Job1}
+use Rattle.trick_post_work.specs.declared.posts.Posts.{Ghosts}
 
 -- ---- what a thread has to do
 

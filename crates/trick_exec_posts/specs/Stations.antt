@@ -1,7 +1,7 @@
 -- The threads beside the tics, with what each of them is given.
 use Rattle.std.specs.Prelude.{◌≡◌, ℕ, ◌<◌, ℤ, true, All, List, length, map}
-use Rattle.trick_beside.specs.Flight.{thread_in}
-use Rattle.trick_beside.specs.declared.station.Station.{Station}
+use Rattle.trick_exec_posts.specs.Flight.{thread_in}
+use Rattle.trick_exec_posts.specs.declared.station.Station.{Station}
 use Rattle.trick_lang.specs.declared.cells.Cell.{Cell}
 use Rattle.trick_lang.specs.declared.job.JobId.{JobId}
 use Rattle.trick_model.specs.Access.{scope}

@@ -1,8 +1,8 @@
 //! Must-finish threads, at the tics at which their cycles end.
 
 ghost use Rattle.std.specs.Prelude.{◌≡◌, ◌+◌, ◌≤◌, false, IsTrue, length, OnOk};
-ghost use Rattle.trick_beside.specs.Flight.{AsksNothing, GoesWith, HoldNothing, ended_published, ended_taken};
-ghost use Rattle.trick_beside.specs.Stations.{AreStations, IsSeat};
+ghost use Rattle.trick_exec_posts.specs.Flight.{AsksNothing, GoesWith, HoldNothing, ended_published, ended_taken};
+ghost use Rattle.trick_exec_posts.specs.Stations.{AreStations, IsSeat};
 ghost use Rattle.trick_model.specs.Beside.{ends_at as ends_of, must_finish as must_finish_of, publish as publish_of, take as take_of, where_ends};
 ghost use Rattle.trick_model.specs.Plan.{threads_beside};
 ghost use Rattle.trick_model.specs.PlanOf.{plan_of};
@@ -15,7 +15,7 @@ use crate::seat::{Seat, publish, take};
 use std::alloc::{AllocError, Global};
 use trick_lang::Cells;
 use trick_model::State;
-use trick_post::Posts;
+use trick_post_work::Posts;
 
 // A thread publishes, where its cycle ends at a tic.
 fn publish_end<M: Cells, P: Posts>(

@@ -1,8 +1,8 @@
 //! The entries that publish all rounds in flight.
 
 ghost use Rattle.std.specs.Prelude.{◌≡◌, ◌++◌, OnOk};
-ghost use Rattle.trick_beside.specs.Rounds.{publication_of};
-ghost use Rattle.trick_beside.specs.Stations.{AreStations};
+ghost use Rattle.trick_exec_posts.specs.Rounds.{publication_of};
+ghost use Rattle.trick_exec_posts.specs.Stations.{AreStations};
 ghost use Rattle.trick_model.specs.Plan.{threads_beside};
 ghost use Rattle.trick_model.specs.PlanOf.{plan_of};
 ghost use Rattle.trick_model.specs.Run.{all_published};

@@ -1,14 +1,14 @@
 //! Where cycles end, and what a thread has to do until then.
 
 ghost use Rattle.std.specs.Prelude.{◌≡◌, ◌+◌, ◌≤◌};
-ghost use Rattle.trick_beside.specs.Flight.{end_of as end_of_cycle, frame_to as frame_to_end, work_at as work_of};
+ghost use Rattle.trick_exec_posts.specs.Flight.{end_of as end_of_cycle, frame_to as frame_to_end, work_at as work_of};
 ghost use Rattle.trick_model.specs.Beside.{ends_at as ends_of};
 ghost use Rattle.trick_base.specs.Time.{tic_limit};
 ghost use Rattle.trick_model.specs.Valid.{IsCycle};
 
 use trick_base::TIC_LIMIT;
 use trick_model::{Process, Thread};
-use trick_post::Job1;
+use trick_post_work::Job1;
 
 // The first tic from one on at which a cycle ends.
 fn end_of(cycle: u64, tic: u64) -> u64

@@ -1,9 +1,9 @@
 //! What the records of a state hold, started again.
 
 ghost use Rattle.std.specs.Prelude.{◌≡◌, ◌≢◌, ℕ, None};
-ghost use Rattle.trick_beside.specs.Flight.{AsksNothing, GoesWith, IsFree, flight};
-ghost use Rattle.trick_beside.specs.Stations.{AreStations, IsSeat};
-ghost use Rattle.trick_job.specs.Belongs.{IsMemoryOf};
+ghost use Rattle.trick_exec_posts.specs.Flight.{AsksNothing, GoesWith, IsFree, flight};
+ghost use Rattle.trick_exec_posts.specs.Stations.{AreStations, IsSeat};
+ghost use Rattle.trick_phase_jobs.specs.Belongs.{IsMemoryOf};
 ghost use Rattle.trick_model.specs.PlanOf.{plan_of};
 ghost use Rattle.trick_model.specs.State.{seen, taken_at};
 ghost use Rattle.trick_model.specs.ValidState.{IsStateOf};
@@ -13,7 +13,7 @@ use crate::frames::work_at;
 use crate::seat::Seat;
 use trick_lang::Cells;
 use trick_model::State;
-use trick_post::Posts;
+use trick_post_work::Posts;
 
 // Starts what the record of a thread holds, if it holds something.
 fn start_seat<M: Cells, P: Posts>(seat: Seat, state: &State<M>, posts: &mut P)

@@ -1,7 +1,7 @@
 //! The records of threads beside the tics: they are filled and emptied in place, and keep their room.
 
 ghost use Rattle.std.specs.Prelude.{◌≡◌, OnOk, map};
-ghost use Rattle.trick_beside.specs.Stations.{record_of};
+ghost use Rattle.trick_exec_posts.specs.Stations.{record_of};
 ghost use Rattle.trick_lang.specs.declared.cells.Cell.{Cell as CellValue};
 ghost use Rattle.trick_lang.specs.declared.job.JobId.{JobId as JobIdValue};
 ghost use Rattle.trick_model.specs.Plan.{is_on};

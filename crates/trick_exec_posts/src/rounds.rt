@@ -2,9 +2,9 @@
 
 ghost use Rattle.std.specs.List.{position};
 ghost use Rattle.std.specs.Prelude.{◌≡◌, ◌==◌, ◌∷◌, [], OnOk};
-ghost use Rattle.trick_beside.specs.Flight.{AsksNothing, GoesWith};
-ghost use Rattle.trick_beside.specs.Stations.{AreStations, IsSeat};
-ghost use Rattle.trick_beside.specs.declared.station.Station.{Station as StationValue};
+ghost use Rattle.trick_exec_posts.specs.Flight.{AsksNothing, GoesWith};
+ghost use Rattle.trick_exec_posts.specs.Stations.{AreStations, IsSeat};
+ghost use Rattle.trick_exec_posts.specs.declared.station.Station.{Station as StationValue};
 ghost use Rattle.trick_model.specs.Beside.{publish_round as publish_round_of, start_round as start_round_of, start_rounds as start_rounds_of};
 ghost use Rattle.trick_model.specs.PlanOf.{plan_of};
 ghost use Rattle.trick_model.specs.State.{seen};
@@ -15,7 +15,7 @@ use crate::seat::{Seat, publish, take};
 use std::alloc::{AllocError, Global};
 use trick_lang::Cells;
 use trick_model::{Entry, State};
-use trick_post::Posts;
+use trick_post_work::Posts;
 
 // The place of the thread of a number.
 fn find(stations: &[Station], number: u8) -> Option<usize>

@@ -1,8 +1,8 @@
 //! One thread beside the tics: what it publishes, and what it takes.
 
 ghost use Rattle.std.specs.Prelude.{◌≡◌, ◌+◌, ◌<◌, ◌≤◌, false, length, OnOk, slice_set};
-ghost use Rattle.trick_beside.specs.Flight.{AsksNothing, GoesWith, IsOver};
-ghost use Rattle.trick_beside.specs.Stations.{IsSeat, record_of};
+ghost use Rattle.trick_exec_posts.specs.Flight.{AsksNothing, GoesWith, IsOver};
+ghost use Rattle.trick_exec_posts.specs.Stations.{IsSeat, record_of};
 ghost use Rattle.trick_model.specs.Beside.{publish as publish_of, take as take_of};
 ghost use Rattle.trick_model.specs.PlanOf.{plan_of};
 ghost use Rattle.trick_model.specs.State.{nothing_taken, seen, taken_at};
@@ -15,8 +15,8 @@ use std::mem;
 use trick_base::Items;
 use trick_lang::Cells;
 use trick_model::{State, Taken, laws};
-use trick_post::Posts;
-use trick_post::laws::started_work_is_published;
+use trick_post_work::Posts;
+use trick_post_work::laws::started_work_is_published;
 
 /// A station at its place among the threads beside the tics.
 #[derive(Clone, Copy)]

@@ -1,13 +1,13 @@
 //! The threads beside the tics, with what each of them is given.
 
 ghost use Rattle.std.specs.Prelude.{◌≡◌, IfOk};
-ghost use Rattle.trick_beside.specs.Stations.{AreStations, IsStation};
+ghost use Rattle.trick_exec_posts.specs.Stations.{AreStations, IsStation};
 ghost use Rattle.trick_model.specs.PlanOf.{plan_of};
 ghost use Rattle.trick_model.specs.Valid.{IsCycle};
 
 use std::alloc::{AllocError, Global};
 use trick_base::Items;
-use trick_chkpt::{jobs_of, scope, threads_beside};
+use trick_chkpt_printer::{jobs_of, scope, threads_beside};
 use trick_lang::{Cell, JobId};
 use trick_model::{Plan, Thread};
 

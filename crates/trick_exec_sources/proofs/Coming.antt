@@ -3,13 +3,13 @@ use Rattle.std.proofs.Common.{◌≡◌, ℕ, zero, suc, ◌+◌, ◌<◌, ◌�
 use Rattle.std.proofs.lemmas.Bool.{and_from, and_parts}
 use Rattle.std.proofs.lemmas.Bool.Decides.{nat_tests}
 use Rattle.std.specs.Prelude.{◌&&◌, ◌||◌, ◌==◌, nat_le, nat_lt}
-use Rattle.trick_journal_turns.proofs.Turns.{range_since, rising_since, rising_tail, step_up, within_head, within_since, within_tail}
-use Rattle.trick_journal_turns.specs.Due.{before, may_go_on, since}
+use Rattle.trick_exec_sources.proofs.TurnEntries.{range_since, rising_since, rising_tail, step_up, within_head, within_since, within_tail}
+use Rattle.trick_exec_sources.specs.Due.{before, may_go_on, since}
 use Rattle.trick_model.specs.Journal.{Noted, are_in_range, are_joined, are_rising, are_within, is_entry, may_follow}
 use Rattle.trick_model.specs.Time.{last_turn}
 use Rattle.trick_model.specs.declared.entry.Entry.{Entry}
 use Rattle.trick_model.specs.declared.entry.Entry.TheVariants.{Join, Said, Leave, Publish}
-use Rattle.trick_turns.specs.Turns.{Sessions, after_entries, after_entry, in_next, may_all_come, may_come}
+use Rattle.trick_exec_sources.specs.Turns.{Sessions, after_entries, after_entry, in_next, may_all_come, may_come}
 
 -- the first entry of a list may follow one
 abbrev follows_head : Entry → List Entry → Bool

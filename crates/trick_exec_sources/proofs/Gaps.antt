@@ -3,21 +3,21 @@ use Rattle.std.proofs.Common.{◌≡◌, ℕ, zero, suc, ◌+◌, ◌-◌, ◌<�
 use Rattle.std.proofs.Math.Nat.{min-le_left}
 use Rattle.std.specs.List.{list_any}
 use Rattle.std.specs.Prelude.{min, Option}
-use Rattle.trick_journal_turns.proofs.Coming.{within_of}
-use Rattle.trick_journal_turns.proofs.Replaying.{Stands, lines_left, list_next, made, rest_is, sessions_step, stands_next, told_same}
-use Rattle.trick_journal_turns.proofs.Turns.{before_late, late_first, since_all, within_head}
-use Rattle.trick_journal_turns.specs.Due.{before, is_line, may_go_on, sessions_so_far}
-use Rattle.trick_journal_turns.specs.Replay.{AreTold, IsLater, sessions_of, told_of}
-use Rattle.trick_journal_turns.specs.declared.journal_turns.JournalTurns.{JournalTurns}
+use Rattle.trick_exec_sources.proofs.Coming.{within_of}
+use Rattle.trick_exec_sources.proofs.Replaying.{Stands, lines_left, list_next, made, rest_is, sessions_step, stands_next, told_same}
+use Rattle.trick_exec_sources.proofs.TurnEntries.{before_late, late_first, since_all, within_head}
+use Rattle.trick_exec_sources.specs.Due.{before, is_line, may_go_on, sessions_so_far}
+use Rattle.trick_exec_sources.specs.Replay.{AreTold, IsLater, sessions_of, told_of}
+use Rattle.trick_exec_sources.specs.declared.journal_turns.JournalTurns.{JournalTurns}
 use Rattle.trick_model.specs.Journal.{Noted, lists_from}
 use Rattle.trick_model.specs.State.{State}
 use Rattle.trick_model.specs.Time.{last_turn}
 use Rattle.trick_model.specs.Turn.{counted, is_frozen}
 use Rattle.trick_model.specs.declared.entry.Entry.{Entry}
 use Rattle.trick_model.specs.declared.session.Session.{Session}
-use Rattle.trick_turns.specs.Gap as gap
-use Rattle.trick_turns.specs.Gap.{Gap, GivesNone}
-use Rattle.trick_turns.specs.Turns.{Sessions, Told, after_entries, behind, empty_answers, in_next}
+use Rattle.trick_exec_sources.specs.Gap as gap
+use Rattle.trick_exec_sources.specs.Gap.{Gap, GivesNone}
+use Rattle.trick_exec_sources.specs.Turns.{Sessions, Told, after_entries, behind, empty_answers, in_next}
 
 -- ---- entries
 

@@ -10,13 +10,13 @@ use Rattle.std.specs.Set.{remove_key}
 use Rattle.std.specs.declared.cmp.Ordering.{Ordering}
 use Rattle.std.specs.declared.cmp.Ordering.TheVariants.{Greater}
 use Rattle.std.specs.Prelude.{◌&&◌, ◌||◌, ◌==◌, IsTrue, filter, nat_le, nat_lt, not}
-use Rattle.trick_journal_turns.proofs.Turns.{late_first, none_within, range_since, rising_since, rising_tail, since_all, since_late, since_one, since_within, step_up, within_head, within_since}
-use Rattle.trick_journal_turns.specs.Due.{MayCome, before, is_line, joins_at, live_with, may_go_on, resumed, rise_between, since}
+use Rattle.trick_exec_sources.proofs.TurnEntries.{late_first, none_within, range_since, rising_since, rising_tail, since_all, since_late, since_one, since_within, step_up, within_head, within_since}
+use Rattle.trick_exec_sources.specs.Due.{MayCome, before, is_line, joins_at, live_with, may_go_on, resumed, rise_between, since}
 use Rattle.trick_model.specs.Journal.{Noted, are_in_range, are_joined, are_rising, are_within, is_entry, is_session, live_after, live_before, may_follow}
 use Rattle.trick_model.specs.Time.{last_turn}
 use Rattle.trick_model.specs.declared.entry.Entry.{Entry}
 use Rattle.trick_model.specs.declared.entry.Entry.TheVariants.{Join, Said, Leave, Publish}
-use Rattle.trick_turns.specs.Turns.{Sessions, no_sessions}
+use Rattle.trick_exec_sources.specs.Turns.{Sessions, no_sessions}
 
 -- ---- numbers that rise
 

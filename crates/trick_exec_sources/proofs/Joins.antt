@@ -3,12 +3,12 @@ use Rattle.std.proofs.Common.{◌≡◌, ◌≢◌, ℕ, zero, suc, ◌+◌, ◌
 use Rattle.std.proofs.lemmas.Bool.Decides.{nat_tests}
 use Rattle.std.proofs.lemmas.List.Sums.{sum_by-cons}
 use Rattle.std.specs.Prelude.{◌==◌, count_by}
-use Rattle.trick_journal_turns.proofs.Lists.{lists_late}
-use Rattle.trick_journal_turns.proofs.Turns.{at_other, at_turn, within_head, within_tail}
-use Rattle.trick_journal_turns.specs.Due.{joins_in}
+use Rattle.trick_exec_sources.proofs.Lists.{lists_late}
+use Rattle.trick_exec_sources.proofs.TurnEntries.{at_other, at_turn, within_head, within_tail}
+use Rattle.trick_exec_sources.specs.Due.{joins_in}
 use Rattle.trick_model.specs.Journal.{Noted, are_within, entries_at, lists_from}
 use Rattle.trick_model.specs.declared.entry.Entry.{Entry}
-use Rattle.trick_turns.specs.Joins.{is_join, joins_of}
+use Rattle.trick_exec_sources.specs.Joins.{is_join, joins_of}
 
 -- one entry, counted where it is a join
 one : Entry → ℕ

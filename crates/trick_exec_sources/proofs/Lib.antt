@@ -1,5 +1,5 @@
 -- entries by their turns
-pub mod Turns
+pub mod TurnEntries
 -- the lists of turns
 pub mod Lists
 -- how many sessions join in them

@@ -3,13 +3,13 @@ use Rattle.std.proofs.Common.{◌≡◌, ◌≢◌, ℕ, zero, suc, ◌+◌, ◌
 use Rattle.std.proofs.lemmas.Bool.Decides.{nat_tests}
 use Rattle.std.specs.List.{list_any}
 use Rattle.std.specs.Prelude.{◌&&◌, ◌||◌, ◌==◌, nat_le, nat_lt}
-use Rattle.trick_journal_turns.proofs.Turns.{at_other, at_since, at_turn, within_head, within_tail}
-use Rattle.trick_journal_turns.specs.Due.{is_line, joins_at, sessions_at, since}
+use Rattle.trick_exec_sources.proofs.TurnEntries.{at_other, at_since, at_turn, within_head, within_tail}
+use Rattle.trick_exec_sources.specs.Due.{is_line, joins_at, sessions_at, since}
 use Rattle.trick_model.specs.Journal.{Noted, are_within, entries_at, is_of_session, lists_from, with_joins}
 use Rattle.trick_model.specs.Run.{has_session_entry}
 use Rattle.trick_model.specs.declared.entry.Entry.{Entry}
 use Rattle.trick_model.specs.declared.entry.Entry.TheVariants.{Join}
-use Rattle.trick_turns.specs.Turns.{Sessions, after_entries, after_lists, in_next, no_sessions}
+use Rattle.trick_exec_sources.specs.Turns.{Sessions, after_entries, after_lists, in_next, no_sessions}
 
 -- two lists with the same head and the same tail
 same_cons : {A : Type 0} (a b : A) (xs ys : List A) → a ≡ b → xs ≡ ys → a ∷ xs ≡ b ∷ ys

@@ -4,20 +4,20 @@ use Rattle.std.proofs.Math.Nat.{sub_self}
 use Rattle.std.proofs.lemmas.Bool.Decides.{nat_tests}
 use Rattle.std.specs.List.{list_any}
 use Rattle.std.specs.Prelude.{◌&&◌, ◌||◌, nat_le, nat_lt, not}
-use Rattle.trick_journal_turns.proofs.Coming.{goes_on, rising_of, within_of}
-use Rattle.trick_journal_turns.proofs.Joins.{joins_in_lists}
-use Rattle.trick_journal_turns.proofs.Joining.{IsJournal, resumed_by, resumed_keeps}
-use Rattle.trick_journal_turns.proofs.Lists.{lines_in_lists, lists_resumed, lists_since, sessions_next}
-use Rattle.trick_journal_turns.proofs.Turns.{any_split, at_since, before_is_at, none_within, since_since, since_within, within_since}
-use Rattle.trick_journal_turns.specs.Due.{before, is_line, joins_at, joins_in, may_go_on, resumed, sessions_at, sessions_so_far, since}
+use Rattle.trick_exec_sources.proofs.Coming.{goes_on, rising_of, within_of}
+use Rattle.trick_exec_sources.proofs.Joins.{joins_in_lists}
+use Rattle.trick_exec_sources.proofs.Joining.{IsJournal, resumed_by, resumed_keeps}
+use Rattle.trick_exec_sources.proofs.Lists.{lines_in_lists, lists_resumed, lists_since, sessions_next}
+use Rattle.trick_exec_sources.proofs.TurnEntries.{any_split, at_since, before_is_at, none_within, since_since, since_within, within_since}
+use Rattle.trick_exec_sources.specs.Due.{before, is_line, joins_at, joins_in, may_go_on, resumed, sessions_at, sessions_so_far, since}
 use Rattle.trick_model.specs.Journal.{Noted, entries_at, is_of_session, lists_from, live_before, with_joins}
 use Rattle.trick_model.specs.Run.{has_session_entry, lists_of, next_of, rest_of}
 use Rattle.trick_model.specs.Time.{last_turn}
 use Rattle.trick_model.specs.Turn.{is_frozen}
 use Rattle.trick_model.specs.declared.entry.Entry.{Entry}
 use Rattle.trick_model.specs.declared.mode.Mode.{Mode}
-use Rattle.trick_turns.specs.Joins.{joins_of}
-use Rattle.trick_turns.specs.Turns.{Sessions, Told, after_entries, after_lists, in_next, may_all_come, no_sessions}
+use Rattle.trick_exec_sources.specs.Joins.{joins_of}
+use Rattle.trick_exec_sources.specs.Turns.{Sessions, Told, after_entries, after_lists, in_next, may_all_come, no_sessions}
 
 -- a journal that is told, by its lists and its end
 abbrev pub made : List (List Entry) → ℕ → Told

@@ -5,7 +5,7 @@ use Rattle.std.proofs.lemmas.Bool.Decides.{nat_tests}
 use Rattle.std.proofs.lemmas.List.Sums.{sum_by-cons}
 use Rattle.std.specs.List.{list_any}
 use Rattle.std.specs.Prelude.{◌&&◌, ◌||◌, ◌==◌, nat_le, nat_lt, Option, Some, None, IfNone}
-use Rattle.trick_journal_turns.specs.Due.{before, is_line, lines_of, since}
+use Rattle.trick_exec_sources.specs.Due.{before, is_line, lines_of, since}
 use Rattle.trick_model.specs.Journal.{Noted, are_in_range, are_rising, are_within, entries_at, is_entry, is_of_session, may_follow}
 use Rattle.trick_model.specs.Time.{last_turn}
 use Rattle.trick_model.specs.declared.entry.Entry.{Entry}

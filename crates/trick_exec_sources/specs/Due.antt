@@ -5,8 +5,8 @@ use Rattle.trick_model.specs.Journal.{Noted, are_in_range, are_joined, are_risin
 use Rattle.trick_model.specs.Time.{last_turn}
 use Rattle.trick_model.specs.declared.entry.Entry.{Entry}
 use Rattle.trick_model.specs.declared.entry.Entry.TheVariants.{Join, Said, Leave, Publish}
-use Rattle.trick_turns.specs.Joins.{is_join}
-use Rattle.trick_turns.specs.Turns.{Sessions, after_lists, in_next, may_come, no_sessions}
+use Rattle.trick_exec_sources.specs.Joins.{is_join}
+use Rattle.trick_exec_sources.specs.Turns.{Sessions, after_lists, in_next, may_come, no_sessions}
 
 -- ---- entries by their turns
 

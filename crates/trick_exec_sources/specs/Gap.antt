@@ -5,9 +5,9 @@ use Rattle.trick_model.specs.Session.{Message}
 use Rattle.trick_model.specs.State.{State}
 use Rattle.trick_model.specs.Turn.{counted, is_frozen}
 use Rattle.trick_model.specs.declared.session.Session.{Session}
-use Rattle.trick_turns.specs.Turns.{Answer, Sessions, Told, behind, empty_answers, in_next}
-use Rattle.trick_turns.specs.declared.turns.Next.{Next}
-use Rattle.trick_turns.specs.declared.turns.Next.TheVariants as next
+use Rattle.trick_exec_sources.specs.Turns.{Answer, Sessions, Told, behind, empty_answers, in_next}
+use Rattle.trick_exec_sources.specs.declared.turns.Next.{Next}
+use Rattle.trick_exec_sources.specs.declared.turns.Next.TheVariants as next
 
 -- An empty list is what a journal that is told has next, at a turn below its end; and a join, a line or a leave is
 -- still to come.

@@ -1,3 +1,7 @@
+-- The entries that are left, and the sessions that join at the first turn.
+pub mod Due
+-- What a replay tells, and what it answers.
+pub mod Replay
 -- Who gives turns their entries: what it answers, and what it promises.
 pub mod Turns
 -- How many sessions join.

@@ -1,14 +1,14 @@
 -- What a replay tells, and what it answers.
 use mathlib.Core.Path.{subst}
 use Rattle.std.specs.Prelude.{◌≡◌, ℕ, ◌+◌, ◌-◌, ◌<◌, false, true, IsTrue, List, [], ◌∷◌, ◌++◌, Option, Some, None}
-use Rattle.trick_journal_turns.specs.Due.{sessions_so_far}
-use Rattle.trick_journal_turns.specs.declared.journal_turns.JournalTurns.{JournalTurns}
+use Rattle.trick_exec_sources.specs.Due.{sessions_so_far}
+use Rattle.trick_exec_sources.specs.declared.journal_turns.JournalTurns.{JournalTurns}
 use Rattle.trick_model.specs.Journal.{lists_from}
 use Rattle.trick_model.specs.Run.{has_session_entry, next_of}
 use Rattle.trick_model.specs.Turn.{is_frozen}
 use Rattle.trick_model.specs.declared.entry.Entry.{Entry}
 use Rattle.trick_model.specs.declared.mode.Mode.{Mode}
-use Rattle.trick_turns.specs.Turns.{Answer, Sessions, Told, behind}
+use Rattle.trick_exec_sources.specs.Turns.{Answer, Sessions, Told, behind}
 
 -- the journal that is told: the lists of the turns that are left, and its end
 abbrev pub told_of : JournalTurns → Told

@@ -2,8 +2,8 @@
 use Rattle.std.specs.List.{list_any}
 use Rattle.std.specs.Prelude.{◌≡◌, ℕ, zero, suc, ◌+◌, ◌<◌, ◌≤◌, ◌==◌, max, nat_lt, Bool, true, false, cond, ◌&&◌, not, IsTrue, List, [], ◌∷◌, ◌++◌, filter, Option, Some, None, Result, Ok, Err}
 use Rattle.std.specs.declared.alloc.AllocError.{AllocError}
-use Rattle.trick_turns.specs.declared.turns.Next.{Next}
-use Rattle.trick_turns.specs.declared.turns.Next.TheVariants as next
+use Rattle.trick_exec_sources.specs.declared.turns.Next.{Next}
+use Rattle.trick_exec_sources.specs.declared.turns.Next.TheVariants as next
 use Rattle.trick_model.specs.Journal.{is_entry, is_of_session, may_follow}
 use Rattle.trick_model.specs.Run.{has_session_entry, next_of, rest_of}
 use Rattle.trick_model.specs.Session.{Message}

@@ -3,10 +3,10 @@
 ghost use Rattle.std.specs.List.{list_any};
 ghost use Rattle.std.specs.Option.{option_to_list};
 ghost use Rattle.std.specs.Prelude.{◌≡◌, ◌∷◌, ◌++◌, ◌<◌, [], length, IfOk, IfSome, OnErr, IfNone, OnOk, List, true};
-ghost use Rattle.trick_journal_turns.specs.Due.{before, is_line, joins_in, lines_of, since};
+ghost use Rattle.trick_exec_sources.specs.Due.{before, is_line, joins_in, lines_of, since};
 ghost use Rattle.trick_model.specs.Journal.{is_of_session as is_of_session_of, Noted};
 ghost use Rattle.trick_model.specs.declared.entry.Entry.TheVariants.{Join};
-ghost use Rattle.trick_turns.specs.Joins.{is_join as is_join_of};
+ghost use Rattle.trick_exec_sources.specs.Joins.{is_join as is_join_of};
 
 use std::alloc::{AllocError, Global};
 use std::collections::VecDeque;

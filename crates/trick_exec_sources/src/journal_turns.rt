@@ -3,7 +3,7 @@
 ghost use Rattle.std.specs.Coded.{Coded-set};
 ghost use Rattle.std.specs.List.{list_any};
 ghost use Rattle.std.specs.Prelude.{◌≡◌, ◌≤◌, ◌<◌, ◌+◌, [], ◌&&◌, ◌||◌, not, nat_le, cond, true, false, IsTrue};
-ghost use Rattle.trick_journal_turns.specs.Due.{before, is_line, may_go_on, sessions_so_far, since};
+ghost use Rattle.trick_exec_sources.specs.Due.{before, is_line, may_go_on, sessions_so_far, since};
 ghost use Rattle.trick_model.specs.Time.{last_turn};
 ghost use Rattle.trick_model.specs.Turn.{is_frozen as is_frozen_of};
 
@@ -13,7 +13,7 @@ use std::alloc::{AllocError, Global};
 use std::snapshot::Snapshot;
 use trick_lang::Cells;
 use trick_model::{Entry, Journal, Mode, Session, State};
-use trick_turns::{Next, Turns};
+use crate::{Next, Turns};
 
 /// What a journal gives a run from a turn on: a list of entries for each turn, and the journal's end.
 ///
@@ -57,11 +57,11 @@ fn owes_after(frozen: bool, said: bool, owed: bool) -> bool
 
 impl JournalTurns {
     ghost use Rattle.std.specs.Prelude.{IfOk, OnErr, OnOk};
-    ghost use Rattle.trick_journal_turns.specs.Replay.{IsLater, sessions_of, told_of};
+    ghost use Rattle.trick_exec_sources.specs.Replay.{IsLater, sessions_of, told_of};
     ghost use Rattle.trick_model.specs.Journal.{is_of_session};
     ghost use Rattle.trick_model.specs.Run.{lists_of, next_of};
-    ghost use Rattle.trick_turns.specs.Joins.{joins_of};
-    ghost use Rattle.trick_turns.specs.Turns.{after_entries, behind, in_next, may_all_come, no_sessions};
+    ghost use Rattle.trick_exec_sources.specs.Joins.{joins_of};
+    ghost use Rattle.trick_exec_sources.specs.Turns.{after_entries, behind, in_next, may_all_come, no_sessions};
 
     /// What a journal gives a run that starts at this turn, in this mode.
     pub fn new(alloc: Global, journal: Journal, start: u64, mode: Mode) -> Result<Self, AllocError>
@@ -175,7 +175,7 @@ impl JournalTurns {
 
 impl<M: Cells> Turns<M> for JournalTurns {
     ghost use Rattle.std.specs.Prelude.{refl, Some, true};
-    ghost use Rattle.trick_journal_turns.specs.Replay.{AreTold, sessions_of, told_join, told_of};
+    ghost use Rattle.trick_exec_sources.specs.Replay.{AreTold, sessions_of, told_join, told_of};
 
     ghost went = { λ old answers messages new. AreTold (told_of old) answers (told_of new) };
 

@@ -9,7 +9,7 @@ pub struct NoTurns;
 
 impl<M: Cells> Turns<M> for NoTurns {
     ghost use Rattle.std.specs.Prelude.{None, false};
-    ghost use Rattle.trick_turns.specs.Turns.{AreSilent, no_sessions, silent_join};
+    ghost use Rattle.trick_exec_sources.specs.Turns.{AreSilent, no_sessions, silent_join};
 
     ghost went = { λ old answers messages new. AreSilent answers };
 

@@ -1,7 +1,7 @@
 //! The sessions that are there at the first turn of a replay: they join then.
 
 ghost use Rattle.std.specs.Prelude.{◌≡◌, ◌++◌, [], IsTrue, IfOk, OnOk};
-ghost use Rattle.trick_journal_turns.specs.Due.{joins_at, live_with, MayCome, resumed, since};
+ghost use Rattle.trick_exec_sources.specs.Due.{joins_at, live_with, MayCome, resumed, since};
 ghost use Rattle.trick_model.specs.Journal.{are_joined, are_rising, live_before};
 
 use crate::due::DueEntries;

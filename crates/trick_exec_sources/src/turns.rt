@@ -1,7 +1,7 @@
 ghost use Rattle.std.specs.Prelude.{◌≡◌, ◌++◌, [], Bool, IsTrue, List, ℕ, Option, false, true};
 ghost use Rattle.trick_model.specs.Session.{Message};
 ghost use Rattle.trick_model.specs.State.{seen};
-ghost use Rattle.trick_turns.specs.declared.turns.Next.TheVariants.{Nothing};
+ghost use Rattle.trick_exec_sources.specs.declared.turns.Next.TheVariants.{Nothing};
 
 use std::alloc::{AllocError, Global};
 use trick_lang::Cells;
@@ -30,8 +30,8 @@ pub enum Next {
 /// `docs/RULES.md` says which entries may come. What was answered and handed over stands in `went`, so
 /// that a run can say what it was given; no history is stored.
 pub trait Turns<M: Cells> {
-    ghost use Rattle.trick_turns.specs.Gap.{Gap, GivesNone, IfGap};
-    ghost use Rattle.trick_turns.specs.Turns.{answered, Answer, EndsAt, Gives, GoesOn, is_among, Pays, sent, Sessions, Told};
+    ghost use Rattle.trick_exec_sources.specs.Gap.{Gap, GivesNone, IfGap};
+    ghost use Rattle.trick_exec_sources.specs.Turns.{answered, Answer, EndsAt, Gives, GoesOn, is_among, Pays, sent, Sessions, Told};
 
     /// On the way from the first value to the second just these answers were given, and these messages
     /// handed over.

@@ -1,17 +1,17 @@
 //! One tic.
 
 ghost use Rattle.std.specs.Prelude.{◌≡◌, ◌+◌, ◌<◌, ◌≤◌, OnOk};
-ghost use Rattle.trick_beside.specs.Flight.{AsksNothing};
-ghost use Rattle.trick_job.specs.Belongs.{IsMemoryOf};
+ghost use Rattle.trick_exec_posts.specs.Flight.{AsksNothing};
+ghost use Rattle.trick_phase_jobs.specs.Belongs.{IsMemoryOf};
 ghost use Rattle.trick_model.specs.PlanOf.{plan_of};
 ghost use Rattle.trick_model.specs.State.{seen};
 ghost use Rattle.trick_model.specs.Tic.{jobs_done, tic as tic_of};
 ghost use Rattle.trick_base.specs.Time.{tic_limit};
 ghost use Rattle.trick_outside.specs.Does.{Does};
-ghost use Rattle.trick_tic.specs.Course.{IsUnderWay};
-ghost use Rattle.trick_tic.specs.Current.{asking_of};
-ghost use Rattle.trick_tic.specs.Due.{AreJobsFor};
-ghost use Rattle.trick_tic.specs.Steps.{steps_of};
+ghost use Rattle.trick_exec_tic.specs.Course.{IsUnderWay};
+ghost use Rattle.trick_exec_tic.specs.Current.{asking_of};
+ghost use Rattle.trick_exec_tic.specs.Due.{AreJobsFor};
+ghost use Rattle.trick_exec_tic.specs.Steps.{steps_of};
 
 use crate::{Course, Current, Workers};
 use core::mem::replace_with;
@@ -19,8 +19,8 @@ use std::sync::ledger::Ledger;
 use trick_lang::Cells;
 use trick_model::{Accepted, State, laws};
 use trick_outside::{Shelf, Stop};
-use trick_phase::Phases;
-use trick_post::Posts;
+use trick_phase_jobs::Phases;
+use trick_post_work::Posts;
 use trick_queue::{Queues, Steps};
 
 // Runs the due jobs of a tic. The memory alone is taken out of the state for them, and put back.

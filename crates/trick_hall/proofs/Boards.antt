@@ -2,7 +2,7 @@
 use Rattle.std.proofs.Common.{◌≡◌, ◌∙◌, ℕ, Bool, false, Option, Some, None, List, refl, sym, subst}
 use Rattle.std.specs.Option.{IfSome, MatchOption}
 use Rattle.std.specs.Prelude.{IsSome}
-use Rattle.trick_board.specs.Board.{Opened}
+use Rattle.trick_phase_board.specs.Board.{Opened}
 use Rattle.trick_hall.proofs.Entries.{shut_is}
 use Rattle.trick_hall.specs.Answers.{GoesOnIn, IsClosedIn, IsOpenIn}
 use Rattle.trick_hall.specs.HallView.{HallView}
@@ -10,8 +10,8 @@ use Rattle.trick_hall.specs.Histories.{Account, Course, after, has_shut}
 use Rattle.trick_hall.specs.Standing.{IsHallAt, IsOnCourse, StandsAt}
 use Rattle.trick_hall.specs.declared.entry.Entry.{Entry}
 use Rattle.trick_model.specs.declared.plan.Plan.{Plan as PlanValue}
-use Rattle.trick_play.proofs.Plays.{open_played}
-use Rattle.trick_play.specs.Steps.{IsBoardPlayed, IsPlayed}
+use Rattle.trick_phase.proofs.Plays.{open_played}
+use Rattle.trick_phase.specs.Steps.{IsBoardPlayed, IsPlayed}
 
 -- the board of a course
 pub on_course : (plan : PlanValue) (h : Account) (hall : HallView) (c : Course) → IsHallAt plan h hall → h.course ≡ Some c

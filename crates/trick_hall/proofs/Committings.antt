@@ -1,9 +1,9 @@
 -- What a commit answers and adds.
 use Rattle.std.proofs.Common.{◌≡◌, ◌∙◌, ℕ, false, true, Option, Some, List, ◌++◌, refl, sym, subst}
 use Rattle.std.specs.Option.{IfSome, MatchOption, option_map}
-use Rattle.trick_board.specs.Board.{IsBoardOf, stepped, tic_at}
-use Rattle.trick_board.specs.declared.answers.Commit.{Commit as BoardCommit}
-use Rattle.trick_board.specs.declared.answers.Commit.TheVariants as commit
+use Rattle.trick_phase_board.specs.Board.{IsBoardOf, stepped, tic_at}
+use Rattle.trick_phase_board.specs.declared.answers.Commit.{Commit as BoardCommit}
+use Rattle.trick_phase_board.specs.declared.answers.Commit.TheVariants as commit
 use Rattle.trick_eval.specs.Bench.{BenchView, the_job}
 use Rattle.trick_hall.proofs.Boards.{both_open, closed_in, goes_on_in, not_shut_in, same_hall}
 use Rattle.trick_hall.proofs.Entries.{stands_more, stands_same}
@@ -21,8 +21,8 @@ use Rattle.trick_lang.specs.declared.job.JobId.{JobId}
 use Rattle.trick_model.specs.Acceptance.{IsAccepted}
 use Rattle.trick_model.specs.PlanOf.{plan_of}
 use Rattle.trick_model.specs.declared.plan.Plan.{Plan as PlanValue}
-use Rattle.trick_play.proofs.Follows.{Laws, flies_follows, right_tic}
-use Rattle.trick_schedule.specs.declared.step.Step.TheVariants.{Commit as CommitOf}
+use Rattle.trick_phase.proofs.Follows.{Laws, flies_follows, right_tic}
+use Rattle.trick_phase_schedules.specs.declared.step.Step.TheVariants.{Commit as CommitOf}
 use Rattle.trick_turn.specs.Views.{entries_told}
 use Rattle.trick_turn.specs.declared.pass.Pass.{Pass}
 

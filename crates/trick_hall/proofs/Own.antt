@@ -1,9 +1,9 @@
 -- What the chief's own entries say of the history.
 use Rattle.std.proofs.Common.{◌≡◌, ◌∙◌, ℕ, ℤ, Bool, true, false, cond, eqb, eq-eqb, Option, Some, None, List, [], ◌∷◌, ◌++◌, refl, sym, ap, subst, append-nil}
 use Rattle.std.specs.Prelude.{IsSome}
-use Rattle.trick_board.specs.Answers.{IfMemory}
-use Rattle.trick_board.specs.declared.answers.Closed.{Closed}
-use Rattle.trick_board.specs.declared.answers.Closed.TheVariants.{Left, Memory}
+use Rattle.trick_phase_board.specs.Answers.{IfMemory}
+use Rattle.trick_phase_board.specs.declared.answers.Closed.{Closed}
+use Rattle.trick_phase_board.specs.declared.answers.Closed.TheVariants.{Left, Memory}
 use Rattle.trick_hall.specs.Answers.{told_by_close}
 use Rattle.trick_hall.specs.HallView.{HallView}
 use Rattle.trick_hall.specs.Histories.{Account, Course, IsLegal, Opening, after, after_from, fresh, has_shut, seat_of, step, with_step}
@@ -14,8 +14,8 @@ use Rattle.trick_hall.specs.declared.entry.Entry.TheVariants.{Open, Take, Commit
 use Rattle.trick_lang.specs.declared.job.JobId.{JobId}
 use Rattle.trick_model.specs.declared.flags.Flags.{Flags}
 use Rattle.trick_model.specs.declared.plan.Plan.{Plan as PlanValue}
-use Rattle.trick_schedule.specs.declared.step.Step.{Step}
-use Rattle.trick_schedule.specs.declared.step.Step.TheVariants.{Commit as CommitOf, Take as TakeOf}
+use Rattle.trick_phase_schedules.specs.declared.step.Step.{Step}
+use Rattle.trick_phase_schedules.specs.declared.step.Step.TheVariants.{Commit as CommitOf, Take as TakeOf}
 use Rattle.trick_turn.specs.TurnRule.{entries_of}
 use Rattle.trick_turn.specs.Views.{entries_told}
 

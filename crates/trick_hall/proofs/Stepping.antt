@@ -1,20 +1,20 @@
 -- The hall after a take and a commit.
 use Rattle.std.proofs.Common.{◌≡◌, ◌∙◌, Option, Some, None, List, [], ◌∷◌, ◌++◌, refl, sym, ap, subst}
 use Rattle.std.specs.Option.{MatchOption}
-use Rattle.trick_board.specs.Board.{BoardView, IsBoardOf, Opened, stepped, tic_at}
+use Rattle.trick_phase_board.specs.Board.{BoardView, IsBoardOf, Opened, stepped, tic_at}
 use Rattle.trick_hall.specs.HallView.{HallView}
 use Rattle.trick_hall.specs.Histories.{Account, CanGoOn, Course, with_step}
 use Rattle.trick_hall.specs.Standing.{IsHallAt, IsOnCourse}
 use Rattle.trick_model.specs.Acceptance.{IsAccepted}
 use Rattle.trick_model.specs.PlanOf.{plan_of}
 use Rattle.trick_model.specs.declared.plan.Plan.{Plan as PlanValue}
-use Rattle.trick_play.proofs.Follows.{IsTold, Laws}
-use Rattle.trick_play.proofs.Plays.{begun_at, open_played, played_more, told_at}
-use Rattle.trick_play.specs.Steps.{IsBoardPlayed}
-use Rattle.trick_schedule.proofs.Extend.{each_follows}
-use Rattle.trick_schedule.specs.Schedule.{CanFollow}
-use Rattle.trick_schedule.specs.Tics.{tic_of}
-use Rattle.trick_schedule.specs.declared.step.Step.{Step}
+use Rattle.trick_phase.proofs.Follows.{IsTold, Laws}
+use Rattle.trick_phase.proofs.Plays.{begun_at, open_played, played_more, told_at}
+use Rattle.trick_phase.specs.Steps.{IsBoardPlayed}
+use Rattle.trick_phase_schedules.proofs.Extend.{each_follows}
+use Rattle.trick_phase_schedules.specs.Schedule.{CanFollow}
+use Rattle.trick_phase_schedules.specs.Tics.{tic_of}
+use Rattle.trick_phase_schedules.specs.declared.step.Step.{Step}
 
 -- An open board can go on with the step, whatever came before, and has gone on with it.
 pub record Steps (plan : PlanValue) (old new : BoardView) (x : Step) (o : Opened) : Type 0 where

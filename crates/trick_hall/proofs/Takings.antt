@@ -1,9 +1,9 @@
 -- What a take answers and adds.
 use Rattle.std.proofs.Common.{◌≡◌, ◌∙◌, ℕ, true, Option, Some, None, List, ◌++◌, refl, sym, ap, subst}
 use Rattle.std.specs.Option.{IfSome, MatchOption, option_map}
-use Rattle.trick_board.proofs.Calls.{ready_there}
-use Rattle.trick_board.specs.Answers.{IsFilledBy, IsReadyOn}
-use Rattle.trick_board.specs.Board.{IsBoardOf, Opened, stepped, tic_at}
+use Rattle.trick_phase_board.proofs.Calls.{ready_there}
+use Rattle.trick_phase_board.specs.Answers.{IsFilledBy, IsReadyOn}
+use Rattle.trick_phase_board.specs.Board.{IsBoardOf, Opened, stepped, tic_at}
 use Rattle.trick_eval.specs.Bench.{BenchView, IsFilled, the_job}
 use Rattle.trick_hall.proofs.Boards.{both_open, closed_in, goes_on_in, if_open, is_open, not_shut_in, same_hall}
 use Rattle.trick_hall.proofs.Entries.{stands_more, stands_same}
@@ -22,8 +22,8 @@ use Rattle.trick_lang.specs.declared.job.JobId.{JobId}
 use Rattle.trick_model.specs.Acceptance.{IsAccepted}
 use Rattle.trick_model.specs.PlanOf.{plan_of}
 use Rattle.trick_model.specs.declared.plan.Plan.{Plan as PlanValue}
-use Rattle.trick_play.proofs.Follows.{Laws, ready_follows, right_tic}
-use Rattle.trick_schedule.specs.declared.step.Step.TheVariants.{Take as TakeOf}
+use Rattle.trick_phase.proofs.Follows.{Laws, ready_follows, right_tic}
+use Rattle.trick_phase_schedules.specs.declared.step.Step.TheVariants.{Take as TakeOf}
 use Rattle.trick_turn.specs.Views.{entries_told}
 use Rattle.trick_turn.specs.declared.pass.Pass.{Pass}
 

@@ -2,10 +2,10 @@
 use Rattle.std.proofs.Common.{◌≡◌, ◌∙◌, ℕ, ◌<◌, ℤ, true, false, Option, Some, None, List, [], ◌∷◌, ◌++◌, refl, sym, ap, subst}
 use Rattle.std.specs.Option.{IfSome, MatchOption}
 use Rattle.std.specs.Prelude.{IsSome}
-use Rattle.trick_board.specs.Answers.{ComesTo, Counts, IfLeft, IfMemory, IsLeftBy, open_count}
-use Rattle.trick_board.specs.Board.{BoardView, IsBoardOf, IsOpenOf, IsOpenedWith, Opened, next_phase, tic_at}
-use Rattle.trick_board.specs.declared.answers.Closed.{Closed}
-use Rattle.trick_board.specs.declared.answers.Closed.TheVariants.{Left, Memory}
+use Rattle.trick_phase_board.specs.Answers.{ComesTo, Counts, IfLeft, IfMemory, IsLeftBy, open_count}
+use Rattle.trick_phase_board.specs.Board.{BoardView, IsBoardOf, IsOpenOf, IsOpenedWith, Opened, next_phase, tic_at}
+use Rattle.trick_phase_board.specs.declared.answers.Closed.{Closed}
+use Rattle.trick_phase_board.specs.declared.answers.Closed.TheVariants.{Left, Memory}
 use Rattle.trick_hall.proofs.Boards.{on_course, open_in, the_course}
 use Rattle.trick_hall.proofs.Entries.{shut_is, stands_more, stands_same}
 use Rattle.trick_hall.specs.Answers.{AreLeft, ClosesAt, ClosesIn, IfTriedMemory, IsSerial, TriesClose, as_tried, told_by_close}
@@ -24,14 +24,14 @@ use Rattle.trick_model.specs.Running.{After, serial}
 use Rattle.trick_model.specs.Valid.{ids}
 use Rattle.trick_model.specs.declared.flags.Flags.{Flags}
 use Rattle.trick_model.specs.declared.plan.Plan.{Plan as PlanValue}
-use Rattle.trick_play.proofs.Follows.{Laws}
-use Rattle.trick_play.proofs.OneByOne.{same_serial}
-use Rattle.trick_play.proofs.Plays.{all_committed, open_played, schedule_of, told_at}
-use Rattle.trick_play.specs.Steps.{IsBoardPlayed, IsPlayed}
-use Rattle.trick_schedule.specs.Progress.{Progress}
-use Rattle.trick_schedule.specs.Schedule.{IsSchedule}
-use Rattle.trick_schedule.specs.Tics.{due_jobs}
-use Rattle.trick_schedule.specs.declared.step.Step.{Step}
+use Rattle.trick_phase.proofs.Follows.{Laws}
+use Rattle.trick_phase.proofs.OneByOne.{same_serial}
+use Rattle.trick_phase.proofs.Plays.{all_committed, open_played, schedule_of, told_at}
+use Rattle.trick_phase.specs.Steps.{IsBoardPlayed, IsPlayed}
+use Rattle.trick_phase_schedules.specs.Progress.{Progress}
+use Rattle.trick_phase_schedules.specs.Schedule.{IsSchedule}
+use Rattle.trick_phase_schedules.specs.Tics.{due_jobs}
+use Rattle.trick_phase_schedules.specs.declared.step.Step.{Step}
 use Rattle.trick_turn.specs.Views.{entries_told}
 use Rattle.trick_turn.specs.declared.pass.Pass.{Pass}
 

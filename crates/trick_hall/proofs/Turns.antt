@@ -11,7 +11,7 @@ use Rattle.trick_hall.specs.declared.answers.HandCommit.{HandCommit}
 use Rattle.trick_hall.specs.declared.answers.HandTook.{HandTook}
 use Rattle.trick_hall.specs.declared.entry.Entry.{Entry}
 use Rattle.trick_hall.specs.declared.entry.Entry.TheVariants.{Commit, Take}
-use Rattle.trick_board.specs.declared.answers.Closed.{Closed}
+use Rattle.trick_phase_board.specs.declared.answers.Closed.{Closed}
 use Rattle.trick_eval.specs.Bench.{BenchView}
 use Rattle.trick_lang.specs.declared.job.JobId.{JobId}
 use Rattle.trick_model.specs.FaultList.{FaultList}

@@ -1,13 +1,13 @@
 -- What takes, commits and closes answer, by the history that they find.
 use Rattle.std.specs.Option.{option_map}
 use Rattle.std.specs.Prelude.{◌≡◌, ℕ, ◌<◌, ℤ, Bool, true, false, List, Option, Some, None, MatchOption}
-use Rattle.trick_board.specs.Answers.{Commits, IsFilledBy, IsReadyOn, Takes, open_count}
-use Rattle.trick_board.specs.Board.{Opened, tic_at}
-use Rattle.trick_board.specs.declared.answers.Closed.{Closed}
-use Rattle.trick_board.specs.declared.answers.Closed.TheVariants as closed
-use Rattle.trick_board.specs.declared.answers.Commit.{Commit as BoardCommit}
-use Rattle.trick_board.specs.declared.answers.Commit.TheVariants as commit
-use Rattle.trick_board.specs.declared.answers.Took.TheVariants as took
+use Rattle.trick_phase_board.specs.Answers.{Commits, IsFilledBy, IsReadyOn, Takes, open_count}
+use Rattle.trick_phase_board.specs.Board.{Opened, tic_at}
+use Rattle.trick_phase_board.specs.declared.answers.Closed.{Closed}
+use Rattle.trick_phase_board.specs.declared.answers.Closed.TheVariants as closed
+use Rattle.trick_phase_board.specs.declared.answers.Commit.{Commit as BoardCommit}
+use Rattle.trick_phase_board.specs.declared.answers.Commit.TheVariants as commit
+use Rattle.trick_phase_board.specs.declared.answers.Took.TheVariants as took
 use Rattle.trick_eval.specs.Bench.{BenchView, the_job}
 use Rattle.trick_hall.specs.Histories.{IsLegal, Opening, after, fresh, has_shut}
 use Rattle.trick_hall.specs.Telling.{HasAdded, HasTold}
@@ -27,8 +27,8 @@ use Rattle.trick_model.specs.FaultList.{FaultList, with_faults}
 use Rattle.trick_model.specs.PlanOf.{plan_of}
 use Rattle.trick_model.specs.Running.{serial}
 use Rattle.trick_model.specs.declared.plan.Plan.{Plan as PlanValue}
-use Rattle.trick_play.specs.Steps.{IsPlayed}
-use Rattle.trick_schedule.specs.Tics.{due_jobs}
+use Rattle.trick_phase.specs.Steps.{IsPlayed}
+use Rattle.trick_phase_schedules.specs.Tics.{due_jobs}
 use Rattle.trick_turn.specs.Passes.{Misses, number_of, seen}
 use Rattle.trick_turn.specs.declared.pass.Pass.{Pass}
 

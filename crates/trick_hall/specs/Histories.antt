@@ -1,14 +1,14 @@
 -- What a history leaves, and which histories there are.
 use Rattle.std.specs.Prelude.{◌≡◌, ℕ, ℤ, Bool, true, false, List, [], ◌∷◌, ◌++◌, Option, Some, None, MatchOption}
-use Rattle.trick_board.specs.Board.{next_phase}
+use Rattle.trick_phase_board.specs.Board.{next_phase}
 use Rattle.trick_hall.specs.declared.entry.Entry.{Entry}
 use Rattle.trick_hall.specs.declared.entry.Entry.TheVariants.{Open, Take, Commit, Close, Shut}
 use Rattle.trick_model.specs.declared.flags.Flags.{Flags}
 use Rattle.trick_model.specs.declared.plan.Plan.{Plan as PlanValue}
-use Rattle.trick_schedule.specs.Schedule.{CanFollow, IsSchedule}
-use Rattle.trick_schedule.specs.Tics.{Tic, tic_of}
-use Rattle.trick_schedule.specs.declared.step.Step.{Step}
-use Rattle.trick_schedule.specs.declared.step.Step.TheVariants.{Commit as CommitOf, Take as TakeOf}
+use Rattle.trick_phase_schedules.specs.Schedule.{CanFollow, IsSchedule}
+use Rattle.trick_phase_schedules.specs.Tics.{Tic, tic_of}
+use Rattle.trick_phase_schedules.specs.declared.step.Step.{Step}
+use Rattle.trick_phase_schedules.specs.declared.step.Step.TheVariants.{Commit as CommitOf, Take as TakeOf}
 
 -- the number of the pass that an entry names
 abbrev pub seat_of : Entry → ℕ

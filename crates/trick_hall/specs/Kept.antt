@@ -1,9 +1,9 @@
 -- What takes and commits answer, by what lies behind the turn before and after them.
 use Rattle.std.specs.Prelude.{◌≡◌, ℕ, true, false, MatchOption, None}
-use Rattle.trick_board.specs.Answers.{IsReadyOn, Takes}
-use Rattle.trick_board.specs.Board.{Opened, tic_at}
-use Rattle.trick_board.specs.declared.answers.Commit.TheVariants as commit
-use Rattle.trick_board.specs.declared.answers.Took.TheVariants as took
+use Rattle.trick_phase_board.specs.Answers.{IsReadyOn, Takes}
+use Rattle.trick_phase_board.specs.Board.{Opened, tic_at}
+use Rattle.trick_phase_board.specs.declared.answers.Commit.TheVariants as commit
+use Rattle.trick_phase_board.specs.declared.answers.Took.TheVariants as took
 use Rattle.trick_eval.specs.Bench.{BenchView, the_job}
 use Rattle.trick_hall.specs.Answers.{MayAnswer, emptied}
 use Rattle.trick_hall.specs.HallView.{HallView}

@@ -1,6 +1,6 @@
 -- What the chief's own entries say of the tic that is open.
 use Rattle.std.specs.Prelude.{ℕ, ℤ, List, [], ◌∷◌, Option, Some, None}
-use Rattle.trick_board.specs.Board.{Opened}
+use Rattle.trick_phase_board.specs.Board.{Opened}
 use Rattle.trick_hall.specs.HallView.{HallView}
 use Rattle.trick_hall.specs.Histories.{Opening}
 use Rattle.trick_hall.specs.declared.entry.Entry.{Entry}

@@ -1,11 +1,11 @@
 -- When what lies behind the turn is in the state that a history leaves.
 use Rattle.std.specs.Prelude.{◌≡◌, List, Option, Some, None}
-use Rattle.trick_board.specs.Board.{BoardView, IsBoardOf}
+use Rattle.trick_phase_board.specs.Board.{BoardView, IsBoardOf}
 use Rattle.trick_hall.specs.HallView.{HallView}
 use Rattle.trick_hall.specs.Histories.{Account, Course, IsLegal, after, fresh}
 use Rattle.trick_hall.specs.declared.entry.Entry.{Entry}
 use Rattle.trick_model.specs.declared.plan.Plan.{Plan as PlanValue}
-use Rattle.trick_play.specs.Steps.{IsBoardPlayed}
+use Rattle.trick_phase.specs.Steps.{IsBoardPlayed}
 
 -- the board is closed, or has come as far as the tic that is open
 abbrev pub IsOnCourse : PlanValue → Option Course → BoardView → Type 0

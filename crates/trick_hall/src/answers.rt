@@ -2,7 +2,7 @@
 ghost use Rattle.std.specs.Prelude.{◌≡◌};
 ghost use Rattle.trick_hall.specs.Answers.{as_tried, gives_memory, job_committed, job_taken};
 
-use trick_board::Closed;
+use trick_phase_board::Closed;
 use trick_lang::{Cell, JobId};
 
 /// What a hand's take comes to.

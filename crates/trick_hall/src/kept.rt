@@ -1,8 +1,8 @@
 //! What lies behind the turn.
 ghost use Rattle.std.specs.Option.{IfSome};
 ghost use Rattle.std.specs.Prelude.{◌≡◌, ◌++◌, ◌∷◌, [], ℕ, IfOk, IsSome, List, None, Some, false};
-ghost use Rattle.trick_board.specs.Answers.{IfMemory, IsFilledBy};
-ghost use Rattle.trick_board.specs.Board.{IsBoardOf, stepped};
+ghost use Rattle.trick_phase_board.specs.Answers.{IfMemory, IsFilledBy};
+ghost use Rattle.trick_phase_board.specs.Board.{IsBoardOf, stepped};
 ghost use Rattle.trick_eval.specs.Bench.{IsEvaluated, IsFilled, IsFor as IsBenchFor, the_job};
 ghost use Rattle.trick_hall.specs.Answers.{ClosesIn, CommitsIn, TakesIn, told_by_close, told_by_commit, told_by_take};
 ghost use Rattle.trick_hall.specs.Histories.{Course, after, has_shut};
@@ -10,20 +10,20 @@ ghost use Rattle.trick_hall.specs.Kept.{CommitsTo, TakesFrom};
 ghost use Rattle.trick_hall.specs.Openings.{open_entry};
 ghost use Rattle.trick_hall.specs.Standing.{IsStanding, StandsAt};
 ghost use Rattle.trick_hall.specs.declared.entry.Entry.{Entry as EntryValue};
-ghost use Rattle.trick_job.specs.Belongs.{IsMemoryOf};
+ghost use Rattle.trick_phase_jobs.specs.Belongs.{IsMemoryOf};
 ghost use Rattle.trick_lang.specs.Effect.{reads, scalars_of};
 ghost use Rattle.trick_model.specs.Order.{jobs_at};
 ghost use Rattle.trick_model.specs.PlanOf.{plan_of};
 ghost use Rattle.trick_model.specs.Valid.{ids};
 ghost use Rattle.trick_model.specs.declared.plan.Plan.{Plan as PlanValue};
-ghost use Rattle.trick_schedule.specs.declared.step.Step.TheVariants.{Commit as CommitOf, Take as TakeOf};
+ghost use Rattle.trick_phase_schedules.specs.declared.step.Step.TheVariants.{Commit as CommitOf, Take as TakeOf};
 ghost use Rattle.trick_turn.specs.Views.{entries_told};
 
 use crate::answers::{HandCommit, HandTook};
 use crate::entry::Entry;
 use std::alloc::{AllocError, Global};
 use std::marker::{Model, PhantomData};
-use trick_board::{Board, Closed, Commit, Took};
+use trick_phase_board::{Board, Closed, Commit, Took};
 use trick_eval::Bench;
 use trick_lang::laws::{frame_law, write_law};
 use trick_lang::{Cells, JobId};

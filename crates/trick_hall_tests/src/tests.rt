@@ -3,7 +3,7 @@ ghost use Rattle.std.specs.Prelude.{◌≡◌, IfOk, IsSome, None, Some, false};
 ghost use Rattle.trick_eval.specs.Bench.{IsFor as IsBenchFor};
 ghost use Rattle.trick_hall.specs.Histories.{has_shut};
 ghost use Rattle.trick_hall.specs.Openings.{opened_at};
-ghost use Rattle.trick_job.specs.Belongs.{IsMemoryOf};
+ghost use Rattle.trick_phase_jobs.specs.Belongs.{IsMemoryOf};
 ghost use Rattle.trick_queue.specs.Queue.{IsFor as IsQueueFor};
 ghost use Rattle.trick_turn.specs.Passes.{own};
 
@@ -14,13 +14,13 @@ use std::process::Abort;
 use std::sync::Wait;
 use std::test::Fail;
 use std::thread::Threads;
-use trick_board::Closed;
+use trick_phase_board::Closed;
 use trick_hall::{Chief, Hall, Hand};
 use trick_lang::{Cell, Cells};
 use trick_memory::Memory;
 use trick_model::{Accepted, Faults, Planned};
 use trick_queue::Queues;
-use trick_ready::ready;
+use trick_top_texts::ready;
 
 /// Three jobs on three threads. That of thread 2 reads what that of thread 1 writes.
 const S_DEFINE: &str = "class A : public Trick::SimObject {

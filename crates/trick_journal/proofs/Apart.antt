@@ -8,9 +8,9 @@ use Rattle.trick_journal.specs.Refusals.{InPlace, IsOpen, IsOutOfPlace, IsRefuse
 use Rattle.trick_journal.specs.Rows.{Row, Says, begin, finish, note, title}
 use Rattle.trick_journal.specs.declared.journal_fault.JournalFault.TheVariants as fault
 use Rattle.trick_journal.specs.declared.journal_fault.JournalFault.{JournalFault}
-use Rattle.trick_journal_facts.proofs.Next.{IsNext, behind_entries, next, rest_of_title}
-use Rattle.trick_journal_facts.proofs.OneLine.{one_line, same_text}
-use Rattle.trick_journal_facts.specs.Facts.{RefusedIsNone}
+use Rattle.trick_journal.proofs.Next.{IsNext, behind_entries, next, rest_of_title}
+use Rattle.trick_journal.proofs.OneLine.{one_line, same_text}
+use Rattle.trick_journal.specs.Facts.{RefusedIsNone}
 use Rattle.trick_model.specs.Journal.{Noted, last_line, noted_lines}
 use Rattle.trick_model.specs.JournalText.{IsJournal}
 use Rattle.trick_model.specs.Plan.{Plan}

@@ -14,8 +14,8 @@ use Rattle.trick_journal.proofs.Texts.{end_fits, note_fits}
 use Rattle.trick_journal.specs.Codes.{turn_code}
 use Rattle.trick_journal.specs.Fronts.{Front, IsFront, ended, front_text, going, is_in_place, joins_with, nothing, publishes_right, rises_with, titled}
 use Rattle.trick_journal.specs.Rows.{Row, begin, finish, is_row, note, row_text, title}
-use Rattle.trick_journal_facts.proofs.Front.{joined_front, publish_front, range_front, rising_front, within_front}
-use Rattle.trick_journal_facts.proofs.OneLine.{end_row, note_row, right_is, same_row}
+use Rattle.trick_journal.proofs.Front.{joined_front, publish_front, range_front, rising_front, within_front}
+use Rattle.trick_journal.proofs.OneLine.{end_row, note_row, right_is, same_row}
 use Rattle.trick_model.specs.Journal.{Noted, are_in_range, are_joined, are_rising, are_within, entry_line, first_lines, is_entry, last_line, noted_lines}
 use Rattle.trick_model.specs.JournalText.{IsJournal, all_may_publish, may_publish}
 use Rattle.trick_model.specs.Plan.{Plan}

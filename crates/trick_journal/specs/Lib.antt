@@ -12,3 +12,5 @@ pub mod Refusals
 pub mod Rules
 -- laws of journals
 pub mod Laws
+-- Texts that are refused as journals, and texts that are journals.
+pub mod Facts

@@ -10,4 +10,4 @@ mod packing;
 
 pub use list::listing;
 pub use memory::Memory;
-pub use trick_declare::{DeclareFault, declare};
+pub use trick_plan_variables::{DeclareFault, declare};

@@ -16,11 +16,11 @@ use Rattle.trick_model.specs.declared.taken.Taken.{Taken}
 use Rattle.trick_model.specs.declared.thread.Process.{Process}
 use Rattle.trick_model.specs.declared.thread.Process.TheVariants as process
 use Rattle.trick_model.specs.declared.thread.Thread.{Thread}
-use Rattle.trick_publications.proofs.Jobs.{agree_jobs, round_reached, work_jobs}
-use Rattle.trick_publications.proofs.Memories.{agree_reached, agree_refl, agree_replaced, agree_spread, one_length, set_lengths, set_one, set_pairs}
-use Rattle.trick_publications.proofs.States.{AreAlike, AreRecordsAlike, AreTakenAt, Keeps, Suits, Work, alike_refl, alike_trans, both_threads, choose, one_threads, suits_own, with_work, worked}
-use Rattle.trick_publications.proofs.Steady.{IsSteady}
-use Rattle.trick_publications.specs.Publications.{AgreeOutside}
+use Rattle.trick_model_publications.proofs.Jobs.{agree_jobs, round_reached, work_jobs}
+use Rattle.trick_model_publications.proofs.Memories.{agree_reached, agree_refl, agree_replaced, agree_spread, one_length, set_lengths, set_one, set_pairs}
+use Rattle.trick_model_publications.proofs.States.{AreAlike, AreRecordsAlike, AreTakenAt, Keeps, Suits, Work, alike_refl, alike_trans, both_threads, choose, one_threads, suits_own, with_work, worked}
+use Rattle.trick_model_publications.proofs.Steady.{IsSteady}
+use Rattle.trick_model_publications.specs.Publications.{AgreeOutside}
 
 -- ---- must-finish threads
 

@@ -24,7 +24,7 @@ use Rattle.trick_model.specs.declared.entry.Entry.TheVariants.{Publish}
 use Rattle.trick_model.specs.declared.group.Group.{Group}
 use Rattle.trick_model.specs.declared.thread.Process.TheVariants as process
 use Rattle.trick_model.specs.declared.thread.Thread.{Thread}
-use Rattle.trick_publications.specs.Publications.{DifferInPublications}
+use Rattle.trick_model_publications.specs.Publications.{DifferInPublications}
 
 -- ---- a plan with an asynchronous thread
 

@@ -15,10 +15,10 @@ use Rattle.trick_model.specs.declared.flags.Flags.{Flags}
 use Rattle.trick_model.specs.declared.thread.Process.{Process}
 use Rattle.trick_model.specs.declared.thread.Process.TheVariants as process
 use Rattle.trick_model.specs.declared.thread.Thread.{Thread}
-use Rattle.trick_publications.proofs.Members.{Every, filter_every, flat_every, jobs_every, order_every}
-use Rattle.trick_publications.proofs.Memories.{over_length, over_other, over_same}
-use Rattle.trick_publications.proofs.Steady.{IsSteady}
-use Rattle.trick_publications.specs.Publications.{AgreeOutside}
+use Rattle.trick_model_publications.proofs.Members.{Every, filter_every, flat_every, jobs_every, order_every}
+use Rattle.trick_model_publications.proofs.Memories.{over_length, over_other, over_same}
+use Rattle.trick_model_publications.proofs.Steady.{IsSteady}
+use Rattle.trick_model_publications.specs.Publications.{AgreeOutside}
 
 -- ---- which jobs run
 

@@ -8,8 +8,8 @@ use Rattle.trick_model.specs.Turn.{is_frozen}
 use Rattle.trick_model.specs.declared.entry.Entry.{Entry}
 use Rattle.trick_model.specs.declared.entry.Entry.TheVariants.{Join, Said, Leave, Publish}
 use Rattle.trick_model.specs.declared.mode.Mode.{Mode}
-use Rattle.trick_publications.proofs.Runs.{left_same}
-use Rattle.trick_publications.specs.Publications.{DifferInPublications, JournalsDifferInPublications, lines_of}
+use Rattle.trick_model_publications.proofs.Runs.{left_same}
+use Rattle.trick_model_publications.specs.Publications.{DifferInPublications, JournalsDifferInPublications, lines_of}
 
 -- the joins, lines and leaves of a journal
 abbrev lines_in : List Noted → List Noted

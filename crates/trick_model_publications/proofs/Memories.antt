@@ -7,7 +7,7 @@ use Rattle.trick_model.specs.Access.{IsReached}
 use Rattle.trick_model.specs.Beside.{replaced, spread}
 use Rattle.trick_model.specs.Plan.{Plan}
 use Rattle.trick_model.specs.State.{number_at}
-use Rattle.trick_publications.specs.Publications.{AgreeOutside}
+use Rattle.trick_model_publications.specs.Publications.{AgreeOutside}
 
 -- ---- lists of one length, place by place
 

@@ -17,11 +17,11 @@ use Rattle.trick_model.specs.declared.entry.Entry.{Entry}
 use Rattle.trick_model.specs.declared.entry.Entry.TheVariants.{Join, Said, Leave, Publish}
 use Rattle.trick_model.specs.declared.group.Group.{Group}
 use Rattle.trick_model.specs.declared.mode.Mode.TheVariants as mode
-use Rattle.trick_publications.proofs.Memories.{none_some, one_less, some_none}
-use Rattle.trick_publications.proofs.States.{AreAlike, Keeps, alike_refl, both, choose, lift, mode_keeps, with_work, worked}
-use Rattle.trick_publications.proofs.Steady.{IsSteady}
-use Rattle.trick_publications.proofs.Turns.{AreWorldsAlike, IsLogName, turn_alike}
-use Rattle.trick_publications.specs.Publications.{AgreeOutside, DifferInPublications, EndAlike, IsOneLog, lines_of, without_work}
+use Rattle.trick_model_publications.proofs.Memories.{none_some, one_less, some_none}
+use Rattle.trick_model_publications.proofs.States.{AreAlike, Keeps, alike_refl, both, choose, lift, mode_keeps, with_work, worked}
+use Rattle.trick_model_publications.proofs.Steady.{IsSteady}
+use Rattle.trick_model_publications.proofs.Turns.{AreWorldsAlike, IsLogName, turn_alike}
+use Rattle.trick_model_publications.specs.Publications.{AgreeOutside, DifferInPublications, EndAlike, IsOneLog, lines_of, without_work}
 
 -- ---- lines that are left
 

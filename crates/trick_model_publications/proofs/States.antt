@@ -17,11 +17,11 @@ use Rattle.trick_model.specs.declared.mode.Mode.TheVariants as mode
 use Rattle.trick_model.specs.declared.taken.Taken.{Taken}
 use Rattle.trick_model.specs.declared.thread.Process.TheVariants as process
 use Rattle.trick_model.specs.declared.thread.Thread.{Thread}
-use Rattle.trick_publications.proofs.Jobs.{IsJob, agree_jobs, class_jobs}
-use Rattle.trick_publications.proofs.Members.{Every}
-use Rattle.trick_publications.proofs.Memories.{Pairs, agree_refl, agree_sym, agree_trans}
-use Rattle.trick_publications.proofs.Steady.{IsSteady}
-use Rattle.trick_publications.specs.Publications.{AgreeOutside}
+use Rattle.trick_model_publications.proofs.Jobs.{IsJob, agree_jobs, class_jobs}
+use Rattle.trick_model_publications.proofs.Members.{Every}
+use Rattle.trick_model_publications.proofs.Memories.{Pairs, agree_refl, agree_sym, agree_trans}
+use Rattle.trick_model_publications.proofs.Steady.{IsSteady}
+use Rattle.trick_model_publications.specs.Publications.{AgreeOutside}
 
 -- ---- what may differ
 

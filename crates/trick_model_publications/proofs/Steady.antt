@@ -27,8 +27,8 @@ use Rattle.trick_model.specs.declared.event.Event.{Event as EventValue}
 use Rattle.trick_model.specs.declared.group.Group.{Group}
 use Rattle.trick_model.specs.declared.plan.Plan.{Plan as PlanValue}
 use Rattle.trick_model.specs.declared.thread.Thread.{Thread}
-use Rattle.trick_publications.proofs.Members.{Every, every_of_all, process_at}
-use Rattle.trick_publications.specs.Publications.{AgreeOutside}
+use Rattle.trick_model_publications.proofs.Members.{Every, every_of_all, process_at}
+use Rattle.trick_model_publications.specs.Publications.{AgreeOutside}
 
 -- no cell of the group is reached
 abbrev pub IsClean : Plan → Group → Type 0

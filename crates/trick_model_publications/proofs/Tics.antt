@@ -17,13 +17,13 @@ use Rattle.trick_model.specs.declared.deed.Deed.{Deed}
 use Rattle.trick_model.specs.declared.deed.Deed.TheVariants.{SetCell, SetJob, Freeze, Stop as StopRun, Checkpoint, SetGroup, SetEvent}
 use Rattle.trick_model.specs.declared.group.Group.{Group}
 use Rattle.trick_model.specs.declared.read_at.ReadAt.{ReadAt}
-use Rattle.trick_publications.proofs.Beside.{must_alike}
-use Rattle.trick_publications.proofs.Jobs.{due_jobs}
-use Rattle.trick_publications.proofs.Members.{Every}
-use Rattle.trick_publications.proofs.Memories.{agree_set}
-use Rattle.trick_publications.proofs.States.{AreAlike, Keeps, Suits, Work, both, lift, run_alike, worked}
-use Rattle.trick_publications.proofs.Steady.{IsClean, IsDecided, IsSteady}
-use Rattle.trick_publications.specs.Publications.{AgreeOutside}
+use Rattle.trick_model_publications.proofs.Beside.{must_alike}
+use Rattle.trick_model_publications.proofs.Jobs.{due_jobs}
+use Rattle.trick_model_publications.proofs.Members.{Every}
+use Rattle.trick_model_publications.proofs.Memories.{agree_set}
+use Rattle.trick_model_publications.proofs.States.{AreAlike, Keeps, Suits, Work, both, lift, run_alike, worked}
+use Rattle.trick_model_publications.proofs.Steady.{IsClean, IsDecided, IsSteady}
+use Rattle.trick_model_publications.specs.Publications.{AgreeOutside}
 
 -- States in a turn are alike, and the same was asked for.
 pub record AreAskingAlike (p : Plan) (a b : Asking) : Type 0 where

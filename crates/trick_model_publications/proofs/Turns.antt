@@ -19,11 +19,11 @@ use Rattle.trick_model.specs.declared.deed.Deed.TheVariants.{SetCell, SetJob, Fr
 use Rattle.trick_model.specs.declared.entry.Entry.{Entry}
 use Rattle.trick_model.specs.declared.entry.Entry.TheVariants.{Join, Said, Leave, Publish}
 use Rattle.trick_model.specs.declared.session.Session.{Session}
-use Rattle.trick_publications.proofs.Beside.{publications_quiet, rounds_quiet}
-use Rattle.trick_publications.proofs.States.{AreAlike, Keeps, alike_sym, alike_trans, both, class_keeps, enter_keeps, leave_keeps, lift}
-use Rattle.trick_publications.proofs.Steady.{IsSteady}
-use Rattle.trick_publications.proofs.Tics.{AreAskingAlike, AreTicksAlike, deed_alike, frame_alike, with_state}
-use Rattle.trick_publications.specs.Publications.{lines_of}
+use Rattle.trick_model_publications.proofs.Beside.{publications_quiet, rounds_quiet}
+use Rattle.trick_model_publications.proofs.States.{AreAlike, Keeps, alike_sym, alike_trans, both, class_keeps, enter_keeps, leave_keeps, lift}
+use Rattle.trick_model_publications.proofs.Steady.{IsSteady}
+use Rattle.trick_model_publications.proofs.Tics.{AreAskingAlike, AreTicksAlike, deed_alike, frame_alike, with_state}
+use Rattle.trick_model_publications.specs.Publications.{lines_of}
 
 -- Worlds have alike states and the same sessions.
 pub record AreWorldsAlike (p : Plan) (w u : World) : Type 0 where

@@ -1,7 +1,7 @@
 //! The law of publications, for every accepted plan, state and journal. A function that calls it may rest
 //! on what it says; the call itself does nothing.
 
-ghost use Rattle.trick_publications.specs.Publications.{JournalsEndAlike, PublicationsKeepFits, PublicationsStayInReach};
+ghost use Rattle.trick_model_publications.specs.Publications.{JournalsEndAlike, PublicationsKeepFits, PublicationsStayInReach};
 
 /// Runs of one state under lists of entries that differ in publications alone have as many turns, write the
 /// same logs, and end with the same state outside what asynchronous work reaches. Where one is a whole run,

@@ -3,7 +3,7 @@ use Rattle.std.proofs.Common.{◌≡◌, ◌∙◌, ℕ, List, [], ◌∷◌, �
 use Rattle.std.specs.Prelude.{◌||◌, IsTrue, Option}
 use Rattle.trick_base.specs.Content.{content, same_name, IsKept}
 use Rattle.trick_base.specs.Files.{Write, Create, Append}
-use Rattle.trick_remainder.specs.Remainder.{added, is_made}
+use Rattle.trick_model_remainder.specs.Remainder.{added, is_made}
 
 -- ---- one call after another
 

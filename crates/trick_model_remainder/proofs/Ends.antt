@@ -17,7 +17,7 @@ use Rattle.trick_model.specs.State.{State}
 use Rattle.trick_model.specs.Turn.{file_writes}
 use Rattle.trick_model.specs.Valid.{all_differ, group_names}
 use Rattle.trick_model.specs.declared.group.Group.{Group}
-use Rattle.trick_remainder.proofs.Turns.{IsNoCheckpoint}
+use Rattle.trick_model_remainder.proofs.Turns.{IsNoCheckpoint}
 
 -- ---- names
 

@@ -6,8 +6,8 @@ use Rattle.std.specs.List.{list_any}
 use Rattle.std.specs.Prelude.{◌||◌, IsTrue, nat_le}
 use Rattle.trick_base.proofs.Numbers.{zero_at_most}
 use Rattle.trick_base.specs.Time.{tic_limit}
-use Rattle.trick_lasting.proofs.Rising.{turn_rises, turn_stays}
-use Rattle.trick_lasting.specs.Lasting.{EveryJournalLasts, LastingFits, StatesHaveOwnJournals}
+use Rattle.trick_model_remainder.proofs.Rising.{turn_rises, turn_stays}
+use Rattle.trick_model_remainder.specs.Lasting.{EveryJournalLasts, LastingFits, StatesHaveOwnJournals}
 use Rattle.trick_model.specs.Beside.{is_in_flight}
 use Rattle.trick_model.specs.Journal.{is_of_session}
 use Rattle.trick_model.specs.Laws.{KeepsValidity, PlansAreSound}

@@ -14,8 +14,8 @@ use Rattle.trick_model.specs.State.{State, World}
 use Rattle.trick_model.specs.Turn.{is_frozen, turn}
 use Rattle.trick_model.specs.declared.entry.Entry.{Entry}
 use Rattle.trick_model.specs.declared.entry.Entry.TheVariants.{Join}
-use Rattle.trick_remainder.proofs.Contents.{added_append}
-use Rattle.trick_remainder.specs.Remainder.{added}
+use Rattle.trick_model_remainder.proofs.Contents.{added_append}
+use Rattle.trick_model_remainder.specs.Remainder.{added}
 
 -- the joins of sessions
 abbrev pub joins_of : List ℕ → List Entry

@@ -10,3 +10,7 @@ pub mod Ends
 pub mod Joins
 -- The files of the whole run, and those of the run that goes on.
 pub mod Remains
+-- In a run frame the tic rises.
+pub mod Rising
+-- A run under a journal, turn after turn.
+pub mod Going

@@ -8,7 +8,7 @@ use Rattle.trick_model.specs.Run.{goes_on, has_session_entry, is_over, is_shut}
 use Rattle.trick_model.specs.State.{World}
 use Rattle.trick_model.specs.Turn.{is_frozen}
 use Rattle.trick_model.specs.declared.entry.Entry.{Entry}
-use Rattle.trick_remainder.specs.Remainder.{early_lists, late_lists}
+use Rattle.trick_model_remainder.specs.Remainder.{early_lists, late_lists}
 
 next_turn : (turn a : ℕ) → turn + suc a ≡ (turn + 1) + a
 next_turn turn a = omega arith

@@ -14,12 +14,12 @@ use Rattle.trick_model.specs.Run.{Fits, final, is_over, lists_of, opened, shut}
 use Rattle.trick_model.specs.State.{State}
 use Rattle.trick_model.specs.declared.entry.Entry.{Entry}
 use Rattle.trick_model.specs.declared.group.Group.{Group}
-use Rattle.trick_remainder.proofs.Contents.{kept_adds, made_forgets}
-use Rattle.trick_remainder.proofs.Ends.{IsBegun, end_faults, end_final, end_journal, end_log, journal_is_no_checkpoint, log_is_no_checkpoint, log_is_no_journal, starts_journal, starts_logs}
-use Rattle.trick_remainder.proofs.Joins.{are_joined, joins_are_lines, joins_leave, lines_for}
-use Rattle.trick_remainder.proofs.Lists.{cut, joins_came, joins_come}
-use Rattle.trick_remainder.proofs.Turns.{turns_kept}
-use Rattle.trick_remainder.specs.Remainder.{IsJournalRest, IsLogRest, RemaindersAreWritten, added, early_lists, early_writes, late_lists, late_writes, lists_after, resumed_file, state_at, whole_file}
+use Rattle.trick_model_remainder.proofs.Contents.{kept_adds, made_forgets}
+use Rattle.trick_model_remainder.proofs.Ends.{IsBegun, end_faults, end_final, end_journal, end_log, journal_is_no_checkpoint, log_is_no_checkpoint, log_is_no_journal, starts_journal, starts_logs}
+use Rattle.trick_model_remainder.proofs.Joins.{are_joined, joins_are_lines, joins_leave, lines_for}
+use Rattle.trick_model_remainder.proofs.Lists.{cut, joins_came, joins_come}
+use Rattle.trick_model_remainder.proofs.Turns.{turns_kept}
+use Rattle.trick_model_remainder.specs.Remainder.{IsJournalRest, IsLogRest, RemaindersAreWritten, added, early_lists, early_writes, late_lists, late_writes, lists_after, resumed_file, state_at, whole_file}
 
 -- A file after writes in four parts, one after another.
 four : (name : List ℕ) (one two three last : List Write) (before : Option (List ℕ))

@@ -16,7 +16,7 @@ use Rattle.trick_model.specs.Time.{tics_left}
 use Rattle.trick_model.specs.Turn.{begun, checkpoint_jobs, checkpoint_name, checkpoint_writes, counted, framed, heard, publish_all, rounds, runs, turn}
 use Rattle.trick_model.specs.declared.entry.Entry.{Entry}
 use Rattle.trick_model.specs.declared.group.Group.{Group}
-use Rattle.trick_remainder.proofs.Contents.{kept_append}
+use Rattle.trick_model_remainder.proofs.Contents.{kept_append}
 
 -- A name is that of no checkpoint of a turn.
 abbrev pub IsNoCheckpoint : List ℕ → Type 0

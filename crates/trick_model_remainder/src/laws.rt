@@ -1,7 +1,18 @@
-//! Laws of runs under journals. A function that calls one of them may rest on what it says; the call itself does
-//! nothing.
+//! The law of continuation, for every plan, state and journal. A function that calls it may rest on what
+//! it says; the call itself does nothing.
 
-ghost use Rattle.trick_lasting.specs.Lasting.{EveryJournalLasts, LastingFits, StatesHaveOwnJournals};
+ghost use Rattle.trick_model_remainder.specs.Lasting.{EveryJournalLasts, LastingFits, StatesHaveOwnJournals};
+ghost use Rattle.trick_model_remainder.specs.Remainder.{RemaindersAreWritten};
+
+/// A run that goes on from the state before a turn of another run, under the same journal, is a whole run.
+/// It ends as the other, and writes the remainder of its files.
+pub fn remainders_are_written()
+    ensures { RemaindersAreWritten }
+{
+    trick_model::laws::runs_continue();
+    trick_model::laws::joins_are_noted();
+    trick_model::laws::sessions_do_not_matter();
+}
 
 /// The lists that the turns of a run under a journal were given are those of a whole run, which comes to the same end.
 pub fn lists_of_runs_fit()

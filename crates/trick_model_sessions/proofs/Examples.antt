@@ -1,10 +1,10 @@
 -- Two turns of the same lines, and a session that leaves.
 use Rattle.std.proofs.Common.{List, [], ◌∷◌, refl}
 use Rattle.std.specs.Prelude.{codes}
-use Rattle.trick_line_facts.proofs.Files.{do_the_same}
-use Rattle.trick_line_facts.proofs.Silence.{leaving}
-use Rattle.trick_line_facts.specs.Lines.{TurnsDoSame}
-use Rattle.trick_line_facts.specs.Silence.{IsSilent}
+use Rattle.trick_model_sessions.proofs.Files.{do_the_same}
+use Rattle.trick_model_sessions.proofs.Silence.{leaving}
+use Rattle.trick_model_sessions.specs.Lines.{TurnsDoSame}
+use Rattle.trick_model_sessions.specs.Silence.{IsSilent}
 use Rattle.trick_model.specs.Plan.{Plan}
 use Rattle.trick_model.specs.Run.{after_turns, opened}
 use Rattle.trick_model.specs.State.{State, World}

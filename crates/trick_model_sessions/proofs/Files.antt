@@ -4,8 +4,8 @@ use Rattle.std.specs.Prelude.{Option, filter}
 use Rattle.trick_base.proofs.ContentLemmas.{content-append}
 use Rattle.trick_base.specs.Content.{content, same_name}
 use Rattle.trick_base.specs.Files.{Write}
-use Rattle.trick_line_facts.proofs.Lines.{rows_same, states_same}
-use Rattle.trick_line_facts.specs.Lines.{SameLinesDoTheSame, SameLinesWriteTheSame, rows_and_checkpoints}
+use Rattle.trick_model_sessions.proofs.Lines.{rows_same, states_same}
+use Rattle.trick_model_sessions.specs.Lines.{SameLinesDoTheSame, SameLinesWriteTheSame, rows_and_checkpoints}
 use Rattle.trick_model.specs.Files.{end_writes, journal_name, note, start_writes, turn_writes, turns_writes}
 use Rattle.trick_model.specs.Journal.{entry_lines, is_of_session}
 use Rattle.trick_model.specs.Plan.{Plan}

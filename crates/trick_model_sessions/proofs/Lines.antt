@@ -2,7 +2,7 @@
 use Rattle.std.proofs.Common.{◌≡◌, ◌∙◌, ℕ, nat_lt, List, [], ◌∷◌, ◌++◌, length, Bool, true, false, Option, Some, None, ap, refl, sym}
 use Rattle.trick_base.specs.Files.{Write}
 use Rattle.trick_lang.specs.declared.class.Class.TheVariants as class
-use Rattle.trick_line_facts.specs.Lines.{AllApplySame, ApplySame, line_texts, rows_and_checkpoints, threads_in}
+use Rattle.trick_model_sessions.specs.Lines.{AllApplySame, ApplySame, line_texts, rows_and_checkpoints, threads_in}
 use Rattle.trick_model.specs.Beside.{publish_round}
 use Rattle.trick_model.specs.Events.{Asking, names_of}
 use Rattle.trick_model.specs.Names.{deed_of}

@@ -4,7 +4,7 @@ use Rattle.std.proofs.lemmas.Bool.{and_from, and_parts, eqb-true}
 use Rattle.std.proofs.lemmas.Bool.Decides.{nat_tests}
 use Rattle.std.specs.List.{list_any}
 use Rattle.std.specs.Prelude.{◌||◌}
-use Rattle.trick_line_facts.specs.Silence.{all_newcomers, newcomers, numbers_of}
+use Rattle.trick_model_sessions.specs.Silence.{all_newcomers, newcomers, numbers_of}
 use Rattle.trick_model.specs.Events.{names_of}
 use Rattle.trick_model.specs.Names.{deed_of}
 use Rattle.trick_model.specs.Plan.{Plan}

@@ -4,8 +4,8 @@ use Rattle.std.proofs.Math.Bool.{or-true}
 use Rattle.std.proofs.lemmas.Bool.{and_from, and_parts, eqb-true, or_parts}
 use Rattle.std.proofs.lemmas.List.Elements.{All-head, All-tail}
 use Rattle.std.specs.Prelude.{◌||◌, All, cond, map}
-use Rattle.trick_line_facts.proofs.Numbers.{leave_numbers, not_again, numbers_push, rises_above, rises_front, rises_later, said_number, said_numbers, turns_rise}
-use Rattle.trick_line_facts.specs.Silence.{AbsentAreSilent, IsSilent, LeavingIsSilent, LeftAreGone, StrangersAreSilent, entries_of, is_of, is_there, newcomers, numbers_of}
+use Rattle.trick_model_sessions.proofs.Numbers.{leave_numbers, not_again, numbers_push, rises_above, rises_front, rises_later, said_number, said_numbers, turns_rise}
+use Rattle.trick_model_sessions.specs.Silence.{AbsentAreSilent, IsSilent, LeavingIsSilent, LeftAreGone, StrangersAreSilent, entries_of, is_of, is_there, newcomers, numbers_of}
 use Rattle.trick_model.specs.Files.{messages_to, turns_said}
 use Rattle.trick_model.specs.Plan.{Plan}
 use Rattle.trick_model.specs.Run.{after_turns, opened}

@@ -1,7 +1,7 @@
 //! The laws. A function that calls one of these may rest on what it says; the call itself does nothing.
 
-ghost use Rattle.trick_line_facts.specs.Lines.{SameLinesDoTheSame, SameLinesWriteTheSame};
-ghost use Rattle.trick_line_facts.specs.Silence.{AbsentAreSilent, LeavingIsSilent, LeftAreGone, StrangersAreSilent};
+ghost use Rattle.trick_model_sessions.specs.Lines.{SameLinesDoTheSame, SameLinesWriteTheSame};
+ghost use Rattle.trick_model_sessions.specs.Silence.{AbsentAreSilent, LeavingIsSilent, LeftAreGone, StrangersAreSilent};
 
 /// Turns with the same lines and publications go on from one state to one state, and write the same rows and
 /// checkpoints: who said a line, who joined and who left makes no difference.

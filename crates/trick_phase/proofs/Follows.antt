@@ -1,7 +1,7 @@
 -- How a schedule goes on at a board: by the stages that its steps have left.
 use Rattle.std.proofs.Common.{◌≡◌, ◌⊎◌, ◌∙◌, inl, inr, ℕ, ℤ, Bool, true, false, IsTrue, List, [], ◌∷◌, ◌++◌, refl, sym, ap, subst}
 use Rattle.std.specs.List.{Contains}
-use Rattle.trick_board.specs.Answers.{IsReadyOn}
+use Rattle.trick_phase_board.specs.Answers.{IsReadyOn}
 use Rattle.trick_lang.specs.Laws.{SameEffect, WritesOnly}
 use Rattle.trick_lang.specs.declared.job.JobId.{JobId}
 use Rattle.trick_model.specs.Acceptance.{IsAccepted}
@@ -11,22 +11,22 @@ use Rattle.trick_model.specs.PlanOf.{plan_of}
 use Rattle.trick_model.specs.declared.flags.Flags.{Flags}
 use Rattle.trick_model.specs.declared.plan.Plan.{Plan as PlanValue}
 use Rattle.trick_race.specs.Laws.{DueJobsAreSettled}
-use Rattle.trick_schedule.proofs.Alone.{one_by_one_schedule}
-use Rattle.trick_schedule.proofs.Due.{right as right_of}
-use Rattle.trick_schedule.proofs.Extend.{begun_before, each_follows}
-use Rattle.trick_schedule.proofs.History.{stands}
-use Rattle.trick_schedule.proofs.Moves.{board_goes_with}
-use Rattle.trick_schedule.proofs.Right.{IsRight}
-use Rattle.trick_schedule.proofs.Steps.{flies_open, flies_taken, is_due_in, waits_not_taken, waits_open}
-use Rattle.trick_schedule.proofs.Told.{IsHistory, not_done, not_taken}
-use Rattle.trick_schedule.specs.Play.{is_done, is_due, stage_at}
-use Rattle.trick_schedule.specs.Progress.{IsInOrder, Progress, begun, moved}
-use Rattle.trick_schedule.specs.Schedule.{CanFollow, IsBegun, job_of, one_by_one}
-use Rattle.trick_schedule.specs.Tics.{IsDueIn, Tic, due_jobs, tic_of}
-use Rattle.trick_schedule.specs.declared.stage.Stage.{Stage}
-use Rattle.trick_schedule.specs.declared.stage.Stage.TheVariants.{InFlight, Waiting}
-use Rattle.trick_schedule.specs.declared.step.Step.{Step}
-use Rattle.trick_schedule.specs.declared.step.Step.TheVariants.{Commit, Take}
+use Rattle.trick_phase_schedules.proofs.Alone.{one_by_one_schedule}
+use Rattle.trick_phase_schedules.proofs.Due.{right as right_of}
+use Rattle.trick_phase_schedules.proofs.Extend.{begun_before, each_follows}
+use Rattle.trick_phase_schedules.proofs.History.{stands}
+use Rattle.trick_phase_schedules.proofs.Moves.{board_goes_with}
+use Rattle.trick_phase_schedules.proofs.Right.{IsRight}
+use Rattle.trick_phase_schedules.proofs.Steps.{flies_open, flies_taken, is_due_in, waits_not_taken, waits_open}
+use Rattle.trick_phase_schedules.proofs.Told.{IsHistory, not_done, not_taken}
+use Rattle.trick_phase_schedules.specs.Play.{is_done, is_due, stage_at}
+use Rattle.trick_phase_schedules.specs.Progress.{IsInOrder, Progress, begun, moved}
+use Rattle.trick_phase_schedules.specs.Schedule.{CanFollow, IsBegun, job_of, one_by_one}
+use Rattle.trick_phase_schedules.specs.Tics.{IsDueIn, Tic, due_jobs, tic_of}
+use Rattle.trick_phase_schedules.specs.declared.stage.Stage.{Stage}
+use Rattle.trick_phase_schedules.specs.declared.stage.Stage.TheVariants.{InFlight, Waiting}
+use Rattle.trick_phase_schedules.specs.declared.step.Step.{Step}
+use Rattle.trick_phase_schedules.specs.declared.step.Step.TheVariants.{Commit, Take}
 
 -- the laws that all of this rests on
 pub record Laws : Type 0 where

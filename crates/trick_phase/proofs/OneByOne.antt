@@ -4,8 +4,8 @@ use Rattle.std.proofs.lemmas.List.{drop_more, take-append-drop, take_all, take_m
 use Rattle.std.specs.List.{slice_index_or}
 use Rattle.std.specs.Option.{IfSome, MatchOption}
 use Rattle.std.specs.Prelude.{cond}
-use Rattle.trick_board.specs.Answers.{ComesTo, IsLeftBy, open_count}
-use Rattle.trick_board.specs.Board.{BoardView, IsBoardOf, IsOpenOf, IsOpenedWith, Opened, tic_at}
+use Rattle.trick_phase_board.specs.Answers.{ComesTo, IsLeftBy, open_count}
+use Rattle.trick_phase_board.specs.Board.{BoardView, IsBoardOf, IsOpenOf, IsOpenedWith, Opened, tic_at}
 use Rattle.trick_lang.specs.declared.job.JobId.{JobId}
 use Rattle.trick_model.specs.Acceptance.{IsAccepted}
 use Rattle.trick_model.specs.FaultList.{FaultList}
@@ -17,18 +17,18 @@ use Rattle.trick_model.specs.Running.{After, after_jobs, apply, serial}
 use Rattle.trick_model.specs.Valid.{ids}
 use Rattle.trick_model.specs.declared.flags.Flags.{Flags}
 use Rattle.trick_model.specs.declared.plan.Plan.{Plan as PlanValue}
-use Rattle.trick_play.proofs.Follows.{IsTold, Laws, done_begun, follows_ready, next_follows, right_tic, told}
-use Rattle.trick_play.specs.Steps.{CanBeTaken, IsAlong, IsBoardAlong, Runs, RunsFrom}
-use Rattle.trick_schedule.proofs.Alone.{one_by_one_schedule}
-use Rattle.trick_schedule.proofs.Due.{due_there}
-use Rattle.trick_schedule.proofs.Keys.{among_first, among_rest}
-use Rattle.trick_schedule.specs.Play.{is_done, stage_at}
-use Rattle.trick_schedule.specs.Progress.{Progress, begun, move, moved}
-use Rattle.trick_schedule.specs.Schedule.{IsSchedule, job_of, one_by_one}
-use Rattle.trick_schedule.specs.Tics.{Tic, due_jobs, tic_of}
-use Rattle.trick_schedule.specs.declared.stage.Stage.{Stage}
-use Rattle.trick_schedule.specs.declared.step.Step.{Step}
-use Rattle.trick_schedule.specs.declared.step.Step.TheVariants.{Commit, Take}
+use Rattle.trick_phase.proofs.Follows.{IsTold, Laws, done_begun, follows_ready, next_follows, right_tic, told}
+use Rattle.trick_phase.specs.Steps.{CanBeTaken, IsAlong, IsBoardAlong, Runs, RunsFrom}
+use Rattle.trick_phase_schedules.proofs.Alone.{one_by_one_schedule}
+use Rattle.trick_phase_schedules.proofs.Due.{due_there}
+use Rattle.trick_phase_schedules.proofs.Keys.{among_first, among_rest}
+use Rattle.trick_phase_schedules.specs.Play.{is_done, stage_at}
+use Rattle.trick_phase_schedules.specs.Progress.{Progress, begun, move, moved}
+use Rattle.trick_phase_schedules.specs.Schedule.{IsSchedule, job_of, one_by_one}
+use Rattle.trick_phase_schedules.specs.Tics.{Tic, due_jobs, tic_of}
+use Rattle.trick_phase_schedules.specs.declared.stage.Stage.{Stage}
+use Rattle.trick_phase_schedules.specs.declared.step.Step.{Step}
+use Rattle.trick_phase_schedules.specs.declared.step.Step.TheVariants.{Commit, Take}
 
 -- ---- steps more
 

@@ -5,8 +5,8 @@ use Rattle.std.proofs.lemmas.Option.{get_or_from_slice_get, slice_get_within}
 use Rattle.std.specs.List.{slice_index_or}
 use Rattle.std.specs.Option.{IfSome, MatchOption}
 use Rattle.std.specs.Prelude.{cond, slice_set}
-use Rattle.trick_board.specs.Answers.{ComesTo, IsLeftBy, open_count}
-use Rattle.trick_board.specs.Board.{BoardView, IsBoardOf, IsOpenOf, IsOpenedWith, Opened, stepped, tic_at}
+use Rattle.trick_phase_board.specs.Answers.{ComesTo, IsLeftBy, open_count}
+use Rattle.trick_phase_board.specs.Board.{BoardView, IsBoardOf, IsOpenOf, IsOpenedWith, Opened, stepped, tic_at}
 use Rattle.trick_eval.specs.Bench.{BenchView, IsFor}
 use Rattle.trick_lang.specs.Effect.{reads}
 use Rattle.trick_lang.specs.Laws.{AgreeOn}
@@ -20,26 +20,26 @@ use Rattle.trick_model.specs.Running.{After, serial}
 use Rattle.trick_model.specs.Valid.{ids}
 use Rattle.trick_model.specs.declared.flags.Flags.{Flags}
 use Rattle.trick_model.specs.declared.plan.Plan.{Plan as PlanValue}
-use Rattle.trick_play.proofs.Follows.{IsTold, Laws, flies_follows, follows_flies, follows_ready, ready_follows, right_tic, told}
-use Rattle.trick_play.proofs.OneByOne.{along_more, moved_join, none_left, not_left, same_serial}
-use Rattle.trick_play.proofs.Turns.{thread_small}
-use Rattle.trick_play.specs.Playing.{IsDone, IsWrongAt}
-use Rattle.trick_play.specs.Steps.{AreBenches, CanBeTaken, Goes, HoldsRight, IsBoardPlayed, IsCommittedFrom, IsHeld, IsPlayed, IsTakenInto, bench_at, no_bench}
+use Rattle.trick_phase.proofs.Follows.{IsTold, Laws, flies_follows, follows_flies, follows_ready, ready_follows, right_tic, told}
+use Rattle.trick_phase.proofs.OneByOne.{along_more, moved_join, none_left, not_left, same_serial}
+use Rattle.trick_phase.proofs.Turns.{thread_small}
+use Rattle.trick_phase.specs.Playing.{IsDone, IsWrongAt}
+use Rattle.trick_phase.specs.Steps.{AreBenches, CanBeTaken, Goes, HoldsRight, IsBoardPlayed, IsCommittedFrom, IsHeld, IsPlayed, IsTakenInto, bench_at, no_bench}
 use Rattle.trick_queue.proofs.Trees.{same_or}
-use Rattle.trick_schedule.proofs.History.{none_taken, stands}
-use Rattle.trick_schedule.proofs.Insert.{stage_other, stage_set}
-use Rattle.trick_schedule.proofs.Keys.{among_cases, none_among, one_first}
-use Rattle.trick_schedule.proofs.Moves.{board_goes_with}
-use Rattle.trick_schedule.proofs.Right.{IsRight}
-use Rattle.trick_schedule.proofs.Steps.{flies_open, flies_taken, inside, is_due_in, waits_not_taken, waits_open}
-use Rattle.trick_schedule.specs.Play.{Playing, copy_of, first_stages, is_done, is_due, is_taken, opening, played, stage_at, step}
-use Rattle.trick_schedule.specs.Progress.{IsInOrder, Progress, begun, move, moved}
-use Rattle.trick_schedule.specs.Schedule.{CanAllFollow, CanFollow, IsBegun, IsSchedule}
-use Rattle.trick_schedule.specs.Tics.{IsPredecessor, Tic, due_jobs, tic_of}
-use Rattle.trick_schedule.specs.declared.stage.Stage.{Stage}
-use Rattle.trick_schedule.specs.declared.stage.Stage.TheVariants.{InFlight}
-use Rattle.trick_schedule.specs.declared.step.Step.{Step}
-use Rattle.trick_schedule.specs.declared.step.Step.TheVariants.{Commit, Take}
+use Rattle.trick_phase_schedules.proofs.History.{none_taken, stands}
+use Rattle.trick_phase_schedules.proofs.Insert.{stage_other, stage_set}
+use Rattle.trick_phase_schedules.proofs.Keys.{among_cases, none_among, one_first}
+use Rattle.trick_phase_schedules.proofs.Moves.{board_goes_with}
+use Rattle.trick_phase_schedules.proofs.Right.{IsRight}
+use Rattle.trick_phase_schedules.proofs.Steps.{flies_open, flies_taken, inside, is_due_in, waits_not_taken, waits_open}
+use Rattle.trick_phase_schedules.specs.Play.{Playing, copy_of, first_stages, is_done, is_due, is_taken, opening, played, stage_at, step}
+use Rattle.trick_phase_schedules.specs.Progress.{IsInOrder, Progress, begun, move, moved}
+use Rattle.trick_phase_schedules.specs.Schedule.{CanAllFollow, CanFollow, IsBegun, IsSchedule}
+use Rattle.trick_phase_schedules.specs.Tics.{IsPredecessor, Tic, due_jobs, tic_of}
+use Rattle.trick_phase_schedules.specs.declared.stage.Stage.{Stage}
+use Rattle.trick_phase_schedules.specs.declared.stage.Stage.TheVariants.{InFlight}
+use Rattle.trick_phase_schedules.specs.declared.step.Step.{Step}
+use Rattle.trick_phase_schedules.specs.declared.step.Step.TheVariants.{Commit, Take}
 
 -- ---- one step more
 

@@ -8,14 +8,14 @@ use Rattle.std.specs.List.{slice_index_or}
 use Rattle.std.specs.Option.{IfSome, MatchOption}
 use Rattle.std.specs.Prelude.{IsSome, filter, slice_set}
 use Rattle.trick_base.proofs.Numbers.{equal_to_itself}
-use Rattle.trick_board.specs.Answers.{Commits as CommitsTo, IfDone, IfNotDone, IsEmptiedOf, IsFilledBy, IsMissing, IsReadyOn, Runs as RunsTo, Takes as TakesTo}
-use Rattle.trick_board.specs.Board.{BoardView, IsBoardOf, IsOpenOf, Opened, stepped, tic_at, with_run}
-use Rattle.trick_board.specs.declared.answers.Commit.{Commit as CommitAnswer}
-use Rattle.trick_board.specs.declared.answers.Commit.TheVariants.{Committed, Gone, NotTaken, Stale}
-use Rattle.trick_board.specs.declared.answers.Ran.{Ran}
-use Rattle.trick_board.specs.declared.answers.Ran.TheVariants as ran
-use Rattle.trick_board.specs.declared.answers.Took.{Took}
-use Rattle.trick_board.specs.declared.answers.Took.TheVariants.{NotYet, ThreadDone, Took as WasTaken}
+use Rattle.trick_phase_board.specs.Answers.{Commits as CommitsTo, IfDone, IfNotDone, IsEmptiedOf, IsFilledBy, IsMissing, IsReadyOn, Runs as RunsTo, Takes as TakesTo}
+use Rattle.trick_phase_board.specs.Board.{BoardView, IsBoardOf, IsOpenOf, Opened, stepped, tic_at, with_run}
+use Rattle.trick_phase_board.specs.declared.answers.Commit.{Commit as CommitAnswer}
+use Rattle.trick_phase_board.specs.declared.answers.Commit.TheVariants.{Committed, Gone, NotTaken, Stale}
+use Rattle.trick_phase_board.specs.declared.answers.Ran.{Ran}
+use Rattle.trick_phase_board.specs.declared.answers.Ran.TheVariants as ran
+use Rattle.trick_phase_board.specs.declared.answers.Took.{Took}
+use Rattle.trick_phase_board.specs.declared.answers.Took.TheVariants.{NotYet, ThreadDone, Took as WasTaken}
 use Rattle.trick_eval.specs.Bench.{BenchView, IsEvaluated, IsFilled, IsFor, the_job}
 use Rattle.trick_lang.specs.Effect.{effect, reads}
 use Rattle.trick_lang.specs.Valid.{have_right_threads}
@@ -28,16 +28,16 @@ use Rattle.trick_model.specs.Plan.{is_on_scheduled, job_numbers, no_job, thread_
 use Rattle.trick_model.specs.PlanOf.{plan_of}
 use Rattle.trick_model.specs.declared.flags.Flags.{Flags}
 use Rattle.trick_model.specs.declared.plan.Plan.{Plan as PlanValue}
-use Rattle.trick_play.specs.Steps.{AreBenches, CanBeTaken, Commits, Goes, HasCommitted, HasTaken, HoldsRight, IsCommittedFrom, IsHeld, IsTakenInto, Runs, RunsFrom, Takes, TakesFrom, bench_at, has_job}
+use Rattle.trick_phase.specs.Steps.{AreBenches, CanBeTaken, Commits, Goes, HasCommitted, HasTaken, HoldsRight, IsCommittedFrom, IsHeld, IsTakenInto, Runs, RunsFrom, Takes, TakesFrom, bench_at, has_job}
 use Rattle.trick_queue.proofs.Orders.{jobs_kept, numbers_are}
 use Rattle.trick_queue.proofs.Trees.{below_or}
-use Rattle.trick_schedule.proofs.Due.{due_there}
-use Rattle.trick_schedule.proofs.Keys.{one_first}
-use Rattle.trick_schedule.proofs.Steps.{inside, waits_open}
-use Rattle.trick_schedule.specs.Play.{is_due, stage_at}
-use Rattle.trick_schedule.specs.Tics.{IsDueIn, due_jobs, tic_of}
-use Rattle.trick_schedule.specs.declared.stage.Stage.TheVariants.{InFlight}
-use Rattle.trick_schedule.specs.declared.step.Step.TheVariants.{Commit, Take}
+use Rattle.trick_phase_schedules.proofs.Due.{due_there}
+use Rattle.trick_phase_schedules.proofs.Keys.{one_first}
+use Rattle.trick_phase_schedules.proofs.Steps.{inside, waits_open}
+use Rattle.trick_phase_schedules.specs.Play.{is_due, stage_at}
+use Rattle.trick_phase_schedules.specs.Tics.{IsDueIn, due_jobs, tic_of}
+use Rattle.trick_phase_schedules.specs.declared.stage.Stage.TheVariants.{InFlight}
+use Rattle.trick_phase_schedules.specs.declared.step.Step.TheVariants.{Commit, Take}
 
 -- ---- threads
 

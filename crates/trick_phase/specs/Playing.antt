@@ -2,11 +2,11 @@
 use Rattle.std.specs.Prelude.{◌≡◌, ℕ, ◌≤◌, ℤ, List, [], Some, length, slice_get, take}
 use Rattle.trick_model.specs.FaultList.{FaultList, with_faults}
 use Rattle.trick_model.specs.Running.{serial}
-use Rattle.trick_play.specs.declared.player.Played.{Played}
-use Rattle.trick_play.specs.declared.player.Played.TheVariants.{Done, Wrong}
-use Rattle.trick_schedule.specs.Schedule.{CanFollow, IsBegun, IsSchedule}
-use Rattle.trick_schedule.specs.Tics.{Tic}
-use Rattle.trick_schedule.specs.declared.step.Step.{Step}
+use Rattle.trick_phase.specs.declared.player.Played.{Played}
+use Rattle.trick_phase.specs.declared.player.Played.TheVariants.{Done, Wrong}
+use Rattle.trick_phase_schedules.specs.Schedule.{CanFollow, IsBegun, IsSchedule}
+use Rattle.trick_phase_schedules.specs.Tics.{Tic}
+use Rattle.trick_phase_schedules.specs.declared.step.Step.{Step}
 
 -- The steps before this place begin a schedule, and no schedule goes on with the step that is there; or it
 -- is the end of the list, and the steps are no whole schedule.

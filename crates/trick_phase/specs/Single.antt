@@ -1,6 +1,6 @@
 -- What a value that runs tics through a board promises.
 use Rattle.std.specs.Prelude.{◌≡◌, None}
-use Rattle.trick_board.specs.Board.{BoardView, IsBoardOf}
+use Rattle.trick_phase_board.specs.Board.{BoardView, IsBoardOf}
 use Rattle.trick_eval.specs.Bench.{IsFor, Parts}
 use Rattle.trick_model.specs.declared.plan.Plan.{Plan as PlanValue}
 

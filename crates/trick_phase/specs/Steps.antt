@@ -2,8 +2,8 @@
 use Rattle.std.specs.List.{slice_index_or}
 use Rattle.std.specs.Option.{IfSome}
 use Rattle.std.specs.Prelude.{◌≡◌, ◌≢◌, ℕ, ◌<◌, ◌==◌, ℤ, Bool, true, false, List, [], length, slice_set, MatchOption, Option, Some, None}
-use Rattle.trick_board.specs.Answers.{IsReadyOn}
-use Rattle.trick_board.specs.Board.{BoardView, Opened, stepped, tic_at, with_run}
+use Rattle.trick_phase_board.specs.Answers.{IsReadyOn}
+use Rattle.trick_phase_board.specs.Board.{BoardView, Opened, stepped, tic_at, with_run}
 use Rattle.trick_eval.specs.Bench.{BenchView, IsEvaluated, IsFor}
 use Rattle.trick_lang.specs.Effect.{reads}
 use Rattle.trick_lang.specs.Laws.{AgreeOn}
@@ -11,12 +11,12 @@ use Rattle.trick_lang.specs.declared.job.JobId.{JobId}
 use Rattle.trick_model.specs.Plan.{is_on, thread_of}
 use Rattle.trick_model.specs.declared.flags.Flags.{Flags}
 use Rattle.trick_model.specs.declared.plan.Plan.{Plan as PlanValue}
-use Rattle.trick_schedule.specs.Play.{stage_at}
-use Rattle.trick_schedule.specs.Progress.{begun, moved}
-use Rattle.trick_schedule.specs.Schedule.{IsBegun}
-use Rattle.trick_schedule.specs.declared.stage.Stage.TheVariants.{InFlight}
-use Rattle.trick_schedule.specs.declared.step.Step.{Step}
-use Rattle.trick_schedule.specs.declared.step.Step.TheVariants.{Commit, Take}
+use Rattle.trick_phase_schedules.specs.Play.{stage_at}
+use Rattle.trick_phase_schedules.specs.Progress.{begun, moved}
+use Rattle.trick_phase_schedules.specs.Schedule.{IsBegun}
+use Rattle.trick_phase_schedules.specs.declared.stage.Stage.TheVariants.{InFlight}
+use Rattle.trick_phase_schedules.specs.declared.step.Step.{Step}
+use Rattle.trick_phase_schedules.specs.declared.step.Step.TheVariants.{Commit, Take}
 
 -- The open tic has come so far by these steps from this memory on.
 pub record IsAlong (plan : PlanValue) (on : Flags) (tic : ℕ) (first : List ℤ) (steps : List Step) (o : Opened)

@@ -1,9 +1,10 @@
-//! The jobs of one tic: a trait of whoever runs the due jobs of scheduled threads, with the promise
-//! that they come to what one thread makes of them; and the form that runs them on the caller's thread.
+//! One tic through a board on the caller's thread: its due jobs one by one in key order, or a list of
+//! takes and commits, which is played as far as it is a schedule.
 #![tactic(auto)]
 
-mod one_phase;
-mod phases;
+mod player;
+mod single;
+mod steps;
 
-pub use one_phase::OnePhase;
-pub use phases::Phases;
+pub use player::{Played, play};
+pub use single::Single;

@@ -1,19 +1,19 @@
 ghost use Rattle.std.specs.Prelude.{◌≡◌, ◌<◌, ◌≤◌, ℕ, IfOk, IsSome, MatchBool, None, length};
-ghost use Rattle.trick_board.specs.Board.{IsBoardOf};
+ghost use Rattle.trick_phase_board.specs.Board.{IsBoardOf};
 ghost use Rattle.trick_eval.specs.Bench.{IsFor};
-ghost use Rattle.trick_job.specs.Belongs.{IsMemoryOf};
+ghost use Rattle.trick_phase_jobs.specs.Belongs.{IsMemoryOf};
 ghost use Rattle.trick_model.specs.Order.{jobs_at};
 ghost use Rattle.trick_model.specs.PlanOf.{plan_of};
 ghost use Rattle.trick_model.specs.Valid.{ids};
 ghost use Rattle.trick_model.specs.declared.flags.Flags.{Flags};
-ghost use Rattle.trick_play.specs.Playing.{Plays};
-ghost use Rattle.trick_play.specs.Steps.{AreBenches, Goes, bench_at};
-ghost use Rattle.trick_schedule.specs.Tics.{tic_of};
+ghost use Rattle.trick_phase.specs.Playing.{Plays};
+ghost use Rattle.trick_phase.specs.Steps.{AreBenches, Goes, bench_at};
+ghost use Rattle.trick_phase_schedules.specs.Tics.{tic_of};
 
 use crate::steps::{commit_job, take_job, thread_at};
 use std::alloc::{AllocError, Global};
 use trick_base::TIC_LIMIT;
-use trick_board::{Board, Closed};
+use trick_phase_board::{Board, Closed};
 use trick_cycle::laws::due_test_is_exact;
 use trick_eval::Bench;
 use trick_lang::laws::{frame_law, write_law};
@@ -22,7 +22,7 @@ use trick_model::laws::key_order_is_one;
 use trick_model::{Accepted, Faults, Flags, Plan};
 use trick_queue::Queues;
 use trick_race::laws::due_jobs_are_settled;
-use trick_schedule::Step;
+use trick_phase_schedules::Step;
 
 /// What a list of steps comes to.
 #[derive(Drop)]

@@ -1,15 +1,15 @@
 ghost use Rattle.std.specs.Prelude.{IfOk};
-ghost use Rattle.trick_play.specs.Single.{IsSingleOf};
+ghost use Rattle.trick_phase.specs.Single.{IsSingleOf};
 
 use crate::steps::run_job;
 use std::alloc::{AllocError, Global};
-use trick_board::{Board, Closed};
+use trick_phase_board::{Board, Closed};
 use trick_eval::Bench;
 use trick_lang::laws::{frame_law, write_law};
 use trick_lang::{Cells, JobId};
 use trick_model::laws::key_order_is_one;
 use trick_model::{Accepted, Faults, Flags};
-use trick_phase::Phases;
+use trick_phase_jobs::Phases;
 use trick_race::laws::due_jobs_are_settled;
 
 /// The jobs of a tic on the caller's thread, each taken from a board and at once committed.
@@ -31,7 +31,7 @@ impl<M: Cells> Single<M> {
 }
 
 impl<M: Cells> Phases<M> for Single<M> {
-    ghost use Rattle.trick_play.specs.Single.{IsSingleOf};
+    ghost use Rattle.trick_phase.specs.Single.{IsSingleOf};
 
     ghost is_for = { λ single plan. IsSingleOf plan single.board single.bench.parts };
 

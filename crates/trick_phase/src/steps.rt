@@ -1,12 +1,12 @@
 //! Takes and commits of jobs by name.
 
 ghost use Rattle.std.specs.Prelude.{◌≡◌, ◌<◌, ◌≤◌, IsSome, length};
-ghost use Rattle.trick_board.specs.Board.{IsBoardOf};
+ghost use Rattle.trick_phase_board.specs.Board.{IsBoardOf};
 ghost use Rattle.trick_eval.specs.Bench.{IsFor};
 ghost use Rattle.trick_model.specs.Plan.{thread_of};
-ghost use Rattle.trick_play.specs.Steps.{Commits, HoldsRight, Runs, Takes, has_job};
+ghost use Rattle.trick_phase.specs.Steps.{Commits, HoldsRight, Runs, Takes, has_job};
 
-use trick_board::{Board, Commit, Ran, Took};
+use trick_phase_board::{Board, Commit, Ran, Took};
 use trick_eval::{Bench, eval};
 use trick_lang::{Cells, JobId};
 use trick_model::{Accepted, Plan};

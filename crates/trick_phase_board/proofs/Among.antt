@@ -4,16 +4,16 @@ use Rattle.std.proofs.lemmas.Bool.{cases_eq, cases_lt, false≢true}
 use Rattle.std.proofs.lemmas.List.{ext_get_or, get_or-set_other, get_or-set_same, get_or_past, length-replicate, set_past}
 use Rattle.std.specs.Option.{IfSome, option_map}
 use Rattle.std.specs.Prelude.{ℤ, IsSome, replicate, slice_set}
-use Rattle.trick_board.proofs.Stages.{all_idle}
-use Rattle.trick_board.specs.Board.{AreDueAmong, opened_of}
+use Rattle.trick_phase_board.proofs.Stages.{all_idle}
+use Rattle.trick_phase_board.specs.Board.{AreDueAmong, opened_of}
 use Rattle.trick_lang.specs.declared.job.JobId.{JobId}
 use Rattle.trick_lang.specs.declared.scalar.Scalar.{Scalar}
 use Rattle.trick_model.specs.Laws.{is_among}
 use Rattle.trick_model.specs.Valid.{ids}
-use Rattle.trick_schedule.proofs.Keys.{among_cases, among_first, among_rest, none_among}
-use Rattle.trick_schedule.specs.Play.{is_due, stage_at, with_waiting}
-use Rattle.trick_schedule.specs.declared.stage.Stage.{Stage}
-use Rattle.trick_schedule.specs.declared.stage.Stage.TheVariants.{Done, Idle, InFlight, Waiting}
+use Rattle.trick_phase_schedules.proofs.Keys.{among_cases, among_first, among_rest, none_among}
+use Rattle.trick_phase_schedules.specs.Play.{is_due, stage_at, with_waiting}
+use Rattle.trick_phase_schedules.specs.declared.stage.Stage.{Stage}
+use Rattle.trick_phase_schedules.specs.declared.stage.Stage.TheVariants.{Done, Idle, InFlight, Waiting}
 
 -- at first no job is due
 pub none_due : (ks : List ℕ) (n : ℕ) → AreDueAmong ks (replicate n Idle)

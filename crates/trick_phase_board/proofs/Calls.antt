@@ -3,25 +3,25 @@ use Rattle.std.proofs.Common.{◌≡◌, ℕ, ◌<◌, ◌≤◌, Bool, true, fa
 use Rattle.std.proofs.lemmas.Bool.{false≢true}
 use Rattle.std.specs.Option.{IfSome, option_map}
 use Rattle.std.specs.Prelude.{ℤ, IsSome, Result, Ok, Err, replicate}
-use Rattle.trick_board.proofs.Ends.{ends_serial, not_stale}
-use Rattle.trick_board.proofs.Counting.{occurrences}
-use Rattle.trick_board.proofs.Firsts.{due_order}
-use Rattle.trick_board.proofs.Nexts.{first_on, next_right, none_before}
-use Rattle.trick_board.proofs.Ranks.{once}
-use Rattle.trick_board.proofs.Stages.{due_kept, first_due}
-use Rattle.trick_board.specs.Answers.{CanDo, ComesTo, Commits, Counts, IfMemory, IsLeftBy, IsStale, open_count}
-use Rattle.trick_board.specs.Board.{BoardView, IsBoardOf, IsOpenOf, Opened, opened_of, stepped, tic_at}
-use Rattle.trick_board.specs.Counts.{AreRanked, own_anew, own_at}
-use Rattle.trick_board.specs.Search.{AreFirst, next_in}
-use Rattle.trick_board.specs.Tables.{IsFor}
-use Rattle.trick_board.specs.declared.answers.Closed.{Closed}
-use Rattle.trick_board.specs.declared.answers.Closed.TheVariants.{Left, Memory}
-use Rattle.trick_board.specs.declared.answers.Commit.{Commit}
-use Rattle.trick_board.specs.declared.search.Next.{Next}
-use Rattle.trick_board.specs.declared.search.Next.TheVariants.{Ready}
-use Rattle.trick_board.specs.declared.tables.Tables.{Tables}
+use Rattle.trick_phase_board.proofs.Ends.{ends_serial, not_stale}
+use Rattle.trick_phase_board.proofs.Counting.{occurrences}
+use Rattle.trick_phase_board.proofs.Firsts.{due_order}
+use Rattle.trick_phase_board.proofs.Nexts.{first_on, next_right, none_before}
+use Rattle.trick_phase_board.proofs.Ranks.{once}
+use Rattle.trick_phase_board.proofs.Stages.{due_kept, first_due}
+use Rattle.trick_phase_board.specs.Answers.{CanDo, ComesTo, Commits, Counts, IfMemory, IsLeftBy, IsStale, open_count}
+use Rattle.trick_phase_board.specs.Board.{BoardView, IsBoardOf, IsOpenOf, Opened, opened_of, stepped, tic_at}
+use Rattle.trick_phase_board.specs.Counts.{AreRanked, own_anew, own_at}
+use Rattle.trick_phase_board.specs.Search.{AreFirst, next_in}
+use Rattle.trick_phase_board.specs.Tables.{IsFor}
+use Rattle.trick_phase_board.specs.declared.answers.Closed.{Closed}
+use Rattle.trick_phase_board.specs.declared.answers.Closed.TheVariants.{Left, Memory}
+use Rattle.trick_phase_board.specs.declared.answers.Commit.{Commit}
+use Rattle.trick_phase_board.specs.declared.search.Next.{Next}
+use Rattle.trick_phase_board.specs.declared.search.Next.TheVariants.{Ready}
+use Rattle.trick_phase_board.specs.declared.tables.Tables.{Tables}
 use Rattle.trick_eval.specs.Bench.{BenchView, the_job}
-use Rattle.trick_job.specs.Belongs.{IsMemoryOf}
+use Rattle.trick_phase_jobs.specs.Belongs.{IsMemoryOf}
 use Rattle.trick_lang.specs.Effect.{reads}
 use Rattle.trick_lang.specs.Laws.{AgreeOn, OverwritesRight}
 use Rattle.trick_lang.specs.declared.fault.JobFault.{JobFault}
@@ -37,14 +37,14 @@ use Rattle.trick_model.specs.PlanOf.{plan_of}
 use Rattle.trick_model.specs.Running.{apply, outcome, serial}
 use Rattle.trick_model.specs.Valid.{ids}
 use Rattle.trick_model.specs.declared.plan.Plan.{Plan as PlanValue}
-use Rattle.trick_schedule.proofs.Due.{due_there}
-use Rattle.trick_schedule.specs.Laws.{AtEachTic, EveryBeginning, EveryBoard}
-use Rattle.trick_schedule.specs.Play.{copy_of, faults_in, is_due, opening, played, stage_at, with_waiting}
-use Rattle.trick_schedule.specs.Tics.{due_jobs, tic_of}
-use Rattle.trick_schedule.specs.declared.stage.Stage.{Stage}
-use Rattle.trick_schedule.specs.declared.stage.Stage.TheVariants.{Idle, InFlight}
-use Rattle.trick_schedule.specs.declared.step.Step.{Step}
-use Rattle.trick_schedule.specs.declared.step.Step.TheVariants.{Commit as CommitOf}
+use Rattle.trick_phase_schedules.proofs.Due.{due_there}
+use Rattle.trick_phase_schedules.specs.Laws.{AtEachTic, EveryBeginning, EveryBoard}
+use Rattle.trick_phase_schedules.specs.Play.{copy_of, faults_in, is_due, opening, played, stage_at, with_waiting}
+use Rattle.trick_phase_schedules.specs.Tics.{due_jobs, tic_of}
+use Rattle.trick_phase_schedules.specs.declared.stage.Stage.{Stage}
+use Rattle.trick_phase_schedules.specs.declared.stage.Stage.TheVariants.{Idle, InFlight}
+use Rattle.trick_phase_schedules.specs.declared.step.Step.{Step}
+use Rattle.trick_phase_schedules.specs.declared.step.Step.TheVariants.{Commit as CommitOf}
 
 -- what can be done is what the search finds
 pub next_at : {M : Type 0} (numbers : M → List ℤ) (scalars : M → List Scalar) (tic : ℕ) (on : List Bool) (due : List JobId) (stages : List Stage)

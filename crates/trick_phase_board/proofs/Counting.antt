@@ -5,16 +5,16 @@ use Rattle.std.proofs.lemmas.List.{get_or-set_other, get_or-set_same, get_or_pas
 use Rattle.std.specs.List.{slice_index_or}
 use Rattle.std.specs.Option.{IfSome, option_map}
 use Rattle.std.specs.Prelude.{ℤ, IsSome, replicate, slice_set}
-use Rattle.trick_board.proofs.Firsts.{due_scheduled, tested_order}
-use Rattle.trick_board.proofs.Nexts.{Sees}
-use Rattle.trick_board.proofs.Passed.{set_opens, still_passed}
-use Rattle.trick_board.proofs.Stages.{all_idle, due_kept}
-use Rattle.trick_board.specs.Board.{AreDueAmong, IsOpenOf, opened_of}
-use Rattle.trick_board.specs.Counts.{AreCounted, IsCounted, count_anew, count_at, one_if, open_among, with_fewer}
-use Rattle.trick_board.specs.Search.{ArePassed, find_first, find_wanted, is_open, is_waiting}
-use Rattle.trick_board.specs.Tables.{IsFor, awaits, depended_of, followers_of, scheduled}
-use Rattle.trick_board.specs.declared.search.Wanted.TheVariants as wanted
-use Rattle.trick_board.specs.declared.tables.Tables.{Tables}
+use Rattle.trick_phase_board.proofs.Firsts.{due_scheduled, tested_order}
+use Rattle.trick_phase_board.proofs.Nexts.{Sees}
+use Rattle.trick_phase_board.proofs.Passed.{set_opens, still_passed}
+use Rattle.trick_phase_board.proofs.Stages.{all_idle, due_kept}
+use Rattle.trick_phase_board.specs.Board.{AreDueAmong, IsOpenOf, opened_of}
+use Rattle.trick_phase_board.specs.Counts.{AreCounted, IsCounted, count_anew, count_at, one_if, open_among, with_fewer}
+use Rattle.trick_phase_board.specs.Search.{ArePassed, find_first, find_wanted, is_open, is_waiting}
+use Rattle.trick_phase_board.specs.Tables.{IsFor, awaits, depended_of, followers_of, scheduled}
+use Rattle.trick_phase_board.specs.declared.search.Wanted.TheVariants as wanted
+use Rattle.trick_phase_board.specs.declared.tables.Tables.{Tables}
 use Rattle.trick_lang.specs.declared.job.Job.{Job}
 use Rattle.trick_lang.specs.declared.job.JobId.{JobId}
 use Rattle.trick_lang.specs.declared.scalar.Scalar.{Scalar}
@@ -24,12 +24,12 @@ use Rattle.trick_model.specs.PlanOf.{plan_of}
 use Rattle.trick_model.specs.Valid.{ids}
 use Rattle.trick_model.specs.declared.flags.Flags.{Flags}
 use Rattle.trick_model.specs.declared.plan.Plan.{Plan as PlanValue}
-use Rattle.trick_schedule.proofs.Due.{among_filter, due_there}
-use Rattle.trick_schedule.proofs.Keys.{among_cases, among_first, among_rest, before_among, none_among, not_itself}
-use Rattle.trick_schedule.specs.Play.{is_due, stage_at}
-use Rattle.trick_schedule.specs.Tics.{IsDueIn, tic_of}
-use Rattle.trick_schedule.specs.declared.stage.Stage.{Stage}
-use Rattle.trick_schedule.specs.declared.stage.Stage.TheVariants.{Done, Idle, InFlight, Waiting}
+use Rattle.trick_phase_schedules.proofs.Due.{among_filter, due_there}
+use Rattle.trick_phase_schedules.proofs.Keys.{among_cases, among_first, among_rest, before_among, none_among, not_itself}
+use Rattle.trick_phase_schedules.specs.Play.{is_due, stage_at}
+use Rattle.trick_phase_schedules.specs.Tics.{IsDueIn, tic_of}
+use Rattle.trick_phase_schedules.specs.declared.stage.Stage.{Stage}
+use Rattle.trick_phase_schedules.specs.declared.stage.Stage.TheVariants.{Done, Idle, InFlight, Waiting}
 
 -- ---- how often a job is in a list
 

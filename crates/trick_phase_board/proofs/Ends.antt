@@ -1,24 +1,24 @@
 -- Commits that are never stale, and closes that give the fold.
 use Rattle.std.proofs.Common.{◌≡◌, ◌⊎◌, inl, inr, ℕ, ◌+◌, Bool, true, false, cond, List, [], ◌∷◌, IsTrue, refl, sym, ◌∙◌, ap, subst, arith}
 use Rattle.std.specs.Prelude.{ℤ}
-use Rattle.trick_board.specs.Answers.{Commits, IsLeftBy, IsStale, open_count}
-use Rattle.trick_board.specs.declared.answers.Commit.{Commit}
-use Rattle.trick_board.specs.declared.answers.Commit.TheVariants.{Committed, Gone, NotTaken, Stale}
+use Rattle.trick_phase_board.specs.Answers.{Commits, IsLeftBy, IsStale, open_count}
+use Rattle.trick_phase_board.specs.declared.answers.Commit.{Commit}
+use Rattle.trick_phase_board.specs.declared.answers.Commit.TheVariants.{Committed, Gone, NotTaken, Stale}
 use Rattle.trick_eval.specs.Bench.{BenchView}
 use Rattle.trick_lang.specs.Laws.{AgreeOn}
 use Rattle.trick_lang.specs.declared.job.JobId.{JobId}
 use Rattle.trick_model.specs.Laws.{is_among}
 use Rattle.trick_model.specs.Running.{serial}
 use Rattle.trick_model.specs.State.{number_at}
-use Rattle.trick_schedule.proofs.History.{settled_serial}
-use Rattle.trick_schedule.proofs.Keys.{among_cases, none_among}
-use Rattle.trick_schedule.specs.Laws.{EveryBeginning, EveryBoard}
-use Rattle.trick_schedule.specs.Play.{copy_of, faults_in, is_done, opening, played, stage_at}
-use Rattle.trick_schedule.specs.Progress.{IsSettled, Progress, progress_of}
-use Rattle.trick_schedule.specs.Tics.{Tic, due_jobs}
-use Rattle.trick_schedule.specs.declared.stage.Stage.{Stage}
-use Rattle.trick_schedule.specs.declared.stage.Stage.TheVariants.{InFlight}
-use Rattle.trick_schedule.specs.declared.step.Step.{Step}
+use Rattle.trick_phase_schedules.proofs.History.{settled_serial}
+use Rattle.trick_phase_schedules.proofs.Keys.{among_cases, none_among}
+use Rattle.trick_phase_schedules.specs.Laws.{EveryBeginning, EveryBoard}
+use Rattle.trick_phase_schedules.specs.Play.{copy_of, faults_in, is_done, opening, played, stage_at}
+use Rattle.trick_phase_schedules.specs.Progress.{IsSettled, Progress, progress_of}
+use Rattle.trick_phase_schedules.specs.Tics.{Tic, due_jobs}
+use Rattle.trick_phase_schedules.specs.declared.stage.Stage.{Stage}
+use Rattle.trick_phase_schedules.specs.declared.stage.Stage.TheVariants.{InFlight}
+use Rattle.trick_phase_schedules.specs.declared.step.Step.{Step}
 
 -- what a board has is what the play has
 same_play : (t : Tic) (first : List ℤ) (steps : List Step) (p : Progress) → EveryBoard t → IsLeftBy t first steps p

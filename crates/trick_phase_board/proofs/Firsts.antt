@@ -2,8 +2,8 @@
 use Rattle.std.proofs.Common.{◌≡◌, ◌⊎◌, inl, inr, ℕ, Bool, true, false, cond, List, [], ◌∷◌, Some, None, IsTrue, refl, sym, ◌∙◌, ap, subst, arith}
 use Rattle.std.proofs.lemmas.Bool.{and_from, and_parts}
 use Rattle.std.specs.Prelude.{filter}
-use Rattle.trick_board.specs.Search.{find_first}
-use Rattle.trick_board.specs.Tables.{scheduled}
+use Rattle.trick_phase_board.specs.Search.{find_first}
+use Rattle.trick_phase_board.specs.Tables.{scheduled}
 use Rattle.trick_lang.specs.declared.class.Class.TheVariants as class
 use Rattle.trick_lang.specs.declared.job.Job.{Job}
 use Rattle.trick_lang.specs.declared.job.JobId.{JobId}
@@ -15,9 +15,9 @@ use Rattle.trick_model.specs.Valid.{ids}
 use Rattle.trick_model.specs.declared.flags.Flags.{Flags}
 use Rattle.trick_model.specs.declared.plan.Plan.{Plan as PlanValue}
 use Rattle.trick_queue.proofs.Orders.{order_kept}
-use Rattle.trick_schedule.proofs.Due.{among_filter, chosen, due_there, is_chosen, jobs_kept, numbers_among, numbers_are}
-use Rattle.trick_schedule.proofs.Keys.{among_cases, among_first, among_rest, before_among, none_among, not_both, not_itself}
-use Rattle.trick_schedule.specs.Tics.{IsDueIn, due_jobs, tic_of}
+use Rattle.trick_phase_schedules.proofs.Due.{among_filter, chosen, due_there, is_chosen, jobs_kept, numbers_among, numbers_are}
+use Rattle.trick_phase_schedules.proofs.Keys.{among_cases, among_first, among_rest, before_among, none_among, not_both, not_itself}
+use Rattle.trick_phase_schedules.specs.Tics.{IsDueIn, due_jobs, tic_of}
 
 -- ---- lists in key order
 

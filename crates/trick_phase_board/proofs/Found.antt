@@ -3,18 +3,18 @@ use Rattle.std.proofs.Common.{ℕ, ◌<◌, ◌==◌, Bool, true, false, List, [
 use Rattle.std.specs.List.{slice_index_or}
 use Rattle.std.specs.Option.{IfSome}
 use Rattle.std.specs.Prelude.{filter, if◌then◌else◌}
-use Rattle.trick_board.specs.Search.{find_first, find_wanted, meets, other_than}
-use Rattle.trick_board.specs.Tables.{IsFor, awaits, scheduled}
-use Rattle.trick_board.specs.declared.search.Wanted.{Wanted}
-use Rattle.trick_board.specs.declared.tables.Tables.{Tables}
+use Rattle.trick_phase_board.specs.Search.{find_first, find_wanted, meets, other_than}
+use Rattle.trick_phase_board.specs.Tables.{IsFor, awaits, scheduled}
+use Rattle.trick_phase_board.specs.declared.search.Wanted.{Wanted}
+use Rattle.trick_phase_board.specs.declared.tables.Tables.{Tables}
 use Rattle.trick_lang.specs.declared.class.Class.TheVariants as class
 use Rattle.trick_lang.specs.declared.job.JobId.{JobId}
 use Rattle.trick_model.proofs.Ranges.{Below, filter_below, jobs_below, order_below}
 use Rattle.trick_model.specs.Order.{is_of_class}
 use Rattle.trick_model.specs.Plan.{Plan, job_numbers, thread_of}
 use Rattle.trick_model.specs.Valid.{ids}
-use Rattle.trick_schedule.specs.Play.{stage_at}
-use Rattle.trick_schedule.specs.declared.stage.Stage.{Stage}
+use Rattle.trick_phase_schedules.specs.Play.{stage_at}
+use Rattle.trick_phase_schedules.specs.declared.stage.Stage.{Stage}
 
 found_below : (test : ℕ → Bool) (n : ℕ) (jobs : List JobId) → Below n (ids jobs)
     → IfSome (find_first test jobs) (λ (job : JobId). job.0 < n)

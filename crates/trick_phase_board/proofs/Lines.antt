@@ -5,12 +5,12 @@ use Rattle.std.proofs.lemmas.Bool.Decides.{nat_tests}
 use Rattle.std.proofs.lemmas.List.{get_or_past}
 use Rattle.std.proofs.lemmas.List.Sums.{AllPass-from_list_all}
 use Rattle.std.specs.Prelude.{filter, not}
-use Rattle.trick_board.specs.Tables.{awaits, depended_of, is_ahead, line_of, scheduled}
+use Rattle.trick_phase_board.specs.Tables.{awaits, depended_of, is_ahead, line_of, scheduled}
 use Rattle.trick_lang.specs.Valid.{have_right_threads}
 use Rattle.trick_lang.specs.declared.job.Job.{Job}
 use Rattle.trick_model.specs.Plan.{Plan, no_job, thread_of}
 use Rattle.trick_model.specs.declared.depends.Depends.{Depends}
-use Rattle.trick_schedule.specs.Tics.{depends_on}
+use Rattle.trick_phase_schedules.specs.Tics.{depends_on}
 
 -- where no job passes none is left
 pub none_pass : (test : ℕ → Bool) (ks : List ℕ) → ((k : ℕ) → test k ≡ false) → filter test ks ≡ []

@@ -3,15 +3,15 @@ use Rattle.std.proofs.Common.{◌≡◌, ◌⊎◌, inl, inr, ℕ, ◌==◌, Boo
 use Rattle.std.proofs.lemmas.Bool.{and_from, and_parts, both_ways, eq-eqb, eqb-true}
 use Rattle.std.specs.List.{slice_index_or}
 use Rattle.std.specs.Prelude.{filter, not}
-use Rattle.trick_board.proofs.Own.{before_all, before_first, before_thread, before_within, none_opens, open_some}
-use Rattle.trick_board.proofs.Firsts.{Found, among_tested, due_scheduled, find_none, find_some, tested, tested_order}
-use Rattle.trick_board.specs.Answers.{CanDo, IsLeast, IsMissing, WaitsOn}
-use Rattle.trick_board.specs.Counts.{before_on, own_anew}
-use Rattle.trick_board.specs.Search.{AreFirst, find_first, find_wanted, is_in_flight, is_open, is_waiting, last_of, least_of, missing_in, next_by, next_in, other_than, ready_or}
-use Rattle.trick_board.specs.Tables.{IsFor, awaits, depended_of, is_ahead, line_of, scheduled, thread_in}
-use Rattle.trick_board.specs.declared.search.Next.TheVariants.{Ready}
-use Rattle.trick_board.specs.declared.search.Wanted.TheVariants as wanted
-use Rattle.trick_board.specs.declared.tables.Tables.{Tables}
+use Rattle.trick_phase_board.proofs.Own.{before_all, before_first, before_thread, before_within, none_opens, open_some}
+use Rattle.trick_phase_board.proofs.Firsts.{Found, among_tested, due_scheduled, find_none, find_some, tested, tested_order}
+use Rattle.trick_phase_board.specs.Answers.{CanDo, IsLeast, IsMissing, WaitsOn}
+use Rattle.trick_phase_board.specs.Counts.{before_on, own_anew}
+use Rattle.trick_phase_board.specs.Search.{AreFirst, find_first, find_wanted, is_in_flight, is_open, is_waiting, last_of, least_of, missing_in, next_by, next_in, other_than, ready_or}
+use Rattle.trick_phase_board.specs.Tables.{IsFor, awaits, depended_of, is_ahead, line_of, scheduled, thread_in}
+use Rattle.trick_phase_board.specs.declared.search.Next.TheVariants.{Ready}
+use Rattle.trick_phase_board.specs.declared.search.Wanted.TheVariants as wanted
+use Rattle.trick_phase_board.specs.declared.tables.Tables.{Tables}
 use Rattle.trick_lang.specs.declared.job.JobId.{JobId}
 use Rattle.trick_model.specs.Laws.{AreInKeyOrder, KeyOrderIsOne, is_among}
 use Rattle.trick_model.specs.Order.{precedes}
@@ -20,12 +20,12 @@ use Rattle.trick_model.specs.PlanOf.{plan_of}
 use Rattle.trick_model.specs.Valid.{ids}
 use Rattle.trick_model.specs.declared.flags.Flags.{Flags}
 use Rattle.trick_model.specs.declared.plan.Plan.{Plan as PlanValue}
-use Rattle.trick_schedule.proofs.Due.{due_there}
-use Rattle.trick_schedule.proofs.Keys.{one_first, precedes_all}
-use Rattle.trick_schedule.specs.Play.{is_done, is_due, stage_at}
-use Rattle.trick_schedule.specs.Tics.{IsDueIn, Tic, depends_on, due_jobs, tic_of}
-use Rattle.trick_schedule.specs.declared.stage.Stage.{Stage}
-use Rattle.trick_schedule.specs.declared.stage.Stage.TheVariants.{Done, Idle, InFlight, Waiting}
+use Rattle.trick_phase_schedules.proofs.Due.{due_there}
+use Rattle.trick_phase_schedules.proofs.Keys.{one_first, precedes_all}
+use Rattle.trick_phase_schedules.specs.Play.{is_done, is_due, stage_at}
+use Rattle.trick_phase_schedules.specs.Tics.{IsDueIn, Tic, depends_on, due_jobs, tic_of}
+use Rattle.trick_phase_schedules.specs.declared.stage.Stage.{Stage}
+use Rattle.trick_phase_schedules.specs.declared.stage.Stage.TheVariants.{Done, Idle, InFlight, Waiting}
 
 -- ---- stages
 

@@ -2,18 +2,18 @@
 use Rattle.std.proofs.Common.{◌≡◌, ◌⊎◌, inl, inr, ℕ, suc, ◌+◌, ◌≤◌, ◌==◌, Bool, true, false, cond, List, [], ◌∷◌, length, IsTrue, refl, sym, ◌∙◌, ap, subst, arith}
 use Rattle.std.proofs.lemmas.Bool.{both_ways, eq-eqb, eqb-true}
 use Rattle.trick_base.proofs.Numbers.{zero_at_most}
-use Rattle.trick_board.specs.Counts.{before_on, many_on, one_if, open_among, rank_in}
-use Rattle.trick_board.specs.Search.{is_open}
-use Rattle.trick_board.specs.Tables.{thread_in}
-use Rattle.trick_board.specs.declared.tables.Tables.{Tables}
+use Rattle.trick_phase_board.specs.Counts.{before_on, many_on, one_if, open_among, rank_in}
+use Rattle.trick_phase_board.specs.Search.{is_open}
+use Rattle.trick_phase_board.specs.Tables.{thread_in}
+use Rattle.trick_phase_board.specs.declared.tables.Tables.{Tables}
 use Rattle.trick_lang.specs.declared.job.Job.{Job}
 use Rattle.trick_lang.specs.declared.job.JobId.{JobId}
 use Rattle.trick_model.specs.Laws.{AreInKeyOrder, is_among}
 use Rattle.trick_model.specs.Order.{precedes}
 use Rattle.trick_model.specs.Valid.{ids}
-use Rattle.trick_schedule.proofs.Keys.{among_cases, among_first, among_rest, before_among, none_among, not_both, not_itself}
-use Rattle.trick_schedule.specs.Play.{stage_at}
-use Rattle.trick_schedule.specs.declared.stage.Stage.{Stage}
+use Rattle.trick_phase_schedules.proofs.Keys.{among_cases, among_first, among_rest, before_among, none_among, not_both, not_itself}
+use Rattle.trick_phase_schedules.specs.Play.{stage_at}
+use Rattle.trick_phase_schedules.specs.declared.stage.Stage.{Stage}
 
 -- ---- which jobs are before a job
 

@@ -4,14 +4,14 @@ use Rattle.std.proofs.lemmas.Bool.{cases_eq, cases_lt}
 use Rattle.std.proofs.lemmas.List.{drop_all, get_or-set_other, get_or-set_same, set_past, take-append-drop, take_more}
 use Rattle.std.specs.List.{slice_index_or}
 use Rattle.std.specs.Prelude.{replicate, slice_set}
-use Rattle.trick_board.specs.Search.{ArePassed, IsPassed, find_first, find_wanted, is_open, meets}
-use Rattle.trick_board.specs.declared.search.Wanted.{Wanted}
-use Rattle.trick_board.specs.declared.search.Wanted.TheVariants as wanted
-use Rattle.trick_board.specs.declared.tables.Tables.{Tables}
+use Rattle.trick_phase_board.specs.Search.{ArePassed, IsPassed, find_first, find_wanted, is_open, meets}
+use Rattle.trick_phase_board.specs.declared.search.Wanted.{Wanted}
+use Rattle.trick_phase_board.specs.declared.search.Wanted.TheVariants as wanted
+use Rattle.trick_phase_board.specs.declared.tables.Tables.{Tables}
 use Rattle.trick_lang.specs.declared.job.JobId.{JobId}
-use Rattle.trick_schedule.specs.Play.{stage_at}
-use Rattle.trick_schedule.specs.declared.stage.Stage.{Stage}
-use Rattle.trick_schedule.specs.declared.stage.Stage.TheVariants.{Done, Idle, InFlight, Waiting}
+use Rattle.trick_phase_schedules.specs.Play.{stage_at}
+use Rattle.trick_phase_schedules.specs.declared.stage.Stage.{Stage}
+use Rattle.trick_phase_schedules.specs.declared.stage.Stage.TheVariants.{Done, Idle, InFlight, Waiting}
 
 -- ---- lists
 

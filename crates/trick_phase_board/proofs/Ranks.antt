@@ -4,23 +4,23 @@ use Rattle.std.proofs.lemmas.Bool.{cases_Bool, cases_eq, eq-eqb, eqb-true, false
 use Rattle.std.proofs.lemmas.List.{get_or-set_other, get_or-set_same, length-replicate}
 use Rattle.std.specs.Prelude.{replicate, slice_set}
 use Rattle.trick_base.proofs.Numbers.{zero_at_most}
-use Rattle.trick_board.proofs.Counting.{closed_one, occurrences, occurs_once, one_less, open_kept, same_open, was_due}
-use Rattle.trick_board.proofs.Own.{all_open, before_fewer, before_thread, before_within, rank_splits}
-use Rattle.trick_board.proofs.Stages.{all_idle}
-use Rattle.trick_board.specs.Board.{AreDueAmong}
-use Rattle.trick_board.specs.Counts.{AreInTurn, AreRanked, before_on, count_at, many_on, one_if, open_among, own_anew, own_at, rank_in}
-use Rattle.trick_board.specs.Search.{is_open}
-use Rattle.trick_board.specs.Tables.{thread_in}
-use Rattle.trick_board.specs.declared.tables.Tables.{Tables}
+use Rattle.trick_phase_board.proofs.Counting.{closed_one, occurrences, occurs_once, one_less, open_kept, same_open, was_due}
+use Rattle.trick_phase_board.proofs.Own.{all_open, before_fewer, before_thread, before_within, rank_splits}
+use Rattle.trick_phase_board.proofs.Stages.{all_idle}
+use Rattle.trick_phase_board.specs.Board.{AreDueAmong}
+use Rattle.trick_phase_board.specs.Counts.{AreInTurn, AreRanked, before_on, count_at, many_on, one_if, open_among, own_anew, own_at, rank_in}
+use Rattle.trick_phase_board.specs.Search.{is_open}
+use Rattle.trick_phase_board.specs.Tables.{thread_in}
+use Rattle.trick_phase_board.specs.declared.tables.Tables.{Tables}
 use Rattle.trick_lang.specs.declared.job.Job.{Job}
 use Rattle.trick_lang.specs.declared.job.JobId.{JobId}
 use Rattle.trick_model.specs.Laws.{AreInKeyOrder, is_among}
 use Rattle.trick_model.specs.Valid.{ids}
-use Rattle.trick_schedule.proofs.History.{waiting_at}
-use Rattle.trick_schedule.proofs.Keys.{among_cases, none_among}
-use Rattle.trick_schedule.specs.Play.{is_due, is_taken, stage_at, with_waiting}
-use Rattle.trick_schedule.specs.declared.stage.Stage.{Stage}
-use Rattle.trick_schedule.specs.declared.stage.Stage.TheVariants.{Idle, InFlight, Waiting}
+use Rattle.trick_phase_schedules.proofs.History.{waiting_at}
+use Rattle.trick_phase_schedules.proofs.Keys.{among_cases, none_among}
+use Rattle.trick_phase_schedules.specs.Play.{is_due, is_taken, stage_at, with_waiting}
+use Rattle.trick_phase_schedules.specs.declared.stage.Stage.{Stage}
+use Rattle.trick_phase_schedules.specs.declared.stage.Stage.TheVariants.{Idle, InFlight, Waiting}
 
 -- ---- how often a job is before another one
 

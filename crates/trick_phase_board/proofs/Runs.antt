@@ -5,17 +5,17 @@ use Rattle.std.proofs.lemmas.List.{get_or-set_same}
 use Rattle.std.specs.List.{slice_index_or}
 use Rattle.std.specs.Option.{IfSome}
 use Rattle.std.specs.Prelude.{IsSome}
-use Rattle.trick_board.specs.Answers.{IsEmptiedOf, IsFilledBy}
-use Rattle.trick_board.specs.Board.{BoardView, Opened, stepped, with_run}
+use Rattle.trick_phase_board.specs.Answers.{IsEmptiedOf, IsFilledBy}
+use Rattle.trick_phase_board.specs.Board.{BoardView, Opened, stepped, with_run}
 use Rattle.trick_eval.specs.Bench.{BenchView, IsEvaluated, IsFilled, the_job}
 use Rattle.trick_lang.specs.Effect.{effect, reads}
 use Rattle.trick_lang.specs.Laws.{AgreeOn}
 use Rattle.trick_lang.specs.declared.job.JobId.{JobId}
 use Rattle.trick_model.specs.declared.plan.Plan.{Plan as PlanValue}
-use Rattle.trick_schedule.proofs.Steps.{inside}
-use Rattle.trick_schedule.specs.Play.{is_due, stage_at}
-use Rattle.trick_schedule.specs.declared.stage.Stage.TheVariants.{InFlight, Waiting}
-use Rattle.trick_schedule.specs.declared.step.Step.TheVariants.{Commit, Take}
+use Rattle.trick_phase_schedules.proofs.Steps.{inside}
+use Rattle.trick_phase_schedules.specs.Play.{is_due, stage_at}
+use Rattle.trick_phase_schedules.specs.declared.stage.Stage.TheVariants.{InFlight, Waiting}
+use Rattle.trick_phase_schedules.specs.declared.step.Step.TheVariants.{Commit, Take}
 
 -- a bench that a take filled has the job
 pub fill_job : (phase : ℕ) (plan : PlanValue) (opened : Option Opened) (was filled : BenchView) (job : JobId) → IsSome opened

@@ -10,12 +10,12 @@ use Rattle.trick_model.specs.Plan.{Plan, is_on_scheduled, job_numbers}
 use Rattle.trick_model.specs.Valid.{ids}
 use Rattle.trick_model.specs.declared.flags.Flags.{Flags}
 use Rattle.trick_queue.proofs.Queued.{filter_few, ids_length, numbers_length, order_length}
-use Rattle.trick_schedule.proofs.Due.{due_there}
-use Rattle.trick_schedule.proofs.History.{waiting_at}
-use Rattle.trick_schedule.specs.Play.{first_stages, is_due, stage_at}
-use Rattle.trick_schedule.specs.Tics.{Tic, due_jobs}
-use Rattle.trick_schedule.specs.declared.stage.Stage.{Stage}
-use Rattle.trick_schedule.specs.declared.stage.Stage.TheVariants.{Idle, Waiting}
+use Rattle.trick_phase_schedules.proofs.Due.{due_there}
+use Rattle.trick_phase_schedules.proofs.History.{waiting_at}
+use Rattle.trick_phase_schedules.specs.Play.{first_stages, is_due, stage_at}
+use Rattle.trick_phase_schedules.specs.Tics.{Tic, due_jobs}
+use Rattle.trick_phase_schedules.specs.declared.stage.Stage.{Stage}
+use Rattle.trick_phase_schedules.specs.declared.stage.Stage.TheVariants.{Idle, Waiting}
 
 -- a stage of a job that is as due as the one before leaves which jobs are due
 pub due_kept : (stages : List Stage) (k : ℕ) (s : Stage) → is_due s ≡ is_due (stage_at stages k) → (i : ℕ)

@@ -1,15 +1,15 @@
 -- What the calls of a board answer.
 use Rattle.std.specs.Prelude.{◌≡◌, ◌≢◌, ◌⊎◌, ℕ, ◌+◌, ◌<◌, ℤ, false, cond, IsTrue, List, [], ◌∷◌, Some, None}
-use Rattle.trick_board.specs.declared.answers.Closed.{Closed}
-use Rattle.trick_board.specs.declared.answers.Closed.TheVariants.{Left, Memory}
-use Rattle.trick_board.specs.declared.answers.Commit.{Commit}
-use Rattle.trick_board.specs.declared.answers.Commit.TheVariants.{Committed, Stale, Gone, NotTaken}
-use Rattle.trick_board.specs.declared.answers.Ran.{Ran}
-use Rattle.trick_board.specs.declared.answers.Ran.TheVariants as ran
-use Rattle.trick_board.specs.declared.answers.Took.{Took}
-use Rattle.trick_board.specs.declared.answers.Took.TheVariants.{Took as WasTaken, NotYet, ThreadDone}
-use Rattle.trick_board.specs.declared.search.Next.{Next}
-use Rattle.trick_board.specs.declared.search.Next.TheVariants as next
+use Rattle.trick_phase_board.specs.declared.answers.Closed.{Closed}
+use Rattle.trick_phase_board.specs.declared.answers.Closed.TheVariants.{Left, Memory}
+use Rattle.trick_phase_board.specs.declared.answers.Commit.{Commit}
+use Rattle.trick_phase_board.specs.declared.answers.Commit.TheVariants.{Committed, Stale, Gone, NotTaken}
+use Rattle.trick_phase_board.specs.declared.answers.Ran.{Ran}
+use Rattle.trick_phase_board.specs.declared.answers.Ran.TheVariants as ran
+use Rattle.trick_phase_board.specs.declared.answers.Took.{Took}
+use Rattle.trick_phase_board.specs.declared.answers.Took.TheVariants.{Took as WasTaken, NotYet, ThreadDone}
+use Rattle.trick_phase_board.specs.declared.search.Next.{Next}
+use Rattle.trick_phase_board.specs.declared.search.Next.TheVariants as next
 use Rattle.trick_eval.specs.Bench.{BenchView, IsFirstDifference, the_job}
 use Rattle.trick_lang.specs.Laws.{AgreeOn}
 use Rattle.trick_lang.specs.declared.job.JobId.{JobId}
@@ -18,13 +18,13 @@ use Rattle.trick_model.specs.FaultList.{FaultList, with_faults}
 use Rattle.trick_model.specs.Order.{precedes}
 use Rattle.trick_model.specs.Plan.{thread_of}
 use Rattle.trick_model.specs.Running.{After}
-use Rattle.trick_schedule.specs.Play.{copy_of, is_done, opening, played, stage_at}
-use Rattle.trick_schedule.specs.Progress.{Progress, begun, moved}
-use Rattle.trick_schedule.specs.Schedule.{IsBegun}
-use Rattle.trick_schedule.specs.Tics.{IsDueIn, IsPredecessor, Tic}
-use Rattle.trick_schedule.specs.declared.stage.Stage.{Stage}
-use Rattle.trick_schedule.specs.declared.stage.Stage.TheVariants.{InFlight, Waiting}
-use Rattle.trick_schedule.specs.declared.step.Step.{Step}
+use Rattle.trick_phase_schedules.specs.Play.{copy_of, is_done, opening, played, stage_at}
+use Rattle.trick_phase_schedules.specs.Progress.{Progress, begun, moved}
+use Rattle.trick_phase_schedules.specs.Schedule.{IsBegun}
+use Rattle.trick_phase_schedules.specs.Tics.{IsDueIn, IsPredecessor, Tic}
+use Rattle.trick_phase_schedules.specs.declared.stage.Stage.{Stage}
+use Rattle.trick_phase_schedules.specs.declared.stage.Stage.TheVariants.{InFlight, Waiting}
+use Rattle.trick_phase_schedules.specs.declared.step.Step.{Step}
 
 -- no job of the kind has a smaller key
 pub record IsLeast (t : Tic) (P : ℕ → Type 0) (k : ℕ) : Type 0 where

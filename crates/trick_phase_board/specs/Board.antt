@@ -1,9 +1,9 @@
 -- What a board is, and which boards are a plan's.
 use Rattle.std.specs.Option.{IfSome}
 use Rattle.std.specs.Prelude.{◌≡◌, ℕ, ◌+◌, ◌-◌, ◌^◌, ◌<◌, ◌≤◌, ◌==◌, if◌then◌else◌, ℤ, Bool, IsTrue, List, [], ◌∷◌, length, Option, Some}
-use Rattle.trick_board.specs.Tables.{IsFor}
-use Rattle.trick_board.specs.declared.tables.Tables.{Tables}
-use Rattle.trick_job.specs.Belongs.{IsMemoryOf}
+use Rattle.trick_phase_board.specs.Tables.{IsFor}
+use Rattle.trick_phase_board.specs.declared.tables.Tables.{Tables}
+use Rattle.trick_phase_jobs.specs.Belongs.{IsMemoryOf}
 use Rattle.trick_lang.specs.declared.job.JobId.{JobId}
 use Rattle.trick_lang.specs.declared.scalar.Scalar.{Scalar}
 use Rattle.trick_model.specs.Laws.{is_among}
@@ -12,12 +12,12 @@ use Rattle.trick_model.specs.PlanOf.{plan_of}
 use Rattle.trick_model.specs.Valid.{ids}
 use Rattle.trick_model.specs.declared.flags.Flags.{Flags}
 use Rattle.trick_model.specs.declared.plan.Plan.{Plan as PlanValue}
-use Rattle.trick_schedule.specs.Play.{is_due, stage_at}
-use Rattle.trick_schedule.specs.Progress.{Progress, begun, move, moved}
-use Rattle.trick_schedule.specs.Tics.{Tic, due_jobs, tic_of}
-use Rattle.trick_schedule.specs.declared.stage.Stage.{Stage}
-use Rattle.trick_schedule.specs.declared.step.Step.{Step}
-use Rattle.trick_schedule.specs.declared.step.Step.TheVariants.{Commit, Take}
+use Rattle.trick_phase_schedules.specs.Play.{is_due, stage_at}
+use Rattle.trick_phase_schedules.specs.Progress.{Progress, begun, move, moved}
+use Rattle.trick_phase_schedules.specs.Tics.{Tic, due_jobs, tic_of}
+use Rattle.trick_phase_schedules.specs.declared.stage.Stage.{Stage}
+use Rattle.trick_phase_schedules.specs.declared.step.Step.{Step}
+use Rattle.trick_phase_schedules.specs.declared.step.Step.TheVariants.{Commit, Take}
 
 -- An open tic: its number, the flags of the jobs, its due jobs in key order, the types of the memory's
 -- cells, and how far it is.

@@ -2,12 +2,12 @@
 -- predecessors are of two kinds: the due jobs before it on its thread, and others that it depends on.
 use Rattle.std.specs.List.{slice_index_or}
 use Rattle.std.specs.Prelude.{◌≡◌, ℕ, ◌+◌, ◌-◌, ◌==◌, ◌&&◌, cond, Bool, true, false, IsTrue, List, [], ◌∷◌, slice_set}
-use Rattle.trick_board.specs.Search.{is_open}
-use Rattle.trick_board.specs.Tables.{thread_in}
-use Rattle.trick_board.specs.declared.tables.Tables.{Tables}
+use Rattle.trick_phase_board.specs.Search.{is_open}
+use Rattle.trick_phase_board.specs.Tables.{thread_in}
+use Rattle.trick_phase_board.specs.declared.tables.Tables.{Tables}
 use Rattle.trick_lang.specs.declared.job.JobId.{JobId}
-use Rattle.trick_schedule.specs.Play.{is_due, is_taken, stage_at}
-use Rattle.trick_schedule.specs.declared.stage.Stage.{Stage}
+use Rattle.trick_phase_schedules.specs.Play.{is_due, is_taken, stage_at}
+use Rattle.trick_phase_schedules.specs.declared.stage.Stage.{Stage}
 
 -- 1 where it is so
 abbrev pub one_if : Bool → ℕ

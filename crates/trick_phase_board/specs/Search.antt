@@ -1,17 +1,17 @@
 -- How the next job of a thread is found in the tables of a board.
 use Rattle.std.specs.List.{slice_index_or}
 use Rattle.std.specs.Prelude.{◌≡◌, ℕ, ◌==◌, Bool, true, false, cond, if◌then◌else◌, List, [], ◌∷◌, Option, Some, None, take}
-use Rattle.trick_board.specs.declared.search.Next.{Next}
-use Rattle.trick_board.specs.declared.search.Next.TheVariants as next
-use Rattle.trick_board.specs.declared.search.Wanted.{Wanted}
-use Rattle.trick_board.specs.declared.search.Wanted.TheVariants as wanted
-use Rattle.trick_board.specs.declared.tables.Tables.{Tables}
+use Rattle.trick_phase_board.specs.declared.search.Next.{Next}
+use Rattle.trick_phase_board.specs.declared.search.Next.TheVariants as next
+use Rattle.trick_phase_board.specs.declared.search.Wanted.{Wanted}
+use Rattle.trick_phase_board.specs.declared.search.Wanted.TheVariants as wanted
+use Rattle.trick_phase_board.specs.declared.tables.Tables.{Tables}
 use Rattle.trick_lang.specs.declared.job.JobId.{JobId}
 use Rattle.trick_model.specs.Order.{precedes}
 use Rattle.trick_model.specs.Plan.{Plan}
-use Rattle.trick_schedule.specs.Play.{stage_at}
-use Rattle.trick_schedule.specs.declared.stage.Stage.{Stage}
-use Rattle.trick_schedule.specs.declared.stage.Stage.TheVariants.{Done, Idle, InFlight, Waiting}
+use Rattle.trick_phase_schedules.specs.Play.{stage_at}
+use Rattle.trick_phase_schedules.specs.declared.stage.Stage.{Stage}
+use Rattle.trick_phase_schedules.specs.declared.stage.Stage.TheVariants.{Done, Idle, InFlight, Waiting}
 
 -- the job waits
 abbrev pub is_waiting : Stage → Bool

@@ -1,7 +1,7 @@
 -- Lists of jobs that a board looks up, which a plan settles.
 use Rattle.std.specs.List.{slice_index_or}
 use Rattle.std.specs.Prelude.{◌≡◌, ℕ, ◌<◌, ◌==◌, ◌&&◌, Bool, not, List, [], filter, length}
-use Rattle.trick_board.specs.declared.tables.Tables.{Tables}
+use Rattle.trick_phase_board.specs.declared.tables.Tables.{Tables}
 use Rattle.trick_lang.specs.declared.class.Class.TheVariants as class
 use Rattle.trick_lang.specs.declared.job.Job.{Job}
 use Rattle.trick_lang.specs.declared.job.JobId.{JobId}
@@ -10,7 +10,7 @@ use Rattle.trick_model.specs.Order.{jobs_in, precedes}
 use Rattle.trick_model.specs.Plan.{Plan, thread_of}
 use Rattle.trick_model.specs.Valid.{ids}
 use Rattle.trick_model.specs.declared.depends.Depends.{Depends}
-use Rattle.trick_schedule.specs.Tics.{depends_on}
+use Rattle.trick_phase_schedules.specs.Tics.{depends_on}
 
 -- the jobs of class scheduled, in key order
 abbrev pub scheduled : Plan → List ℕ

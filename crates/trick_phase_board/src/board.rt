@@ -1,11 +1,11 @@
 ghost use Rattle.std.specs.Option.{IfSome};
 ghost use Rattle.std.specs.Prelude.{◌≡◌, ◌≢◌, ℕ, ℤ, ◌<◌, ◌≤◌, List, IfOk, IsSome, MatchOption, None, Some, is_some, length};
-ghost use Rattle.trick_board.specs.Answers.{CanDo, ComesTo, Commits, Counts, HasCopy, IfDone, IfLeft, IfMemory, IfNotDone, IsEmptiedOf, IsFilledBy, IsLeftBy, IsStale, Runs, Takes, open_count};
-ghost use Rattle.trick_board.specs.Counts.{own_anew};
-ghost use Rattle.trick_board.specs.Search.{is_in_flight};
-ghost use Rattle.trick_board.specs.Board.{IsBoardOf, IsOpenedWith, next_phase as next_phase_of, stepped, tic_at, with_run};
+ghost use Rattle.trick_phase_board.specs.Answers.{CanDo, ComesTo, Commits, Counts, HasCopy, IfDone, IfLeft, IfMemory, IfNotDone, IsEmptiedOf, IsFilledBy, IsLeftBy, IsStale, Runs, Takes, open_count};
+ghost use Rattle.trick_phase_board.specs.Counts.{own_anew};
+ghost use Rattle.trick_phase_board.specs.Search.{is_in_flight};
+ghost use Rattle.trick_phase_board.specs.Board.{IsBoardOf, IsOpenedWith, next_phase as next_phase_of, stepped, tic_at, with_run};
 ghost use Rattle.trick_eval.specs.Bench.{IsEvaluated, IsFilled, IsFirstDifference, IsFor as IsBenchFor, the_job};
-ghost use Rattle.trick_job.specs.Belongs.{IsMemoryOf};
+ghost use Rattle.trick_phase_jobs.specs.Belongs.{IsMemoryOf};
 ghost use Rattle.trick_lang.specs.Effect.{reads};
 ghost use Rattle.trick_lang.specs.Laws.{AgreeOn};
 ghost use Rattle.trick_model.specs.Acceptance.{IsAccepted};
@@ -15,10 +15,10 @@ ghost use Rattle.trick_model.specs.Valid.{ids};
 ghost use Rattle.trick_model.specs.declared.plan.Plan.{Plan as PlanValue};
 ghost use Rattle.trick_model.specs.FaultList.{with_faults};
 ghost use Rattle.trick_model.specs.Running.{serial};
-ghost use Rattle.trick_schedule.specs.Play.{copy_of, faults_in, opening, played, stage_at};
-ghost use Rattle.trick_schedule.specs.declared.stage.Stage.TheVariants.{InFlight, Waiting};
-ghost use Rattle.trick_schedule.specs.declared.step.Step.{Step};
-ghost use Rattle.trick_schedule.specs.declared.step.Step.TheVariants.{Commit as CommitOf, Take as TakeOf};
+ghost use Rattle.trick_phase_schedules.specs.Play.{copy_of, faults_in, opening, played, stage_at};
+ghost use Rattle.trick_phase_schedules.specs.declared.stage.Stage.TheVariants.{InFlight, Waiting};
+ghost use Rattle.trick_phase_schedules.specs.declared.step.Step.{Step};
+ghost use Rattle.trick_phase_schedules.specs.declared.step.Step.TheVariants.{Commit as CommitOf, Take as TakeOf};
 
 use crate::counts::{count_all, lower, lower_thread, rank_all};
 use crate::known::Known;
@@ -37,8 +37,8 @@ use trick_lang::laws::overwrite_law;
 use trick_lang::{Cell, Cells, JobId};
 use trick_model::laws::key_order_is_one;
 use trick_model::{Accepted, Faults, Flags, Plan};
-use trick_schedule::Stage;
-use trick_schedule::laws::{boards_need_no_copies, every_schedule_is_serial};
+use trick_phase_schedules::Stage;
+use trick_phase_schedules::laws::{boards_need_no_copies, every_schedule_is_serial};
 
 /// The due jobs of one tic after another, each of which is waiting, in flight or committed. It keeps the
 /// memory while a tic is open. All of its buffers are made with it.
@@ -59,9 +59,9 @@ pub struct Board<M: Cells> {
 impl<M: Cells> Model for Board<M> {
     ghost use Rattle.std.specs.Option.{option_map};
     ghost use Rattle.std.specs.Prelude.{length, vec_capacity};
-    ghost use Rattle.trick_board.specs.Board.{AreDueAmong, BoardView, IsRoomy, opened_of};
-    ghost use Rattle.trick_board.specs.Counts.{AreCounted, AreInTurn, AreRanked};
-    ghost use Rattle.trick_board.specs.Search.{ArePassed};
+    ghost use Rattle.trick_phase_board.specs.Board.{AreDueAmong, BoardView, IsRoomy, opened_of};
+    ghost use Rattle.trick_phase_board.specs.Counts.{AreCounted, AreInTurn, AreRanked};
+    ghost use Rattle.trick_phase_board.specs.Search.{ArePassed};
     ghost use Rattle.trick_model.specs.Valid.{ids};
 
     ghost Value = { BoardView };

@@ -3,10 +3,10 @@
 
 ghost use Rattle.std.specs.List.{slice_index_or};
 ghost use Rattle.std.specs.Prelude.{◌≡◌, ℕ, ◌+◌, ◌-◌, ◌^◌, ◌<◌, [], IsTrue, length, slice_set};
-ghost use Rattle.trick_board.specs.Counts.{IsCounted, count_at, many_on, none_is_left, open_among, rank_in, with_fewer};
-ghost use Rattle.trick_board.specs.Search.{find_wanted};
-ghost use Rattle.trick_board.specs.Tables.{thread_in};
-ghost use Rattle.trick_board.specs.declared.search.Wanted.TheVariants.{Open};
+ghost use Rattle.trick_phase_board.specs.Counts.{IsCounted, count_at, many_on, none_is_left, open_among, rank_in, with_fewer};
+ghost use Rattle.trick_phase_board.specs.Search.{find_wanted};
+ghost use Rattle.trick_phase_board.specs.Tables.{thread_in};
+ghost use Rattle.trick_phase_board.specs.declared.search.Wanted.TheVariants.{Open};
 ghost use Rattle.trick_model.specs.Laws.{is_among};
 ghost use Rattle.trick_model.specs.Valid.{ids};
 
@@ -15,7 +15,7 @@ use crate::known::Known;
 use crate::search::{Wanted, find, is_wanted, stage_of};
 use crate::tables::{list_at, thread_at};
 use trick_lang::JobId;
-use trick_schedule::Stage;
+use trick_phase_schedules::Stage;
 
 // How many of these jobs are due and not committed.
 fn count(stages: &[Stage], jobs: &[JobId]) -> usize

@@ -3,11 +3,11 @@
 ghost use Rattle.std.specs.List.{slice_index_or};
 ghost use Rattle.std.specs.Option.{IfSome};
 ghost use Rattle.std.specs.Prelude.{◌≡◌, ◌<◌, [], length};
-ghost use Rattle.trick_board.specs.Counts.{AreCounted, own_at};
-ghost use Rattle.trick_board.specs.Search.{ArePassed, AreFirst, IsPassed, find_wanted, least_of, meets, next_in, other_than};
-ghost use Rattle.trick_board.specs.Tables.{IsFor};
+ghost use Rattle.trick_phase_board.specs.Counts.{AreCounted, own_at};
+ghost use Rattle.trick_phase_board.specs.Search.{ArePassed, AreFirst, IsPassed, find_wanted, least_of, meets, next_in, other_than};
+ghost use Rattle.trick_phase_board.specs.Tables.{IsFor};
 ghost use Rattle.trick_model.specs.PlanOf.{plan_of};
-ghost use Rattle.trick_schedule.specs.Play.{stage_at};
+ghost use Rattle.trick_phase_schedules.specs.Play.{stage_at};
 
 use crate::Tables;
 use crate::counts::{awaited, has_none_left};
@@ -15,7 +15,7 @@ use crate::known::Known;
 use crate::tables::list_at;
 use trick_lang::JobId;
 use trick_model::{Plan, precedes};
-use trick_schedule::Stage;
+use trick_phase_schedules::Stage;
 
 /// Which jobs are looked for.
 #[derive(Clone, Copy)]

@@ -2,10 +2,10 @@
 
 ghost use Rattle.std.specs.List.{slice_index_or};
 ghost use Rattle.std.specs.Prelude.{◌≡◌, ℕ, ◌+◌, ◌<◌, ◌≤◌, [], Some, None, false, true, length, replicate, slice_set, vec_capacity};
-ghost use Rattle.trick_board.specs.Answers.{open_count};
-ghost use Rattle.trick_board.specs.Board.{AreDueAmong, next_phase as next_phase_of};
+ghost use Rattle.trick_phase_board.specs.Answers.{open_count};
+ghost use Rattle.trick_phase_board.specs.Board.{AreDueAmong, next_phase as next_phase_of};
 ghost use Rattle.trick_eval.specs.Bench.{IsEvaluated, the_job};
-ghost use Rattle.trick_job.specs.Belongs.{IsMemoryOf};
+ghost use Rattle.trick_phase_jobs.specs.Belongs.{IsMemoryOf};
 ghost use Rattle.trick_lang.specs.Effect.{reads};
 ghost use Rattle.trick_lang.specs.Laws.{AgreeOn};
 ghost use Rattle.trick_model.specs.FaultList.{with_faults};
@@ -13,15 +13,15 @@ ghost use Rattle.trick_model.specs.Plan.{is_on};
 ghost use Rattle.trick_model.specs.PlanOf.{plan_of};
 ghost use Rattle.trick_model.specs.Running.{apply};
 ghost use Rattle.trick_model.specs.Valid.{ids};
-ghost use Rattle.trick_schedule.specs.Play.{faults_in, first_fault, with_waiting};
-ghost use Rattle.trick_schedule.specs.declared.stage.Stage.TheVariants.{Idle};
+ghost use Rattle.trick_phase_schedules.specs.Play.{faults_in, first_fault, with_waiting};
+ghost use Rattle.trick_phase_schedules.specs.declared.stage.Stage.TheVariants.{Idle};
 
 use crate::search::stage_of;
 use trick_eval::Bench;
 use trick_lang::laws::{frame_law, overwrite_law};
 use trick_lang::{Cells, JobFault, JobId};
 use trick_model::{Faults, Flags, Plan};
-use trick_schedule::Stage;
+use trick_phase_schedules::Stage;
 
 /// The phase after another one.
 pub fn next_phase(phase: u64) -> u64

@@ -1,12 +1,12 @@
 ghost use Rattle.std.specs.List.{slice_index_or};
 ghost use Rattle.std.specs.Prelude.{◌≡◌, ℕ, ◌==◌, ◌∷◌, ◌++◌, ◌<◌, [], IfOk, cond, filter, length};
-ghost use Rattle.trick_board.specs.Tables.{IsFor, awaits as awaits_of, depended_of, followers_of, ids_at, is_ahead as is_ahead_of, line_of, thread_in};
+ghost use Rattle.trick_phase_board.specs.Tables.{IsFor, awaits as awaits_of, depended_of, followers_of, ids_at, is_ahead as is_ahead_of, line_of, thread_in};
 ghost use Rattle.trick_model.specs.Laws.{is_among};
 ghost use Rattle.trick_model.specs.Plan.{thread_of as thread_of_job};
 ghost use Rattle.trick_model.specs.PlanOf.{plan_of};
 ghost use Rattle.trick_model.specs.Valid.{ids};
 ghost use Rattle.trick_model.specs.declared.depends.Depends.{Depends as Pair};
-ghost use Rattle.trick_schedule.specs.Tics.{depends_on as depends_on_of};
+ghost use Rattle.trick_phase_schedules.specs.Tics.{depends_on as depends_on_of};
 
 use std::alloc::{AllocError, Global};
 use trick_base::Items;

@@ -2,20 +2,20 @@
 use Rattle.std.proofs.Common.{◌≡◌, ◌≢◌, ◌∙◌, ℕ, Bool, true, false, List, Option, Some, None, ap, is_some, length, pos, refl, subst, sym, MatchOption}
 use Rattle.std.proofs.lemmas.List.{length-replicate}
 use Rattle.std.specs.Option.{IfSome}
-use Rattle.trick_board.specs.Answers.{IsFilledBy}
-use Rattle.trick_board.specs.Board.{BoardView, IsBoardOf, Opened, stepped}
-use Rattle.trick_board.specs.declared.answers.Commit.{Commit}
-use Rattle.trick_board.specs.declared.answers.Commit.TheVariants.{Committed, Gone, NotTaken, Stale}
-use Rattle.trick_board.specs.declared.answers.Took.{Took}
-use Rattle.trick_board.specs.declared.answers.Took.TheVariants.{NotYet, ThreadDone, Took as WasTaken}
+use Rattle.trick_phase_board.specs.Answers.{IsFilledBy}
+use Rattle.trick_phase_board.specs.Board.{BoardView, IsBoardOf, Opened, stepped}
+use Rattle.trick_phase_board.specs.declared.answers.Commit.{Commit}
+use Rattle.trick_phase_board.specs.declared.answers.Commit.TheVariants.{Committed, Gone, NotTaken, Stale}
+use Rattle.trick_phase_board.specs.declared.answers.Took.{Took}
+use Rattle.trick_phase_board.specs.declared.answers.Took.TheVariants.{NotYet, ThreadDone, Took as WasTaken}
 use Rattle.trick_eval.specs.Bench.{BenchView, IsFor}
-use Rattle.trick_job.specs.Belongs.{IsMemoryOf}
+use Rattle.trick_phase_jobs.specs.Belongs.{IsMemoryOf}
 use Rattle.trick_lang.specs.declared.job.JobId.{JobId}
 use Rattle.trick_lang.specs.declared.range.CellRange.{CellRange}
 use Rattle.trick_memory.specs.Stored.{Stored, zeros}
 use Rattle.trick_model.specs.declared.plan.Plan.{Plan}
-use Rattle.trick_schedule.specs.declared.step.Step.{Step}
-use Rattle.trick_schedule_cases.specs.Trial.{IsTrial}
+use Rattle.trick_phase_schedules.specs.declared.step.Step.{Step}
+use Rattle.trick_phase_cases.specs.Trial.{IsTrial}
 
 -- a step leaves the tic open
 pub stepped_open : (plan : Plan) (old new : BoardView) (opened : Option Opened) (x : Step) → is_some opened ≡ true

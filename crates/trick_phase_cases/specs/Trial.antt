@@ -1,6 +1,6 @@
 -- What holds of a board and of the benches beside it.
 use Rattle.std.specs.Prelude.{◌≡◌, Bool, is_some}
-use Rattle.trick_board.specs.Board.{BoardView, IsBoardOf}
+use Rattle.trick_phase_board.specs.Board.{BoardView, IsBoardOf}
 use Rattle.trick_eval.specs.Bench.{BenchView, IsFor}
 use Rattle.trick_model.specs.declared.plan.Plan.{Plan}
 

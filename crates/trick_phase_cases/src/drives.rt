@@ -2,7 +2,7 @@
 
 ghost use Rattle.std.specs.Prelude.{◌≤◌};
 ghost use Rattle.trick_base.specs.Time.{tic_limit};
-ghost use Rattle.trick_schedule_cases.specs.Trial.{IsTrial};
+ghost use Rattle.trick_phase_cases.specs.Trial.{IsTrial};
 
 use crate::drawn::Numbers;
 use crate::plain::{Doing, due_at, take};

@@ -1,7 +1,7 @@
 //! The plain forms of what queues and boards answer: they look at each job, as the rules are read.
 
 use std::alloc::{AllocError, Global};
-use trick_board::Took;
+use trick_phase_board::Took;
 use trick_lang::{Class, Job, JobId};
 use trick_model::{Depends, Plan};
 

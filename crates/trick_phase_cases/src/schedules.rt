@@ -6,7 +6,7 @@ use crate::words::{DueJob, advance, can_follow, complete, steps_of};
 use std::alloc::{AllocError, Global};
 use trick_memory::Memory;
 use trick_model::Accepted;
-use trick_play::{Played, play};
+use trick_phase::{Played, play};
 
 /// What a list of steps comes to: memory and faults, or the place at which it is wrong.
 pub(crate) fn played(

@@ -2,13 +2,13 @@
 
 ghost use Rattle.std.specs.Prelude.{◌≡◌, ◌≤◌, IfOk};
 ghost use Rattle.trick_base.specs.Time.{tic_limit};
-ghost use Rattle.trick_schedule_cases.specs.Trial.{IsTrial};
+ghost use Rattle.trick_phase_cases.specs.Trial.{IsTrial};
 
 use crate::told::told;
 use std::alloc::{AllocError, Global};
 use std::mem::swap;
 use trick_base::TIC_LIMIT;
-use trick_board::{Board, Closed};
+use trick_phase_board::{Board, Closed};
 use trick_eval::{Bench, eval};
 use trick_lang::JobId;
 use trick_memory::Memory;

@@ -2,7 +2,7 @@
 
 use std::alloc::{AllocError, Global};
 use trick_lang::JobId;
-use trick_schedule::Step;
+use trick_phase_schedules::Step;
 
 /// A due job of a tic, and its predecessors, all by their letters.
 #[derive(Clone, Copy)]

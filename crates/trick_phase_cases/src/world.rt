@@ -9,7 +9,7 @@ use crate::trial::answers;
 use crate::yardstick::compared;
 use std::alloc::{AllocError, Global};
 use trick_model::Accepted;
-use trick_ready::{Unready, ready};
+use trick_top_texts::{Unready, ready};
 
 /// The texts.
 #[derive(Drop)]

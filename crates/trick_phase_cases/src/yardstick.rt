@@ -6,7 +6,7 @@ use crate::walks::first_difference;
 use crate::world::refused;
 use std::alloc::{AllocError, Global};
 use trick_model::Accepted;
-use trick_ready::ready;
+use trick_top_texts::ready;
 
 /// Which form is compared with its plain one.
 #[derive(Clone, Copy)]

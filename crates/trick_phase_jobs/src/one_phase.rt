@@ -1,11 +1,10 @@
 ghost use Rattle.std.specs.Prelude.{IfOk};
 ghost use Rattle.trick_eval.specs.Bench.{IsFor};
 
-use crate::Phases;
+use crate::{Phases, Setting, run_jobs};
 use std::alloc::{AllocError, Global};
 use std::marker::Model;
 use trick_eval::Bench;
-use trick_job::{Setting, run_jobs};
 use trick_lang::{Cells, JobId};
 use trick_model::{Accepted, Faults, Flags};
 

@@ -3,7 +3,7 @@ ghost use Rattle.trick_model.specs.FaultList.{with_faults};
 ghost use Rattle.trick_model.specs.PlanOf.{plan_of};
 ghost use Rattle.trick_model.specs.Running.{serial};
 ghost use Rattle.trick_model.specs.declared.plan.Plan.{Plan};
-ghost use Rattle.trick_phase.specs.Given.{IsGiven};
+ghost use Rattle.trick_phase_jobs.specs.Given.{IsGiven};
 
 use trick_lang::{Cells, JobId};
 use trick_model::{Accepted, Faults, Flags};

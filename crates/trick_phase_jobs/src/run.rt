@@ -1,6 +1,6 @@
 ghost use Rattle.std.specs.Prelude.{◌≡◌, ◌<◌, length};
 ghost use Rattle.trick_eval.specs.Bench.{IsFor};
-ghost use Rattle.trick_job.specs.Belongs.{AreJobsOf, IsMemoryOf};
+ghost use Rattle.trick_phase_jobs.specs.Belongs.{AreJobsOf, IsMemoryOf};
 ghost use Rattle.trick_model.specs.FaultList.{with_faults};
 ghost use Rattle.trick_model.specs.Plan.{is_on};
 ghost use Rattle.trick_model.specs.PlanOf.{plan_of};

@@ -5,13 +5,13 @@ use Rattle.std.specs.List.{Contains}
 use Rattle.trick_lang.specs.declared.job.JobId.{JobId}
 use Rattle.trick_model.specs.Laws.{AreInKeyOrder, is_among}
 use Rattle.trick_model.specs.Order.{precedes}
-use Rattle.trick_schedule.proofs.Keys.{among_cases, among_first, among_rest, before_among, none_among, not_both, not_itself}
-use Rattle.trick_schedule.proofs.Right.{IsRight}
-use Rattle.trick_schedule.proofs.Told.{nothing_done}
-use Rattle.trick_schedule.specs.Schedule.{CanAllFollow, CanFollow, IsSchedule, job_of, one_by_one}
-use Rattle.trick_schedule.specs.Tics.{IsDueIn, IsPredecessor, Tic, due_jobs}
-use Rattle.trick_schedule.specs.declared.step.Step.{Step}
-use Rattle.trick_schedule.specs.declared.step.Step.TheVariants.{Commit, Take}
+use Rattle.trick_phase_schedules.proofs.Keys.{among_cases, among_first, among_rest, before_among, none_among, not_both, not_itself}
+use Rattle.trick_phase_schedules.proofs.Right.{IsRight}
+use Rattle.trick_phase_schedules.proofs.Told.{nothing_done}
+use Rattle.trick_phase_schedules.specs.Schedule.{CanAllFollow, CanFollow, IsSchedule, job_of, one_by_one}
+use Rattle.trick_phase_schedules.specs.Tics.{IsDueIn, IsPredecessor, Tic, due_jobs}
+use Rattle.trick_phase_schedules.specs.declared.step.Step.{Step}
+use Rattle.trick_phase_schedules.specs.declared.step.Step.TheVariants.{Commit, Take}
 
 take_job : (i k : ℕ) → Take (job_of i) ≡ Take (job_of k) → i ≡ k
 take_job i k e = let same : job_of i ≡ job_of k = cc in ap (λ (j : JobId). j.0) same

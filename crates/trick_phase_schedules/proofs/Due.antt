@@ -27,9 +27,9 @@ use Rattle.trick_model.specs.declared.depends.Depends.{Depends}
 use Rattle.trick_model.specs.declared.flags.Flags.{Flags}
 use Rattle.trick_model.specs.declared.plan.Plan.{Plan as PlanValue}
 use Rattle.trick_race.specs.Laws.{AreSettled, DueJobsAreSettled}
-use Rattle.trick_schedule.proofs.Keys.{among_cases, among_rest, none_among, not_both, one_first, precedes_all}
-use Rattle.trick_schedule.proofs.Right.{AreOrdered, IsRight}
-use Rattle.trick_schedule.specs.Tics.{IsDueIn, Tic, depends_on, due_jobs, tic_of}
+use Rattle.trick_phase_schedules.proofs.Keys.{among_cases, among_rest, none_among, not_both, one_first, precedes_all}
+use Rattle.trick_phase_schedules.proofs.Right.{AreOrdered, IsRight}
+use Rattle.trick_phase_schedules.specs.Tics.{IsDueIn, Tic, depends_on, due_jobs, tic_of}
 
 -- ---- numbers of jobs
 

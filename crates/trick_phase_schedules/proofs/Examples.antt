@@ -14,12 +14,12 @@ use Rattle.trick_model.specs.declared.command.Command.TheVariants.{Bad}
 use Rattle.trick_model.specs.declared.flags.Flags.{Flags}
 use Rattle.trick_model.specs.declared.thread.Process.TheVariants.{Scheduled as InTics}
 use Rattle.trick_model.specs.declared.thread.Thread.{Thread}
-use Rattle.trick_schedule.proofs.Told.{nothing_done}
-use Rattle.trick_schedule.specs.Play.{opening, played}
-use Rattle.trick_schedule.specs.Schedule.{IsBegun, job_of}
-use Rattle.trick_schedule.specs.Tics.{Tic}
-use Rattle.trick_schedule.specs.declared.step.Step.{Step}
-use Rattle.trick_schedule.specs.declared.step.Step.TheVariants.{Commit, Take}
+use Rattle.trick_phase_schedules.proofs.Told.{nothing_done}
+use Rattle.trick_phase_schedules.specs.Play.{opening, played}
+use Rattle.trick_phase_schedules.specs.Schedule.{IsBegun, job_of}
+use Rattle.trick_phase_schedules.specs.Tics.{Tic}
+use Rattle.trick_phase_schedules.specs.declared.step.Step.{Step}
+use Rattle.trick_phase_schedules.specs.declared.step.Step.TheVariants.{Commit, Take}
 
 -- a job of class scheduled, by its number, on a thread of its own, due at each tic
 abbrev job : ℕ → Job

@@ -7,19 +7,19 @@ use Rattle.std.specs.Prelude.{ℤ, slice_set}
 use Rattle.trick_lang.specs.declared.fault.JobFault.{JobFault}
 use Rattle.trick_model.specs.Laws.{AreInKeyOrder, is_among}
 use Rattle.trick_model.specs.Order.{precedes}
-use Rattle.trick_schedule.proofs.History.{Stands, one_step, stands}
-use Rattle.trick_schedule.proofs.Keys.{among_cases, among_first, among_rest, before_among, none_among, not_both, not_itself}
-use Rattle.trick_schedule.proofs.Right.{IsRight}
-use Rattle.trick_schedule.proofs.Steps.{flies_open, flies_taken, inside, waits_not_taken}
-use Rattle.trick_schedule.specs.Laws.{IsLeastOpen, IsReady}
-use Rattle.trick_schedule.specs.Play.{Playing, is_done, is_due, opening, played, stage_at, step}
-use Rattle.trick_schedule.specs.Progress.{IsInOrder}
-use Rattle.trick_schedule.specs.Schedule.{CanAllFollow, CanFollow, IsBegun, IsSchedule, job_of}
-use Rattle.trick_schedule.specs.Tics.{IsDueIn, IsPredecessor, Tic, due_jobs}
-use Rattle.trick_schedule.specs.declared.stage.Stage.{Stage}
-use Rattle.trick_schedule.specs.declared.stage.Stage.TheVariants.{Done, Idle, InFlight, Waiting}
-use Rattle.trick_schedule.specs.declared.step.Step.{Step}
-use Rattle.trick_schedule.specs.declared.step.Step.TheVariants.{Commit, Take}
+use Rattle.trick_phase_schedules.proofs.History.{Stands, one_step, stands}
+use Rattle.trick_phase_schedules.proofs.Keys.{among_cases, among_first, among_rest, before_among, none_among, not_both, not_itself}
+use Rattle.trick_phase_schedules.proofs.Right.{IsRight}
+use Rattle.trick_phase_schedules.proofs.Steps.{flies_open, flies_taken, inside, waits_not_taken}
+use Rattle.trick_phase_schedules.specs.Laws.{IsLeastOpen, IsReady}
+use Rattle.trick_phase_schedules.specs.Play.{Playing, is_done, is_due, opening, played, stage_at, step}
+use Rattle.trick_phase_schedules.specs.Progress.{IsInOrder}
+use Rattle.trick_phase_schedules.specs.Schedule.{CanAllFollow, CanFollow, IsBegun, IsSchedule, job_of}
+use Rattle.trick_phase_schedules.specs.Tics.{IsDueIn, IsPredecessor, Tic, due_jobs}
+use Rattle.trick_phase_schedules.specs.declared.stage.Stage.{Stage}
+use Rattle.trick_phase_schedules.specs.declared.stage.Stage.TheVariants.{Done, Idle, InFlight, Waiting}
+use Rattle.trick_phase_schedules.specs.declared.step.Step.{Step}
+use Rattle.trick_phase_schedules.specs.declared.step.Step.TheVariants.{Commit, Take}
 
 -- ---- the least job that is not committed
 

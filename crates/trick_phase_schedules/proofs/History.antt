@@ -13,21 +13,21 @@ use Rattle.trick_model.specs.Laws.{is_among}
 use Rattle.trick_model.specs.Plan.{is_on}
 use Rattle.trick_model.specs.Running.{After, after_jobs, outcome}
 use Rattle.trick_model.specs.State.{number_at}
-use Rattle.trick_schedule.proofs.Insert.{HaveTheirFaults, HasItsFault, ended, faults_are_after, folded, folded_is_after, passed, stage_other, stage_set}
-use Rattle.trick_schedule.proofs.Keys.{among_first, among_rest}
-use Rattle.trick_schedule.proofs.Passing.{made_same, reads_kept, run}
-use Rattle.trick_schedule.proofs.Right.{IsRight}
-use Rattle.trick_schedule.proofs.Steps.{IsKept, commit_kept, flies_taken, flying_apart, inside, take_kept, waits_open}
-use Rattle.trick_schedule.proofs.Told.{IsHistory, history_commit, history_take, no_history, not_done, not_taken}
-use Rattle.trick_schedule.specs.Laws.{IsSerial}
-use Rattle.trick_schedule.specs.Play.{Playing, committed, copied, copied_from, copy_of, faults_in, first_fault, first_stages, is_done, is_due, is_taken, made, made_where, opening, played, stage_at, step, taken, with_commit, with_waiting}
-use Rattle.trick_schedule.specs.Progress.{AreFresh, IsInOrder, IsSettled, IsSound}
-use Rattle.trick_schedule.specs.Schedule.{CanAllFollow, CanFollow, IsBegun, IsSchedule}
-use Rattle.trick_schedule.specs.Tics.{IsDueIn, Tic, due_jobs}
-use Rattle.trick_schedule.specs.declared.stage.Stage.{Stage}
-use Rattle.trick_schedule.specs.declared.stage.Stage.TheVariants.{Done, Idle, InFlight, Waiting}
-use Rattle.trick_schedule.specs.declared.step.Step.{Step}
-use Rattle.trick_schedule.specs.declared.step.Step.TheVariants.{Commit, Take}
+use Rattle.trick_phase_schedules.proofs.Insert.{HaveTheirFaults, HasItsFault, ended, faults_are_after, folded, folded_is_after, passed, stage_other, stage_set}
+use Rattle.trick_phase_schedules.proofs.Keys.{among_first, among_rest}
+use Rattle.trick_phase_schedules.proofs.Passing.{made_same, reads_kept, run}
+use Rattle.trick_phase_schedules.proofs.Right.{IsRight}
+use Rattle.trick_phase_schedules.proofs.Steps.{IsKept, commit_kept, flies_taken, flying_apart, inside, take_kept, waits_open}
+use Rattle.trick_phase_schedules.proofs.Told.{IsHistory, history_commit, history_take, no_history, not_done, not_taken}
+use Rattle.trick_phase_schedules.specs.Laws.{IsSerial}
+use Rattle.trick_phase_schedules.specs.Play.{Playing, committed, copied, copied_from, copy_of, faults_in, first_fault, first_stages, is_done, is_due, is_taken, made, made_where, opening, played, stage_at, step, taken, with_commit, with_waiting}
+use Rattle.trick_phase_schedules.specs.Progress.{AreFresh, IsInOrder, IsSettled, IsSound}
+use Rattle.trick_phase_schedules.specs.Schedule.{CanAllFollow, CanFollow, IsBegun, IsSchedule}
+use Rattle.trick_phase_schedules.specs.Tics.{IsDueIn, Tic, due_jobs}
+use Rattle.trick_phase_schedules.specs.declared.stage.Stage.{Stage}
+use Rattle.trick_phase_schedules.specs.declared.stage.Stage.TheVariants.{Done, Idle, InFlight, Waiting}
+use Rattle.trick_phase_schedules.specs.declared.step.Step.{Step}
+use Rattle.trick_phase_schedules.specs.declared.step.Step.TheVariants.{Commit, Take}
 
 -- ---- copies
 

@@ -12,13 +12,13 @@ use Rattle.trick_model.specs.Laws.{AreInKeyOrder, IsBefore, is_among}
 use Rattle.trick_model.specs.Order.{precedes}
 use Rattle.trick_model.specs.Plan.{is_on}
 use Rattle.trick_model.specs.Running.{After, after_jobs, apply}
-use Rattle.trick_schedule.proofs.Keys.{among_cases, among_first, among_rest, before_among, none_among, not_itself}
-use Rattle.trick_schedule.proofs.Passing.{faults_behind, faults_same, made_same, reads_kept, run, run_is_apply, run_swap, turned}
-use Rattle.trick_schedule.proofs.Right.{IsRight}
-use Rattle.trick_schedule.specs.Play.{committed, faults_in, faults_of, is_done, stage_at}
-use Rattle.trick_schedule.specs.Tics.{Tic}
-use Rattle.trick_schedule.specs.declared.stage.Stage.{Stage}
-use Rattle.trick_schedule.specs.declared.stage.Stage.TheVariants.{Done, Idle, InFlight, Waiting}
+use Rattle.trick_phase_schedules.proofs.Keys.{among_cases, among_first, among_rest, before_among, none_among, not_itself}
+use Rattle.trick_phase_schedules.proofs.Passing.{faults_behind, faults_same, made_same, reads_kept, run, run_is_apply, run_swap, turned}
+use Rattle.trick_phase_schedules.proofs.Right.{IsRight}
+use Rattle.trick_phase_schedules.specs.Play.{committed, faults_in, faults_of, is_done, stage_at}
+use Rattle.trick_phase_schedules.specs.Tics.{Tic}
+use Rattle.trick_phase_schedules.specs.declared.stage.Stage.{Stage}
+use Rattle.trick_phase_schedules.specs.declared.stage.Stage.TheVariants.{Done, Idle, InFlight, Waiting}
 
 -- the fault of a committed job, if it has one; None where it is not committed
 abbrev pub ended : Stage → Option (Option JobFault)

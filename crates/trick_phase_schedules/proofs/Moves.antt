@@ -7,16 +7,16 @@ use Rattle.std.specs.List.{Contains}
 use Rattle.std.specs.Prelude.{ℤ}
 use Rattle.trick_lang.specs.declared.job.JobId.{JobId}
 use Rattle.trick_model.specs.Running.{After}
-use Rattle.trick_schedule.proofs.History.{Stands, one_step, stands_first}
-use Rattle.trick_schedule.proofs.Passing.{made_same, run_is_apply}
-use Rattle.trick_schedule.proofs.Right.{IsRight}
-use Rattle.trick_schedule.proofs.Told.{not_done}
-use Rattle.trick_schedule.specs.Play.{Playing, copied, copy_of, opening, played, stage_at, step}
-use Rattle.trick_schedule.specs.Progress.{Progress, begun, committing, move, moved, progress_of}
-use Rattle.trick_schedule.specs.Schedule.{CanAllFollow, CanFollow, IsBegun, job_of}
-use Rattle.trick_schedule.specs.Tics.{Tic}
-use Rattle.trick_schedule.specs.declared.step.Step.{Step}
-use Rattle.trick_schedule.specs.declared.step.Step.TheVariants.{Commit, Take}
+use Rattle.trick_phase_schedules.proofs.History.{Stands, one_step, stands_first}
+use Rattle.trick_phase_schedules.proofs.Passing.{made_same, run_is_apply}
+use Rattle.trick_phase_schedules.proofs.Right.{IsRight}
+use Rattle.trick_phase_schedules.proofs.Told.{not_done}
+use Rattle.trick_phase_schedules.specs.Play.{Playing, copied, copy_of, opening, played, stage_at, step}
+use Rattle.trick_phase_schedules.specs.Progress.{Progress, begun, committing, move, moved, progress_of}
+use Rattle.trick_phase_schedules.specs.Schedule.{CanAllFollow, CanFollow, IsBegun, job_of}
+use Rattle.trick_phase_schedules.specs.Tics.{Tic}
+use Rattle.trick_phase_schedules.specs.declared.step.Step.{Step}
+use Rattle.trick_phase_schedules.specs.declared.step.Step.TheVariants.{Commit, Take}
 
 -- ---- boards
 

@@ -6,10 +6,10 @@ use Rattle.trick_lang.specs.declared.fault.StatementFault.{StatementFault}
 use Rattle.trick_model.specs.Acceptance.{AreIndependent}
 use Rattle.trick_model.specs.Plan.{is_on}
 use Rattle.trick_model.specs.Running.{After, apply, outcome}
-use Rattle.trick_schedule.proofs.Overwritten.{NeverBoth, number_kept, over_swap}
-use Rattle.trick_schedule.proofs.Right.{IsRight}
-use Rattle.trick_schedule.specs.Play.{made, made_where}
-use Rattle.trick_schedule.specs.Tics.{Tic}
+use Rattle.trick_phase_schedules.proofs.Overwritten.{NeverBoth, number_kept, over_swap}
+use Rattle.trick_phase_schedules.proofs.Right.{IsRight}
+use Rattle.trick_phase_schedules.specs.Play.{made, made_where}
+use Rattle.trick_phase_schedules.specs.Tics.{Tic}
 
 -- what a job makes of a memory by itself
 abbrev pub run : Tic → ℕ → List ℤ → After

@@ -8,7 +8,7 @@ use Rattle.trick_model.specs.Access.{writes_cell}
 use Rattle.trick_model.specs.Laws.{AreInKeyOrder}
 use Rattle.trick_model.specs.Order.{precedes}
 use Rattle.trick_model.specs.Plan.{thread_of}
-use Rattle.trick_schedule.specs.Tics.{IsDueIn, Tic, depends_on, due_jobs}
+use Rattle.trick_phase_schedules.specs.Tics.{IsDueIn, Tic, depends_on, due_jobs}
 
 -- Of two due jobs on two threads the first is ordered before the second: some due job on the thread of the
 -- second, not after it, depends on some due job on the thread of the first, not before that.

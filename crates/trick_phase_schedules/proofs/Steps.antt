@@ -11,15 +11,15 @@ use Rattle.trick_model.specs.Acceptance.{AreIndependent}
 use Rattle.trick_model.specs.Laws.{is_among}
 use Rattle.trick_model.specs.Order.{precedes}
 use Rattle.trick_model.specs.Plan.{thread_of}
-use Rattle.trick_schedule.proofs.Insert.{EndAlike, HaveTheirFaults, PassesLater, ended, faults_alike, faults_insert, folded, folded_alike, folded_insert, stage_other, stage_set}
-use Rattle.trick_schedule.proofs.Keys.{one_first}
-use Rattle.trick_schedule.proofs.Passing.{run, turned}
-use Rattle.trick_schedule.proofs.Right.{AreOrdered, IsRight}
-use Rattle.trick_schedule.specs.Play.{is_done, is_due, is_taken, stage_at}
-use Rattle.trick_schedule.specs.Progress.{IsInOrder}
-use Rattle.trick_schedule.specs.Tics.{IsDueIn, IsPredecessor, Tic, due_jobs}
-use Rattle.trick_schedule.specs.declared.stage.Stage.{Stage}
-use Rattle.trick_schedule.specs.declared.stage.Stage.TheVariants.{Done, Idle, InFlight, Waiting}
+use Rattle.trick_phase_schedules.proofs.Insert.{EndAlike, HaveTheirFaults, PassesLater, ended, faults_alike, faults_insert, folded, folded_alike, folded_insert, stage_other, stage_set}
+use Rattle.trick_phase_schedules.proofs.Keys.{one_first}
+use Rattle.trick_phase_schedules.proofs.Passing.{run, turned}
+use Rattle.trick_phase_schedules.proofs.Right.{AreOrdered, IsRight}
+use Rattle.trick_phase_schedules.specs.Play.{is_done, is_due, is_taken, stage_at}
+use Rattle.trick_phase_schedules.specs.Progress.{IsInOrder}
+use Rattle.trick_phase_schedules.specs.Tics.{IsDueIn, IsPredecessor, Tic, due_jobs}
+use Rattle.trick_phase_schedules.specs.declared.stage.Stage.{Stage}
+use Rattle.trick_phase_schedules.specs.declared.stage.Stage.TheVariants.{Done, Idle, InFlight, Waiting}
 
 -- ---- stages
 

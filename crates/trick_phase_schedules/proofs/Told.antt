@@ -6,13 +6,13 @@ use Rattle.std.specs.List.{Contains}
 use Rattle.std.specs.Prelude.{slice_set}
 use Rattle.trick_lang.specs.declared.fault.JobFault.{JobFault}
 use Rattle.trick_lang.specs.declared.job.JobId.{JobId}
-use Rattle.trick_schedule.proofs.Insert.{stage_other, stage_set}
-use Rattle.trick_schedule.specs.Play.{is_done, is_due, is_taken, stage_at}
-use Rattle.trick_schedule.specs.Schedule.{job_of}
-use Rattle.trick_schedule.specs.declared.stage.Stage.{Stage}
-use Rattle.trick_schedule.specs.declared.stage.Stage.TheVariants.{Done, Idle, InFlight, Waiting}
-use Rattle.trick_schedule.specs.declared.step.Step.{Step}
-use Rattle.trick_schedule.specs.declared.step.Step.TheVariants.{Commit, Take}
+use Rattle.trick_phase_schedules.proofs.Insert.{stage_other, stage_set}
+use Rattle.trick_phase_schedules.specs.Play.{is_done, is_due, is_taken, stage_at}
+use Rattle.trick_phase_schedules.specs.Schedule.{job_of}
+use Rattle.trick_phase_schedules.specs.declared.stage.Stage.{Stage}
+use Rattle.trick_phase_schedules.specs.declared.stage.Stage.TheVariants.{Done, Idle, InFlight, Waiting}
+use Rattle.trick_phase_schedules.specs.declared.step.Step.{Step}
+use Rattle.trick_phase_schedules.specs.declared.step.Step.TheVariants.{Commit, Take}
 
 -- the job is taken, and is committed, as its stage says
 pub record Tells (before : List Step) (k : ℕ) (taken done : Bool) : Type 0 where

@@ -7,14 +7,14 @@ use Rattle.trick_model.specs.PlanOf.{plan_of}
 use Rattle.trick_model.specs.Running.{serial}
 use Rattle.trick_model.specs.declared.flags.Flags.{Flags}
 use Rattle.trick_model.specs.declared.plan.Plan.{Plan as PlanValue}
-use Rattle.trick_schedule.specs.Play.{copy_of, faults_in, is_done, opening, played, stage_at}
-use Rattle.trick_schedule.specs.Progress.{IsInOrder, IsSound, begun, moved, progress_of}
-use Rattle.trick_schedule.specs.Schedule.{CanFollow, IsBegun, IsSchedule, one_by_one}
-use Rattle.trick_schedule.specs.Tics.{IsDueIn, IsPredecessor, Tic, due_jobs, tic_of}
-use Rattle.trick_schedule.specs.declared.stage.Stage.{Stage}
-use Rattle.trick_schedule.specs.declared.stage.Stage.TheVariants.{InFlight, Waiting}
-use Rattle.trick_schedule.specs.declared.step.Step.{Step}
-use Rattle.trick_schedule.specs.declared.step.Step.TheVariants.{Take}
+use Rattle.trick_phase_schedules.specs.Play.{copy_of, faults_in, is_done, opening, played, stage_at}
+use Rattle.trick_phase_schedules.specs.Progress.{IsInOrder, IsSound, begun, moved, progress_of}
+use Rattle.trick_phase_schedules.specs.Schedule.{CanFollow, IsBegun, IsSchedule, one_by_one}
+use Rattle.trick_phase_schedules.specs.Tics.{IsDueIn, IsPredecessor, Tic, due_jobs, tic_of}
+use Rattle.trick_phase_schedules.specs.declared.stage.Stage.{Stage}
+use Rattle.trick_phase_schedules.specs.declared.stage.Stage.TheVariants.{InFlight, Waiting}
+use Rattle.trick_phase_schedules.specs.declared.step.Step.{Step}
+use Rattle.trick_phase_schedules.specs.declared.step.Step.TheVariants.{Take}
 
 -- it holds of each tic of an accepted plan, with whatever flags
 abbrev pub AtEachTic : (Tic → Type 0) → Type 0

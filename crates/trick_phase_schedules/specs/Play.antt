@@ -7,11 +7,11 @@ use Rattle.trick_lang.specs.declared.fault.JobFault.{JobFault}
 use Rattle.trick_lang.specs.declared.range.CellRange.{CellRange}
 use Rattle.trick_model.specs.Plan.{is_on}
 use Rattle.trick_model.specs.Running.{After, outcome}
-use Rattle.trick_schedule.specs.Tics.{Tic, due_jobs}
-use Rattle.trick_schedule.specs.declared.stage.Stage.{Stage}
-use Rattle.trick_schedule.specs.declared.stage.Stage.TheVariants.{Done, Idle, InFlight, Waiting}
-use Rattle.trick_schedule.specs.declared.step.Step.{Step}
-use Rattle.trick_schedule.specs.declared.step.Step.TheVariants.{Commit, Take}
+use Rattle.trick_phase_schedules.specs.Tics.{Tic, due_jobs}
+use Rattle.trick_phase_schedules.specs.declared.stage.Stage.{Stage}
+use Rattle.trick_phase_schedules.specs.declared.stage.Stage.TheVariants.{Done, Idle, InFlight, Waiting}
+use Rattle.trick_phase_schedules.specs.declared.step.Step.{Step}
+use Rattle.trick_phase_schedules.specs.declared.step.Step.TheVariants.{Commit, Take}
 
 -- ---- stages
 

@@ -4,12 +4,12 @@ use Rattle.trick_lang.specs.Laws.{AgreeOn}
 use Rattle.trick_model.specs.Laws.{is_among}
 use Rattle.trick_model.specs.Plan.{is_on}
 use Rattle.trick_model.specs.Running.{After, after_jobs, apply}
-use Rattle.trick_schedule.specs.Play.{Playing, committed, copy_of, faults_in, first_fault, first_stages, is_done, is_due, is_taken, stage_at}
-use Rattle.trick_schedule.specs.Tics.{IsPredecessor, Tic, due_jobs}
-use Rattle.trick_schedule.specs.declared.stage.Stage.{Stage}
-use Rattle.trick_schedule.specs.declared.stage.Stage.TheVariants.{Done, InFlight}
-use Rattle.trick_schedule.specs.declared.step.Step.{Step}
-use Rattle.trick_schedule.specs.declared.step.Step.TheVariants.{Commit, Take}
+use Rattle.trick_phase_schedules.specs.Play.{Playing, committed, copy_of, faults_in, first_fault, first_stages, is_done, is_due, is_taken, stage_at}
+use Rattle.trick_phase_schedules.specs.Tics.{IsPredecessor, Tic, due_jobs}
+use Rattle.trick_phase_schedules.specs.declared.stage.Stage.{Stage}
+use Rattle.trick_phase_schedules.specs.declared.stage.Stage.TheVariants.{Done, InFlight}
+use Rattle.trick_phase_schedules.specs.declared.step.Step.{Step}
+use Rattle.trick_phase_schedules.specs.declared.step.Step.TheVariants.{Commit, Take}
 
 -- The taken jobs are due, and all predecessors of a taken job are committed. So the committed jobs are
 -- closed under predecessors.

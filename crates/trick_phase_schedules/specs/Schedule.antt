@@ -2,9 +2,9 @@
 use Rattle.std.specs.List.{Contains}
 use Rattle.std.specs.Prelude.{ℕ, List, [], ◌∷◌, ◌++◌}
 use Rattle.trick_lang.specs.declared.job.JobId.{JobId}
-use Rattle.trick_schedule.specs.Tics.{IsDueIn, IsPredecessor, Tic}
-use Rattle.trick_schedule.specs.declared.step.Step.{Step}
-use Rattle.trick_schedule.specs.declared.step.Step.TheVariants.{Commit, Take}
+use Rattle.trick_phase_schedules.specs.Tics.{IsDueIn, IsPredecessor, Tic}
+use Rattle.trick_phase_schedules.specs.declared.step.Step.{Step}
+use Rattle.trick_phase_schedules.specs.declared.step.Step.TheVariants.{Commit, Take}
 
 -- the job of a number
 abbrev pub job_of : ℕ → JobId

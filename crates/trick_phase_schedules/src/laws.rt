@@ -1,7 +1,7 @@
 //! Laws of schedules, for each tic of every accepted plan and whatever flags and memory. A function that
 //! calls one of them may rest on what it says; the call itself does nothing.
 
-ghost use Rattle.trick_schedule.specs.Laws.{AtEachTic, EveryBeginning, EveryBoard, EveryCopy, EverySchedule, GoesOn, OneByOne};
+ghost use Rattle.trick_phase_schedules.specs.Laws.{AtEachTic, EveryBeginning, EveryBoard, EveryCopy, EverySchedule, GoesOn, OneByOne};
 
 /// Every schedule of a tic gives the memory and the faults of its due jobs, one after the other in key
 /// order. After each beginning of a schedule the committed jobs are closed under predecessors, memory and

@@ -5,17 +5,17 @@ use Rattle.std.proofs.lemmas.List.{length-map}
 use Rattle.std.proofs.lemmas.Option.{get_or_from_slice_get, slice_get-map, slice_get_within}
 use Rattle.std.specs.Option.{option_map, option_to_list}
 use Rattle.trick_base.proofs.ListLemmas.{all_unmapped}
-use Rattle.trick_draft.specs.Cells.{only_names}
-use Rattle.trick_draft.specs.Drafts.{names_of}
-use Rattle.trick_draft.specs.Jobs.{jobs_of}
-use Rattle.trick_draft.specs.Kept.{AreAdded, IsCondition, IsDraftOf, IsEvent, IsGroup, IsMirrored, IsOfPlace, IsSet, names_of_events, names_of_groups}
-use Rattle.trick_draft.specs.declared.draft.Draft.{Draft}
-use Rattle.trick_draft.specs.declared.event.EventDraft.{EventDraft}
-use Rattle.trick_draft.specs.declared.group.GroupDraft.{GroupDraft}
-use Rattle.trick_ending.specs.Added.{added, at_places, places_of}
-use Rattle.trick_ending.specs.Ending.{AreParts, EventTree, draft_tree, event_tree, plan_group}
-use Rattle.trick_ending.specs.Right.{AreRight}
-use Rattle.trick_ending.specs.declared.parts.Parts.{Parts}
+use Rattle.trick_plan_draft.specs.Cells.{only_names}
+use Rattle.trick_plan_draft.specs.Drafts.{names_of}
+use Rattle.trick_plan_draft.specs.Jobs.{jobs_of}
+use Rattle.trick_plan_draft.specs.Kept.{AreAdded, IsCondition, IsDraftOf, IsEvent, IsGroup, IsMirrored, IsOfPlace, IsSet, names_of_events, names_of_groups}
+use Rattle.trick_plan_draft.specs.declared.draft.Draft.{Draft}
+use Rattle.trick_plan_draft.specs.declared.event.EventDraft.{EventDraft}
+use Rattle.trick_plan_draft.specs.declared.group.GroupDraft.{GroupDraft}
+use Rattle.trick_plan.specs.Added.{added, at_places, places_of}
+use Rattle.trick_plan.specs.Ending.{AreParts, EventTree, draft_tree, event_tree, plan_group}
+use Rattle.trick_plan.specs.Right.{AreRight}
+use Rattle.trick_plan.specs.declared.parts.Parts.{Parts}
 use Rattle.trick_lang.specs.Effect.{scalars_of}
 use Rattle.trick_lang.specs.SyntaxTree.{Name}
 use Rattle.trick_lang.specs.TreeOf.{term_of}
@@ -35,9 +35,9 @@ use Rattle.trick_model.specs.declared.flags.Flags.{Flags}
 use Rattle.trick_model.specs.declared.group.Group.{Group}
 use Rattle.trick_model.specs.declared.read_at.ReadAt.{ReadAt}
 use Rattle.trick_model.specs.declared.thread.Thread.{Thread}
-use Rattle.trick_names.specs.Names.{Names}
-use Rattle.trick_settings.specs.declared.settings.Settings.{Settings}
-use Rattle.trick_threads.specs.Threads.{AreThreads}
+use Rattle.trick_check_names.specs.Names.{Names}
+use Rattle.trick_plan_settings.specs.declared.settings.Settings.{Settings}
+use Rattle.trick_plan_settings.specs.Threads.{AreThreads}
 
 -- ---- items at places
 

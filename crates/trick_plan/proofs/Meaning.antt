@@ -1,14 +1,14 @@
 -- A plan means what the lines have said.
 use Rattle.std.proofs.Common.{◌≡◌, ◌∙◌, ℕ, suc, ℤ, pos, Bool, List, [], ◌∷◌, Option, Some, None, Ok, length, map, slice_index_or, refl, sym, ap}
 use Rattle.std.specs.Prelude.{option_map, replicate, slice_get}
-use Rattle.trick_declare.specs.Cells.{KeepsRest}
-use Rattle.trick_draft.specs.Cells.{only_names}
-use Rattle.trick_draft.specs.Kept.{IsMirrored, Mirrors}
-use Rattle.trick_draft.specs.declared.draft.Draft.{Draft}
-use Rattle.trick_draft.specs.declared.event.EventDraft.{EventDraft}
-use Rattle.trick_draft.specs.declared.group.GroupDraft.{GroupDraft}
-use Rattle.trick_ending.specs.Added.{added}
-use Rattle.trick_ending.specs.Ending.{AreParts, EventTree, draft_tree, event_tree, parts_of, plan_group}
+use Rattle.trick_plan_variables.specs.Cells.{KeepsRest}
+use Rattle.trick_plan_draft.specs.Cells.{only_names}
+use Rattle.trick_plan_draft.specs.Kept.{IsMirrored, Mirrors}
+use Rattle.trick_plan_draft.specs.declared.draft.Draft.{Draft}
+use Rattle.trick_plan_draft.specs.declared.event.EventDraft.{EventDraft}
+use Rattle.trick_plan_draft.specs.declared.group.GroupDraft.{GroupDraft}
+use Rattle.trick_plan.specs.Added.{added}
+use Rattle.trick_plan.specs.Ending.{AreParts, EventTree, draft_tree, event_tree, parts_of, plan_group}
 use Rattle.trick_input.specs.declared.call.Call.{Call}
 use Rattle.trick_lang.specs.Access.{block_reads, block_writes}
 use Rattle.trick_lang.specs.Effect.{first_of, object_of, scalars_of}
@@ -41,8 +41,8 @@ use Rattle.trick_model.specs.declared.read_at.ReadAt.{ReadAt}
 use Rattle.trick_model.specs.declared.thread.Thread.{Thread}
 use Rattle.trick_plan.specs.Meaning.{event_said, plan_said, tree_reads}
 use Rattle.trick_plan.specs.Plan.{HasDraft}
-use Rattle.trick_settings.specs.Settings.{settings_in}
-use Rattle.trick_settings.specs.declared.settings.Settings.{Settings}
+use Rattle.trick_plan_settings.specs.Settings.{settings_in}
+use Rattle.trick_plan_settings.specs.declared.settings.Settings.{Settings}
 
 -- ---- a plan by its parts
 

@@ -1,13 +1,13 @@
 -- In a plan a name stands for what it stood for at its line.
 use Rattle.std.proofs.Common.{◌≡◌, ◌∙◌, List, sym, ap}
-use Rattle.trick_declare.specs.Cells.{KeepsRest}
-use Rattle.trick_draft.specs.Drafts.{begun, names_of}
-use Rattle.trick_draft.specs.Jobs.{Jobs, jobs_of}
-use Rattle.trick_draft.specs.declared.draft.Draft.{Draft}
+use Rattle.trick_plan_variables.specs.Cells.{KeepsRest}
+use Rattle.trick_plan_draft.specs.Drafts.{begun, names_of}
+use Rattle.trick_plan_draft.specs.Jobs.{Jobs, jobs_of}
+use Rattle.trick_plan_draft.specs.declared.draft.Draft.{Draft}
 use Rattle.trick_input.specs.declared.call.Call.{Call}
 use Rattle.trick_lang.specs.declared.program.Program.{Program}
-use Rattle.trick_lines.proofs.Keeping.{same_jobs}
-use Rattle.trick_lines.specs.Deeds.{DeedsStay}
+use Rattle.trick_plan_lines.proofs.Keeping.{same_jobs}
+use Rattle.trick_plan_lines.specs.Deeds.{DeedsStay}
 use Rattle.trick_model.proofs.PlanNames.{same_names}
 use Rattle.trick_model.specs.Events as model
 use Rattle.trick_model.specs.Names.{Names, deed_of}
@@ -15,7 +15,7 @@ use Rattle.trick_model.specs.PlanOf.{plan_of}
 use Rattle.trick_model.specs.Valid.{names_in}
 use Rattle.trick_model.specs.declared.plan.Plan.{Plan}
 use Rattle.trick_plan.specs.Plan.{NamesStay}
-use Rattle.trick_settings.specs.Settings.{settings_in}
+use Rattle.trick_plan_settings.specs.Settings.{settings_in}
 
 -- over the program with the cells that the lines have declared
 pub names_stay : (p q : Program) (calls : List Call) (plan : Plan) (last : Draft) → KeepsRest p q

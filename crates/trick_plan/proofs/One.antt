@@ -1,21 +1,21 @@
 -- A program and the lines of an input have one answer.
 use Rattle.std.proofs.Common.{◌≡◌, ◌∙◌, List, Result, Ok, Err, refl, ap}
-use Rattle.trick_draft.specs.Kept.{IsMirrored, Mirrors}
-use Rattle.trick_draft.specs.declared.draft.Draft.{Draft}
+use Rattle.trick_plan_draft.specs.Kept.{IsMirrored, Mirrors}
+use Rattle.trick_plan_draft.specs.declared.draft.Draft.{Draft}
 use Rattle.trick_input.specs.declared.call.Call.{Call}
 use Rattle.trick_lang.specs.declared.program.Program.{Program}
-use Rattle.trick_draft.specs.Drafts.{begun}
-use Rattle.trick_draft.specs.Jobs.{jobs_of}
-use Rattle.trick_lines.specs.Laws.{AnswersOne}
-use Rattle.trick_lines.specs.declared.fault.JoinFault.{JoinFault}
-use Rattle.trick_lines.specs.declared.fault.JoinFault.TheVariants as fault
+use Rattle.trick_plan_draft.specs.Drafts.{begun}
+use Rattle.trick_plan_draft.specs.Jobs.{jobs_of}
+use Rattle.trick_plan_lines.specs.Laws.{AnswersOne}
+use Rattle.trick_plan_lines.specs.declared.fault.JoinFault.{JoinFault}
+use Rattle.trick_plan_lines.specs.declared.fault.JoinFault.TheVariants as fault
 use Rattle.trick_model.specs.declared.plan.Plan.{Plan}
 use Rattle.trick_model.specs.PlanOf.{plan_of}
 use Rattle.trick_plan.proofs.Meaning.{meaning}
 use Rattle.trick_plan.specs.Laws.{HaveOneAnswer}
 use Rattle.trick_plan.specs.Meaning.{plan_said}
 use Rattle.trick_plan.specs.Plan.{AreAnswered, IsPlan}
-use Rattle.trick_settings.specs.Settings.{settings_in}
+use Rattle.trick_plan_settings.specs.Settings.{settings_in}
 
 -- A refusal other than a want of memory is one of the lines.
 said : (p : Program) (calls : List Call) (refused : JoinFault) → IsPlan p calls (Err refused)

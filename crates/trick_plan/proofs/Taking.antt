@@ -9,10 +9,10 @@ use Rattle.std.specs.Option.{option_to_list}
 use Rattle.std.specs.Str.{bytes_eq}
 use Rattle.trick_lang.specs.SyntaxTree.{Name}
 use Rattle.trick_model.specs.Valid.{all_differ}
-use Rattle.trick_names.specs.Names.{Names}
-use Rattle.trick_ending.specs.Added.{AreApart, ArePlaces, at_places, places_of}
-use Rattle.trick_draft.specs.Cells.{only_names}
-use Rattle.trick_draft.specs.Kept.{AreAdded, IsOfPlace}
+use Rattle.trick_check_names.specs.Names.{Names}
+use Rattle.trick_plan.specs.Added.{AreApart, ArePlaces, at_places, places_of}
+use Rattle.trick_plan_draft.specs.Cells.{only_names}
+use Rattle.trick_plan_draft.specs.Kept.{AreAdded, IsOfPlace}
 
 -- ---- a list from a place on
 

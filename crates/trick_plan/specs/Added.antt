@@ -3,7 +3,7 @@ use Rattle.std.specs.List.{AllByRecursion}
 use Rattle.std.specs.Option.{option_to_list}
 use Rattle.std.specs.Prelude.{◌≡◌, ℕ, ◌<◌, All, List, [], ◌∷◌, ◌++◌, map, slice_get}
 use Rattle.trick_lang.specs.SyntaxTree.{Name}
-use Rattle.trick_names.specs.Names.{Names}
+use Rattle.trick_check_names.specs.Names.{Names}
 
 -- the items at these places, in this order; there is none after the end
 abbrev pub at_places : {T : Type 0} → List T → List ℕ → List T

@@ -1,15 +1,15 @@
 -- Laws of plans.
 use Rattle.std.specs.Prelude.{◌≡◌, List, Ok, Err}
-use Rattle.trick_draft.specs.declared.draft.Draft.{Draft}
+use Rattle.trick_plan_draft.specs.declared.draft.Draft.{Draft}
 use Rattle.trick_input.specs.declared.call.Call.{Call}
 use Rattle.trick_lang.specs.declared.program.Program.{Program}
-use Rattle.trick_lines.specs.declared.fault.JoinFault.{JoinFault}
-use Rattle.trick_lines.specs.declared.fault.JoinFault.TheVariants as fault
+use Rattle.trick_plan_lines.specs.declared.fault.JoinFault.{JoinFault}
+use Rattle.trick_plan_lines.specs.declared.fault.JoinFault.TheVariants as fault
 use Rattle.trick_model.specs.declared.plan.Plan.{Plan}
 use Rattle.trick_model.specs.PlanOf.{plan_of}
 use Rattle.trick_plan.specs.Meaning.{plan_said}
 use Rattle.trick_plan.specs.Plan.{AreAnswered, IsPlan}
-use Rattle.trick_settings.specs.Settings.{settings_in}
+use Rattle.trick_plan_settings.specs.Settings.{settings_in}
 
 -- What is named twice here is one, but for a want of memory.
 pub record HaveOneAnswer (p : Program) (calls : List Call) : Type 0 where

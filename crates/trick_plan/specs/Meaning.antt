@@ -1,12 +1,12 @@
 -- What a plan means, by what the lines have said.
 use Rattle.std.specs.List.{slice_index_or}
 use Rattle.std.specs.Prelude.{ℤ, pos, List, [], length, map, replicate, Option, Some, None, option_map, Result, Ok}
-use Rattle.trick_draft.specs.Cells.{only_names}
-use Rattle.trick_draft.specs.declared.draft.Draft.{Draft}
-use Rattle.trick_draft.specs.declared.event.EventDraft.{EventDraft}
-use Rattle.trick_draft.specs.declared.group.GroupDraft.{GroupDraft}
-use Rattle.trick_ending.specs.Added.{added}
-use Rattle.trick_ending.specs.Ending.{plan_group}
+use Rattle.trick_plan_draft.specs.Cells.{only_names}
+use Rattle.trick_plan_draft.specs.declared.draft.Draft.{Draft}
+use Rattle.trick_plan_draft.specs.declared.event.EventDraft.{EventDraft}
+use Rattle.trick_plan_draft.specs.declared.group.GroupDraft.{GroupDraft}
+use Rattle.trick_plan.specs.Added.{added}
+use Rattle.trick_plan.specs.Ending.{plan_group}
 use Rattle.trick_lang.specs.Access.{term_reads}
 use Rattle.trick_lang.specs.Effect.{base_of, body_of, reads, writes}
 use Rattle.trick_lang.specs.Names.{job_name}
@@ -22,7 +22,7 @@ use Rattle.trick_lang.specs.declared.scalar.Scalar.{Scalar}
 use Rattle.trick_model.specs.Commands.{command_of}
 use Rattle.trick_model.specs.Condition.{condition_value}
 use Rattle.trick_model.specs.Plan.{Event, Plan}
-use Rattle.trick_settings.specs.declared.settings.Settings.{Settings}
+use Rattle.trick_plan_settings.specs.declared.settings.Settings.{Settings}
 
 -- the cells that a condition reads; an event may have none
 abbrev pub tree_reads : Option Term → List CellRange

@@ -1,22 +1,22 @@
 -- What a program and the lines of an input join to.
 use Rattle.std.specs.Prelude.{◌≡◌, ℕ, List, take, Some, Result, Ok, Err}
-use Rattle.trick_declare.specs.Cells.{KeepsRest}
-use Rattle.trick_draft.specs.Drafts.{begun, names_of}
-use Rattle.trick_draft.specs.Jobs.{jobs_of}
-use Rattle.trick_draft.specs.Kept.{Mirrors}
-use Rattle.trick_draft.specs.declared.draft.Draft.{Draft}
-use Rattle.trick_ending.specs.Ending.{AreParts, parts_of}
+use Rattle.trick_plan_variables.specs.Cells.{KeepsRest}
+use Rattle.trick_plan_draft.specs.Drafts.{begun, names_of}
+use Rattle.trick_plan_draft.specs.Jobs.{jobs_of}
+use Rattle.trick_plan_draft.specs.Kept.{Mirrors}
+use Rattle.trick_plan_draft.specs.declared.draft.Draft.{Draft}
+use Rattle.trick_plan.specs.Ending.{AreParts, parts_of}
 use Rattle.trick_input.specs.declared.call.Call.{Call}
 use Rattle.trick_lang.specs.declared.program.Program.{Program}
-use Rattle.trick_lines.specs.Drafted.{Answers, Drafted}
-use Rattle.trick_lines.specs.declared.fault.JoinFault.{JoinFault}
+use Rattle.trick_plan_lines.specs.Drafted.{Answers, Drafted}
+use Rattle.trick_plan_lines.specs.declared.fault.JoinFault.{JoinFault}
 use Rattle.trick_model.specs.Events as model
 use Rattle.trick_model.specs.Names.{deed_of}
 use Rattle.trick_model.specs.PlanOf.{plan_of}
 use Rattle.trick_model.specs.declared.action.Action.{Action}
 use Rattle.trick_model.specs.declared.deed.Deed.{Deed}
 use Rattle.trick_model.specs.declared.plan.Plan.{Plan}
-use Rattle.trick_settings.specs.Settings.{settings_in}
+use Rattle.trick_plan_settings.specs.Settings.{settings_in}
 
 -- The lines answer this, from the draft before the first line on.
 abbrev pub AreAnswered : Program → List Call → Result Draft JoinFault → Type 0

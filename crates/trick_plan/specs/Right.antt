@@ -1,6 +1,6 @@
 -- The facts that a plan keeps, of its parts.
 use Rattle.std.specs.Prelude.{◌≡◌, ◌+◌, ◌≤◌, All, IsTrue, length, map}
-use Rattle.trick_ending.specs.declared.parts.Parts.{Parts}
+use Rattle.trick_plan.specs.declared.parts.Parts.{Parts}
 use Rattle.trick_lang.specs.declared.job.Job.{Job}
 use Rattle.trick_lang.specs.declared.program.Program.{Program}
 use Rattle.trick_model.specs.Condition.{is_condition_of}

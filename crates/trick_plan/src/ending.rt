@@ -1,21 +1,21 @@
 //! The plan of a program, once all lines of an input were taken.
 
 ghost use Rattle.std.specs.Prelude.{◌≡◌, ◌+◌, ◌≤◌, IfOk};
-ghost use Rattle.trick_draft.specs.Jobs.{jobs_of};
-ghost use Rattle.trick_draft.specs.Kept.{IsDraftOf, Mirrors};
-ghost use Rattle.trick_ending.specs.Ending.{IsEnding, parts_of};
-ghost use Rattle.trick_ending.specs.Right.{AreRight};
+ghost use Rattle.trick_plan_draft.specs.Jobs.{jobs_of};
+ghost use Rattle.trick_plan_draft.specs.Kept.{IsDraftOf, Mirrors};
+ghost use Rattle.trick_plan.specs.Ending.{IsEnding, parts_of};
+ghost use Rattle.trick_plan.specs.Right.{AreRight};
 ghost use Rattle.trick_base.specs.Time.{tic_limit};
 ghost use Rattle.trick_model.specs.Valid.{IsFrame};
-ghost use Rattle.trick_threads.specs.Threads.{AreThreads};
+ghost use Rattle.trick_plan_settings.specs.Threads.{AreThreads};
 
 use crate::Parts;
 use crate::parts::parts_from;
 use std::alloc::{AllocError, Global};
-use trick_draft::{Draft, laws};
+use trick_plan_draft::{Draft, laws};
 use trick_lang::Program;
 use trick_model::Plan;
-use trick_settings::Settings;
+use trick_plan_settings::Settings;
 
 // The plan of a program with these parts.
 fn joined(program: Program, parts: Parts) -> Plan

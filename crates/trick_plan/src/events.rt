@@ -1,20 +1,20 @@
 //! The events of a plan.
 
 ghost use Rattle.std.specs.Prelude.{◌≡◌, IfOk, length, map, option_map};
-ghost use Rattle.trick_draft.specs.Kept.{AreAdded, names_of_events};
-ghost use Rattle.trick_draft.specs.declared.event.EventDraft.{EventDraft};
-ghost use Rattle.trick_ending.specs.Added.{ArePlaces, added, at_places};
-ghost use Rattle.trick_ending.specs.Ending.{draft_tree, event_tree};
+ghost use Rattle.trick_plan_draft.specs.Kept.{AreAdded, names_of_events};
+ghost use Rattle.trick_plan_draft.specs.declared.event.EventDraft.{EventDraft};
+ghost use Rattle.trick_plan.specs.Added.{ArePlaces, added, at_places};
+ghost use Rattle.trick_plan.specs.Ending.{draft_tree, event_tree};
 ghost use Rattle.trick_lang.specs.TreeOf.{term_of};
 
 use crate::places::places;
 use std::alloc::{AllocError, Global};
 use std::mem;
 use trick_base::Items;
-use trick_draft::{Condition, EventDraft};
+use trick_plan_draft::{Condition, EventDraft};
 use trick_lang::Expr;
 use trick_model::{Event, Flags};
-use trick_names::Names;
+use trick_check_names::Names;
 
 // The tree of a condition, where there is one.
 fn tree(condition: Option<Condition>) -> Option<Expr>

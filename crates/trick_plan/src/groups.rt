@@ -1,18 +1,18 @@
 //! The groups of a plan.
 
 ghost use Rattle.std.specs.Prelude.{◌≡◌, IfOk, length, map};
-ghost use Rattle.trick_draft.specs.Kept.{AreAdded, names_of_groups};
-ghost use Rattle.trick_draft.specs.declared.group.GroupDraft.{GroupDraft};
-ghost use Rattle.trick_ending.specs.Added.{ArePlaces, added, at_places};
-ghost use Rattle.trick_ending.specs.Ending.{plan_group};
+ghost use Rattle.trick_plan_draft.specs.Kept.{AreAdded, names_of_groups};
+ghost use Rattle.trick_plan_draft.specs.declared.group.GroupDraft.{GroupDraft};
+ghost use Rattle.trick_plan.specs.Added.{ArePlaces, added, at_places};
+ghost use Rattle.trick_plan.specs.Ending.{plan_group};
 
 use crate::places::places;
 use std::alloc::{AllocError, Global};
 use std::mem;
 use trick_base::Items;
-use trick_draft::GroupDraft;
+use trick_plan_draft::GroupDraft;
 use trick_model::{Flags, Group};
-use trick_names::Names;
+use trick_check_names::Names;
 
 // The group of a plan that a draft gives.
 fn plan_group(draft: GroupDraft) -> Group

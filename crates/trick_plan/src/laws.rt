@@ -8,7 +8,7 @@ ghost use Rattle.trick_plan.specs.Laws.{AnswersAreOne, PlansAreSaid};
 pub fn answers_are_one()
     ensures { AnswersAreOne }
 {
-    trick_lines::laws::lines_answer_one();
+    trick_plan_lines::laws::lines_answer_one();
 }
 
 /// A plan that a program and the lines of an input make means what the lines have said: it is the one of the
@@ -16,6 +16,6 @@ pub fn answers_are_one()
 pub fn plans_are_said()
     ensures { PlansAreSaid }
 {
-    trick_lines::laws::lines_answer_one();
-    trick_draft::laws::cells_are_mirrored();
+    trick_plan_lines::laws::lines_answer_one();
+    trick_plan_draft::laws::cells_are_mirrored();
 }

@@ -1,9 +1,9 @@
 //! The parts of a plan beside its program.
 
 ghost use Rattle.std.specs.Prelude.{◌≡◌, IfOk, map};
-ghost use Rattle.trick_draft.specs.Jobs.{jobs_of};
-ghost use Rattle.trick_draft.specs.Kept.{IsDraftOf};
-ghost use Rattle.trick_ending.specs.Ending.{AreParts};
+ghost use Rattle.trick_plan_draft.specs.Jobs.{jobs_of};
+ghost use Rattle.trick_plan_draft.specs.Kept.{IsDraftOf};
+ghost use Rattle.trick_plan.specs.Ending.{AreParts};
 ghost use Rattle.trick_model.specs.Valid.{ids, queues_of};
 
 use crate::events::events;
@@ -11,11 +11,10 @@ use crate::groups::groups;
 use std::alloc::{AllocError, Global};
 use std::mem;
 use trick_base::Items;
-use trick_draft::Draft;
+use trick_plan_draft::Draft;
 use trick_lang::{Cell, JobId, Program};
 use trick_model::{Depends, Event, Flags, Group, ReadAt, Thread};
-use trick_settings::Settings;
-use trick_threads::queues;
+use trick_plan_settings::{Settings, queues};
 
 /// What a plan has beside its program.
 #[derive(Drop)]

@@ -1,10 +1,10 @@
 //! The places of what is added.
 
 ghost use Rattle.std.specs.Prelude.{◌≡◌, IfOk};
-ghost use Rattle.trick_ending.specs.Added.{places_of};
+ghost use Rattle.trick_plan.specs.Added.{places_of};
 
 use std::alloc::{AllocError, Global};
-use trick_names::Names;
+use trick_check_names::Names;
 
 // The places that names stand for, in the order in which the names became known.
 pub(crate) fn places(alloc: Global, names: &Names<usize>) -> Result<Vec<usize>, AllocError>

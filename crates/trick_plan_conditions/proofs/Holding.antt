@@ -2,12 +2,12 @@
 use Rattle.std.proofs.Common.{◌≡◌, ℕ, ◌<◌, ◌+◌, ◌≤◌, nat_lt, nat_le, true, false, ◌&&◌, not, IsTrue, Option, Some, None, ℤ, refl, sym, ap, ◌∙◌, arith, if◌then◌else◌, ◌++◌, List, []}
 use Rattle.std.proofs.lemmas.Bool.Decides.{nat_tests}
 use Rattle.std.proofs.lemmas.Bool.{and_from, and_parts}
-use Rattle.trick_blocks.specs.Places.{literal_count}
-use Rattle.trick_condition.specs.Conditions.{are_plain_choices, are_plain_links, choice_terms, is_plain, is_plain_path, link_terms, path_term, referent_term, term}
-use Rattle.trick_condition.specs.Laws.{KnowsCells}
-use Rattle.trick_condition.specs.Places.{Known, full_name, has_computed, item_or_cell, looked_up, referent_of}
-use Rattle.trick_condition.specs.declared.place.Referent.{Referent}
-use Rattle.trick_condition.specs.declared.place.Referent.TheVariants as stands_for
+use Rattle.trick_check_blocks.specs.Places.{literal_count}
+use Rattle.trick_plan_conditions.specs.Conditions.{are_plain_choices, are_plain_links, choice_terms, is_plain, is_plain_path, link_terms, path_term, referent_term, term}
+use Rattle.trick_plan_conditions.specs.Laws.{KnowsCells}
+use Rattle.trick_plan_conditions.specs.Places.{Known, full_name, has_computed, item_or_cell, looked_up, referent_of}
+use Rattle.trick_plan_conditions.specs.declared.place.Referent.{Referent}
+use Rattle.trick_plan_conditions.specs.declared.place.Referent.TheVariants as stands_for
 use Rattle.trick_lang.specs.SyntaxTree.{Name, Expression, Whole, Truth, Named, Prefixed, Chain, Choose, Links, NoLink, Link, Choices, Last, Choice, Path, path, Parts}
 use Rattle.trick_lang.specs.declared.cells.Cell.{Cell}
 use Rattle.trick_model.specs.Condition.{are_all_conditions, are_conditions, is_condition, is_safe}

@@ -1,13 +1,13 @@
 -- Places, part by part.
 use Rattle.std.proofs.Common.{◌≡◌, ◌∙◌, ℕ, Bool, true, false, ◌||◌, List, [], ◌∷◌, ◌++◌, Option, Some, None, is_none, refl, ap, sym, append_assoc, append-nil, if◌then◌else◌}
-use Rattle.trick_blocks.specs.Places.{literal_of}
-use Rattle.trick_cells.specs.Cells.{bracket, dotted}
-use Rattle.trick_condition.specs.Held.{PushesPart}
-use Rattle.trick_condition.specs.Places.{full_name, has_computed}
+use Rattle.trick_check_blocks.specs.Places.{literal_of}
+use Rattle.trick_check_cells.specs.Cells.{bracket, dotted}
+use Rattle.trick_plan_conditions.specs.Held.{PushesPart}
+use Rattle.trick_plan_conditions.specs.Places.{full_name, has_computed}
 use Rattle.trick_lang.specs.Syntax.{expression_of, parts_of_list}
 use Rattle.trick_lang.specs.SyntaxTree.{Parts}
 use Rattle.trick_lang.specs.declared.syntax.expression.Part.{Part, Member, Index}
-use Rattle.trick_places.specs.Named.{next_text, path_text}
+use Rattle.trick_check_bodies.specs.Named.{next_text, path_text}
 
 -- one part and the rest
 pub computed_split : (item : Part) (rest : List Part) → has_computed (parts_of_list (item ∷ rest)) ≡ has_computed (parts_of_list (item ∷ [])) || has_computed (parts_of_list rest)

@@ -1,12 +1,12 @@
 -- Conditions that are resolved, part by part.
 use Rattle.std.proofs.Common.{◌≡◌, ◌∙◌, Bool, true, false, ◌||◌, List, [], ◌∷◌, ℕ, Result, Ok, Err, refl, sym, subst}
 use Rattle.std.proofs.lemmas.Bool.{or_from, or_left, or_right}
-use Rattle.trick_blocks.specs.Places.{literal_count}
-use Rattle.trick_condition.specs.Conditions.{choices_unknown, has_unknown, is_nothing, links_unknown, parts_unknown, referent_term}
-use Rattle.trick_condition.specs.Held.{ChecksParts, Resolves, ResolvesChoices, ResolvesLinks, ResolvesPlace}
-use Rattle.trick_condition.specs.Places.{Known, referent_of}
-use Rattle.trick_condition.specs.declared.fault.ConditionFault.{ConditionFault}
-use Rattle.trick_condition.specs.declared.fault.ConditionFault.TheVariants as faults
+use Rattle.trick_check_blocks.specs.Places.{literal_count}
+use Rattle.trick_plan_conditions.specs.Conditions.{choices_unknown, has_unknown, is_nothing, links_unknown, parts_unknown, referent_term}
+use Rattle.trick_plan_conditions.specs.Held.{ChecksParts, Resolves, ResolvesChoices, ResolvesLinks, ResolvesPlace}
+use Rattle.trick_plan_conditions.specs.Places.{Known, referent_of}
+use Rattle.trick_plan_conditions.specs.declared.fault.ConditionFault.{ConditionFault}
+use Rattle.trick_plan_conditions.specs.declared.fault.ConditionFault.TheVariants as faults
 use Rattle.trick_lang.specs.Syntax.{choices_of_list, expression_of, parts_of_list}
 use Rattle.trick_lang.specs.SyntaxTree.{Expression, Name, Named, Prefixed, Chain, Choose, Links, path, Parts}
 use Rattle.trick_lang.specs.declared.operator.Prefix.{Prefix}

@@ -1,9 +1,9 @@
 -- What a condition says, and why it is refused.
 use Rattle.std.specs.Prelude.{ℕ, pos, Bool, true, false, ◌&&◌, ◌||◌, not}
-use Rattle.trick_blocks.specs.Places.{literal_count}
-use Rattle.trick_condition.specs.Places.{Known, has_computed, referent_of}
-use Rattle.trick_condition.specs.declared.place.Referent.{Referent}
-use Rattle.trick_condition.specs.declared.place.Referent.TheVariants as stands_for
+use Rattle.trick_check_blocks.specs.Places.{literal_count}
+use Rattle.trick_plan_conditions.specs.Places.{Known, has_computed, referent_of}
+use Rattle.trick_plan_conditions.specs.declared.place.Referent.{Referent}
+use Rattle.trick_plan_conditions.specs.declared.place.Referent.TheVariants as stands_for
 use Rattle.trick_lang.specs.Numbers.{number_of}
 use Rattle.trick_lang.specs.SyntaxTree.{Expression, Whole, Truth, Named, Prefixed, Chain, Choose, Links, NoLink, Link, Choices, Last, Choice, Path, path, Parts, NoPart, Member, Index}
 use Rattle.trick_lang.specs.Tree as Tree

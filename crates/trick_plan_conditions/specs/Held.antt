@@ -2,11 +2,11 @@
 use Rattle.std.specs.Prelude.{◌≡◌, ℤ, ℕ, Bool, true, false, List, [], ◌++◌, Option, Some, None, Result, Ok, Err}
 use Rattle.std.specs.declared.alloc.Global.{Global}
 use Rattle.std.specs.declared.vec.Vec.{Vec}
-use Rattle.trick_condition.specs.Conditions.{choice_terms, choices_unknown, has_unknown, is_nothing, link_terms, links_unknown, parts_unknown, referent_term, term}
-use Rattle.trick_condition.specs.Places.{Known, has_computed, referent_of}
-use Rattle.trick_condition.specs.declared.fault.ConditionFault.{ConditionFault}
-use Rattle.trick_condition.specs.declared.fault.ConditionFault.TheVariants as faults
-use Rattle.trick_blocks.specs.Places.{literal_count}
+use Rattle.trick_plan_conditions.specs.Conditions.{choice_terms, choices_unknown, has_unknown, is_nothing, link_terms, links_unknown, parts_unknown, referent_term, term}
+use Rattle.trick_plan_conditions.specs.Places.{Known, has_computed, referent_of}
+use Rattle.trick_plan_conditions.specs.declared.fault.ConditionFault.{ConditionFault}
+use Rattle.trick_plan_conditions.specs.declared.fault.ConditionFault.TheVariants as faults
+use Rattle.trick_check_blocks.specs.Places.{literal_count}
 use Rattle.trick_lang.specs.Syntax as text
 use Rattle.trick_lang.specs.SyntaxTree.{Name, Expression, Links, Parts}
 use Rattle.trick_lang.specs.TreeOf.{choices_of_list, links_of_list, term_of}
@@ -15,8 +15,8 @@ use Rattle.trick_lang.specs.declared.syntax.expression.Choice as written
 use Rattle.trick_lang.specs.declared.tree.Choice.{Choice}
 use Rattle.trick_lang.specs.declared.tree.Expr.{Expr}
 use Rattle.trick_lang.specs.declared.tree.Link.{Link}
-use Rattle.trick_names.specs.Names.{Names, meaning_of}
-use Rattle.trick_places.specs.Named.{path_text}
+use Rattle.trick_check_names.specs.Names.{Names, meaning_of}
+use Rattle.trick_check_bodies.specs.Named.{path_text}
 
 -- what these names of items and of cells are known to stand for
 abbrev pub known_by : Names ℤ → Names Cell → Known

@@ -1,7 +1,7 @@
 -- Laws of conditions.
 use Rattle.std.specs.Prelude.{◌≡◌, ℕ, ◌<◌, true, false, IsTrue, Option, Some}
-use Rattle.trick_condition.specs.Conditions.{has_unknown, is_plain, term}
-use Rattle.trick_condition.specs.Places.{Known}
+use Rattle.trick_plan_conditions.specs.Conditions.{has_unknown, is_plain, term}
+use Rattle.trick_plan_conditions.specs.Places.{Known}
 use Rattle.trick_lang.specs.SyntaxTree.{Name, Expression}
 use Rattle.trick_lang.specs.declared.cells.Cell.{Cell}
 use Rattle.trick_model.specs.Condition.{is_condition}

@@ -1,11 +1,11 @@
 -- The places of a condition, by their full names.
 use Rattle.std.specs.Prelude.{ℤ, Bool, false, ◌||◌, ◌++◌, [], Option, Some, None, is_none, if◌then◌else◌}
-use Rattle.trick_blocks.specs.Places.{literal_of}
-use Rattle.trick_condition.specs.declared.place.Referent.{Referent}
-use Rattle.trick_condition.specs.declared.place.Referent.TheVariants as stands_for
+use Rattle.trick_check_blocks.specs.Places.{literal_of}
+use Rattle.trick_plan_conditions.specs.declared.place.Referent.{Referent}
+use Rattle.trick_plan_conditions.specs.declared.place.Referent.TheVariants as stands_for
 use Rattle.trick_lang.specs.SyntaxTree.{Name, Parts, NoPart, Member, Index}
 use Rattle.trick_lang.specs.declared.cells.Cell.{Cell}
-use Rattle.trick_places.specs.Named.{path_text}
+use Rattle.trick_check_bodies.specs.Named.{path_text}
 
 -- What names are known to stand for: that of an enum item for its value, and the full name of a cell
 -- for the cell.

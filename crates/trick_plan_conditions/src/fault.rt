@@ -1,5 +1,5 @@
 ghost use Rattle.std.specs.Prelude.{◌≡◌};
-ghost use Rattle.trick_condition.specs.declared.fault.ConditionFault.TheVariants.{OutOfMemory};
+ghost use Rattle.trick_plan_conditions.specs.declared.fault.ConditionFault.TheVariants.{OutOfMemory};
 
 use std::alloc::{AllocError, AllocFailed};
 use thiserror::Error;

@@ -1,10 +1,10 @@
 //! Places of conditions, by their full names.
 
 ghost use Rattle.std.specs.Prelude.{◌≡◌, ◌++◌, ◌∷◌, [], IfOk, OnOk, Some, if◌then◌else◌};
-ghost use Rattle.trick_blocks.specs.Places.{literal_count, literal_of};
-ghost use Rattle.trick_cells.specs.Cells.{bracket};
-ghost use Rattle.trick_condition.specs.Held.{PushesPart, known_by};
-ghost use Rattle.trick_condition.specs.Places.{full_name, has_computed, item_or_cell, looked_up, referent_of};
+ghost use Rattle.trick_check_blocks.specs.Places.{literal_count, literal_of};
+ghost use Rattle.trick_check_cells.specs.Cells.{bracket};
+ghost use Rattle.trick_plan_conditions.specs.Held.{PushesPart, known_by};
+ghost use Rattle.trick_plan_conditions.specs.Places.{full_name, has_computed, item_or_cell, looked_up, referent_of};
 ghost use Rattle.trick_lang.specs.Syntax.{expression_of, parts_of_list};
 
 use itoa::Buffer;
@@ -12,7 +12,7 @@ use std::alloc::{AllocError, Global};
 use trick_base::{Items, Word};
 use trick_lang::Cell;
 use trick_lang::syntax::{Expr, Part, Path};
-use trick_names::Names;
+use trick_check_names::Names;
 
 /// What a place of a condition stands for.
 #[derive(Clone, Copy, Debug, PartialEq, Eq)]

@@ -1,7 +1,7 @@
 //! Which conditions cannot fault.
 
 ghost use Rattle.std.specs.Prelude.{◌≡◌, ◌&&◌, not};
-ghost use Rattle.trick_condition.specs.Conditions.{are_plain_choices, are_plain_links, is_plain};
+ghost use Rattle.trick_plan_conditions.specs.Conditions.{are_plain_choices, are_plain_links, is_plain};
 ghost use Rattle.trick_lang.specs.Syntax.{choices_of_list, expression_of, links_of_list};
 ghost use Rattle.trick_lang.specs.SyntaxTree.{Expression};
 ghost use Rattle.trick_model.specs.Condition.{divides, is_safe};

@@ -1,7 +1,7 @@
 //! Conditions with their names resolved.
 
 ghost use Rattle.std.specs.Prelude.{◌≡◌, pos};
-ghost use Rattle.trick_condition.specs.Held.{ChecksParts, Resolves, ResolvesChoices, ResolvesLinks, ResolvesPlace, known_by};
+ghost use Rattle.trick_plan_conditions.specs.Held.{ChecksParts, Resolves, ResolvesChoices, ResolvesLinks, ResolvesPlace, known_by};
 ghost use Rattle.trick_lang.specs.Syntax.{expression_of, links_of_list, parts_of_list, path_of};
 ghost use Rattle.trick_lang.specs.Wrap.{wrap};
 ghost use Rattle.trick_lang.specs.declared.scalar.Scalar.TheVariants.{Long};
@@ -10,7 +10,7 @@ use crate::ConditionFault;
 use crate::place::{Referent, literals, stands_for};
 use std::alloc::Global;
 use trick_lang::{Cell, Choice, Expr, Link, Place, Scalar, syntax};
-use trick_names::Names;
+use trick_check_names::Names;
 
 // A literal, wrapped to 64 bits.
 fn number(n: u64) -> i64

@@ -1,7 +1,7 @@
 //! Actions as deeds.
 
 ghost use Rattle.std.specs.Prelude.{◌≡◌, IfSome, []};
-ghost use Rattle.trick_deed.specs.Deeds.{fitting};
+ghost use Rattle.trick_plan_deeds.specs.Deeds.{fitting};
 ghost use Rattle.trick_lang.specs.Effect.{scalars_of};
 ghost use Rattle.trick_lang.specs.Wrap.{IsOf};
 ghost use Rattle.trick_model.specs.Events.{names_of};

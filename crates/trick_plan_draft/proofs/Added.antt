@@ -5,14 +5,14 @@ use Rattle.std.proofs.lemmas.Bool.{and_from, and_parts, not-false, not-true, not
 use Rattle.std.proofs.lemmas.List.Elements.{All-push, All-weaker}
 use Rattle.std.specs.List.{list_any}
 use Rattle.std.specs.Str.{bytes_eq}
-use Rattle.trick_draft.proofs.Lists.{get_longer, map_append}
-use Rattle.trick_draft.proofs.Mirrored.{differ_back}
-use Rattle.trick_draft.specs.Cells.{only_names}
-use Rattle.trick_draft.specs.Kept.{AreAdded, IsOfPlace}
-use Rattle.trick_draft.specs.Lines.{is_full}
+use Rattle.trick_plan_draft.proofs.Lists.{get_longer, map_append}
+use Rattle.trick_plan_draft.proofs.Mirrored.{differ_back}
+use Rattle.trick_plan_draft.specs.Cells.{only_names}
+use Rattle.trick_plan_draft.specs.Kept.{AreAdded, IsOfPlace}
+use Rattle.trick_plan_draft.specs.Lines.{is_full}
 use Rattle.trick_lang.specs.SyntaxTree.{Name}
 use Rattle.trick_model.specs.Valid.{all_differ}
-use Rattle.trick_names.specs.Names.{Names, meaning_of, with_name}
+use Rattle.trick_check_names.specs.Names.{Names, meaning_of, with_name}
 
 -- ---- names that differ
 

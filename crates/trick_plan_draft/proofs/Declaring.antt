@@ -2,18 +2,18 @@
 use Rattle.std.proofs.Common.{◌≡◌, ◌∙◌, ◌+◌, ◌-◌, ◌≤◌, ◌++◌, ◌∷◌, [], ℕ, suc, Bool, true, false, nat_lt, List, Some, Ok, Err, length, length-drop, drop, take, refl, sym, ap, add-zero, zero-add, arith}
 use Rattle.std.proofs.Math.Seq.{drop-append_seam}
 use Rattle.std.proofs.lemmas.List.{take_rest}
-use Rattle.trick_declare.specs.Cells.{cells_of, count_of, is_taken}
-use Rattle.trick_declare.specs.declared.declaration.Declaration.{Declaration}
-use Rattle.trick_draft.proofs.Known.{no_cell_more}
-use Rattle.trick_draft.proofs.Taken.{taken_is}
-use Rattle.trick_draft.specs.Cells.{is_taken_in, known_cells, no_cells, with_cell, with_cells, with_objects}
-use Rattle.trick_draft.specs.Kept.{Mirrors}
-use Rattle.trick_draft.specs.Lines.{Did, declare_line, unless}
-use Rattle.trick_draft.specs.Seen.{AddsDeclared}
-use Rattle.trick_draft.specs.declared.cells.KnownCells.{KnownCells}
-use Rattle.trick_draft.specs.declared.draft.Draft.{Draft}
-use Rattle.trick_draft.specs.declared.fault.LineFault.{LineFault}
-use Rattle.trick_draft.specs.declared.fault.LineFault.TheVariants as fault
+use Rattle.trick_plan_variables.specs.Cells.{cells_of, count_of, is_taken}
+use Rattle.trick_plan_variables.specs.declared.declaration.Declaration.{Declaration}
+use Rattle.trick_plan_draft.proofs.Known.{no_cell_more}
+use Rattle.trick_plan_draft.proofs.Taken.{taken_is}
+use Rattle.trick_plan_draft.specs.Cells.{is_taken_in, known_cells, no_cells, with_cell, with_cells, with_objects}
+use Rattle.trick_plan_draft.specs.Kept.{Mirrors}
+use Rattle.trick_plan_draft.specs.Lines.{Did, declare_line, unless}
+use Rattle.trick_plan_draft.specs.Seen.{AddsDeclared}
+use Rattle.trick_plan_draft.specs.declared.cells.KnownCells.{KnownCells}
+use Rattle.trick_plan_draft.specs.declared.draft.Draft.{Draft}
+use Rattle.trick_plan_draft.specs.declared.fault.LineFault.{LineFault}
+use Rattle.trick_plan_draft.specs.declared.fault.LineFault.TheVariants as fault
 use Rattle.trick_lang.specs.SyntaxTree.{Name}
 use Rattle.trick_lang.specs.declared.object.Object.{Object}
 use Rattle.trick_lang.specs.declared.program.Program.{Program}

@@ -2,9 +2,9 @@
 use Rattle.std.proofs.Common.{◌≡◌, ◌<◌, ◌≤◌, ◌++◌, ℕ, List, Option, Some, None, All, length, sym, subst, arith}
 use Rattle.std.proofs.lemmas.List.Elements.{All-weaker}
 use Rattle.std.proofs.lemmas.List.{length-append}
-use Rattle.trick_draft.specs.Kept.{AreReads, IsCondition, IsEvent}
-use Rattle.trick_draft.specs.Lines.{Numbered}
-use Rattle.trick_draft.specs.declared.event.EventDraft.{EventDraft}
+use Rattle.trick_plan_draft.specs.Kept.{AreReads, IsCondition, IsEvent}
+use Rattle.trick_plan_draft.specs.Lines.{Numbered}
+use Rattle.trick_plan_draft.specs.declared.event.EventDraft.{EventDraft}
 use Rattle.trick_lang.specs.Tree.{Term}
 use Rattle.trick_model.specs.Names.{Names}
 use Rattle.trick_model.specs.Valid.{IsDeedAmong}

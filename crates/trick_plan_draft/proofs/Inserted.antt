@@ -1,8 +1,8 @@
 -- A list of actions at its place by number.
 use Rattle.std.proofs.Common.{◌≡◌, ◌∷◌, [], suc, Bool, true, false, nat_lt, List, refl, ap, if◌then◌else◌}
 use Rattle.std.specs.List.{insert}
-use Rattle.trick_draft.specs.Lines.{Numbered, with_numbered}
-use Rattle.trick_draft.specs.Places.{place_for}
+use Rattle.trick_plan_draft.specs.Lines.{Numbered, with_numbered}
+use Rattle.trick_plan_draft.specs.Places.{place_for}
 
 pub inserted : (new : Numbered) (lists : List Numbered) → insert lists (place_for new.0 lists) new
     ≡ with_numbered new lists

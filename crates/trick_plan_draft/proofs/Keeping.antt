@@ -6,17 +6,17 @@ use Rattle.std.proofs.lemmas.List.Elements.{All-nil, All-push}
 use Rattle.std.proofs.lemmas.List.{length-replicate, length-set}
 use Rattle.std.specs.Ordering.{int_eq}
 use Rattle.std.specs.Prelude.{IfSome}
-use Rattle.trick_deed.specs.Deeds.{fitting}
-use Rattle.trick_draft.proofs.Added.{room}
-use Rattle.trick_draft.proofs.Mirrored.{cell_there, mirrored}
-use Rattle.trick_draft.proofs.Passed.{first_passed, is_answer}
-use Rattle.trick_draft.specs.Drafts.{begun, names_of}
-use Rattle.trick_draft.specs.Jobs.{Jobs, job_named, jobs_of, passing, waiting_job}
-use Rattle.trick_draft.specs.Kept.{IsDraftOf, IsSet}
-use Rattle.trick_draft.specs.Laws.{Keeps}
-use Rattle.trick_draft.specs.Lines.{add_read_line, assign_line, deeds_in, depend_line, fitting_in, is_full, or_first, or_job, or_none, or_nothing, set_job_line}
-use Rattle.trick_draft.specs.declared.draft.Draft.{Draft}
-use Rattle.trick_draft.specs.declared.fault.LineFault.TheVariants as fault
+use Rattle.trick_plan_deeds.specs.Deeds.{fitting}
+use Rattle.trick_plan_draft.proofs.Added.{room}
+use Rattle.trick_plan_draft.proofs.Mirrored.{cell_there, mirrored}
+use Rattle.trick_plan_draft.proofs.Passed.{first_passed, is_answer}
+use Rattle.trick_plan_draft.specs.Drafts.{begun, names_of}
+use Rattle.trick_plan_draft.specs.Jobs.{Jobs, job_named, jobs_of, passing, waiting_job}
+use Rattle.trick_plan_draft.specs.Kept.{IsDraftOf, IsSet}
+use Rattle.trick_plan_draft.specs.Laws.{Keeps}
+use Rattle.trick_plan_draft.specs.Lines.{add_read_line, assign_line, deeds_in, depend_line, fitting_in, is_full, or_first, or_job, or_none, or_nothing, set_job_line}
+use Rattle.trick_plan_draft.specs.declared.draft.Draft.{Draft}
+use Rattle.trick_plan_draft.specs.declared.fault.LineFault.TheVariants as fault
 use Rattle.trick_lang.specs.SyntaxTree.{Name}
 use Rattle.trick_lang.specs.Wrap.{IsOf, scalar_at, wrap}
 use Rattle.trick_lang.specs.declared.cells.Cell.{Cell}
@@ -32,7 +32,7 @@ use Rattle.trick_model.specs.declared.deed.Deed.{Deed}
 use Rattle.trick_model.specs.declared.depends.Depends.{Depends}
 use Rattle.trick_model.specs.declared.read_at.ReadAt.{ReadAt}
 use Rattle.trick_model.specs.declared.thread.Thread.{Thread}
-use Rattle.trick_names.specs.Names.{meaning_of}
+use Rattle.trick_check_names.specs.Names.{meaning_of}
 
 same_number : (a b : ℤ) → int_eq a b ≡ true → a ≡ b
 same_number a b e = (Decides-int_eq a b).0 e

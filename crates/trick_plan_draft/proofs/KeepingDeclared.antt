@@ -2,24 +2,24 @@
 use Rattle.std.proofs.Common.{◌≡◌, ◌∙◌, ◌+◌, ◌<◌, ◌≤◌, ◌++◌, ◌∷◌, [], ℕ, zero, suc, ℤ, Bool, true, false, nat_lt, List, Option, Some, None, is_some, Ok, All, length, append_assoc, append-nil, refl, sym, ap, subst, arith, if◌then◌else◌}
 use Rattle.std.proofs.lemmas.List.Elements.{All-weaker}
 use Rattle.std.proofs.lemmas.List.{length-append, length-map}
-use Rattle.trick_declare.proofs.Plans.{HasMore, among_more}
-use Rattle.trick_declare.specs.Cells.{cells_of, count_of}
-use Rattle.trick_declare.specs.declared.declaration.Declaration.{Declaration}
-use Rattle.trick_draft.proofs.Grows.{Allows, events_grow, reads_grow}
-use Rattle.trick_draft.proofs.Lists.{map_append}
-use Rattle.trick_draft.proofs.Mirrored.{mirrored, scalars_known}
-use Rattle.trick_draft.proofs.Passed.{first_passed, is_answer}
-use Rattle.trick_draft.proofs.Stays.{stays_more}
-use Rattle.trick_draft.specs.Cells.{is_taken_in, only_names, with_cell, with_cells}
-use Rattle.trick_draft.specs.Drafts.{names_of}
-use Rattle.trick_draft.specs.Jobs.{Jobs}
-use Rattle.trick_draft.specs.Kept.{IsDraftOf, IsGroup, IsSet, Mirrors}
-use Rattle.trick_draft.specs.Laws.{KeepsDeeds}
-use Rattle.trick_draft.specs.Lines.{declare_line}
-use Rattle.trick_draft.specs.declared.cells.KnownCells.{KnownCells}
-use Rattle.trick_draft.specs.declared.draft.Draft.{Draft}
-use Rattle.trick_draft.specs.declared.fault.LineFault.TheVariants as fault
-use Rattle.trick_draft.specs.declared.group.GroupDraft.{GroupDraft}
+use Rattle.trick_plan_variables.proofs.Plans.{HasMore, among_more}
+use Rattle.trick_plan_variables.specs.Cells.{cells_of, count_of}
+use Rattle.trick_plan_variables.specs.declared.declaration.Declaration.{Declaration}
+use Rattle.trick_plan_draft.proofs.Grows.{Allows, events_grow, reads_grow}
+use Rattle.trick_plan_draft.proofs.Lists.{map_append}
+use Rattle.trick_plan_draft.proofs.Mirrored.{mirrored, scalars_known}
+use Rattle.trick_plan_draft.proofs.Passed.{first_passed, is_answer}
+use Rattle.trick_plan_draft.proofs.Stays.{stays_more}
+use Rattle.trick_plan_draft.specs.Cells.{is_taken_in, only_names, with_cell, with_cells}
+use Rattle.trick_plan_draft.specs.Drafts.{names_of}
+use Rattle.trick_plan_draft.specs.Jobs.{Jobs}
+use Rattle.trick_plan_draft.specs.Kept.{IsDraftOf, IsGroup, IsSet, Mirrors}
+use Rattle.trick_plan_draft.specs.Laws.{KeepsDeeds}
+use Rattle.trick_plan_draft.specs.Lines.{declare_line}
+use Rattle.trick_plan_draft.specs.declared.cells.KnownCells.{KnownCells}
+use Rattle.trick_plan_draft.specs.declared.draft.Draft.{Draft}
+use Rattle.trick_plan_draft.specs.declared.fault.LineFault.TheVariants as fault
+use Rattle.trick_plan_draft.specs.declared.group.GroupDraft.{GroupDraft}
 use Rattle.trick_lang.specs.Effect.{scalars_of}
 use Rattle.trick_lang.specs.SyntaxTree.{Name}
 use Rattle.trick_lang.specs.Wrap.{IsOf, scalar_at}
@@ -29,7 +29,7 @@ use Rattle.trick_lang.specs.declared.scalar.Scalar.{Scalar}
 use Rattle.trick_lang.specs.declared.variable.Variable.{Variable}
 use Rattle.trick_model.specs.Valid.{IsCell}
 use Rattle.trick_model.specs.declared.thread.Thread.{Thread}
-use Rattle.trick_names.specs.Names.{Names, meaning_of, with_name}
+use Rattle.trick_check_names.specs.Names.{Names, meaning_of, with_name}
 
 -- ---- lists that grow at their ends
 

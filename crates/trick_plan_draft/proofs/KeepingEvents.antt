@@ -3,35 +3,35 @@ use Rattle.std.proofs.Common.{rules, ◌≡◌, ◌∙◌, ◌≤◌, ◌++◌, 
 use Rattle.std.proofs.lemmas.Bool.{not-false}
 use Rattle.std.proofs.lemmas.Bool.Decides.{nat_tests}
 use Rattle.std.proofs.lemmas.List.Elements.{All-nil, All-push}
-use Rattle.trick_condition.specs.Laws.{PlainConditionsHold}
-use Rattle.trick_draft.proofs.Added.{known_last, more_places, one_added}
-use Rattle.trick_draft.proofs.Grows.{Allows, HasAdded, among_added, events_grow, reads_grow}
-use Rattle.trick_draft.proofs.Keeping.{deeds_among}
-use Rattle.trick_draft.proofs.KeepingGroups.{group_changed, keeps_on, place_there}
-use Rattle.trick_draft.proofs.Lists.{all_changed_at, get_mapped, map_append, map_changed_at}
-use Rattle.trick_draft.proofs.Mirrored.{cell_there}
-use Rattle.trick_draft.proofs.Passed.{first_passed, is_answer, not_there, there}
-use Rattle.trick_draft.proofs.Rising.{all_with, rises_with}
-use Rattle.trick_draft.proofs.Stays.{stays_added}
-use Rattle.trick_draft.specs.Cells.{only_names}
-use Rattle.trick_draft.specs.Drafts.{as_event, asked, asked_of_event, event_of, group_of, item_at, names_of, new_event, with_event, with_group}
-use Rattle.trick_draft.specs.Jobs.{Jobs}
-use Rattle.trick_draft.specs.Kept.{AreAdded, IsCondition, IsDraftOf, IsEvent, names_of_events}
-use Rattle.trick_draft.specs.Laws.{Keeps}
-use Rattle.trick_draft.specs.declared.draft.Draft.{Draft}
-use Rattle.trick_draft.specs.declared.fault.LineFault.TheVariants as fault
-use Rattle.trick_draft.specs.declared.handle.Handle.{Handle}
-use Rattle.trick_draft.specs.declared.handle.Handle.TheVariants as handle
-use Rattle.trick_draft.specs.Lines.{Numbered, activate_line, add_event_line, deeds_in, has_number, is_full, is_right, is_unknown_in, known_in, new_event_line, or_none, or_zero, resolved, set_action_line, set_condition_line, set_cycle_line, this_own_line, with_numbered}
-use Rattle.trick_draft.specs.declared.event.EventDraft.{EventDraft}
-use Rattle.trick_draft.specs.declared.group.GroupDraft.{GroupDraft}
+use Rattle.trick_plan_conditions.specs.Laws.{PlainConditionsHold}
+use Rattle.trick_plan_draft.proofs.Added.{known_last, more_places, one_added}
+use Rattle.trick_plan_draft.proofs.Grows.{Allows, HasAdded, among_added, events_grow, reads_grow}
+use Rattle.trick_plan_draft.proofs.Keeping.{deeds_among}
+use Rattle.trick_plan_draft.proofs.KeepingGroups.{group_changed, keeps_on, place_there}
+use Rattle.trick_plan_draft.proofs.Lists.{all_changed_at, get_mapped, map_append, map_changed_at}
+use Rattle.trick_plan_draft.proofs.Mirrored.{cell_there}
+use Rattle.trick_plan_draft.proofs.Passed.{first_passed, is_answer, not_there, there}
+use Rattle.trick_plan_draft.proofs.Rising.{all_with, rises_with}
+use Rattle.trick_plan_draft.proofs.Stays.{stays_added}
+use Rattle.trick_plan_draft.specs.Cells.{only_names}
+use Rattle.trick_plan_draft.specs.Drafts.{as_event, asked, asked_of_event, event_of, group_of, item_at, names_of, new_event, with_event, with_group}
+use Rattle.trick_plan_draft.specs.Jobs.{Jobs}
+use Rattle.trick_plan_draft.specs.Kept.{AreAdded, IsCondition, IsDraftOf, IsEvent, names_of_events}
+use Rattle.trick_plan_draft.specs.Laws.{Keeps}
+use Rattle.trick_plan_draft.specs.declared.draft.Draft.{Draft}
+use Rattle.trick_plan_draft.specs.declared.fault.LineFault.TheVariants as fault
+use Rattle.trick_plan_draft.specs.declared.handle.Handle.{Handle}
+use Rattle.trick_plan_draft.specs.declared.handle.Handle.TheVariants as handle
+use Rattle.trick_plan_draft.specs.Lines.{Numbered, activate_line, add_event_line, deeds_in, has_number, is_full, is_right, is_unknown_in, known_in, new_event_line, or_none, or_zero, resolved, set_action_line, set_condition_line, set_cycle_line, this_own_line, with_numbered}
+use Rattle.trick_plan_draft.specs.declared.event.EventDraft.{EventDraft}
+use Rattle.trick_plan_draft.specs.declared.group.GroupDraft.{GroupDraft}
 use Rattle.trick_lang.specs.SyntaxTree.{Expression, Name}
 use Rattle.trick_model.specs.Names as model
 use Rattle.trick_base.specs.Time.{tic_limit}
 use Rattle.trick_model.specs.Valid.{IsCycle, IsDeedAmong}
 use Rattle.trick_model.specs.declared.action.Action.{Action}
 use Rattle.trick_model.specs.declared.thread.Thread.{Thread}
-use Rattle.trick_names.specs.Names.{Names, meaning_of, with_name}
+use Rattle.trick_check_names.specs.Names.{Names, meaning_of, with_name}
 
 -- ---- places
 

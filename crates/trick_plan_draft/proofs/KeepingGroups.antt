@@ -3,29 +3,29 @@ use Rattle.std.proofs.Common.{◌≡◌, ◌∙◌, ◌++◌, ◌∷◌, [], ℕ
 use Rattle.std.proofs.lemmas.Bool.{ltb-true, or_parts}
 use Rattle.std.proofs.lemmas.List.Elements.{All-nil, All-push}
 use Rattle.trick_base.proofs.ListLemmas.{item_there}
-use Rattle.trick_draft.proofs.Added.{known_last, more_places, one_added, room}
-use Rattle.trick_draft.proofs.Grows.{Allows, HasAdded, among_added, events_grow, reads_grow}
-use Rattle.trick_draft.proofs.Lists.{all_changed_at, get_mapped, map_append, map_changed_at}
-use Rattle.trick_draft.proofs.Mirrored.{cell_there}
-use Rattle.trick_draft.proofs.Passed.{first_passed, is_answer, not_there, there}
-use Rattle.trick_draft.proofs.Stays.{stays_added}
-use Rattle.trick_draft.specs.Cells.{only_names}
-use Rattle.trick_draft.specs.Drafts.{as_group, asked, asked_of_group, group_of, item_at, names_of, new_group, place_in, with_group}
-use Rattle.trick_draft.specs.Jobs.{Jobs}
-use Rattle.trick_draft.specs.Kept.{AreAdded, IsDraftOf, IsGroup, names_of_groups}
-use Rattle.trick_draft.specs.Laws.{Keeps}
-use Rattle.trick_draft.specs.declared.draft.Draft.{Draft}
-use Rattle.trick_draft.specs.declared.fault.LineFault.TheVariants as fault
-use Rattle.trick_draft.specs.declared.handle.Handle.{Handle}
-use Rattle.trick_draft.specs.declared.handle.Handle.TheVariants as handle
-use Rattle.trick_draft.specs.Lines.{add_group_line, add_variable_line, is_full, new_group_line, or_first, or_zero, set_changes_line, set_group_line}
-use Rattle.trick_draft.specs.declared.group.GroupDraft.{GroupDraft}
+use Rattle.trick_plan_draft.proofs.Added.{known_last, more_places, one_added, room}
+use Rattle.trick_plan_draft.proofs.Grows.{Allows, HasAdded, among_added, events_grow, reads_grow}
+use Rattle.trick_plan_draft.proofs.Lists.{all_changed_at, get_mapped, map_append, map_changed_at}
+use Rattle.trick_plan_draft.proofs.Mirrored.{cell_there}
+use Rattle.trick_plan_draft.proofs.Passed.{first_passed, is_answer, not_there, there}
+use Rattle.trick_plan_draft.proofs.Stays.{stays_added}
+use Rattle.trick_plan_draft.specs.Cells.{only_names}
+use Rattle.trick_plan_draft.specs.Drafts.{as_group, asked, asked_of_group, group_of, item_at, names_of, new_group, place_in, with_group}
+use Rattle.trick_plan_draft.specs.Jobs.{Jobs}
+use Rattle.trick_plan_draft.specs.Kept.{AreAdded, IsDraftOf, IsGroup, names_of_groups}
+use Rattle.trick_plan_draft.specs.Laws.{Keeps}
+use Rattle.trick_plan_draft.specs.declared.draft.Draft.{Draft}
+use Rattle.trick_plan_draft.specs.declared.fault.LineFault.TheVariants as fault
+use Rattle.trick_plan_draft.specs.declared.handle.Handle.{Handle}
+use Rattle.trick_plan_draft.specs.declared.handle.Handle.TheVariants as handle
+use Rattle.trick_plan_draft.specs.Lines.{add_group_line, add_variable_line, is_full, new_group_line, or_first, or_zero, set_changes_line, set_group_line}
+use Rattle.trick_plan_draft.specs.declared.group.GroupDraft.{GroupDraft}
 use Rattle.trick_lang.specs.SyntaxTree.{Name}
 use Rattle.trick_lang.specs.declared.cells.Cell.{Cell}
 use Rattle.trick_model.specs.Names as model
 use Rattle.trick_model.specs.Valid.{IsCell}
 use Rattle.trick_model.specs.declared.thread.Thread.{Thread}
-use Rattle.trick_names.specs.Names.{Names, meaning_of, with_name}
+use Rattle.trick_check_names.specs.Names.{Names, meaning_of, with_name}
 
 -- ---- places
 

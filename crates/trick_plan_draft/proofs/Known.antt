@@ -2,13 +2,13 @@
 use Rattle.std.proofs.Common.{◌≡◌, ◌∙◌, ◌+◌, ◌∷◌, [], ℕ, zero, suc, ℤ, Bool, true, false, List, Option, Some, None, drop, slice_get, refl, sym, subst, ap, add-zero, arith, if◌then◌else◌}
 use Rattle.std.specs.Prelude.{option_map}
 use Rattle.std.specs.Str.{bytes_eq}
-use Rattle.trick_draft.specs.Cells.{AreNumbered, numbered, only_names, with_objects, with_object}
-use Rattle.trick_draft.specs.declared.cells.KnownCells.{KnownCells}
+use Rattle.trick_plan_draft.specs.Cells.{AreNumbered, numbered, only_names, with_objects, with_object}
+use Rattle.trick_plan_draft.specs.declared.cells.KnownCells.{KnownCells}
 use Rattle.trick_lang.specs.SyntaxTree.{Name}
 use Rattle.trick_lang.specs.declared.cells.Cell.{Cell}
 use Rattle.trick_lang.specs.declared.object.Object.{Object}
 use Rattle.trick_model.specs.Names.{find_name, one_more, set_in_range}
-use Rattle.trick_names.specs.Names.{Names, meaning_of}
+use Rattle.trick_check_names.specs.Names.{Names, meaning_of}
 
 -- ---- places of names
 

@@ -1,7 +1,7 @@
 -- Lists of which one item is changed, and places in lists.
 use Rattle.std.proofs.Common.{◌≡◌, ◌∙◌, ◌<◌, ◌++◌, ◌∷◌, [], ℕ, zero, suc, List, Option, Some, None, All, length, map, slice_get, get_or, set, refl, sym, ap, subst, arith}
 use Rattle.std.proofs.lemmas.List.Elements.{All-cons, All-head, All-tail}
-use Rattle.trick_draft.specs.Changed.{changed, changed_at}
+use Rattle.trick_plan_draft.specs.Changed.{changed, changed_at}
 
 -- a fact of each item that is also one of the changed item
 pub all_changed : {T : Type 0} (P : T → Type 0) (change : T → T) (xs : List T) (place : ℕ)

@@ -5,11 +5,11 @@ use Rattle.std.proofs.lemmas.Slice.Eq.{bytes_eq-Decides}
 use Rattle.std.specs.List.{list_all}
 use Rattle.std.specs.Prelude.{option_map}
 use Rattle.std.specs.Str.{bytes_eq}
-use Rattle.trick_draft.proofs.Known.{no_cell_more, number_is_place, number_of}
-use Rattle.trick_draft.specs.Cells.{no_cells, numbered, only_names, with_cell, with_cells, with_object, with_objects}
-use Rattle.trick_draft.specs.Kept.{AreCells, IsMirrored, Mirrors}
-use Rattle.trick_draft.specs.declared.cells.KnownCells.{KnownCells}
-use Rattle.trick_draft.specs.declared.draft.Draft.{Draft}
+use Rattle.trick_plan_draft.proofs.Known.{no_cell_more, number_is_place, number_of}
+use Rattle.trick_plan_draft.specs.Cells.{no_cells, numbered, only_names, with_cell, with_cells, with_object, with_objects}
+use Rattle.trick_plan_draft.specs.Kept.{AreCells, IsMirrored, Mirrors}
+use Rattle.trick_plan_draft.specs.declared.cells.KnownCells.{KnownCells}
+use Rattle.trick_plan_draft.specs.declared.draft.Draft.{Draft}
 use Rattle.trick_lang.specs.Effect.{scalars_of}
 use Rattle.trick_lang.specs.Names.{are_apart, of_one_name}
 use Rattle.trick_lang.specs.SyntaxTree.{Name}
@@ -20,7 +20,7 @@ use Rattle.trick_lang.specs.declared.scalar.Scalar.{Scalar}
 use Rattle.trick_lang.specs.declared.variable.Variable.{Variable}
 use Rattle.trick_model.specs.Names.{find_name, one_more}
 use Rattle.trick_model.specs.Valid.{cell_names}
-use Rattle.trick_names.specs.Names.{Names, meaning_of}
+use Rattle.trick_check_names.specs.Names.{Names, meaning_of}
 
 -- ---- names that are not known
 

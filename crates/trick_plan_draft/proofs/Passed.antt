@@ -1,8 +1,8 @@
 -- A line that is not refused: none of its tests holds, and what is after them is its answer.
 use Rattle.std.proofs.Common.{◌≡◌, Bool, true, false, List, [], ◌∷◌, Option, Some, None, is_none, is_some, Ok, refl}
-use Rattle.trick_draft.specs.Lines.{unless}
-use Rattle.trick_draft.specs.declared.draft.Draft.{Draft}
-use Rattle.trick_draft.specs.declared.fault.LineFault.{LineFault}
+use Rattle.trick_plan_draft.specs.Lines.{unless}
+use Rattle.trick_plan_draft.specs.declared.draft.Draft.{Draft}
+use Rattle.trick_plan_draft.specs.declared.fault.LineFault.{LineFault}
 
 pub first_passed : (t : Bool) (f : LineFault) (rest : List (Bool × LineFault)) (d e : Draft)
     → unless ((t, f) ∷ rest) d ≡ Ok e → (t ≡ false) × (unless rest d ≡ Ok e)

@@ -3,7 +3,7 @@ use Rattle.std.proofs.Common.{◌≡◌, ◌∷◌, [], ◌==◌, ℕ, Bool, tru
 use Rattle.std.proofs.lemmas.Bool.Decides.{nat_tests}
 use Rattle.std.proofs.lemmas.Bool.{and_from, and_parts, or_parts}
 use Rattle.std.proofs.lemmas.List.Elements.{All-cons, All-head, All-tail}
-use Rattle.trick_draft.specs.Lines.{Numbered, has_number, with_numbered}
+use Rattle.trick_plan_draft.specs.Lines.{Numbered, has_number, with_numbered}
 use Rattle.trick_model.specs.Valid.{rises}
 
 -- the numbers of lists

@@ -3,8 +3,8 @@ use Rattle.std.proofs.Common.{◌≡◌, ◌∙◌, ◌<◌, ◌++◌, ◌∷◌
 use Rattle.std.specs.Ordering.{int_eq}
 use Rattle.std.specs.Prelude.{IfSome}
 use Rattle.std.specs.Str.{bytes_eq}
-use Rattle.trick_declare.proofs.Plans.{HasMore}
-use Rattle.trick_draft.proofs.Grows.{HasAdded}
+use Rattle.trick_plan_variables.proofs.Plans.{HasMore}
+use Rattle.trick_plan_draft.proofs.Grows.{HasAdded}
 use Rattle.trick_lang.specs.Wrap.{scalar_at, wrap}
 use Rattle.trick_lang.specs.declared.job.Job.{Job}
 use Rattle.trick_lang.specs.declared.scalar.Scalar.{Scalar}

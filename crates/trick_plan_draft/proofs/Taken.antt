@@ -4,13 +4,13 @@ use Rattle.std.proofs.Math.Bool.{or-false, or_assoc}
 use Rattle.std.proofs.lemmas.Slice.Eq.{bytes_eq-Decides}
 use Rattle.std.specs.List.{list_any}
 use Rattle.std.specs.Str.{bytes_eq}
-use Rattle.trick_declare.specs.Cells.{begins_with, first_name, is_taken}
-use Rattle.trick_draft.specs.Cells.{is_taken_in, known_cells, no_cells, with_cell, with_cells, with_object, with_objects}
-use Rattle.trick_draft.specs.declared.cells.KnownCells.{KnownCells}
+use Rattle.trick_plan_variables.specs.Cells.{begins_with, first_name, is_taken}
+use Rattle.trick_plan_draft.specs.Cells.{is_taken_in, known_cells, no_cells, with_cell, with_cells, with_object, with_objects}
+use Rattle.trick_plan_draft.specs.declared.cells.KnownCells.{KnownCells}
 use Rattle.trick_lang.specs.SyntaxTree.{Name}
 use Rattle.trick_lang.specs.declared.object.Object.{Object}
 use Rattle.trick_lang.specs.declared.variable.Variable.{Variable}
-use Rattle.trick_names.specs.Names.{Names, meaning_of, with_name}
+use Rattle.trick_check_names.specs.Names.{Names, meaning_of, with_name}
 
 same_back : (a b : List ℕ) → bytes_eq a b ≡ bytes_eq b a
 same_back a b = by (bytes_eq a b) (bytes_eq b a) refl refl

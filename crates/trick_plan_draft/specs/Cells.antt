@@ -1,12 +1,12 @@
 -- The cells by their full names, and the names that are taken.
 use Rattle.std.specs.Prelude.{◌≡◌, ℕ, suc, Bool, true, ◌||◌, List, [], ◌∷◌, ◌++◌, length, map, is_some}
-use Rattle.trick_declare.specs.Cells.{first_name}
-use Rattle.trick_draft.specs.declared.cells.KnownCells.{KnownCells}
+use Rattle.trick_plan_variables.specs.Cells.{first_name}
+use Rattle.trick_plan_draft.specs.declared.cells.KnownCells.{KnownCells}
 use Rattle.trick_lang.specs.SyntaxTree.{Name}
 use Rattle.trick_lang.specs.declared.cells.Cell.{Cell}
 use Rattle.trick_lang.specs.declared.object.Object.{Object}
 use Rattle.trick_lang.specs.declared.variable.Variable.{Variable}
-use Rattle.trick_names.specs.Names.{Names, meaning_of, with_name}
+use Rattle.trick_check_names.specs.Names.{Names, meaning_of, with_name}
 
 -- no cell and no object is known
 abbrev pub no_cells : KnownCells

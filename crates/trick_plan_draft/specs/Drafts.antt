@@ -1,18 +1,18 @@
 -- What the lines so far have said.
 use Rattle.std.specs.Prelude.{ℕ, ℤ, nat_lt, true, false, List, [], ◌∷◌, length, replicate, slice_get, Option, Some, None, if◌then◌else◌}
-use Rattle.trick_draft.specs.Cells.{known_cells, only_names}
-use Rattle.trick_draft.specs.Changed.{changed_at}
-use Rattle.trick_draft.specs.Jobs.{Jobs}
-use Rattle.trick_draft.specs.declared.draft.Draft.{Draft}
-use Rattle.trick_draft.specs.declared.event.EventDraft.{EventDraft}
-use Rattle.trick_draft.specs.declared.group.GroupDraft.{GroupDraft}
-use Rattle.trick_draft.specs.declared.handle.Handle.{Handle}
-use Rattle.trick_draft.specs.declared.handle.Handle.TheVariants as handle
+use Rattle.trick_plan_draft.specs.Cells.{known_cells, only_names}
+use Rattle.trick_plan_draft.specs.Changed.{changed_at}
+use Rattle.trick_plan_draft.specs.Jobs.{Jobs}
+use Rattle.trick_plan_draft.specs.declared.draft.Draft.{Draft}
+use Rattle.trick_plan_draft.specs.declared.event.EventDraft.{EventDraft}
+use Rattle.trick_plan_draft.specs.declared.group.GroupDraft.{GroupDraft}
+use Rattle.trick_plan_draft.specs.declared.handle.Handle.{Handle}
+use Rattle.trick_plan_draft.specs.declared.handle.Handle.TheVariants as handle
 use Rattle.trick_lang.specs.SyntaxTree.{Name}
 use Rattle.trick_lang.specs.declared.program.Program.{Program}
 use Rattle.trick_lang.specs.declared.variable.EnumItem.{EnumItem}
 use Rattle.trick_model.specs.Names as model
-use Rattle.trick_names.specs.Names.{Names, meaning_of, with_name}
+use Rattle.trick_check_names.specs.Names.{Names, meaning_of, with_name}
 
 -- ---- before the first line
 

@@ -1,11 +1,11 @@
 -- Laws of drafts.
 use Rattle.std.specs.Prelude.{◌≡◌, ℕ, ◌≤◌, ℤ, Bool, List, Option, Some, Ok}
-use Rattle.trick_draft.specs.Drafts.{begun, names_of}
-use Rattle.trick_draft.specs.Jobs.{Jobs, jobs_of, waiting_job}
-use Rattle.trick_draft.specs.Kept.{IsDraftOf, IsMirrored, Mirrors}
-use Rattle.trick_draft.specs.Lines.{activate_line, add_event_line, add_group_line, add_read_line, add_variable_line, assign_line, declare_line, depend_line, new_event_line, new_group_line, set_action_line, set_changes_line, set_condition_line, set_cycle_line, set_group_line, set_job_line, this_own_line}
-use Rattle.trick_draft.specs.declared.draft.Draft.{Draft}
-use Rattle.trick_declare.specs.declared.declaration.Declaration.{Declaration}
+use Rattle.trick_plan_draft.specs.Drafts.{begun, names_of}
+use Rattle.trick_plan_draft.specs.Jobs.{Jobs, jobs_of, waiting_job}
+use Rattle.trick_plan_draft.specs.Kept.{IsDraftOf, IsMirrored, Mirrors}
+use Rattle.trick_plan_draft.specs.Lines.{activate_line, add_event_line, add_group_line, add_read_line, add_variable_line, assign_line, declare_line, depend_line, new_event_line, new_group_line, set_action_line, set_changes_line, set_condition_line, set_cycle_line, set_group_line, set_job_line, this_own_line}
+use Rattle.trick_plan_draft.specs.declared.draft.Draft.{Draft}
+use Rattle.trick_plan_variables.specs.declared.declaration.Declaration.{Declaration}
 use Rattle.trick_lang.specs.SyntaxTree.{Expression, Name}
 use Rattle.trick_lang.specs.declared.job.JobId.{JobId}
 use Rattle.trick_lang.specs.declared.program.Program.{Program}

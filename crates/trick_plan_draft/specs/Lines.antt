@@ -1,21 +1,21 @@
 -- What each line says, given the lines before it.
 use Rattle.std.specs.List.{list_any}
 use Rattle.std.specs.Prelude.{◌≡◌, ℕ, ◌+◌, ◌==◌, nat_lt, ℤ, pos, Bool, true, false, not, ◌&&◌, ◌||◌, List, [], ◌∷◌, ◌++◌, length, slice_set, Option, Some, None, is_none, is_some, Result, Ok, Err, if◌then◌else◌}
-use Rattle.trick_condition.specs.Conditions.{has_unknown, is_plain, term}
-use Rattle.trick_condition.specs.Held.{known_by}
-use Rattle.trick_condition.specs.Places.{Known}
-use Rattle.trick_declare.specs.Cells.{cells_of, count_of}
-use Rattle.trick_declare.specs.declared.declaration.Declaration.{Declaration}
-use Rattle.trick_deed.specs.Deeds.{fitting}
-use Rattle.trick_draft.specs.Cells.{is_taken_in, with_cells}
-use Rattle.trick_draft.specs.Drafts.{asked_of_event, asked_of_group, event_of, group_of, names_of, new_event, new_group, with_event, with_group}
-use Rattle.trick_draft.specs.Jobs.{Jobs}
-use Rattle.trick_draft.specs.declared.draft.Draft.{Draft}
-use Rattle.trick_draft.specs.declared.event.EventDraft.{EventDraft}
-use Rattle.trick_draft.specs.declared.fault.LineFault.{LineFault}
-use Rattle.trick_draft.specs.declared.fault.LineFault.TheVariants as fault
-use Rattle.trick_draft.specs.declared.group.GroupDraft.{GroupDraft}
-use Rattle.trick_draft.specs.declared.handle.Handle.TheVariants as handle
+use Rattle.trick_plan_conditions.specs.Conditions.{has_unknown, is_plain, term}
+use Rattle.trick_plan_conditions.specs.Held.{known_by}
+use Rattle.trick_plan_conditions.specs.Places.{Known}
+use Rattle.trick_plan_variables.specs.Cells.{cells_of, count_of}
+use Rattle.trick_plan_variables.specs.declared.declaration.Declaration.{Declaration}
+use Rattle.trick_plan_deeds.specs.Deeds.{fitting}
+use Rattle.trick_plan_draft.specs.Cells.{is_taken_in, with_cells}
+use Rattle.trick_plan_draft.specs.Drafts.{asked_of_event, asked_of_group, event_of, group_of, names_of, new_event, new_group, with_event, with_group}
+use Rattle.trick_plan_draft.specs.Jobs.{Jobs}
+use Rattle.trick_plan_draft.specs.declared.draft.Draft.{Draft}
+use Rattle.trick_plan_draft.specs.declared.event.EventDraft.{EventDraft}
+use Rattle.trick_plan_draft.specs.declared.fault.LineFault.{LineFault}
+use Rattle.trick_plan_draft.specs.declared.fault.LineFault.TheVariants as fault
+use Rattle.trick_plan_draft.specs.declared.group.GroupDraft.{GroupDraft}
+use Rattle.trick_plan_draft.specs.declared.handle.Handle.TheVariants as handle
 use Rattle.trick_lang.specs.SyntaxTree.{Name, Expression}
 use Rattle.trick_lang.specs.Tree.{Term}
 use Rattle.trick_lang.specs.Wrap.{scalar_at}
@@ -24,7 +24,7 @@ use Rattle.trick_lang.specs.declared.job.JobId.{JobId}
 use Rattle.trick_model.specs.Names.{deeds_of}
 use Rattle.trick_model.specs.declared.action.Action.{Action}
 use Rattle.trick_model.specs.declared.deed.Deed.{Deed}
-use Rattle.trick_names.specs.Names.{meaning_of, with_name}
+use Rattle.trick_check_names.specs.Names.{meaning_of, with_name}
 
 -- ---- lines and their tests
 

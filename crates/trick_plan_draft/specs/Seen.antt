@@ -1,13 +1,13 @@
 -- What values of the code are.
 use Rattle.std.specs.Borrow.{Bor}
 use Rattle.std.specs.Prelude.{◌≡◌, ◌+◌, nat_lt, true, false, List, ◌++◌, length, Option, Some, None, Result, Ok, Err}
-use Rattle.trick_condition.specs.Conditions.{has_unknown, term}
-use Rattle.trick_condition.specs.Places.{Known}
-use Rattle.trick_declare.specs.Cells.{cells_of, count_of}
-use Rattle.trick_declare.specs.declared.declaration.Declaration.{Declaration}
-use Rattle.trick_declare.specs.declared.spelled.SpelledDeclaration.{SpelledDeclaration}
-use Rattle.trick_draft.specs.declared.fault.LineFault.{LineFault}
-use Rattle.trick_draft.specs.declared.fault.LineFault.TheVariants as fault
+use Rattle.trick_plan_conditions.specs.Conditions.{has_unknown, term}
+use Rattle.trick_plan_conditions.specs.Places.{Known}
+use Rattle.trick_plan_variables.specs.Cells.{cells_of, count_of}
+use Rattle.trick_plan_variables.specs.declared.declaration.Declaration.{Declaration}
+use Rattle.trick_plan_variables.specs.declared.spelled.SpelledDeclaration.{SpelledDeclaration}
+use Rattle.trick_plan_draft.specs.declared.fault.LineFault.{LineFault}
+use Rattle.trick_plan_draft.specs.declared.fault.LineFault.TheVariants as fault
 use Rattle.trick_lang.specs.Syntax.{expression_of}
 use Rattle.trick_lang.specs.SyntaxTree.{Expression}
 use Rattle.trick_lang.specs.Tree.{Term}

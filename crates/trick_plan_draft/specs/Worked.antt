@@ -1,13 +1,13 @@
 -- Worked lines: each test of each line once, and what each line adds.
 use Rattle.std.specs.Prelude.{◌≡◌, ℕ, ℤ, pos, negsuc, true, false, [], ◌∷◌, ◌++◌, codes, replicate, Some, None, Ok, Err}
-use Rattle.trick_draft.specs.Drafts.{new_event, new_group}
-use Rattle.trick_draft.specs.Jobs.{Jobs}
-use Rattle.trick_draft.specs.Lines.{activate_line, add_event_line, add_group_line, add_read_line, add_variable_line, assign_line, declare_line, depend_line, new_event_line, new_group_line, set_action_line, set_changes_line, set_condition_line, set_cycle_line, set_group_line, set_job_line, this_own_line}
-use Rattle.trick_draft.specs.declared.draft.Draft.{Draft}
-use Rattle.trick_draft.specs.declared.event.EventDraft.{EventDraft}
-use Rattle.trick_draft.specs.declared.fault.LineFault.TheVariants as fault
-use Rattle.trick_draft.specs.declared.group.GroupDraft.{GroupDraft}
-use Rattle.trick_draft.specs.declared.handle.Handle.TheVariants as handle
+use Rattle.trick_plan_draft.specs.Drafts.{new_event, new_group}
+use Rattle.trick_plan_draft.specs.Jobs.{Jobs}
+use Rattle.trick_plan_draft.specs.Lines.{activate_line, add_event_line, add_group_line, add_read_line, add_variable_line, assign_line, declare_line, depend_line, new_event_line, new_group_line, set_action_line, set_changes_line, set_condition_line, set_cycle_line, set_group_line, set_job_line, this_own_line}
+use Rattle.trick_plan_draft.specs.declared.draft.Draft.{Draft}
+use Rattle.trick_plan_draft.specs.declared.event.EventDraft.{EventDraft}
+use Rattle.trick_plan_draft.specs.declared.fault.LineFault.TheVariants as fault
+use Rattle.trick_plan_draft.specs.declared.group.GroupDraft.{GroupDraft}
+use Rattle.trick_plan_draft.specs.declared.handle.Handle.TheVariants as handle
 use Rattle.trick_lang.specs.SyntaxTree.{Expression, Named, NoPart, Member, Index, Chain, Link, NoLink, Whole, path}
 use Rattle.trick_lang.specs.Tree as tree
 use Rattle.trick_lang.specs.declared.cells.Cell.{Cell}

@@ -1,16 +1,16 @@
 //! The cells by their full names, and the names that are taken.
 
 ghost use Rattle.std.specs.Prelude.{◌≡◌, ◌+◌, ◌<◌, ◌≤◌, ◌^◌, IfOk, OnOk, length};
-ghost use Rattle.trick_deed.specs.Deeds.{fitting};
-ghost use Rattle.trick_draft.specs.Cells.{is_taken_in, known_cells, no_cells, with_cell, with_cells, with_object, with_objects};
+ghost use Rattle.trick_plan_deeds.specs.Deeds.{fitting};
+ghost use Rattle.trick_plan_draft.specs.Cells.{is_taken_in, known_cells, no_cells, with_cell, with_cells, with_object, with_objects};
 ghost use Rattle.trick_lang.specs.Wrap.{scalar_at};
 
 use std::alloc::{AllocError, Global};
 use trick_base::{Items, Word};
-use trick_declare::first_name;
-use trick_deed::fitting;
+use trick_plan_variables::first_name;
+use trick_plan_deeds::fitting;
 use trick_lang::{Cell, Object, Program, Scalar, Variable};
-use trick_names::Names;
+use trick_check_names::Names;
 
 /// The cells of a program with those that the lines so far declare, and the names that a declaration
 /// cannot have.

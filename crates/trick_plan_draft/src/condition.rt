@@ -13,7 +13,7 @@ pub struct Condition {
 impl Model for Condition {
     ghost use Rattle.std.specs.Coded.{code_by, coded_list, codes};
     ghost use Rattle.std.specs.Prelude.{List, []};
-    ghost use Rattle.trick_draft.specs.Stored.{Mark, marks, unmarked, unmarked_marks};
+    ghost use Rattle.trick_plan_draft.specs.Stored.{Mark, marks, unmarked, unmarked_marks};
     ghost use Rattle.trick_lang.specs.Tree.{Term};
     ghost use Rattle.trick_lang.specs.TreeOf.{term_of};
 

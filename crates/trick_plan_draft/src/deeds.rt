@@ -1,19 +1,19 @@
 //! What actions ask for, given the lines so far.
 
 ghost use Rattle.std.specs.Prelude.{◌≡◌, IfOk, Some};
-ghost use Rattle.trick_draft.specs.Cells.{AreNumbered, only_names};
-ghost use Rattle.trick_draft.specs.Drafts.{names_of};
-ghost use Rattle.trick_draft.specs.Jobs.{jobs_of};
-ghost use Rattle.trick_draft.specs.Lines.{deeds_in};
+ghost use Rattle.trick_plan_draft.specs.Cells.{AreNumbered, only_names};
+ghost use Rattle.trick_plan_draft.specs.Drafts.{names_of};
+ghost use Rattle.trick_plan_draft.specs.Jobs.{jobs_of};
+ghost use Rattle.trick_plan_draft.specs.Lines.{deeds_in};
 ghost use Rattle.trick_model.specs.Names.{deed_of, deeds_of, find_name, set_in_range};
 
 use crate::{Draft, KnownCells};
 use std::alloc::{AllocError, Global};
 use trick_base::{Items, Word};
-use trick_deed::{find_job, stop};
+use trick_plan_deeds::{find_job, stop};
 use trick_lang::{Cell, Program};
 use trick_model::{Action, Deed};
-use trick_names::Names;
+use trick_check_names::Names;
 
 impl KnownCells {
     // A cell gets a number, if that is in its range.

@@ -1,10 +1,10 @@
 //! Events, and their changes one by one.
 
 ghost use Rattle.std.specs.Prelude.{◌≡◌, ◌<◌, ◌≤◌, IfOk, OnOk, Some, true, length};
-ghost use Rattle.trick_draft.specs.Changed.{changed};
-ghost use Rattle.trick_draft.specs.Lines.{with_numbered};
-ghost use Rattle.trick_draft.specs.Places.{place_for};
-ghost use Rattle.trick_draft.specs.declared.event.EventDraft.{EventDraft};
+ghost use Rattle.trick_plan_draft.specs.Changed.{changed};
+ghost use Rattle.trick_plan_draft.specs.Lines.{with_numbered};
+ghost use Rattle.trick_plan_draft.specs.Places.{place_for};
+ghost use Rattle.trick_plan_draft.specs.declared.event.EventDraft.{EventDraft};
 
 use crate::Condition;
 use std::alloc::{AllocError, Global};

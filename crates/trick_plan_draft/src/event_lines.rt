@@ -1,12 +1,12 @@
 //! The lines of events.
 
 ghost use Rattle.std.specs.Prelude.{◌≡◌, IfOk, false, is_some, slice_get};
-ghost use Rattle.trick_draft.specs.Cells.{AreNumbered};
-ghost use Rattle.trick_draft.specs.Drafts.{asked, new_event};
-ghost use Rattle.trick_draft.specs.Jobs.{jobs_of};
-ghost use Rattle.trick_draft.specs.Lines.{Did, activate_line, add_event_line, has_number, known_in, new_event_line, set_action_line, set_condition_line};
-ghost use Rattle.trick_draft.specs.Seen.{IsResolved, condition_in};
-ghost use Rattle.trick_draft.specs.declared.event.EventDraft.{EventDraft};
+ghost use Rattle.trick_plan_draft.specs.Cells.{AreNumbered};
+ghost use Rattle.trick_plan_draft.specs.Drafts.{asked, new_event};
+ghost use Rattle.trick_plan_draft.specs.Jobs.{jobs_of};
+ghost use Rattle.trick_plan_draft.specs.Lines.{Did, activate_line, add_event_line, has_number, known_in, new_event_line, set_action_line, set_condition_line};
+ghost use Rattle.trick_plan_draft.specs.Seen.{IsResolved, condition_in};
+ghost use Rattle.trick_plan_draft.specs.declared.event.EventDraft.{EventDraft};
 ghost use Rattle.trick_lang.specs.Syntax.{expression_of};
 
 use crate::event::{activate, add_actions, set_condition};
@@ -14,7 +14,7 @@ use crate::limits::EVENT_LIMIT;
 use crate::{Condition, Draft, EventDraft, Handle, LineFault};
 use std::alloc::{AllocError, Global};
 use trick_base::{Items, Word};
-use trick_condition::{ConditionFault, is_plain, resolve};
+use trick_plan_conditions::{ConditionFault, is_plain, resolve};
 use trick_lang::Program;
 use trick_lang::syntax::Expr;
 use trick_model::{Action, Deed};

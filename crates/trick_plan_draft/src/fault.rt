@@ -1,5 +1,5 @@
 ghost use Rattle.std.specs.Prelude.{◌≡◌};
-ghost use Rattle.trick_draft.specs.declared.fault.LineFault.TheVariants.{OutOfMemory};
+ghost use Rattle.trick_plan_draft.specs.declared.fault.LineFault.TheVariants.{OutOfMemory};
 
 use std::alloc::{AllocError, AllocFailed};
 use thiserror::Error;

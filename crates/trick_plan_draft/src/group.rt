@@ -1,8 +1,8 @@
 //! Data record groups, and their changes one by one.
 
 ghost use Rattle.std.specs.Prelude.{◌≡◌, ◌<◌, ◌++◌, ◌∷◌, [], OnOk, length};
-ghost use Rattle.trick_draft.specs.Changed.{changed};
-ghost use Rattle.trick_draft.specs.declared.group.GroupDraft.{GroupDraft};
+ghost use Rattle.trick_plan_draft.specs.Changed.{changed};
+ghost use Rattle.trick_plan_draft.specs.declared.group.GroupDraft.{GroupDraft};
 
 use std::alloc::{AllocError, Global};
 use std::mem;

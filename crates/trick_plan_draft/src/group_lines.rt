@@ -1,9 +1,9 @@
 //! The lines of data record groups, and those of groups and events alike.
 
 ghost use Rattle.std.specs.Prelude.{◌≡◌, IfOk, None, false, slice_get};
-ghost use Rattle.trick_draft.specs.Drafts.{asked, group_of, new_group};
-ghost use Rattle.trick_draft.specs.Lines.{Did, add_group_line, add_variable_line, is_full, new_group_line, set_changes_line, set_cycle_line, set_group_line, this_own_line};
-ghost use Rattle.trick_draft.specs.declared.group.GroupDraft.{GroupDraft};
+ghost use Rattle.trick_plan_draft.specs.Drafts.{asked, group_of, new_group};
+ghost use Rattle.trick_plan_draft.specs.Lines.{Did, add_group_line, add_variable_line, is_full, new_group_line, set_changes_line, set_cycle_line, set_group_line, this_own_line};
+ghost use Rattle.trick_plan_draft.specs.declared.group.GroupDraft.{GroupDraft};
 
 use crate::group::{add_cell, set_changes, set_cycle, turn};
 use crate::limits::{COLUMN_LIMIT, GROUP_LIMIT};

@@ -1,12 +1,12 @@
 //! The jobs that lines name.
 
 ghost use Rattle.std.specs.Prelude.{◌≡◌, ◌<◌, IfSome, length};
-ghost use Rattle.trick_draft.specs.Jobs.{job_named, jobs_of, waiting_job};
+ghost use Rattle.trick_plan_draft.specs.Jobs.{job_named, jobs_of, waiting_job};
 ghost use Rattle.trick_model.specs.Plan.{job_at};
 ghost use Rattle.trick_model.specs.Valid.{can_depend};
 
 use trick_base::Word;
-use trick_deed::find_job;
+use trick_plan_deeds::find_job;
 use trick_lang::{Class, Job, JobId, Program};
 use trick_model::{Thread, is_of_class, process_of};
 

@@ -1,8 +1,8 @@
 //! Laws of drafts. A function that calls one of them may rest on what it says; the call itself does
 //! nothing.
 
-ghost use Rattle.trick_draft.specs.Laws.{AllLinesKeep, BeginsRight, CellsAreMirrored, DeclarationsKeep, DeclarationsKeepDeeds};
-ghost use Rattle.trick_draft.specs.Worked.{AreWorked, AreWorkedEvents, AreWorkedGroups};
+ghost use Rattle.trick_plan_draft.specs.Laws.{AllLinesKeep, BeginsRight, CellsAreMirrored, DeclarationsKeep, DeclarationsKeepDeeds};
+ghost use Rattle.trick_plan_draft.specs.Worked.{AreWorked, AreWorkedEvents, AreWorkedGroups};
 
 /// The draft before the first line is right.
 pub fn begins_right()
@@ -14,7 +14,7 @@ pub fn begins_right()
 pub fn lines_keep()
     ensures { AllLinesKeep }
 {
-    trick_condition::laws::plain_conditions_hold();
+    trick_plan_conditions::laws::plain_conditions_hold();
 }
 
 /// A declaration that is taken keeps a draft right.

@@ -1,18 +1,18 @@
 //! The lines of cells, jobs and reads.
 
 ghost use Rattle.std.specs.Prelude.{◌≡◌, OnOk, false};
-ghost use Rattle.trick_declare.specs.Cells.{KeepsRest, is_taken};
-ghost use Rattle.trick_draft.specs.Cells.{AreNumbered};
-ghost use Rattle.trick_draft.specs.Jobs.{jobs_of};
-ghost use Rattle.trick_draft.specs.Kept.{Mirrors};
-ghost use Rattle.trick_draft.specs.Lines.{Did, add_read_line, assign_line, declare_line, depend_line, set_job_line};
-ghost use Rattle.trick_draft.specs.Seen.{AddsDeclared, declared_in};
+ghost use Rattle.trick_plan_variables.specs.Cells.{KeepsRest, is_taken};
+ghost use Rattle.trick_plan_draft.specs.Cells.{AreNumbered};
+ghost use Rattle.trick_plan_draft.specs.Jobs.{jobs_of};
+ghost use Rattle.trick_plan_draft.specs.Kept.{Mirrors};
+ghost use Rattle.trick_plan_draft.specs.Lines.{Did, add_read_line, assign_line, declare_line, depend_line, set_job_line};
+ghost use Rattle.trick_plan_draft.specs.Seen.{AddsDeclared, declared_in};
 
 use crate::limits::{PAIR_LIMIT, READ_LIMIT};
 use crate::{Draft, LineFault};
 use std::alloc::Global;
 use trick_base::{CELL_LIMIT, Items, Word};
-use trick_declare::{DeclareFault, SpelledDeclaration, add};
+use trick_plan_variables::{DeclareFault, SpelledDeclaration, add};
 use trick_lang::{JobId, Program};
 use trick_model::{Action, Depends, ReadAt};
 

@@ -9,13 +9,13 @@ use Rattle.trick_body.specs.Symbols.{Token, number_of, spelled}
 use Rattle.trick_body.specs.Limits.{list_limit, nesting_limit}
 use Rattle.trick_body.specs.declared.fault.BodyFault.{BodyFault}
 use Rattle.trick_body.specs.declared.fault.BodyFault.TheVariants as faults
-use Rattle.trick_declare.specs.Grammar.{read_or_none}
+use Rattle.trick_plan_variables.specs.Grammar.{read_or_none}
 use Rattle.trick_grammar.specs.Gives.{class_of}
 use Rattle.trick_grammar.specs.Reading.{Refused}
 use Rattle.trick_grammar.specs.Text.{IsExact, IsText, read_all}
 use Rattle.trick_lang.specs.Syntax.{expression_of}
 use Rattle.trick_lang.specs.declared.syntax.expression.Expr.{Expr}
-use Rattle.trick_lines.specs.Texts.{IsConditionOf}
+use Rattle.trick_plan_lines.specs.Texts.{IsConditionOf}
 use Rattle.trick_text.specs.Tokens.{AreAllTokens, IsCut, IsUncut}
 use Rattle.trick_text.specs.declared.fault.FirstFault.{FirstFault}
 use Rattle.trick_text.specs.declared.fault.TextFault.{TextFault}

@@ -1,18 +1,18 @@
 -- Lines in turn.
 use Rattle.std.proofs.Common.{◌≡◌, ◌∙◌, ℕ, List, ◌∷◌, Option, Some, None, Result, Ok, Err, refl, sym, ap, subst}
-use Rattle.trick_draft.specs.Jobs.{Jobs}
-use Rattle.trick_draft.specs.declared.draft.Draft.{Draft}
+use Rattle.trick_plan_draft.specs.Jobs.{Jobs}
+use Rattle.trick_plan_draft.specs.declared.draft.Draft.{Draft}
 use Rattle.trick_input.specs.declared.call.Call.{Call}
 use Rattle.trick_input.specs.declared.call.Form.{Form}
 use Rattle.trick_input.specs.declared.call.Form.TheVariants as form
 use Rattle.trick_input.specs.declared.call.TextForm.TheVariants as text_form
-use Rattle.trick_lines.specs.Drafted.{Answers, DoesLine, Drafted, Then, answered, told, unless_time}
-use Rattle.trick_lines.specs.Said.{said}
-use Rattle.trick_lines.specs.Texts.{AreTexts, Texts}
-use Rattle.trick_lines.specs.Times.{fault_of_time, time_fault, time_in}
-use Rattle.trick_lines.specs.declared.fault.JoinFault.{JoinFault}
-use Rattle.trick_lines.specs.declared.fault.JoinFault.TheVariants as fault
-use Rattle.trick_settings.specs.declared.settings.Settings.{Settings}
+use Rattle.trick_plan_lines.specs.Drafted.{Answers, DoesLine, Drafted, Then, answered, told, unless_time}
+use Rattle.trick_plan_lines.specs.Said.{said}
+use Rattle.trick_plan_lines.specs.Texts.{AreTexts, Texts}
+use Rattle.trick_plan_lines.specs.Times.{fault_of_time, time_fault, time_in}
+use Rattle.trick_plan_lines.specs.declared.fault.JoinFault.{JoinFault}
+use Rattle.trick_plan_lines.specs.declared.fault.JoinFault.TheVariants as fault
+use Rattle.trick_plan_settings.specs.declared.settings.Settings.{Settings}
 use Rattle.trick_text.specs.declared.fault.TimeFault.{TimeFault}
 
 -- a line without a declaration and a condition

@@ -2,14 +2,14 @@
 use Rattle.std.proofs.Common.{◌≡◌, ◌∙◌, ◌≤◌, ℕ, Bool, true, false, nat_le, List, [], ◌∷◌, map, Option, Some, None, Result, Ok, Err, refl, sym, ap, subst, arith, if◌then◌else◌}
 use Rattle.std.proofs.lemmas.Bool.{leb-true}
 use Rattle.trick_command.specs.Answers.{actions_in}
-use Rattle.trick_declare.specs.Cells.{KeepsRest}
-use Rattle.trick_draft.specs.Drafts.{names_of}
-use Rattle.trick_draft.specs.Jobs.{Jobs, jobs_of}
-use Rattle.trick_draft.specs.Kept.{IsDraftOf, Mirrors}
-use Rattle.trick_draft.specs.Laws.{AllLinesKeep, DeclarationsKeep, DeclarationsKeepDeeds, Keeps, KeepsDeeds}
-use Rattle.trick_draft.specs.Lines.{unless}
-use Rattle.trick_draft.specs.declared.draft.Draft.{Draft}
-use Rattle.trick_draft.specs.declared.fault.LineFault.{LineFault}
+use Rattle.trick_plan_variables.specs.Cells.{KeepsRest}
+use Rattle.trick_plan_draft.specs.Drafts.{names_of}
+use Rattle.trick_plan_draft.specs.Jobs.{Jobs, jobs_of}
+use Rattle.trick_plan_draft.specs.Kept.{IsDraftOf, Mirrors}
+use Rattle.trick_plan_draft.specs.Laws.{AllLinesKeep, DeclarationsKeep, DeclarationsKeepDeeds, Keeps, KeepsDeeds}
+use Rattle.trick_plan_draft.specs.Lines.{unless}
+use Rattle.trick_plan_draft.specs.declared.draft.Draft.{Draft}
+use Rattle.trick_plan_draft.specs.declared.fault.LineFault.{LineFault}
 use Rattle.trick_input.specs.declared.call.Form.{Form}
 use Rattle.trick_input.specs.declared.call.Form.TheVariants as form
 use Rattle.trick_input.specs.declared.call.RunForm.TheVariants as run_form
@@ -23,14 +23,14 @@ use Rattle.trick_lang.specs.declared.job.Job.{Job}
 use Rattle.trick_lang.specs.declared.method.Method.{Method}
 use Rattle.trick_lang.specs.declared.object.Object.{Object}
 use Rattle.trick_lang.specs.declared.program.Program.{Program}
-use Rattle.trick_lines.specs.Said.{is_declaration, said}
-use Rattle.trick_lines.specs.Texts.{Texts}
-use Rattle.trick_lines.specs.Times.{fault_of_time, tics_of, time_in}
+use Rattle.trick_plan_lines.specs.Said.{is_declaration, said}
+use Rattle.trick_plan_lines.specs.Texts.{Texts}
+use Rattle.trick_plan_lines.specs.Times.{fault_of_time, tics_of, time_in}
 use Rattle.trick_base.specs.Time.{tic_limit}
 use Rattle.trick_model.specs.Names.{deed_of}
 use Rattle.trick_model.specs.Valid.{IsCycle, IsFrame}
 use Rattle.trick_model.specs.declared.thread.Thread.{Thread}
-use Rattle.trick_settings.specs.declared.settings.Settings.{Settings}
+use Rattle.trick_plan_settings.specs.declared.settings.Settings.{Settings}
 use Rattle.trick_text.specs.declared.fault.TimeFault.{TimeFault}
 use Rattle.trick_text.specs.declared.fault.TimeFault.TheVariants as fault
 

@@ -1,22 +1,22 @@
 -- Lines answer one thing.
 use Rattle.std.proofs.Common.{◌≡◌, ◌∙◌, ℕ, List, [], ◌∷◌, Option, Result, Ok, Err, refl, sym, ap, subst, inl, inr}
-use Rattle.trick_declare.specs.Laws.{DeclaresOne}
-use Rattle.trick_declare.specs.declared.declaration.Declaration.{Declaration}
-use Rattle.trick_draft.specs.Jobs.{Jobs}
-use Rattle.trick_draft.specs.Lines.{declare_line, set_condition_line}
-use Rattle.trick_draft.specs.declared.draft.Draft.{Draft}
-use Rattle.trick_draft.specs.declared.fault.LineFault.{LineFault}
+use Rattle.trick_plan_variables.specs.Laws.{DeclaresOne}
+use Rattle.trick_plan_variables.specs.declared.declaration.Declaration.{Declaration}
+use Rattle.trick_plan_draft.specs.Jobs.{Jobs}
+use Rattle.trick_plan_draft.specs.Lines.{declare_line, set_condition_line}
+use Rattle.trick_plan_draft.specs.declared.draft.Draft.{Draft}
+use Rattle.trick_plan_draft.specs.declared.fault.LineFault.{LineFault}
 use Rattle.trick_input.specs.declared.call.Call.{Call}
 use Rattle.trick_input.specs.declared.call.Form.{Form}
 use Rattle.trick_input.specs.declared.call.Form.TheVariants as form
 use Rattle.trick_input.specs.declared.call.TextForm.TheVariants as text_form
 use Rattle.trick_lang.specs.SyntaxTree.{Expression}
-use Rattle.trick_lines.specs.Drafted.{Drafted, Then, answered, told, unless_time}
-use Rattle.trick_lines.specs.Said.{said}
-use Rattle.trick_lines.specs.Texts.{AreTexts, IsConditionOf, Texts, condition_of}
-use Rattle.trick_lines.specs.Times.{time_fault}
-use Rattle.trick_lines.specs.declared.fault.JoinFault.{JoinFault}
-use Rattle.trick_settings.specs.declared.settings.Settings.{Settings}
+use Rattle.trick_plan_lines.specs.Drafted.{Drafted, Then, answered, told, unless_time}
+use Rattle.trick_plan_lines.specs.Said.{said}
+use Rattle.trick_plan_lines.specs.Texts.{AreTexts, IsConditionOf, Texts, condition_of}
+use Rattle.trick_plan_lines.specs.Times.{time_fault}
+use Rattle.trick_plan_lines.specs.declared.fault.JoinFault.{JoinFault}
+use Rattle.trick_plan_settings.specs.declared.settings.Settings.{Settings}
 use Rattle.trick_text.specs.Tokens.{AreAllTokens}
 use Rattle.trick_text.specs.declared.token.Style.{Style}
 use Rattle.trick_text.specs.declared.token.Style.TheVariants.{Command}

@@ -1,7 +1,7 @@
 -- What is kept of a program, and lists by their items.
 use Rattle.std.proofs.Common.{◌≡◌, ◌∙◌, ◌+◌, ◌<◌, ◌++◌, ℕ, List, [], ◌∷◌, length, take, get_or, refl, sym, ap}
 use Rattle.std.proofs.lemmas.List.{take_more}
-use Rattle.trick_declare.specs.Cells.{KeepsRest}
+use Rattle.trick_plan_variables.specs.Cells.{KeepsRest}
 use Rattle.trick_lang.specs.declared.program.Program.{Program}
 
 pub same_rest : (p : Program) → KeepsRest p p

@@ -1,16 +1,16 @@
 -- What actions ask for stays, line after line.
 use Rattle.std.proofs.Common.{◌≡◌, ◌++◌, ◌⊎◌, ℕ, zero, suc, List, [], ◌∷◌, Result, Ok, Err, take, inl, inr, Some, ◌∙◌, refl, sym, ap, subst}
-use Rattle.trick_draft.specs.Drafts.{names_of}
-use Rattle.trick_draft.specs.Jobs.{Jobs}
-use Rattle.trick_draft.specs.Laws.{KeepsDeeds}
-use Rattle.trick_draft.specs.declared.draft.Draft.{Draft}
+use Rattle.trick_plan_draft.specs.Drafts.{names_of}
+use Rattle.trick_plan_draft.specs.Jobs.{Jobs}
+use Rattle.trick_plan_draft.specs.Laws.{KeepsDeeds}
+use Rattle.trick_plan_draft.specs.declared.draft.Draft.{Draft}
 use Rattle.trick_input.specs.declared.call.Call.{Call}
-use Rattle.trick_lines.specs.Deeds.{DeedsStay}
-use Rattle.trick_lines.specs.Drafted.{DoesLine, Drafted, Then, answered}
-use Rattle.trick_lines.specs.Laws.{AnswersOne}
-use Rattle.trick_lines.specs.declared.fault.JoinFault.{JoinFault}
+use Rattle.trick_plan_lines.specs.Deeds.{DeedsStay}
+use Rattle.trick_plan_lines.specs.Drafted.{DoesLine, Drafted, Then, answered}
+use Rattle.trick_plan_lines.specs.Laws.{AnswersOne}
+use Rattle.trick_plan_lines.specs.declared.fault.JoinFault.{JoinFault}
 use Rattle.trick_model.specs.Names.{deed_of}
-use Rattle.trick_settings.specs.declared.settings.Settings.{Settings}
+use Rattle.trick_plan_settings.specs.declared.settings.Settings.{Settings}
 
 -- the first items of a list with one more are those of the list, or all
 first_or_all : {A : Type 0} (count : ℕ) (xs : List A) (x : A)

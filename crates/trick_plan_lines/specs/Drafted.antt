@@ -1,16 +1,16 @@
 -- All lines of an input, one after another: the draft after the last line, or the first refusal.
 use Rattle.std.specs.Prelude.{◌≡◌, ℕ, List, [], ◌∷◌, Option, Some, None, Result, Ok, Err}
-use Rattle.trick_draft.specs.Jobs.{Jobs}
-use Rattle.trick_draft.specs.declared.draft.Draft.{Draft}
-use Rattle.trick_draft.specs.declared.fault.LineFault.{LineFault}
-use Rattle.trick_draft.specs.declared.fault.LineFault.TheVariants as line_fault
+use Rattle.trick_plan_draft.specs.Jobs.{Jobs}
+use Rattle.trick_plan_draft.specs.declared.draft.Draft.{Draft}
+use Rattle.trick_plan_draft.specs.declared.fault.LineFault.{LineFault}
+use Rattle.trick_plan_draft.specs.declared.fault.LineFault.TheVariants as line_fault
 use Rattle.trick_input.specs.declared.call.Call.{Call}
-use Rattle.trick_lines.specs.Said.{said}
-use Rattle.trick_lines.specs.Texts.{AreTexts, Texts}
-use Rattle.trick_lines.specs.Times.{time_fault}
-use Rattle.trick_lines.specs.declared.fault.JoinFault.{JoinFault}
-use Rattle.trick_lines.specs.declared.fault.JoinFault.TheVariants as fault
-use Rattle.trick_settings.specs.declared.settings.Settings.{Settings}
+use Rattle.trick_plan_lines.specs.Said.{said}
+use Rattle.trick_plan_lines.specs.Texts.{AreTexts, Texts}
+use Rattle.trick_plan_lines.specs.Times.{time_fault}
+use Rattle.trick_plan_lines.specs.declared.fault.JoinFault.{JoinFault}
+use Rattle.trick_plan_lines.specs.declared.fault.JoinFault.TheVariants as fault
+use Rattle.trick_plan_settings.specs.declared.settings.Settings.{Settings}
 use Rattle.trick_text.specs.declared.fault.TimeFault.{TimeFault}
 
 -- a refusal with its line

@@ -1,11 +1,11 @@
 -- What each line says, given the lines before it.
 use Rattle.std.specs.Prelude.{ℕ, nat_lt, ◌==◌, Bool, true, false, ◌||◌, not, List, [], ◌∷◌, Option, Result, Ok}
 use Rattle.trick_command.specs.Answers.{actions_in}
-use Rattle.trick_draft.specs.Jobs.{Jobs, job_named, waiting_job}
-use Rattle.trick_draft.specs.Lines.{activate_line, add_event_line, add_group_line, add_read_line, add_variable_line, assign_line, declare_line, depend_line, new_event_line, new_group_line, set_action_line, set_changes_line, set_condition_line, set_cycle_line, set_group_line, set_job_line, this_own_line, unless}
-use Rattle.trick_draft.specs.declared.draft.Draft.{Draft}
-use Rattle.trick_draft.specs.declared.fault.LineFault.{LineFault}
-use Rattle.trick_draft.specs.declared.fault.LineFault.TheVariants as fault
+use Rattle.trick_plan_draft.specs.Jobs.{Jobs, job_named, waiting_job}
+use Rattle.trick_plan_draft.specs.Lines.{activate_line, add_event_line, add_group_line, add_read_line, add_variable_line, assign_line, declare_line, depend_line, new_event_line, new_group_line, set_action_line, set_changes_line, set_condition_line, set_cycle_line, set_group_line, set_job_line, this_own_line, unless}
+use Rattle.trick_plan_draft.specs.declared.draft.Draft.{Draft}
+use Rattle.trick_plan_draft.specs.declared.fault.LineFault.{LineFault}
+use Rattle.trick_plan_draft.specs.declared.fault.LineFault.TheVariants as fault
 use Rattle.trick_input.specs.declared.call.Form.{Form}
 use Rattle.trick_input.specs.declared.call.Form.TheVariants as form
 use Rattle.trick_input.specs.declared.call.RunForm.{RunForm}
@@ -21,11 +21,11 @@ use Rattle.trick_input.specs.declared.call.VariableForm.TheVariants as variable_
 use Rattle.trick_input.specs.declared.call.TextForm.{TextForm}
 use Rattle.trick_input.specs.declared.call.TextForm.TheVariants as text_form
 use Rattle.trick_lang.specs.SyntaxTree.{Expression}
-use Rattle.trick_lines.specs.Texts.{Texts}
-use Rattle.trick_lines.specs.Times.{tics_of}
+use Rattle.trick_plan_lines.specs.Texts.{Texts}
+use Rattle.trick_plan_lines.specs.Times.{tics_of}
 use Rattle.trick_model.specs.declared.thread.Thread.{Thread}
-use Rattle.trick_settings.specs.Settings.{is_frame}
-use Rattle.trick_settings.specs.declared.settings.Settings.{Settings}
+use Rattle.trick_plan_settings.specs.Settings.{is_frame}
+use Rattle.trick_plan_settings.specs.declared.settings.Settings.{Settings}
 
 -- ---- lines of the run and of its threads
 -- The settings of the whole input have what they say, so they change nothing of the draft.

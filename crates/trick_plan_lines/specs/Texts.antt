@@ -3,8 +3,8 @@ use Rattle.std.specs.Prelude.{◌≡◌, ℕ, List, Option, None, option_map, �
 use Rattle.trick_body.specs.Answers.{condition}
 use Rattle.trick_body.specs.Lexemes.{lexemes_of}
 use Rattle.trick_body.specs.Symbols.{number_of}
-use Rattle.trick_declare.specs.Grammar.{Declares, declaration_in, read_or_none}
-use Rattle.trick_declare.specs.declared.declaration.Declaration.{Declaration}
+use Rattle.trick_plan_variables.specs.Grammar.{Declares, declaration_in, read_or_none}
+use Rattle.trick_plan_variables.specs.declared.declaration.Declaration.{Declaration}
 use Rattle.trick_grammar.specs.Gives.{class_of}
 use Rattle.trick_grammar.specs.Text.{read_all}
 use Rattle.trick_input.specs.declared.call.Form.{Form}
@@ -12,7 +12,7 @@ use Rattle.trick_input.specs.declared.call.Form.TheVariants as form
 use Rattle.trick_input.specs.declared.call.TextForm.TheVariants as text_form
 use Rattle.trick_lang.specs.Syntax.{expression_of}
 use Rattle.trick_lang.specs.SyntaxTree.{Expression}
-use Rattle.trick_lines.specs.declared.texts.ReadTexts.{ReadTexts}
+use Rattle.trick_plan_lines.specs.declared.texts.ReadTexts.{ReadTexts}
 use Rattle.trick_text.specs.Tokens.{AreAllTokens}
 use Rattle.trick_text.specs.declared.token.Style.TheVariants.{Command}
 use Rattle.trick_text.specs.declared.token.Token.{Token}

@@ -1,9 +1,9 @@
 -- Worked lines: each range and each time at its ends, and lines in turn.
 use Rattle.std.specs.Prelude.{◌≡◌, ℕ, ◌+◌, pos, false, List, [], ◌∷◌, ◌++◌, codes, None, Result, Ok, Err}
-use Rattle.trick_draft.specs.Drafts.{new_event}
-use Rattle.trick_draft.specs.Worked.{cell, draft, no_jobs}
-use Rattle.trick_draft.specs.declared.draft.Draft.{Draft}
-use Rattle.trick_draft.specs.declared.handle.Handle.TheVariants as handle
+use Rattle.trick_plan_draft.specs.Drafts.{new_event}
+use Rattle.trick_plan_draft.specs.Worked.{cell, draft, no_jobs}
+use Rattle.trick_plan_draft.specs.declared.draft.Draft.{Draft}
+use Rattle.trick_plan_draft.specs.declared.handle.Handle.TheVariants as handle
 use Rattle.trick_input.specs.declared.call.Call.{Call}
 use Rattle.trick_input.specs.declared.call.Form.{Form}
 use Rattle.trick_input.specs.declared.call.Form.TheVariants as form
@@ -13,13 +13,13 @@ use Rattle.trick_input.specs.declared.call.GroupForm.TheVariants as group_form
 use Rattle.trick_input.specs.declared.call.EventForm.TheVariants as event_form
 use Rattle.trick_input.specs.declared.call.VariableForm.TheVariants as variable_form
 use Rattle.trick_input.specs.declared.call.TextForm.TheVariants as text_form
-use Rattle.trick_lines.specs.Drafted.{Drafted, answered}
-use Rattle.trick_lines.specs.Texts.{Texts}
-use Rattle.trick_lines.specs.declared.fault.JoinFault.{JoinFault}
-use Rattle.trick_lines.specs.declared.fault.JoinFault.TheVariants as fault
+use Rattle.trick_plan_lines.specs.Drafted.{Drafted, answered}
+use Rattle.trick_plan_lines.specs.Texts.{Texts}
+use Rattle.trick_plan_lines.specs.declared.fault.JoinFault.{JoinFault}
+use Rattle.trick_plan_lines.specs.declared.fault.JoinFault.TheVariants as fault
 use Rattle.trick_base.specs.Time.{tic_limit}
 use Rattle.trick_model.specs.declared.thread.Process.TheVariants as process
-use Rattle.trick_settings.specs.declared.settings.Settings.{Settings}
+use Rattle.trick_plan_settings.specs.declared.settings.Settings.{Settings}
 use Rattle.trick_text.specs.declared.fault.TimeFault.TheVariants as time
 
 -- a frame of 7 tics

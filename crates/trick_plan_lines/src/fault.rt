@@ -1,10 +1,10 @@
 ghost use Rattle.std.specs.Prelude.{◌≡◌};
-ghost use Rattle.trick_lines.specs.Drafted.{at_line};
-ghost use Rattle.trick_lines.specs.declared.fault.JoinFault.TheVariants.{OutOfMemory};
+ghost use Rattle.trick_plan_lines.specs.Drafted.{at_line};
+ghost use Rattle.trick_plan_lines.specs.declared.fault.JoinFault.TheVariants.{OutOfMemory};
 
 use std::alloc::AllocError;
 use thiserror::Error;
-use trick_draft::LineFault;
+use trick_plan_draft::LineFault;
 use trick_text::TimeFault;
 
 /// Why an input does not join with a program: the first refusal, at the first line that is refused.

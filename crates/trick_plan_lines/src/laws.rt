@@ -1,14 +1,14 @@
 //! Laws of drafts. A function that calls one of them may rest on what it says; the call itself does
 //! nothing.
 
-ghost use Rattle.trick_lines.specs.Laws.{AnswersOne};
-ghost use Rattle.trick_lines.specs.Worked.{AreWorked, AreWorkedInTurn};
+ghost use Rattle.trick_plan_lines.specs.Laws.{AnswersOne};
+ghost use Rattle.trick_plan_lines.specs.Worked.{AreWorked, AreWorkedInTurn};
 
 /// Lines answer one thing.
 pub fn lines_answer_one()
     ensures { AnswersOne }
 {
-    trick_declare::laws::declares_one();
+    trick_plan_variables::laws::declares_one();
     trick_text::laws::one_list();
 }
 

@@ -1,13 +1,13 @@
 //! All lines of an input, one after another.
 
 ghost use Rattle.std.specs.Prelude.{◌≡◌, OnOk, IfOk, Ok};
-ghost use Rattle.trick_declare.specs.Cells.{KeepsRest};
-ghost use Rattle.trick_draft.specs.Drafts.{begun};
-ghost use Rattle.trick_draft.specs.Jobs.{jobs_of};
-ghost use Rattle.trick_draft.specs.Kept.{IsDraftOf, Mirrors};
-ghost use Rattle.trick_draft.specs.Laws.{KeepsDeeds};
-ghost use Rattle.trick_lines.specs.Deeds.{DeedsStay};
-ghost use Rattle.trick_lines.specs.Drafted.{Answers, DoesLine, Drafted};
+ghost use Rattle.trick_plan_variables.specs.Cells.{KeepsRest};
+ghost use Rattle.trick_plan_draft.specs.Drafts.{begun};
+ghost use Rattle.trick_plan_draft.specs.Jobs.{jobs_of};
+ghost use Rattle.trick_plan_draft.specs.Kept.{IsDraftOf, Mirrors};
+ghost use Rattle.trick_plan_draft.specs.Laws.{KeepsDeeds};
+ghost use Rattle.trick_plan_lines.specs.Deeds.{DeedsStay};
+ghost use Rattle.trick_plan_lines.specs.Drafted.{Answers, DoesLine, Drafted};
 ghost use Rattle.trick_model.specs.Valid.{IsFrame};
 
 use crate::JoinFault;
@@ -16,10 +16,10 @@ use crate::said::{Line, said};
 use crate::texts::texts_of;
 use crate::times::time_fault;
 use std::alloc::Global;
-use trick_draft::Draft;
+use trick_plan_draft::Draft;
 use trick_input::Call;
 use trick_lang::Program;
-use trick_settings::Settings;
+use trick_plan_settings::Settings;
 
 // One line: it is refused, or adds to the draft.
 fn add_line(
@@ -38,9 +38,9 @@ fn add_line(
     ensures right { OnOk result (IsDraftOf (jobs_of program.new) settings.now.threads draft.new) }
     ensures deeds { OnOk result (KeepsDeeds (jobs_of program.old) draft.old draft.new) }
 {
-    trick_draft::laws::lines_keep();
-    trick_draft::laws::declarations_keep();
-    trick_draft::laws::declarations_keep_deeds();
+    trick_plan_draft::laws::lines_keep();
+    trick_plan_draft::laws::declarations_keep();
+    trick_plan_draft::laws::declarations_keep_deeds();
     if let Some(fault) = time_fault(call) {
         return Err(JoinFault::Time(fault));
     }
@@ -55,7 +55,7 @@ fn add_line(
 }
 
 /// What the lines of an input say of a program, one after another, with the settings of the whole input
-/// (`trick_settings::settings_in`). The first line that is refused decides, and the tests of a line go in
+/// (`trick_plan_settings::settings_in`). The first line that is refused decides, and the tests of a line go in
 /// the order of `JoinFault`. A declaration adds its cells to the program; a refusal may leave cells there.
 pub fn draft(
     alloc: Global,
@@ -70,7 +70,7 @@ pub fn draft(
     ensures right { IfOk result (λ draft. IsDraftOf (jobs_of program.new) settings.now.threads draft) }
     ensures deeds { IfOk result (DeedsStay (jobs_of program.old) settings.now calls.now (begun program.old)) }
 {
-    trick_draft::laws::begins_right();
+    trick_plan_draft::laws::begins_right();
     crate::laws::lines_answer_one();
     let mut draft = Draft::new(alloc, program)?;
     for call in calls {

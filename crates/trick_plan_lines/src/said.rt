@@ -1,22 +1,22 @@
 //! What each line says, by its form.
 
 ghost use Rattle.std.specs.Prelude.{◌≡◌, OnOk, true, false};
-ghost use Rattle.trick_declare.specs.Cells.{KeepsRest};
-ghost use Rattle.trick_draft.specs.Cells.{AreNumbered};
-ghost use Rattle.trick_draft.specs.Jobs.{jobs_of};
-ghost use Rattle.trick_draft.specs.Kept.{Mirrors};
-ghost use Rattle.trick_draft.specs.Lines.{Did};
-ghost use Rattle.trick_draft.specs.declared.draft.Draft.{Draft};
-ghost use Rattle.trick_lines.specs.Said.{amf_cycle_line, event_line, frame_line, group_line, is_declaration, job_line, run_line, said, text_line, thread_line, variable_line};
-ghost use Rattle.trick_lines.specs.Texts.{texts_in};
+ghost use Rattle.trick_plan_variables.specs.Cells.{KeepsRest};
+ghost use Rattle.trick_plan_draft.specs.Cells.{AreNumbered};
+ghost use Rattle.trick_plan_draft.specs.Jobs.{jobs_of};
+ghost use Rattle.trick_plan_draft.specs.Kept.{Mirrors};
+ghost use Rattle.trick_plan_draft.specs.Lines.{Did};
+ghost use Rattle.trick_plan_draft.specs.declared.draft.Draft.{Draft};
+ghost use Rattle.trick_plan_lines.specs.Said.{amf_cycle_line, event_line, frame_line, group_line, is_declaration, job_line, run_line, said, text_line, thread_line, variable_line};
+ghost use Rattle.trick_plan_lines.specs.Texts.{texts_in};
 
 use crate::texts::{ReadTexts, actions_of};
 use crate::times::tics_of;
 use std::alloc::Global;
-use trick_draft::{Draft, LineFault, job_of, waiting_job};
+use trick_plan_draft::{Draft, LineFault, job_of, waiting_job};
 use trick_input::{EventForm, Form, GroupForm, JobForm, RunForm, TextForm, VariableForm};
 use trick_lang::Program;
-use trick_settings::{Settings, is_frame};
+use trick_plan_settings::{Settings, is_frame};
 
 // A line with what its texts read as.
 #[derive(Drop)]

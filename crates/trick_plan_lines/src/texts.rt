@@ -3,13 +3,13 @@
 ghost use Rattle.std.specs.Prelude.{◌≡◌, ◌≢◌, IfOk, None, option_map};
 ghost use Rattle.trick_command.specs.Answers.{actions_in};
 ghost use Rattle.trick_lang.specs.Syntax.{expression_of};
-ghost use Rattle.trick_lines.specs.Texts.{AreTexts, IsConditionOf, texts_in};
+ghost use Rattle.trick_plan_lines.specs.Texts.{AreTexts, IsConditionOf, texts_in};
 
 use std::alloc::{AllocError, Global};
 use trick_base::{Items, Word};
 use trick_body::BodyFault;
 use trick_command::ActionFault;
-use trick_declare::SpelledDeclaration;
+use trick_plan_variables::SpelledDeclaration;
 use trick_input::{Form, TextForm};
 use trick_lang::syntax::Expr;
 use trick_model::Action;

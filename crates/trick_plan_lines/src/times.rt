@@ -1,7 +1,7 @@
 //! The times of lines.
 
 ghost use Rattle.std.specs.Prelude.{◌≡◌};
-ghost use Rattle.trick_lines.specs.Times.{fault_of_time, tics_of, time_fault, time_in};
+ghost use Rattle.trick_plan_lines.specs.Times.{fault_of_time, tics_of, time_fault, time_in};
 
 use trick_base::TIC_LIMIT;
 use trick_input::{Call, Form, RunForm, TextForm, Time, VariableForm};

@@ -11,9 +11,9 @@ use Rattle.trick_model.specs.Valid.{IsCycle, IsFrame, IsMainRight, is_there, ris
 use Rattle.trick_model.specs.declared.thread.Process.{Process}
 use Rattle.trick_model.specs.declared.thread.Process.TheVariants as process
 use Rattle.trick_model.specs.declared.thread.Thread.{Thread}
-use Rattle.trick_threads.proofs.Order.{Each, all_each, each_all}
-use Rattle.trick_threads.specs.Threads.{AreThreads, HasCycle, thread_of, threads_from, threads_of}
-use Rattle.trick_threads.specs.declared.setting.Setting.{Setting}
+use Rattle.trick_plan_settings.proofs.Order.{Each, all_each, each_all}
+use Rattle.trick_plan_settings.specs.Threads.{AreThreads, HasCycle, thread_of, threads_from, threads_of}
+use Rattle.trick_plan_settings.specs.declared.setting.Setting.{Setting}
 
 other : (a b : ℕ) → nat_eq a b ≡ false → a ≡ b → ⊥
 other a b e h = search rules

@@ -6,9 +6,9 @@ use Rattle.trick_input.specs.declared.call.Form.{Form}
 use Rattle.trick_input.specs.declared.call.Form.TheVariants as form
 use Rattle.trick_input.specs.declared.call.RunForm.TheVariants as run
 use Rattle.trick_model.specs.declared.thread.Process.{Process}
-use Rattle.trick_settings.specs.Settings.{changed, cycle_said, frame_said, frozen_said, later, latest, limit_said, over, process_said, said_in, settings_by_number, threads_after}
-use Rattle.trick_settings.specs.declared.said.Said.{Said}
-use Rattle.trick_threads.specs.declared.setting.Setting.{Setting}
+use Rattle.trick_plan_settings.specs.Settings.{changed, cycle_said, frame_said, frozen_said, later, latest, limit_said, over, process_said, said_in, settings_by_number, threads_after}
+use Rattle.trick_plan_settings.specs.declared.said.Said.{Said}
+use Rattle.trick_plan_settings.specs.declared.setting.Setting.{Setting}
 
 -- ---- an item that is changed
 

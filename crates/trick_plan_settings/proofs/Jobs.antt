@@ -7,7 +7,7 @@ use Rattle.trick_lang.specs.Names.{are_apart, of_one_number}
 use Rattle.trick_lang.specs.declared.job.Job.{Job}
 use Rattle.trick_model.specs.Order.{is_below, key, rank}
 use Rattle.trick_model.specs.Plan.{job_at}
-use Rattle.trick_threads.specs.Keys.{HasSmallKey, key_number}
+use Rattle.trick_plan_settings.specs.Keys.{HasSmallKey, key_number}
 
 -- ---- one number for each key
 

@@ -8,10 +8,10 @@ use Rattle.trick_lang.specs.declared.class.Class.{Class}
 use Rattle.trick_lang.specs.declared.job.Job.{Job}
 use Rattle.trick_model.specs.Order.{in_key_order, is_of_class, jobs_in, precedes, put_in, rank}
 use Rattle.trick_model.specs.Plan.{job_at, no_job, numbers_from}
-use Rattle.trick_threads.proofs.Jobs.{below_is, one_place, same_parts}
-use Rattle.trick_threads.proofs.Order.{Each, Least, Rising, all_each, each_all, hit, hits, rising, same_hits, same_items, same_keys}
-use Rattle.trick_threads.specs.Keys.{HasSmallKey, entry_of, jobs_of, key_number, key_of, numbers_of}
-use Rattle.trick_threads.specs.declared.queue.Entry.{Entry}
+use Rattle.trick_plan_settings.proofs.Jobs.{below_is, one_place, same_parts}
+use Rattle.trick_plan_settings.proofs.Order.{Each, Least, Rising, all_each, each_all, hit, hits, rising, same_hits, same_items, same_keys}
+use Rattle.trick_plan_settings.specs.Keys.{HasSmallKey, entry_of, jobs_of, key_number, key_of, numbers_of}
+use Rattle.trick_plan_settings.specs.declared.queue.Entry.{Entry}
 
 down : (a b : ℕ) → nat_lt a b ≡ false → b ≤ a
 down a b e = search rules

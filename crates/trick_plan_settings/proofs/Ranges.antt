@@ -8,9 +8,9 @@ use Rattle.trick_input.specs.declared.call.Form.TheVariants as form
 use Rattle.trick_input.specs.declared.call.RunForm.TheVariants as run
 use Rattle.trick_base.specs.Time.{tic_limit}
 use Rattle.trick_model.specs.Valid.{IsCycle, IsFrame}
-use Rattle.trick_settings.proofs.Lists.{Each, each_all}
-use Rattle.trick_settings.specs.Settings.{cycle_said, frame_of, frame_said, is_frame, later, latest, limit_of, limit_said, setting_of, settings_below, settings_by_number}
-use Rattle.trick_threads.specs.Threads.{HasCycle}
+use Rattle.trick_plan_settings.proofs.Lists.{Each, each_all}
+use Rattle.trick_plan_settings.specs.Settings.{cycle_said, frame_of, frame_said, is_frame, later, latest, limit_of, limit_said, setting_of, settings_below, settings_by_number}
+use Rattle.trick_plan_settings.specs.Threads.{HasCycle}
 
 -- what may be said of a value that is there
 abbrev IfThere : {A : Type 0} → (A → Type 0) → Option A → Type 0

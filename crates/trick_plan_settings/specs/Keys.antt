@@ -4,7 +4,7 @@ use Rattle.trick_lang.specs.declared.class.Class.{Class}
 use Rattle.trick_lang.specs.declared.job.Job.{Job}
 use Rattle.trick_model.specs.Order.{is_of_class}
 use Rattle.trick_model.specs.Plan.{job_at, job_numbers}
-use Rattle.trick_threads.specs.declared.queue.Entry.{Entry}
+use Rattle.trick_plan_settings.specs.declared.queue.Entry.{Entry}
 
 -- Phase, object and number in the constructor, compared in this order, as one number.
 abbrev pub key_number : Job → ℕ

@@ -4,3 +4,5 @@ pub mod Threads
 pub mod Keys
 -- Worked threads and queues.
 pub mod Worked
+-- What an input says of the run and of its threads.
+pub mod Settings

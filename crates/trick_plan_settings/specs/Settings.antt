@@ -8,10 +8,10 @@ use Rattle.trick_input.specs.declared.call.RunForm.TheVariants as run
 use Rattle.trick_lang.specs.declared.job.Job.{Job}
 use Rattle.trick_base.specs.Time.{tic_limit}
 use Rattle.trick_model.specs.declared.thread.Process.{Process}
-use Rattle.trick_settings.specs.declared.said.Said.{Said}
-use Rattle.trick_settings.specs.declared.settings.Settings.{Settings}
-use Rattle.trick_threads.specs.Threads.{threads_of}
-use Rattle.trick_threads.specs.declared.setting.Setting.{Setting}
+use Rattle.trick_plan_settings.specs.declared.said.Said.{Said}
+use Rattle.trick_plan_settings.specs.declared.settings.Settings.{Settings}
+use Rattle.trick_plan_settings.specs.Threads.{threads_of}
+use Rattle.trick_plan_settings.specs.declared.setting.Setting.{Setting}
 
 -- ---- the last line that says something
 

@@ -6,7 +6,7 @@ use Rattle.trick_model.specs.Plan.{has_thread}
 use Rattle.trick_model.specs.Valid.{IsCycle, IsMainRight, is_there, rises, thread_numbers}
 use Rattle.trick_model.specs.declared.thread.Process.TheVariants as process
 use Rattle.trick_model.specs.declared.thread.Thread.{Thread}
-use Rattle.trick_threads.specs.declared.setting.Setting.{Setting}
+use Rattle.trick_plan_settings.specs.declared.setting.Setting.{Setting}
 
 -- The input names the thread, for a process type or a cycle.
 abbrev pub is_named : Setting → Bool

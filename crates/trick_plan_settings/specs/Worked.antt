@@ -6,8 +6,8 @@ use Rattle.trick_lang.specs.declared.job.Job.{Job}
 use Rattle.trick_model.specs.Order.{jobs_in}
 use Rattle.trick_model.specs.declared.thread.Process.{Process}
 use Rattle.trick_model.specs.declared.thread.Process.TheVariants as process
-use Rattle.trick_threads.specs.Threads.{threads_of}
-use Rattle.trick_threads.specs.declared.setting.Setting.{Setting}
+use Rattle.trick_plan_settings.specs.Threads.{threads_of}
+use Rattle.trick_plan_settings.specs.declared.setting.Setting.{Setting}
 
 -- a job of an object, by its class, thread, phase and number
 abbrev pub job : ℕ → Class → ℕ → ℕ → ℕ → Job

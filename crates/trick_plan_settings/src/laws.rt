@@ -1,6 +1,6 @@
 //! What is proved of the definitions. Each function is a promise, and does nothing.
 
-ghost use Rattle.trick_threads.specs.Worked.{AreThreadsWorked, IsQueueWorked};
+ghost use Rattle.trick_plan_settings.specs.Worked.{AreThreadsWorked, IsQueueWorked};
 
 /// The threads of five worked jobs, with what an input says of five threads.
 pub fn worked_threads()

@@ -6,8 +6,8 @@ ghost use Rattle.trick_lang.specs.declared.class.Class.{Class};
 ghost use Rattle.trick_model.specs.Order.{jobs_in};
 ghost use Rattle.trick_model.specs.Plan.{job_numbers};
 ghost use Rattle.trick_model.specs.Valid.{ids, queues_of};
-ghost use Rattle.trick_threads.specs.Keys.{HasSmallKey, entry_of, jobs_of, key_number, key_of, numbers_of};
-ghost use Rattle.trick_threads.specs.declared.queue.Entry.{Entry};
+ghost use Rattle.trick_plan_settings.specs.Keys.{HasSmallKey, entry_of, jobs_of, key_number, key_of, numbers_of};
+ghost use Rattle.trick_plan_settings.specs.declared.queue.Entry.{Entry};
 
 use std::alloc::{AllocError, Global};
 use trick_base::Items;

@@ -1,12 +1,12 @@
 //! What lines say of the run and of its threads, one after another.
 
 ghost use Rattle.std.specs.Prelude.{◌≡◌, [], IfOk};
-ghost use Rattle.trick_settings.specs.Settings.{changed, frame_said, frozen_said, is_frame, later, limit_said, over, said_in, threads_after};
+ghost use Rattle.trick_plan_settings.specs.Settings.{changed, frame_said, frozen_said, is_frame, later, limit_said, over, said_in, threads_after};
 
 use std::alloc::{AllocError, Global};
 use trick_base::{Items, TIC_LIMIT};
 use trick_input::{Form, RunForm};
-use trick_threads::Setting;
+use crate::Setting;
 
 /// The longest software frame, in tics.
 const FRAME_LIMIT: u64 = 1_000_000_000;

@@ -3,8 +3,8 @@
 ghost use Rattle.std.specs.Prelude.{◌≡◌, ◌≤◌, ◌+◌, IfOk};
 ghost use Rattle.trick_base.specs.Time.{tic_limit};
 ghost use Rattle.trick_model.specs.Valid.{IsFrame};
-ghost use Rattle.trick_settings.specs.Settings.{said_in, settings_in};
-ghost use Rattle.trick_threads.specs.Threads.{AreThreads};
+ghost use Rattle.trick_plan_settings.specs.Settings.{said_in, settings_in};
+ghost use Rattle.trick_plan_settings.specs.Threads.{AreThreads};
 
 use crate::said::Said;
 use std::alloc::{AllocError, Global};
@@ -12,7 +12,7 @@ use trick_base::{Items, TIC_LIMIT};
 use trick_input::Call;
 use trick_lang::Program;
 use trick_model::Thread;
-use trick_threads::threads;
+use crate::threads;
 
 // The software frame of an input that names none: a second, in tics.
 const DEFAULT_FRAME: u64 = 1_000_000;

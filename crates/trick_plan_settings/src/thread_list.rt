@@ -5,7 +5,7 @@ ghost use Rattle.std.specs.Prelude.{◌≡◌, ◌==◌, ◌≤◌, All, IfOk, l
 ghost use Rattle.trick_lang.specs.declared.job.Job.{Job};
 ghost use Rattle.trick_model.specs.Plan.{has_job};
 ghost use Rattle.trick_model.specs.Valid.{IsFrame, is_there};
-ghost use Rattle.trick_threads.specs.Threads.{AreThreads, HasCycle, is_named, thread_of, threads_of};
+ghost use Rattle.trick_plan_settings.specs.Threads.{AreThreads, HasCycle, is_named, thread_of, threads_of};
 
 use crate::Setting;
 use std::alloc::{AllocError, Global};

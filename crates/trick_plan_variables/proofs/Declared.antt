@@ -10,10 +10,10 @@ use Rattle.trick_body.specs.Expressions.{name_of, names}
 use Rattle.trick_body.specs.Lexemes.{lexemes_of}
 use Rattle.trick_body.specs.Statements.{basic_body}
 use Rattle.trick_body.specs.Symbols.{Token, number_of, spelled}
-use Rattle.trick_declare.proofs.Apart.{all_of_both}
-use Rattle.trick_declare.specs.Cells.{cells_named, cells_of, element, elements, full_names, row_elements}
-use Rattle.trick_declare.specs.Grammar.{declaration, declaration_of, read_or_none}
-use Rattle.trick_declare.specs.declared.declaration.Declaration.{Declaration}
+use Rattle.trick_plan_variables.proofs.Apart.{all_of_both}
+use Rattle.trick_plan_variables.specs.Cells.{cells_named, cells_of, element, elements, full_names, row_elements}
+use Rattle.trick_plan_variables.specs.Grammar.{declaration, declaration_of, read_or_none}
+use Rattle.trick_plan_variables.specs.declared.declaration.Declaration.{Declaration}
 use Rattle.trick_grammar.proofs.Exact.{exact}
 use Rattle.trick_grammar.specs.Gives.{class_of}
 use Rattle.trick_grammar.specs.Grammar.{is_predictive}

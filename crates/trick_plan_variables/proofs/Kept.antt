@@ -5,12 +5,12 @@ use Rattle.std.proofs.lemmas.Bool.{or_parts}
 use Rattle.std.proofs.lemmas.List.{length-append, length-map}
 use Rattle.std.specs.List.{list_any}
 use Rattle.std.specs.Str.{bytes_eq}
-use Rattle.trick_declare.proofs.Apart.{all_of_both}
-use Rattle.trick_declare.proofs.Declared.{cells_of_plain}
-use Rattle.trick_declare.proofs.More.{lie_in_more, objects_stand_more}
-use Rattle.trick_declare.proofs.Names.{cell, stay_apart}
-use Rattle.trick_declare.specs.Cells.{begins_with, cells_of, count_of, element, elements, full_names, is_taken, row_elements, total}
-use Rattle.trick_declare.specs.declared.declaration.Declaration.{Declaration}
+use Rattle.trick_plan_variables.proofs.Apart.{all_of_both}
+use Rattle.trick_plan_variables.proofs.Declared.{cells_of_plain}
+use Rattle.trick_plan_variables.proofs.More.{lie_in_more, objects_stand_more}
+use Rattle.trick_plan_variables.proofs.Names.{cell, stay_apart}
+use Rattle.trick_plan_variables.specs.Cells.{begins_with, cells_of, count_of, element, elements, full_names, is_taken, row_elements, total}
+use Rattle.trick_plan_variables.specs.declared.declaration.Declaration.{Declaration}
 use Rattle.trick_lang.proofs.Plain.{spelled_plain}
 use Rattle.trick_lang.specs.Names.{are_apart, are_plain_cells, is_plain, is_spelled, of_one_name}
 use Rattle.trick_lang.specs.Valid.{lie_in, objects_stand}

@@ -9,9 +9,9 @@ use Rattle.std.specs.Char.{digit_value}
 use Rattle.std.specs.List.{list_all, list_any}
 use Rattle.std.specs.Str.{bytes_eq}
 use Rattle.std.specs.Str.Parse.{AllDigits}
-use Rattle.trick_declare.proofs.Apart.{all_and_last, all_of_both, apart_and_last}
-use Rattle.trick_declare.specs.Cells.{begins_with, cells_named, cells_of, count_of, element, elements, first_name, full_names, row_elements}
-use Rattle.trick_declare.specs.declared.declaration.Declaration.{Declaration}
+use Rattle.trick_plan_variables.proofs.Apart.{all_and_last, all_of_both, apart_and_last}
+use Rattle.trick_plan_variables.specs.Cells.{begins_with, cells_named, cells_of, count_of, element, elements, first_name, full_names, row_elements}
+use Rattle.trick_plan_variables.specs.declared.declaration.Declaration.{Declaration}
 use Rattle.trick_lang.specs.Names.{are_apart, of_one_name}
 use Rattle.trick_lang.specs.declared.scalar.Scalar.{Scalar}
 use Rattle.trick_lang.specs.declared.variable.Variable.{Variable}

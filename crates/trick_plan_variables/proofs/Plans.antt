@@ -19,8 +19,8 @@ use Rattle.trick_lang.specs.declared.method.Method.{Method}
 use Rattle.trick_lang.specs.declared.object.Object.{Object}
 use Rattle.trick_lang.specs.declared.program.Program.{Program}
 use Rattle.std.specs.Prelude.{Result, Ok, Err}
-use Rattle.trick_declare.specs.Cells.{Adds, KeepsRest}
-use Rattle.trick_declare.specs.declared.fault.DeclareFault.{DeclareFault}
+use Rattle.trick_plan_variables.specs.Cells.{Adds, KeepsRest}
+use Rattle.trick_plan_variables.specs.declared.fault.DeclareFault.{DeclareFault}
 use Rattle.trick_model.specs.Valid.{AreDeedsAmong, IsAssignment, IsCell, IsDeedAmong, cell_names, names_in}
 use Rattle.trick_model.specs.declared.event.Event.{Event}
 use Rattle.trick_model.specs.declared.group.Group.{Group}

@@ -2,10 +2,10 @@
 use Rattle.std.specs.List.{list_any}
 use Rattle.std.specs.Prelude.{◌≡◌, ℕ, zero, suc, ◌+◌, ◌*◌, ◌-◌, ◌^◌, ◌==◌, nat_lt, min, Bool, ◌||◌, List, [], ◌∷◌, ◌++◌, codes, decimal, length, map, Option, Some, None, Result, Ok, Err, if◌then◌else◌, ◌⊎◌}
 use Rattle.std.specs.Str.{bytes_eq}
-use Rattle.trick_declare.specs.Grammar.{Declares}
-use Rattle.trick_declare.specs.declared.declaration.Declaration.{Declaration}
-use Rattle.trick_declare.specs.declared.fault.DeclareFault.{DeclareFault}
-use Rattle.trick_declare.specs.declared.fault.DeclareFault.TheVariants as fault
+use Rattle.trick_plan_variables.specs.Grammar.{Declares}
+use Rattle.trick_plan_variables.specs.declared.declaration.Declaration.{Declaration}
+use Rattle.trick_plan_variables.specs.declared.fault.DeclareFault.{DeclareFault}
+use Rattle.trick_plan_variables.specs.declared.fault.DeclareFault.TheVariants as fault
 use Rattle.trick_lang.specs.declared.object.Object.{Object}
 use Rattle.trick_lang.specs.declared.program.Program.{Program}
 use Rattle.trick_lang.specs.declared.scalar.Scalar.{Scalar}

@@ -6,8 +6,8 @@ use Rattle.trick_body.specs.Statements.{basic}
 use Rattle.trick_body.specs.Symbols.{Token, number_of}
 use Rattle.trick_body.specs.declared.symbol.Symbol.{Symbol}
 use Rattle.trick_body.specs.declared.symbol.Symbol.TheVariants as the
-use Rattle.trick_declare.specs.declared.declaration.Declaration.{Declaration}
-use Rattle.trick_declare.specs.declared.spelled.SpelledDeclaration.{SpelledDeclaration}
+use Rattle.trick_plan_variables.specs.declared.declaration.Declaration.{Declaration}
+use Rattle.trick_plan_variables.specs.declared.spelled.SpelledDeclaration.{SpelledDeclaration}
 use Rattle.trick_grammar.specs.Gives.{class_of}
 use Rattle.trick_grammar.specs.Grammar.{act, one, optional, token, ◌⨾◌}
 use Rattle.trick_grammar.specs.Reading.{Refused}

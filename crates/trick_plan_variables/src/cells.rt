@@ -1,5 +1,5 @@
 ghost use Rattle.std.specs.Prelude.{◌≡◌, ◌++◌, ◌≤◌, IfOk, OnOk};
-ghost use Rattle.trick_declare.specs.Cells.{cells_named, cells_of, count_of, element, elements, full_names, row_elements, total};
+ghost use Rattle.trick_plan_variables.specs.Cells.{cells_named, cells_of, count_of, element, elements, full_names, row_elements, total};
 
 use crate::Declaration;
 use itoa::Buffer;

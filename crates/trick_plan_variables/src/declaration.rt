@@ -1,7 +1,7 @@
 ghost use Rattle.std.specs.Prelude.{◌≡◌, IfOk, None, Some, [], List, ℕ};
 ghost use Rattle.trick_body.specs.Lexemes.{lexemes_of};
 ghost use Rattle.trick_body.specs.Symbols.{number_of};
-ghost use Rattle.trick_declare.specs.Grammar.{declaration, declaration_in, declaration_of, length, lengths, read_or_none};
+ghost use Rattle.trick_plan_variables.specs.Grammar.{declaration, declaration_in, declaration_of, length, lengths, read_or_none};
 ghost use Rattle.trick_grammar.specs.Gives.{Gives, class_of};
 ghost use Rattle.trick_grammar.specs.Reading.{read};
 ghost use Rattle.trick_grammar.specs.Text.{read_all};
@@ -114,7 +114,7 @@ fn declaration_of(
 }
 
 impl SpelledDeclaration {
-    ghost use Rattle.trick_declare.specs.Grammar.{Declares, declaration_in};
+    ghost use Rattle.trick_plan_variables.specs.Grammar.{Declares, declaration_in};
 
     /// What a text declares: a type, a name, and up to two lengths in brackets, as `int spare[2]`.
     /// `None` where it is no declaration. FORMATS.md has its form.

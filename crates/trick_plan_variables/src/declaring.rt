@@ -1,5 +1,5 @@
 ghost use Rattle.std.specs.Prelude.{◌≡◌, ◌++◌, Some, false, is_ok, if◌then◌else◌};
-ghost use Rattle.trick_declare.specs.Cells.{Adds, DeclaresIn, KeepsPlan, KeepsRest, added, is_taken};
+ghost use Rattle.trick_plan_variables.specs.Cells.{Adds, DeclaresIn, KeepsPlan, KeepsRest, added, is_taken};
 
 use crate::cells::{cells_of, total};
 use crate::{DeclareFault, SpelledDeclaration, is_taken};

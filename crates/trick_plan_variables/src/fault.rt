@@ -1,5 +1,5 @@
 ghost use Rattle.std.specs.Prelude.{◌≡◌};
-ghost use Rattle.trick_declare.specs.declared.fault.DeclareFault.TheVariants.{OutOfMemory};
+ghost use Rattle.trick_plan_variables.specs.declared.fault.DeclareFault.TheVariants.{OutOfMemory};
 
 use std::alloc::{AllocError, AllocFailed};
 use thiserror::Error;

@@ -1,7 +1,7 @@
 //! Laws of declarations. A function that calls one of them may rest on what it says; the call itself
 //! does nothing.
 
-ghost use Rattle.trick_declare.specs.Laws.{DeclarationsAreExact, DeclaresOne};
+ghost use Rattle.trick_plan_variables.specs.Laws.{DeclarationsAreExact, DeclaresOne};
 
 /// A text declares one thing.
 pub fn declares_one()

@@ -1,7 +1,7 @@
 ghost use Rattle.std.specs.List.{list_any};
 ghost use Rattle.std.specs.Prelude.{◌≡◌};
 ghost use Rattle.std.specs.Str.{bytes_eq};
-ghost use Rattle.trick_declare.specs.Cells.{begins_with, first_name, is_taken};
+ghost use Rattle.trick_plan_variables.specs.Cells.{begins_with, first_name, is_taken};
 ghost use Rattle.trick_lang.specs.declared.object.Object.{Object};
 ghost use Rattle.trick_lang.specs.declared.variable.Variable.{Variable};
 

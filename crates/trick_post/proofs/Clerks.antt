@@ -4,7 +4,7 @@ use Rattle.std.proofs.lemmas.List.{drop_more, length-drop, map-append, take_more
 use Rattle.std.proofs.lemmas.List.Elements.{All-push}
 use Rattle.std.specs.List.{remove, slice_index_or}
 use Rattle.std.specs.Prelude.{All, slice_get}
-use Rattle.trick_desk.specs.Clerks.{AreClerkPasses, IsClerkPass}
+use Rattle.trick_post.specs.Clerks.{AreClerkPasses, IsClerkPass}
 use Rattle.trick_turn.specs.Passes.{AreDealt, IsDealt}
 use Rattle.trick_turn.specs.declared.lock.TurnLock.{TurnLock}
 use Rattle.trick_turn.specs.declared.pass.Pass.{Pass}

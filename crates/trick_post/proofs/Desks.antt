@@ -7,24 +7,24 @@ use Rattle.std.specs.Option.{IfSome}
 use Rattle.std.specs.Prelude.{IsSome, Option, slice_set, vec_capacity}
 use Rattle.trick_base.proofs.Numbers.{equal_to_itself}
 use mathlib.Core.List.{IsPrefix}
-use Rattle.trick_desk.proofs.Entries.{started_more}
-use Rattle.trick_desk.specs.Answers.{AsksAt, HasTakenBack}
-use Rattle.trick_desk.specs.Histories.{started_in}
-use Rattle.trick_desk.specs.declared.event.Event.{Event}
-use Rattle.trick_desk.specs.declared.event.Event.TheVariants.{Finish, Start}
+use Rattle.trick_post.proofs.Entries.{started_more}
+use Rattle.trick_post.specs.Answers.{AsksAt, HasTakenBack}
+use Rattle.trick_post.specs.Histories.{started_in}
+use Rattle.trick_post.specs.declared.event.Event.{Event}
+use Rattle.trick_post.specs.declared.event.Event.TheVariants.{Finish, Start}
 use Rattle.trick_lang.specs.declared.cells.Cell.{Cell}
 use Rattle.trick_model.specs.Access.{scope}
 use Rattle.trick_model.specs.PlanOf.{plan_of}
 use Rattle.trick_model.specs.declared.plan.Plan.{Plan as PlanValue}
 use Rattle.trick_model.specs.declared.taken.Taken.{Taken}
-use Rattle.trick_post.specs.Work.{Started}
-use Rattle.trick_post.specs.declared.posts.Job1.{Job1}
-use Rattle.trick_post.specs.declared.posts.Posted.{Posted}
-use Rattle.trick_post.specs.declared.posts.Posted.TheVariants as posted
-use Rattle.trick_tray.specs.Outputs.{IsOutcome, IsParcelOf}
-use Rattle.trick_tray.specs.Trays.{IsTrayOf, held_in, numbered}
-use Rattle.trick_tray.specs.declared.outputs.Parcel.{Parcel}
-use Rattle.trick_tray.specs.declared.tray.Tray.{Tray}
+use Rattle.trick_post_work.specs.Work.{Started}
+use Rattle.trick_post_work.specs.declared.posts.Job1.{Job1}
+use Rattle.trick_post_work.specs.declared.posts.Posted.{Posted}
+use Rattle.trick_post_work.specs.declared.posts.Posted.TheVariants as posted
+use Rattle.trick_post_trays.specs.Outputs.{IsOutcome, IsParcelOf}
+use Rattle.trick_post_trays.specs.Trays.{IsTrayOf, held_in, numbered}
+use Rattle.trick_post_trays.specs.declared.outputs.Parcel.{Parcel}
+use Rattle.trick_post_trays.specs.declared.tray.Tray.{Tray}
 use Rattle.trick_turn.specs.Passes.{own, seen}
 use Rattle.trick_turn.specs.declared.pass.Pass.{Pass}
 

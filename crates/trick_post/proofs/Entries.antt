@@ -2,13 +2,13 @@
 use Rattle.std.proofs.Common.{◌≡◌, ◌∙◌, ℕ, ◌==◌, Bool, true, false, cond, filter, Option, None, List, [], ◌∷◌, ◌++◌, refl, sym, ap, arith}
 use Rattle.std.proofs.lemmas.Bool.{eqb-true}
 use Rattle.std.proofs.lemmas.Bool.Decides.{nat_tests}
-use Rattle.trick_desk.specs.Histories.{Account, IsLegal, May, Ready, Idle, Standing, Waiting, Working, after, after_from, clerk_seat, desk_seat, fresh, has_shut, held_by, picked, put_back, seat_of, stage_of, started_after, started_from, started_in, step, with_standing}
-use Rattle.trick_desk.specs.declared.event.Event.{Event}
-use Rattle.trick_desk.specs.declared.event.Event.TheVariants.{Start, Pick, Back, Finish, Shut}
-use Rattle.trick_desk.specs.declared.stage.Stage.{Stage}
-use Rattle.trick_desk.specs.declared.stage.Stage.TheVariants as stage
+use Rattle.trick_post.specs.Histories.{Account, IsLegal, May, Ready, Idle, Standing, Waiting, Working, after, after_from, clerk_seat, desk_seat, fresh, has_shut, held_by, picked, put_back, seat_of, stage_of, started_after, started_from, started_in, step, with_standing}
+use Rattle.trick_post.specs.declared.event.Event.{Event}
+use Rattle.trick_post.specs.declared.event.Event.TheVariants.{Start, Pick, Back, Finish, Shut}
+use Rattle.trick_post.specs.declared.stage.Stage.{Stage}
+use Rattle.trick_post.specs.declared.stage.Stage.TheVariants as stage
 use Rattle.trick_model.specs.declared.plan.Plan.{Plan as PlanValue}
-use Rattle.trick_post.specs.Work.{Started}
+use Rattle.trick_post_work.specs.Work.{Started}
 
 -- ---- one entry more
 

@@ -1,9 +1,9 @@
 -- How far the count of late rounds rises.
 use Rattle.std.proofs.Common.{◌≡◌, ◌∙◌, ℕ, ◌-◌, ◌^◌, ◌≤◌, sym, ap, subst, arith}
-use Rattle.trick_desk.specs.Lateness.{late_after}
+use Rattle.trick_post.specs.Lateness.{late_after}
 use Rattle.trick_outside.specs.Causes.{RoseBy}
-use Rattle.trick_post.specs.declared.posts.Posted.{Posted}
-use Rattle.trick_post.specs.declared.posts.Posted.TheVariants as posted
+use Rattle.trick_post_work.specs.declared.posts.Posted.{Posted}
+use Rattle.trick_post_work.specs.declared.posts.Posted.TheVariants as posted
 
 -- a poll never lowers the count
 pub never_falls : (late : ℕ) (answer : Posted) → late ≤ 2 ^ 64 - 1 → late ≤ late_after late answer

@@ -4,14 +4,14 @@ use Rattle.std.proofs.lemmas.List.{length-map, map-append}
 use Rattle.std.proofs.lemmas.List.Elements.{All-push}
 use Rattle.std.specs.List.{slice_index_or}
 use Rattle.std.specs.Prelude.{All}
-use Rattle.trick_desk.proofs.Posts.{stands_at}
-use Rattle.trick_desk.specs.Histories.{fresh}
-use Rattle.trick_desk.specs.Places.{IsPostAt, PostView, Stands}
-use Rattle.trick_desk.specs.declared.places.Place.{Place}
-use Rattle.trick_desk.specs.declared.stage.Stage.TheVariants as stage
+use Rattle.trick_post.proofs.PostLemmas.{stands_at}
+use Rattle.trick_post.specs.Histories.{fresh}
+use Rattle.trick_post.specs.Places.{IsPostAt, PostView, Stands}
+use Rattle.trick_post.specs.declared.places.Place.{Place}
+use Rattle.trick_post.specs.declared.stage.Stage.TheVariants as stage
 use Rattle.trick_model.specs.declared.plan.Plan.{Plan as PlanValue}
-use Rattle.trick_tray.specs.Outputs.{AreParcelsOf, IsParcelOf}
-use Rattle.trick_tray.specs.declared.outputs.Parcel.{Parcel}
+use Rattle.trick_post_trays.specs.Outputs.{AreParcelsOf, IsParcelOf}
+use Rattle.trick_post_trays.specs.declared.outputs.Parcel.{Parcel}
 
 parcel_at : (places : List Place) (n : ℕ) (d : Place) → slice_index_or (map (λ p. p.parcel) places) n d.parcel ≡ (slice_index_or places n d).parcel
 parcel_at [] n d = refl

@@ -6,15 +6,15 @@ use Rattle.std.proofs.lemmas.List.{get_or-set_other, get_or-set_same, length-set
 use Rattle.std.proofs.lemmas.Option.{same_Some}
 use Rattle.std.specs.List.{slice_index_or}
 use Rattle.std.specs.Prelude.{nat_lt, slice_set}
-use Rattle.trick_desk.proofs.Entries.{after_more, legal_more}
-use Rattle.trick_desk.specs.Histories.{Account, Idle, IsLegal, May, Standing, after, fresh, stage_of, step, with_standing}
-use Rattle.trick_desk.specs.Places.{Holds, IsPlaceAt, IsPostAt, IsSwapped, PostView, Stands, StandsAt}
-use Rattle.trick_desk.specs.declared.event.Event.{Event}
-use Rattle.trick_desk.specs.declared.places.Place.{Place}
-use Rattle.trick_desk.specs.declared.stage.Stage.{Stage}
+use Rattle.trick_post.proofs.Entries.{after_more, legal_more}
+use Rattle.trick_post.specs.Histories.{Account, Idle, IsLegal, May, Standing, after, fresh, stage_of, step, with_standing}
+use Rattle.trick_post.specs.Places.{Holds, IsPlaceAt, IsPostAt, IsSwapped, PostView, Stands, StandsAt}
+use Rattle.trick_post.specs.declared.event.Event.{Event}
+use Rattle.trick_post.specs.declared.places.Place.{Place}
+use Rattle.trick_post.specs.declared.stage.Stage.{Stage}
 use Rattle.trick_model.specs.declared.plan.Plan.{Plan as PlanValue}
-use Rattle.trick_tray.specs.Outputs.{IsParcelOf}
-use Rattle.trick_tray.specs.declared.outputs.Parcel.{Parcel}
+use Rattle.trick_post_trays.specs.Outputs.{IsParcelOf}
+use Rattle.trick_post_trays.specs.declared.outputs.Parcel.{Parcel}
 
 -- ---- one entry more
 

@@ -2,19 +2,19 @@
 use Rattle.std.specs.List.{slice_index_or}
 use Rattle.std.specs.Prelude.{◌≡◌, ◌≢◌, ◌<◌, ℕ, Bool, true, false, List, [], ◌∷◌, ◌++◌, Some}
 use mathlib.Core.List.{IsPrefix}
-use Rattle.trick_desk.specs.Histories.{Ready, Working, after, desk_seat, has_shut, seat_of, stage_of, started_in}
-use Rattle.trick_desk.specs.Places.{Holds}
-use Rattle.trick_desk.specs.declared.event.Event.{Event}
-use Rattle.trick_desk.specs.declared.event.Event.TheVariants.{Finish, Pick}
-use Rattle.trick_desk.specs.declared.picked.Picked.{Picked}
-use Rattle.trick_desk.specs.declared.picked.Picked.TheVariants as picked
-use Rattle.trick_desk.specs.declared.stage.Stage.TheVariants as stage
+use Rattle.trick_post.specs.Histories.{Ready, Working, after, desk_seat, has_shut, seat_of, stage_of, started_in}
+use Rattle.trick_post.specs.Places.{Holds}
+use Rattle.trick_post.specs.declared.event.Event.{Event}
+use Rattle.trick_post.specs.declared.event.Event.TheVariants.{Finish, Pick}
+use Rattle.trick_post.specs.declared.picked.Picked.{Picked}
+use Rattle.trick_post.specs.declared.picked.Picked.TheVariants as picked
+use Rattle.trick_post.specs.declared.stage.Stage.TheVariants as stage
 use Rattle.trick_model.specs.declared.plan.Plan.{Plan as PlanValue}
-use Rattle.trick_post.specs.Work.{Started}
-use Rattle.trick_post.specs.declared.posts.Posted.{Posted}
-use Rattle.trick_post.specs.declared.posts.Posted.TheVariants as posted
-use Rattle.trick_tray.specs.Trays.{held_in}
-use Rattle.trick_tray.specs.declared.outputs.Parcel.{Parcel}
+use Rattle.trick_post_work.specs.Work.{Started}
+use Rattle.trick_post_work.specs.declared.posts.Posted.{Posted}
+use Rattle.trick_post_work.specs.declared.posts.Posted.TheVariants as posted
+use Rattle.trick_post_trays.specs.Trays.{held_in}
+use Rattle.trick_post_trays.specs.declared.outputs.Parcel.{Parcel}
 use Rattle.trick_turn.specs.Passes.{number_of, own, seen}
 use Rattle.trick_turn.specs.TurnRule.{entries_of}
 use Rattle.trick_turn.specs.declared.pass.Pass.{Pass}

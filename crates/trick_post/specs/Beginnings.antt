@@ -1,7 +1,7 @@
 -- Where the work of a thread begins.
 use Rattle.std.specs.Prelude.{ℕ, List, [], ◌∷◌, Option, Some, None}
-use Rattle.trick_post.specs.declared.posts.Job1.{Job1}
-use Rattle.trick_post.specs.declared.posts.Job1.TheVariants.{Frame, Round}
+use Rattle.trick_post_work.specs.declared.posts.Job1.{Job1}
+use Rattle.trick_post_work.specs.declared.posts.Job1.TheVariants.{Frame, Round}
 
 -- The tic at which work begins: the first one of a frame. A round is of no tic, and 0 stands for it.
 abbrev pub first_tic : Option Job1 → ℕ

@@ -1,12 +1,12 @@
 -- What a list of entries leaves of a post, and which lists there are.
 use Rattle.std.specs.Prelude.{◌≡◌, ℕ, ◌+◌, ◌==◌, Bool, true, false, cond, List, [], ◌∷◌, Option, Some, None}
-use Rattle.trick_desk.specs.declared.event.Event.{Event}
-use Rattle.trick_desk.specs.declared.event.Event.TheVariants.{Start, Pick, Back, Finish, Shut}
-use Rattle.trick_desk.specs.declared.stage.Stage.{Stage}
-use Rattle.trick_desk.specs.declared.stage.Stage.TheVariants as stage
+use Rattle.trick_post.specs.declared.event.Event.{Event}
+use Rattle.trick_post.specs.declared.event.Event.TheVariants.{Start, Pick, Back, Finish, Shut}
+use Rattle.trick_post.specs.declared.stage.Stage.{Stage}
+use Rattle.trick_post.specs.declared.stage.Stage.TheVariants as stage
 use Rattle.trick_model.specs.PlanOf.{plan_of}
 use Rattle.trick_model.specs.declared.plan.Plan.{Plan as PlanValue}
-use Rattle.trick_post.specs.Work.{CanStart, Started}
+use Rattle.trick_post_work.specs.Work.{CanStart, Started}
 
 -- ---- how a thread stands
 

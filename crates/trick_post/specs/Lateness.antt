@@ -5,9 +5,9 @@ use Rattle.std.proofs.Math.Numerals.{suc-eq-add-one}
 use Rattle.std.proofs.lemmas.Bool.{cases_lt}
 use Rattle.std.specs.Prelude.{◌≡◌, ℕ, suc, ◌+◌, ◌-◌, ◌^◌, ◌<◌, ◌≤◌, min, cond, List, [], ◌∷◌, ◌++◌}
 use Rattle.trick_outside.specs.Causes.{RoseBy}
-use Rattle.trick_post.specs.Polls.{Poll, is_ready, not_ready}
-use Rattle.trick_post.specs.declared.posts.Posted.{Posted}
-use Rattle.trick_post.specs.declared.posts.Posted.TheVariants as posted
+use Rattle.trick_post_work.specs.Polls.{Poll, is_ready, not_ready}
+use Rattle.trick_post_work.specs.declared.posts.Posted.{Posted}
+use Rattle.trick_post_work.specs.declared.posts.Posted.TheVariants as posted
 
 -- The count after a poll: one more where nothing was ready. It stands still at 2^64 - 1.
 abbrev pub late_after : ℕ → Posted → ℕ

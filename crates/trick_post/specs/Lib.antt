@@ -1,6 +1,14 @@
--- What a thread beside the tics is handed, and what it comes to.
-pub mod Work
--- Whether the round of a thread was ready when it was asked for.
-pub mod Polls
--- What publishing comes to, in the words of the rules.
-pub mod Laws
+-- What a list of entries leaves of a post, and which lists there are.
+pub mod Histories
+-- What lies behind the turn, and which history it stands for.
+pub mod Places
+-- What clauses say of a call of the desk or of a clerk.
+pub mod Answers
+-- How late rounds were.
+pub mod Lateness
+-- The threads that have a clerk, and the passes that the clerks are dealt.
+pub mod Clerks
+-- A plan is data.
+pub mod Plans
+-- Where the work of a thread begins.
+pub mod Beginnings

@@ -1,17 +1,17 @@
 -- What lies behind the turn, and which history it stands for.
 use Rattle.std.specs.List.{slice_index_or, slice_set}
 use Rattle.std.specs.Prelude.{◌≡◌, ℕ, ◌<◌, ◌≤◌, Bool, true, false, List, length, Option, Some}
-use Rattle.trick_desk.specs.Histories.{Account, Idle, IsLegal, Ready, Standing, Waiting, Working, after, fresh, stage_of}
-use Rattle.trick_desk.specs.declared.event.Event.{Event}
-use Rattle.trick_desk.specs.declared.picked.Picked.{Picked}
-use Rattle.trick_desk.specs.declared.picked.Picked.TheVariants as picked
-use Rattle.trick_desk.specs.declared.places.Place.{Place}
-use Rattle.trick_desk.specs.declared.stage.Stage.{Stage}
-use Rattle.trick_desk.specs.declared.stage.Stage.TheVariants as stage
+use Rattle.trick_post.specs.Histories.{Account, Idle, IsLegal, Ready, Standing, Waiting, Working, after, fresh, stage_of}
+use Rattle.trick_post.specs.declared.event.Event.{Event}
+use Rattle.trick_post.specs.declared.picked.Picked.{Picked}
+use Rattle.trick_post.specs.declared.picked.Picked.TheVariants as picked
+use Rattle.trick_post.specs.declared.places.Place.{Place}
+use Rattle.trick_post.specs.declared.stage.Stage.{Stage}
+use Rattle.trick_post.specs.declared.stage.Stage.TheVariants as stage
 use Rattle.trick_model.specs.declared.plan.Plan.{Plan as PlanValue}
-use Rattle.trick_tray.specs.Outputs.{IsOutcome, IsParcelOf}
-use Rattle.trick_tray.specs.Trays.{held_in}
-use Rattle.trick_tray.specs.declared.outputs.Parcel.{Parcel}
+use Rattle.trick_post_trays.specs.Outputs.{IsOutcome, IsParcelOf}
+use Rattle.trick_post_trays.specs.Trays.{held_in}
+use Rattle.trick_post_trays.specs.declared.outputs.Parcel.{Parcel}
 
 -- what lies behind the turn
 pub record PostView : Type 0 where

@@ -2,17 +2,17 @@
 ghost use Rattle.std.specs.Arc.{arc_value};
 ghost use Rattle.std.specs.Option.{option_map};
 ghost use Rattle.std.specs.Prelude.{◌≡◌, ◌<◌, IfOk};
-ghost use Rattle.trick_desk.specs.Answers.{HasAdded, IsAtWork, PicksAt};
-ghost use Rattle.trick_desk.specs.Beginnings.{first_of, first_tic};
-ghost use Rattle.trick_desk.specs.Clerks.{IsClerkPass};
-ghost use Rattle.trick_desk.specs.Histories.{after, clerk_seat, stage_of};
-ghost use Rattle.trick_desk.specs.declared.picked.Picked.TheVariants as picked;
-ghost use Rattle.trick_desk.specs.declared.stage.Stage.TheVariants as stage;
+ghost use Rattle.trick_post.specs.Answers.{HasAdded, IsAtWork, PicksAt};
+ghost use Rattle.trick_post.specs.Beginnings.{first_of, first_tic};
+ghost use Rattle.trick_post.specs.Clerks.{IsClerkPass};
+ghost use Rattle.trick_post.specs.Histories.{after, clerk_seat, stage_of};
+ghost use Rattle.trick_post.specs.declared.picked.Picked.TheVariants as picked;
+ghost use Rattle.trick_post.specs.declared.stage.Stage.TheVariants as stage;
 ghost use Rattle.trick_lang.specs.declared.job.JobId.{JobId};
 ghost use Rattle.trick_model.specs.PlanOf.{plan_of};
-ghost use Rattle.trick_tray.specs.Calendars.{scheduled_of};
-ghost use Rattle.trick_tray.specs.Outputs.{IsParcelOf};
-ghost use Rattle.trick_tray.specs.Trays.{IsWorkerOf};
+ghost use Rattle.trick_post_trays.specs.Calendars.{scheduled_of};
+ghost use Rattle.trick_post_trays.specs.Outputs.{IsParcelOf};
+ghost use Rattle.trick_post_trays.specs.Trays.{IsWorkerOf};
 ghost use Rattle.trick_turn.specs.Passes.{IsPassOf, Rests, number_of, seen};
 
 use crate::event::Event;
@@ -26,8 +26,8 @@ use std::marker::Brand;
 use std::sync::{Arc, Wait};
 use trick_lang::JobId;
 use trick_model::Planned;
-use trick_post::Job1;
-use trick_tray::{Parcel, Worker};
+use trick_post_work::Job1;
+use trick_post_trays::{Parcel, Worker};
 use trick_turn::{Pass, TurnLock};
 
 /// A clerk, who does the work of one thread. It may cross threads.

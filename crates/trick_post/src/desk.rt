@@ -1,10 +1,10 @@
 //! The desk, which hands work to clerks and publishes what comes of it.
 ghost use Rattle.std.specs.Arc.{arc_value};
 ghost use Rattle.std.specs.Prelude.{◌≡◌, ◌≤◌, IsSome};
-ghost use Rattle.trick_desk.specs.Answers.{AsksAt, HasAdded};
-ghost use Rattle.trick_desk.specs.Histories.{desk_seat, started_in};
-ghost use Rattle.trick_desk.specs.Lateness.{late_after};
-ghost use Rattle.trick_tray.specs.Trays.{IsWorkerOf};
+ghost use Rattle.trick_post.specs.Answers.{AsksAt, HasAdded};
+ghost use Rattle.trick_post.specs.Histories.{desk_seat, started_in};
+ghost use Rattle.trick_post.specs.Lateness.{late_after};
+ghost use Rattle.trick_post_trays.specs.Trays.{IsWorkerOf};
 ghost use Rattle.trick_turn.specs.Passes.{own};
 
 use crate::event::Event;
@@ -13,8 +13,8 @@ use crate::shut_post::ShutPost;
 use std::sync::Wait;
 use trick_lang::Cells;
 use trick_model::{Faults, Planned, Taken};
-use trick_post::{Job1, Posted, Posts};
-use trick_tray::Worker;
+use trick_post_work::{Job1, Posted, Posts};
+use trick_post_trays::Worker;
 
 /// The desk of a post: the work of must-finish and asynchronous threads is handed to clerks, and what comes of it is
 /// published here. Whatever the clerks do, that is what one thread makes of what was handed in.
@@ -74,8 +74,8 @@ impl<P: Planned, R: Wait + Drop> Posts for Desk<P, R> {
     ghost use Rattle.std.proofs.Common.{◌∙◌, refl};
     ghost use Rattle.std.specs.Arc.{arc_value};
     ghost use Rattle.std.specs.Prelude.{◌≡◌};
-    ghost use Rattle.trick_desk.specs.Histories.{started_in};
-    ghost use Rattle.trick_desk.specs.Lateness.{counts_join, late_through, rose_counted};
+    ghost use Rattle.trick_post.specs.Histories.{started_in};
+    ghost use Rattle.trick_post.specs.Lateness.{counts_join, late_through, rose_counted};
     ghost use Rattle.trick_turn.specs.Passes.{own};
 
     ghost plan = { λ desk. (arc_value desk.rack.held.accepted).plan };

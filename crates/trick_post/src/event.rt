@@ -1,6 +1,6 @@
 //! The entries of the history.
 use trick_model::Taken;
-use trick_post::Job1;
+use trick_post_work::Job1;
 
 /// What one turn at a post did. The first number is the pass's, and the second is the thread's. Only proofs have such a
 /// value.

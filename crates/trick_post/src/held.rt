@@ -2,7 +2,7 @@
 ghost use Rattle.std.specs.Arc.{arc_value};
 ghost use Rattle.std.specs.Coded.{Coded-set};
 ghost use Rattle.std.specs.Prelude.{◌≡◌, IfOk, Some};
-ghost use Rattle.trick_desk.specs.Plans.{plan_code};
+ghost use Rattle.trick_post.specs.Plans.{plan_code};
 
 use std::alloc::{AllocError, Global};
 use std::marker::PhantomData;

@@ -1,8 +1,26 @@
-//! Work beside the tics: a trait of whoever does the work of must-finish and asynchronous threads, with
-//! the promise that what is published is what one thread makes of what was handed in.
+//! A desk hands the work of must-finish and asynchronous threads to clerks, one for each thread, which may work in
+//! threads of their own, and publishes what comes back. Whatever the clerks do, that is what one thread makes of it.
 #![tactic(auto)]
 
-pub mod laws;
-mod posts;
+mod clerk;
+mod desk;
+mod event;
+mod held;
+mod picked;
+mod places;
+mod post;
+mod rack;
+mod shut_post;
+mod stage;
+mod turns;
 
-pub use posts::{Job1, Posted, Posts};
+pub use clerk::Clerk;
+pub use desk::Desk;
+pub use event::Event;
+pub use held::Held;
+pub use picked::Picked;
+pub use places::{Place, Places};
+pub use post::Post;
+pub use rack::Rack;
+pub use shut_post::ShutPost;
+pub use stage::Stage;

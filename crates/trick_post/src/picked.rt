@@ -1,6 +1,6 @@
 //! What a clerk's pick comes to.
 ghost use Rattle.std.specs.Prelude.{◌≡◌};
-ghost use Rattle.trick_desk.specs.Answers.{was_got};
+ghost use Rattle.trick_post.specs.Answers.{was_got};
 
 /// What a clerk's pick comes to.
 #[derive(Clone, Copy, Debug, PartialEq, Eq)]

@@ -2,10 +2,10 @@
 
 ghost use Rattle.std.specs.List.{slice_index_or};
 ghost use Rattle.std.specs.Prelude.{◌≡◌, ◌≢◌, ◌<◌, All, IfOk, false, true, length, map};
-ghost use Rattle.trick_desk.specs.Histories.{fresh};
-ghost use Rattle.trick_desk.specs.Places.{IsPostAt, IsSwapped, PostView, is_ready, pick_of};
-ghost use Rattle.trick_desk.specs.declared.picked.Picked.TheVariants as picked;
-ghost use Rattle.trick_desk.specs.declared.stage.Stage.TheVariants as stage;
+ghost use Rattle.trick_post.specs.Histories.{fresh};
+ghost use Rattle.trick_post.specs.Places.{IsPostAt, IsSwapped, PostView, is_ready, pick_of};
+ghost use Rattle.trick_post.specs.declared.picked.Picked.TheVariants as picked;
+ghost use Rattle.trick_post.specs.declared.stage.Stage.TheVariants as stage;
 
 use crate::event::Event;
 use crate::picked::Picked;
@@ -14,7 +14,7 @@ use std::alloc::{AllocError, Global};
 use std::marker::{Model, PhantomData};
 use std::mem::swap;
 use trick_model::{Plan, Planned};
-use trick_tray::Parcel;
+use trick_post_trays::Parcel;
 use trick_turn::Keeps;
 
 /// The parcel that lies at a thread's place, and how far the thread's work is.
@@ -33,7 +33,7 @@ pub struct Places<P: Planned> {
 }
 
 impl<P: Planned> Model for Places<P> {
-    ghost use Rattle.trick_desk.specs.Places.{PostView};
+    ghost use Rattle.trick_post.specs.Places.{PostView};
 
     ghost Value = { PostView };
 
@@ -41,8 +41,8 @@ impl<P: Planned> Model for Places<P> {
 }
 
 impl<P: Planned> Keeps for Places<P> {
-    ghost use Rattle.trick_desk.specs.Histories.{seat_of};
-    ghost use Rattle.trick_desk.specs.Places.{Stands};
+    ghost use Rattle.trick_post.specs.Histories.{seat_of};
+    ghost use Rattle.trick_post.specs.Places.{Stands};
 
     type Entry = Event;
 

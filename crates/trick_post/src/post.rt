@@ -1,7 +1,7 @@
 //! How a post is made.
 ghost use Rattle.std.specs.Arc.{arc_value};
 ghost use Rattle.std.specs.Prelude.{◌≡◌, ◌<◌, [], All, IfOk, map};
-ghost use Rattle.trick_desk.specs.Clerks.{AreClerkPasses, clerked, has_clerk};
+ghost use Rattle.trick_post.specs.Clerks.{AreClerkPasses, clerked, has_clerk};
 ghost use Rattle.std.specs.Prelude.{filter};
 ghost use Rattle.trick_turn.specs.Passes.{own};
 
@@ -13,7 +13,7 @@ use crate::rack::Rack;
 use std::alloc::{AllocError, Global};
 use std::sync::{Arc, Wait};
 use trick_model::{Plan, Planned, process_of};
-use trick_tray::{Parcel, Worker};
+use trick_post_trays::{Parcel, Worker};
 use trick_turn::{Pass, TurnLock};
 
 // The numbers that threads may have.

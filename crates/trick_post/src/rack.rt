@@ -2,12 +2,12 @@
 ghost use Rattle.std.specs.Arc.{arc_value};
 ghost use Rattle.std.specs.List.{slice_index_or};
 ghost use Rattle.std.specs.Prelude.{◌≡◌, ◌<◌, IsSome, None, Some, false, true};
-ghost use Rattle.trick_desk.specs.Answers.{AsksAt, HasAdded, HasNothing, HasTakenBack, posted_of};
-ghost use Rattle.trick_desk.specs.Histories.{desk_seat, has_shut, started_in};
+ghost use Rattle.trick_post.specs.Answers.{AsksAt, HasAdded, HasNothing, HasTakenBack, posted_of};
+ghost use Rattle.trick_post.specs.Histories.{desk_seat, has_shut, started_in};
 ghost use Rattle.trick_model.specs.PlanOf.{plan_of};
-ghost use Rattle.trick_post.specs.Work.{CanStart};
-ghost use Rattle.trick_tray.specs.Outputs.{AreParcelsOf};
-ghost use Rattle.trick_tray.specs.Trays.{held_in};
+ghost use Rattle.trick_post_work.specs.Work.{CanStart};
+ghost use Rattle.trick_post_trays.specs.Outputs.{AreParcelsOf};
+ghost use Rattle.trick_post_trays.specs.Trays.{held_in};
 ghost use Rattle.trick_turn.specs.Passes.{IsPassOf, Rests, number_of, own};
 
 use crate::event::Event;
@@ -20,8 +20,8 @@ use std::alloc::Global;
 use std::marker::Brand;
 use std::sync::{Arc, Wait};
 use trick_model::{Planned, Taken};
-use trick_post::{Job1, Posted};
-use trick_tray::Parcel;
+use trick_post_work::{Job1, Posted};
+use trick_post_trays::Parcel;
 use trick_turn::{Nothing, Pass, TurnLock};
 
 /// A parcel for each thread, and the pass by which they are handed over and taken back. Each call waits for the turn

@@ -1,7 +1,7 @@
 //! A post that was shut.
 ghost use Rattle.std.specs.Arc.{arc_value};
 ghost use Rattle.std.specs.Prelude.{◌≡◌};
-ghost use Rattle.trick_desk.specs.Histories.{desk_seat};
+ghost use Rattle.trick_post.specs.Histories.{desk_seat};
 ghost use Rattle.trick_turn.specs.Passes.{IsPassOf, Rests, number_of, own, seen};
 ghost use mathlib.Core.List.{IsPrefix};
 

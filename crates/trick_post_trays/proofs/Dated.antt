@@ -9,8 +9,8 @@ use Rattle.trick_lang.specs.declared.fault.StatementFault.{StatementFault}
 use Rattle.trick_model.specs.FaultList.{FaultList, kept, with_fault, with_faults}
 use Rattle.trick_model.specs.Plan.{Plan}
 use Rattle.trick_model.specs.Running.{After, after_jobs, apply, outcome}
-use Rattle.trick_tray.proofs.Memories.{with_more}
-use Rattle.trick_tray.specs.Outputs.{dated, no_faults}
+use Rattle.trick_post_trays.proofs.Memories.{with_more}
+use Rattle.trick_post_trays.specs.Outputs.{dated, no_faults}
 
 -- ---- a fold at another tic
 

@@ -9,7 +9,7 @@ use Rattle.std.specs.Option.{IfSome, option_map}
 use Rattle.std.specs.Prelude.{Option, cond, map, replicate, slice_set}
 use Rattle.trick_cycle.specs.Due.{is_due_at}
 use Rattle.trick_eval.specs.Bench.{BenchView, IsFor, Parts}
-use Rattle.trick_job.specs.Belongs.{IsMemoryOf}
+use Rattle.trick_phase_jobs.specs.Belongs.{IsMemoryOf}
 use Rattle.trick_lang.specs.Access.{is_in}
 use Rattle.trick_lang.specs.Effect.{scalars_of, writes}
 use Rattle.trick_lang.specs.Laws.{WritesOnly}
@@ -30,19 +30,19 @@ use Rattle.trick_model.specs.ValidState.{AreNumbersOf}
 use Rattle.trick_model.specs.declared.flags.Flags.{Flags}
 use Rattle.trick_model.specs.declared.plan.Plan.{Plan as PlanValue}
 use Rattle.trick_model.specs.declared.thread.Thread.{Thread}
-use Rattle.trick_tray.proofs.Jobs.{IsScheduledOn, in_thread, jobs_by_number, scheduled_on, scope_by_number, started_thread, work_is, worker_in_line}
-use Rattle.trick_tray.proofs.Lists.{any_work, none_of_fewer}
-use Rattle.trick_tray.proofs.Memories.{fold_other, fold_same, not_in_scope, spread_other, written_is, zero_at}
-use Rattle.trick_tray.specs.Calendars.{has_work, line_work, scheduled_of}
-use Rattle.trick_tray.specs.Outputs.{IsOutcome, no_faults}
-use Rattle.trick_tray.specs.Scratch.{IsWritten, Numbers, cell_ids, cleared}
-use Rattle.trick_tray.specs.Trays.{AreSet, AreWrites, HasRun, IsLaidOut, IsTrayOf, IsWorkerOf, held_in, numbered}
-use Rattle.trick_tray.specs.declared.outputs.Outputs.{Outputs}
-use Rattle.trick_tray.specs.declared.tray.Tray.{Tray}
-use Rattle.trick_tray.specs.declared.worker.Worker.{Worker}
-use Rattle.trick_post.specs.Work.{CanStart, Started, finished, folded, jobs_at_work, publication, thread_at, tics_between}
-use Rattle.trick_post.specs.declared.posts.Job1.{Job1}
-use Rattle.trick_post.specs.declared.posts.Job1.TheVariants as work
+use Rattle.trick_post_trays.proofs.Jobs.{IsScheduledOn, in_thread, jobs_by_number, scheduled_on, scope_by_number, started_thread, work_is, worker_in_line}
+use Rattle.trick_post_trays.proofs.Lists.{any_work, none_of_fewer}
+use Rattle.trick_post_trays.proofs.Memories.{fold_other, fold_same, not_in_scope, spread_other, written_is, zero_at}
+use Rattle.trick_post_trays.specs.Calendars.{has_work, line_work, scheduled_of}
+use Rattle.trick_post_trays.specs.Outputs.{IsOutcome, no_faults}
+use Rattle.trick_post_trays.specs.Scratch.{IsWritten, Numbers, cell_ids, cleared}
+use Rattle.trick_post_trays.specs.Trays.{AreSet, AreWrites, HasRun, IsLaidOut, IsTrayOf, IsWorkerOf, held_in, numbered}
+use Rattle.trick_post_trays.specs.declared.outputs.Outputs.{Outputs}
+use Rattle.trick_post_trays.specs.declared.tray.Tray.{Tray}
+use Rattle.trick_post_trays.specs.declared.worker.Worker.{Worker}
+use Rattle.trick_post_work.specs.Work.{CanStart, Started, finished, folded, jobs_at_work, publication, thread_at, tics_between}
+use Rattle.trick_post_work.specs.declared.posts.Job1.{Job1}
+use Rattle.trick_post_work.specs.declared.posts.Job1.TheVariants as work
 use Rattle.trick_queue.specs.Line.{times_at}
 
 -- what was handed: numbers, flags and work

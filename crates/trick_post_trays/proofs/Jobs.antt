@@ -26,12 +26,12 @@ use Rattle.trick_model.specs.declared.taken.Taken.{Taken}
 use Rattle.trick_model.specs.declared.thread.Process.{Process}
 use Rattle.trick_model.specs.declared.thread.Process.TheVariants as process
 use Rattle.trick_model.specs.declared.thread.Thread.{Thread}
-use Rattle.trick_tray.proofs.Lists.{among_work, flat_same}
-use Rattle.trick_tray.specs.Calendars.{due_of, line_work, scheduled_of}
-use Rattle.trick_tray.specs.Trays.{AreThere, numbered}
-use Rattle.trick_post.specs.Work.{CanStart, IsKindOf, found_or_none, jobs_at_work, thread_at, tics_between}
-use Rattle.trick_post.specs.declared.posts.Job1.{Job1}
-use Rattle.trick_post.specs.declared.posts.Job1.TheVariants as work
+use Rattle.trick_post_trays.proofs.Lists.{among_work, flat_same}
+use Rattle.trick_post_trays.specs.Calendars.{due_of, line_work, scheduled_of}
+use Rattle.trick_post_trays.specs.Trays.{AreThere, numbered}
+use Rattle.trick_post_work.specs.Work.{CanStart, IsKindOf, found_or_none, jobs_at_work, thread_at, tics_between}
+use Rattle.trick_post_work.specs.declared.posts.Job1.{Job1}
+use Rattle.trick_post_work.specs.declared.posts.Job1.TheVariants as work
 use Rattle.trick_queue.proofs.Orders.{among_filter, filter_both, filter_order, filter_same, jobs_kept, numbers_are}
 use Rattle.trick_queue.proofs.Queued.{filter_few, ids_length, numbers_length, order_length}
 use Rattle.trick_queue.proofs.Trees.{below_or, past}

@@ -18,3 +18,5 @@ pub mod Trays
 pub mod Dated
 -- what is published of a parcel
 pub mod Publishing
+-- trays of which one is changed
+pub mod OneTrays

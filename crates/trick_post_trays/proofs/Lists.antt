@@ -7,7 +7,7 @@ use Rattle.std.specs.List.{list_any}
 use Rattle.std.specs.Prelude.{cond, filter, flat_map}
 use Rattle.trick_model.specs.Beside.{tics_from}
 use Rattle.trick_model.specs.Laws.{is_among}
-use Rattle.trick_post.specs.Work.{tics_between}
+use Rattle.trick_post_work.specs.Work.{tics_between}
 use Rattle.trick_queue.proofs.Trees.{same_or}
 
 -- ---- tests

@@ -20,8 +20,8 @@ use Rattle.trick_model.specs.Running.{After, after_jobs, apply, outcome}
 use Rattle.trick_model.specs.State.{number_at}
 use Rattle.trick_model.specs.declared.plan.Plan.{Plan as PlanValue}
 use Rattle.trick_model.specs.declared.thread.Thread.{Thread}
-use Rattle.trick_tray.proofs.Lists.{neither_left, neither_right}
-use Rattle.trick_tray.specs.Scratch.{IsWritten}
+use Rattle.trick_post_trays.proofs.Lists.{neither_left, neither_right}
+use Rattle.trick_post_trays.specs.Scratch.{IsWritten}
 use Rattle.trick_queue.proofs.Orders.{among_filter}
 use Rattle.trick_queue.proofs.Trees.{same_or}
 

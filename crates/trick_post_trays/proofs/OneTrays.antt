@@ -5,10 +5,10 @@ use Rattle.std.proofs.lemmas.List.{get_or-set_same, length-set}
 use Rattle.std.specs.List.{slice_index_or}
 use Rattle.std.specs.Option.{option_map}
 use Rattle.std.specs.Prelude.{IsSome, slice_set}
-use Rattle.trick_one_post.specs.Posting.{started_at}
-use Rattle.trick_tray.proofs.Finish.{handed}
-use Rattle.trick_tray.specs.Trays.{held_in}
-use Rattle.trick_tray.specs.declared.tray.Tray.{Tray}
+use Rattle.trick_post_trays.specs.Posting.{started_at}
+use Rattle.trick_post_trays.proofs.Finish.{handed}
+use Rattle.trick_post_trays.specs.Trays.{held_in}
+use Rattle.trick_post_trays.specs.declared.tray.Tray.{Tray}
 
 started_is : (trays : List Tray) (k : ℕ) (d : Tray) → k < length trays → started_at trays k ≡ held_in (slice_index_or trays k d)
 started_is [] k d less = absurd (omega arith)

@@ -7,7 +7,7 @@ use Rattle.std.specs.List.{list_any}
 use Rattle.std.specs.Option.{IfSome}
 use Rattle.std.specs.Prelude.{Option, cond, map, replicate, slice_set}
 use Rattle.trick_eval.specs.Bench.{BenchView, IsFor, Parts}
-use Rattle.trick_job.specs.Belongs.{IsMemoryOf}
+use Rattle.trick_phase_jobs.specs.Belongs.{IsMemoryOf}
 use Rattle.trick_lang.specs.Laws.{WritesOnly}
 use Rattle.trick_lang.specs.declared.fault.JobFault.{JobFault}
 use Rattle.trick_lang.specs.declared.range.CellRange.{CellRange}
@@ -25,20 +25,20 @@ use Rattle.trick_model.specs.ValidState.{AreNumbersOf}
 use Rattle.trick_model.specs.declared.flags.Flags.{Flags}
 use Rattle.trick_model.specs.declared.plan.Plan.{Plan as PlanValue}
 use Rattle.trick_model.specs.declared.thread.Thread.{Thread}
-use Rattle.trick_post.specs.Work.{Started, finished, folded, jobs_at_work, thread_at}
-use Rattle.trick_post.specs.declared.posts.Job1.{Job1}
-use Rattle.trick_tray.proofs.Dated.{fold_faults_at, fold_memory_at}
-use Rattle.trick_tray.proofs.Finish.{IsFinished, all_scheduled, handed, held_is, line_writes, published_is, same_numbers, spread_length, thread_number, wanted_of}
-use Rattle.trick_tray.proofs.Jobs.{in_thread, worker_in_line}
-use Rattle.trick_tray.proofs.Lists.{none_of_fewer}
-use Rattle.trick_tray.proofs.Memories.{not_in_scope, spread_other, zero_at}
-use Rattle.trick_tray.specs.Calendars.{line_work, scheduled_of}
-use Rattle.trick_tray.specs.Outputs.{IsOutcome, dated, no_faults}
-use Rattle.trick_tray.specs.Scratch.{IsWritten, Numbers, cell_ids, cleared}
-use Rattle.trick_tray.specs.Trays.{AreWrites, IsTrayOf, IsWorkerOf, held_in, numbered}
-use Rattle.trick_tray.specs.declared.outputs.Outputs.{Outputs}
-use Rattle.trick_tray.specs.declared.tray.Tray.{Tray}
-use Rattle.trick_tray.specs.declared.worker.Worker.{Worker}
+use Rattle.trick_post_work.specs.Work.{Started, finished, folded, jobs_at_work, thread_at}
+use Rattle.trick_post_work.specs.declared.posts.Job1.{Job1}
+use Rattle.trick_post_trays.proofs.Dated.{fold_faults_at, fold_memory_at}
+use Rattle.trick_post_trays.proofs.Finish.{IsFinished, all_scheduled, handed, held_is, line_writes, published_is, same_numbers, spread_length, thread_number, wanted_of}
+use Rattle.trick_post_trays.proofs.Jobs.{in_thread, worker_in_line}
+use Rattle.trick_post_trays.proofs.Lists.{none_of_fewer}
+use Rattle.trick_post_trays.proofs.Memories.{not_in_scope, spread_other, zero_at}
+use Rattle.trick_post_trays.specs.Calendars.{line_work, scheduled_of}
+use Rattle.trick_post_trays.specs.Outputs.{IsOutcome, dated, no_faults}
+use Rattle.trick_post_trays.specs.Scratch.{IsWritten, Numbers, cell_ids, cleared}
+use Rattle.trick_post_trays.specs.Trays.{AreWrites, IsTrayOf, IsWorkerOf, held_in, numbered}
+use Rattle.trick_post_trays.specs.declared.outputs.Outputs.{Outputs}
+use Rattle.trick_post_trays.specs.declared.tray.Tray.{Tray}
+use Rattle.trick_post_trays.specs.declared.worker.Worker.{Worker}
 
 -- ---- numbers that are read and laid out again
 

@@ -4,7 +4,7 @@ use Rattle.std.specs.Prelude.{ℤ, Bool}
 use Rattle.trick_model.specs.FaultList.{FaultList, with_faults}
 use Rattle.trick_model.specs.Plan.{Plan}
 use Rattle.trick_model.specs.Running.{after_jobs}
-use Rattle.trick_tray.proofs.Memories.{fold_faults, fold_memory}
+use Rattle.trick_post_trays.proofs.Memories.{fold_faults, fold_memory}
 
 -- what is left makes of what is there what all makes of the beginning
 pub rest_memory : (p : Plan) (on : ℕ → Bool) (tic : ℕ) (whole now rest : List ℕ) (numbers after : List ℤ) → whole ≡ now ++ rest

@@ -20,16 +20,16 @@ use Rattle.trick_model.specs.Valid.{ids}
 use Rattle.trick_model.specs.ValidState.{AreNumbersOf}
 use Rattle.trick_model.specs.declared.plan.Plan.{Plan as PlanValue}
 use Rattle.trick_model.specs.declared.taken.Taken.{Taken}
-use Rattle.trick_tray.proofs.Finish.{can_start, handed}
-use Rattle.trick_tray.proofs.Jobs.{jobs_by_number, of_thread, scope_by_number, started_thread}
+use Rattle.trick_post_trays.proofs.Finish.{can_start, handed}
+use Rattle.trick_post_trays.proofs.Jobs.{jobs_by_number, of_thread, scope_by_number, started_thread}
 use Rattle.trick_model.specs.declared.thread.Thread.{Thread}
-use Rattle.trick_tray.specs.Calendars.{IsCalendar, scheduled_of}
-use Rattle.trick_tray.specs.Scratch.{Numbers, cell_ids}
-use Rattle.trick_tray.specs.Trays.{AreTraysOf, IsTrayOf, IsWorkerOf, numbered}
-use Rattle.trick_tray.specs.declared.tray.Tray.{Tray}
-use Rattle.trick_tray.specs.declared.worker.Worker.{Worker}
-use Rattle.trick_post.specs.Work.{CanStart, thread_at}
-use Rattle.trick_post.specs.declared.posts.Job1.{Job1}
+use Rattle.trick_post_trays.specs.Calendars.{IsCalendar, scheduled_of}
+use Rattle.trick_post_trays.specs.Scratch.{Numbers, cell_ids}
+use Rattle.trick_post_trays.specs.Trays.{AreTraysOf, IsTrayOf, IsWorkerOf, numbered}
+use Rattle.trick_post_trays.specs.declared.tray.Tray.{Tray}
+use Rattle.trick_post_trays.specs.declared.worker.Worker.{Worker}
+use Rattle.trick_post_work.specs.Work.{CanStart, thread_at}
+use Rattle.trick_post_work.specs.declared.posts.Job1.{Job1}
 use Rattle.trick_queue.proofs.Trees.{same_or}
 
 -- ---- what is handed fits

@@ -23,11 +23,11 @@ use Rattle.trick_model.specs.State.{number_at}
 use Rattle.trick_model.specs.Valid.{ids}
 use Rattle.trick_model.specs.ValidState.{AreNumbersOf}
 use Rattle.trick_model.specs.declared.plan.Plan.{Plan as PlanValue}
-use Rattle.trick_tray.proofs.Finish.{wanted_of}
-use Rattle.trick_tray.specs.Calendars.{has_work}
-use Rattle.trick_tray.specs.Scratch.{AreStored, IsWritten, cell_ids}
-use Rattle.trick_tray.specs.Trays.{AreSet}
-use Rattle.trick_post.specs.declared.posts.Job1.{Job1}
+use Rattle.trick_post_trays.proofs.Finish.{wanted_of}
+use Rattle.trick_post_trays.specs.Calendars.{has_work}
+use Rattle.trick_post_trays.specs.Scratch.{AreStored, IsWritten, cell_ids}
+use Rattle.trick_post_trays.specs.Trays.{AreSet}
+use Rattle.trick_post_work.specs.declared.posts.Job1.{Job1}
 use Rattle.trick_queue.proofs.Trees.{same_or}
 use Rattle.trick_queue.specs.Line.{no_id}
 

@@ -8,10 +8,10 @@ use Rattle.trick_model.specs.Order.{jobs_in}
 use Rattle.trick_model.specs.Plan.{Plan, thread_of}
 use Rattle.trick_base.specs.Time.{tic_limit}
 use Rattle.trick_model.specs.declared.plan.Plan.{Plan as PlanValue}
-use Rattle.trick_tray.specs.declared.calendar.Calendar.{Calendar}
-use Rattle.trick_post.specs.Work.{tics_between}
-use Rattle.trick_post.specs.declared.posts.Job1.{Job1}
-use Rattle.trick_post.specs.declared.posts.Job1.TheVariants as work
+use Rattle.trick_post_trays.specs.declared.calendar.Calendar.{Calendar}
+use Rattle.trick_post_work.specs.Work.{tics_between}
+use Rattle.trick_post_work.specs.declared.posts.Job1.{Job1}
+use Rattle.trick_post_work.specs.declared.posts.Job1.TheVariants as work
 use Rattle.trick_queue.specs.Line.{AreNext, AreScheduled, times_at}
 
 -- the jobs of class scheduled on a thread, in key order

@@ -6,3 +6,5 @@ pub mod Scratch
 pub mod Trays
 -- What the work of a thread comes to, and the parcel in which it travels.
 pub mod Outputs
+-- What a value that does the work itself promises.
+pub mod Posting

@@ -10,10 +10,10 @@ use Rattle.trick_model.specs.Running.{After}
 use Rattle.trick_model.specs.State.{number_at}
 use Rattle.trick_model.specs.ValidState.{AreNumbersOf}
 use Rattle.trick_model.specs.declared.plan.Plan.{Plan as PlanValue}
-use Rattle.trick_post.specs.Work.{Started, folded, thread_at}
-use Rattle.trick_tray.specs.Trays.{IsTrayOf, numbered}
-use Rattle.trick_tray.specs.declared.outputs.Outputs.{Outputs}
-use Rattle.trick_tray.specs.declared.outputs.Parcel.{Parcel}
+use Rattle.trick_post_work.specs.Work.{Started, folded, thread_at}
+use Rattle.trick_post_trays.specs.Trays.{IsTrayOf, numbered}
+use Rattle.trick_post_trays.specs.declared.outputs.Outputs.{Outputs}
+use Rattle.trick_post_trays.specs.declared.outputs.Parcel.{Parcel}
 
 -- what a thread was handed comes to, with tic 0 at its faults
 abbrev pub outcome : PlanValue → ℕ → Started → After

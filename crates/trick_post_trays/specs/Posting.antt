@@ -3,14 +3,14 @@ use Rattle.std.proofs.Common.{refl, subst, sym, zero-le}
 use Rattle.std.specs.List.{slice_index_or}
 use Rattle.std.specs.Prelude.{◌≡◌, ℕ, suc, cond, List, [], ◌∷◌, ◌++◌, Option, None, map}
 use Rattle.trick_model.specs.declared.plan.Plan.{Plan as PlanValue}
-use Rattle.trick_tray.specs.Trays.{AreTraysOf, IsWorkerOf, held_in}
-use Rattle.trick_tray.specs.declared.tray.Tray.{Tray}
-use Rattle.trick_tray.specs.declared.worker.Worker.{Worker}
+use Rattle.trick_post_trays.specs.Trays.{AreTraysOf, IsWorkerOf, held_in}
+use Rattle.trick_post_trays.specs.declared.tray.Tray.{Tray}
+use Rattle.trick_post_trays.specs.declared.worker.Worker.{Worker}
 use Rattle.trick_outside.specs.Causes.{RoseBy}
-use Rattle.trick_post.specs.Polls.{Poll, is_ready, not_ready}
-use Rattle.trick_post.specs.Work.{Started}
-use Rattle.trick_post.specs.declared.posts.Posted.{Posted}
-use Rattle.trick_post.specs.declared.posts.Posted.TheVariants.{Ready}
+use Rattle.trick_post_work.specs.Polls.{Poll, is_ready, not_ready}
+use Rattle.trick_post_work.specs.Work.{Started}
+use Rattle.trick_post_work.specs.declared.posts.Posted.{Posted}
+use Rattle.trick_post_work.specs.declared.posts.Posted.TheVariants.{Ready}
 
 -- what is started and not finished, by the number of the thread
 abbrev pub started_at : List Tray → ℕ → Option Started

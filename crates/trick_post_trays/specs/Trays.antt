@@ -4,7 +4,7 @@ use Rattle.std.specs.Option.{IfSome, option_map}
 use Rattle.std.specs.Prelude.{◌≡◌, ℕ, ◌<◌, Bool, true, false, IsTrue, All, List, [], length, Option, None}
 use Rattle.trick_access.specs.Ranges.{AreCellsOf}
 use Rattle.trick_eval.specs.Bench.{IsFor}
-use Rattle.trick_job.specs.Belongs.{IsMemoryOf}
+use Rattle.trick_phase_jobs.specs.Belongs.{IsMemoryOf}
 use Rattle.trick_lang.specs.Effect.{scalars_of, writes}
 use Rattle.trick_lang.specs.declared.job.JobId.{JobId}
 use Rattle.trick_lang.specs.declared.range.CellRange.{CellRange}
@@ -20,11 +20,11 @@ use Rattle.trick_model.specs.declared.flags.Flags.{Flags}
 use Rattle.trick_model.specs.declared.plan.Plan.{Plan as PlanValue}
 use Rattle.trick_model.specs.declared.thread.Process.TheVariants as process
 use Rattle.trick_model.specs.declared.thread.Thread.{Thread}
-use Rattle.trick_tray.specs.Calendars.{IsCalendar, scheduled_of}
-use Rattle.trick_tray.specs.Scratch.{cell_ids, cleared}
-use Rattle.trick_tray.specs.declared.tray.Tray.{Tray}
-use Rattle.trick_tray.specs.declared.worker.Worker.{Worker}
-use Rattle.trick_post.specs.Work.{CanStart, Started}
+use Rattle.trick_post_trays.specs.Calendars.{IsCalendar, scheduled_of}
+use Rattle.trick_post_trays.specs.Scratch.{cell_ids, cleared}
+use Rattle.trick_post_trays.specs.declared.tray.Tray.{Tray}
+use Rattle.trick_post_trays.specs.declared.worker.Worker.{Worker}
+use Rattle.trick_post_work.specs.Work.{CanStart, Started}
 
 -- a thread of a number, whose jobs and cells are asked for
 abbrev pub numbered : ℕ → Thread

@@ -3,7 +3,7 @@
 ghost use Rattle.std.specs.Prelude.{◌≡◌, ◌+◌, ◌<◌, ◌≤◌, IfOk, length};
 ghost use Rattle.trick_base.specs.Time.{tic_limit};
 ghost use Rattle.trick_model.specs.Valid.{ids};
-ghost use Rattle.trick_tray.specs.Calendars.{IsCalendar, IsSet, due_of};
+ghost use Rattle.trick_post_trays.specs.Calendars.{IsCalendar, IsSet, due_of};
 ghost use Rattle.trick_queue.specs.Line.{AreScheduled};
 ghost use Rattle.trick_queue.specs.Tree.{IsLeast};
 

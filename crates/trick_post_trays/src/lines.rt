@@ -3,8 +3,8 @@
 ghost use Rattle.std.specs.Prelude.{◌≡◌, ◌==◌, ◌∷◌, ◌++◌, [], IfOk, cond};
 ghost use Rattle.trick_model.specs.PlanOf.{plan_of};
 ghost use Rattle.trick_model.specs.Valid.{ids};
-ghost use Rattle.trick_tray.specs.Calendars.{scheduled_of};
-ghost use Rattle.trick_tray.specs.Trays.{AreWrites};
+ghost use Rattle.trick_post_trays.specs.Calendars.{scheduled_of};
+ghost use Rattle.trick_post_trays.specs.Trays.{AreWrites};
 
 use std::alloc::{AllocError, Global};
 use trick_access::writes_in;

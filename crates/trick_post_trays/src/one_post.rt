@@ -1,13 +1,13 @@
 ghost use Rattle.std.specs.Arc.{arc_value};
 ghost use Rattle.std.specs.Prelude.{◌≡◌, ℕ, IfOk, None};
-ghost use Rattle.trick_one_post.specs.Posting.{AreParts, started_at};
+ghost use Rattle.trick_post_trays.specs.Posting.{AreParts, started_at};
 
 use std::alloc::{AllocError, Global};
 use std::sync::Arc;
 use trick_lang::Cells;
 use trick_model::{Accepted, Faults, Taken};
-use trick_post::{Job1, Posted, Posts};
-use trick_tray::{Tray, Worker};
+use trick_post_work::{Job1, Posted, Posts};
+use crate::{Tray, Worker};
 
 /// The work of must-finish and asynchronous threads on the caller's thread: each is done where it is to
 /// be published. A round is always ready.
@@ -39,7 +39,7 @@ impl OnePost {
 
 impl Posts for OnePost {
     ghost use Rattle.std.specs.Arc.{arc_value};
-    ghost use Rattle.trick_one_post.specs.Posting.{AllReady, none_late, ready_join, started_at};
+    ghost use Rattle.trick_post_trays.specs.Posting.{AllReady, none_late, ready_join, started_at};
 
     ghost plan = { λ post. (arc_value post.accepted).plan };
 

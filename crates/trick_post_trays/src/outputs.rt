@@ -3,7 +3,7 @@
 ghost use Rattle.std.specs.Prelude.{◌≡◌, IfOk, List, None, length, map, min};
 ghost use Rattle.trick_lang.specs.declared.fault.JobFault.{JobFault};
 ghost use Rattle.trick_model.specs.FaultList.{kept, with_faults};
-ghost use Rattle.trick_tray.specs.Outputs.{AreParcelsOf, IsParcelOf, dated, no_faults};
+ghost use Rattle.trick_post_trays.specs.Outputs.{AreParcelsOf, IsParcelOf, dated, no_faults};
 
 use crate::tray::{THREADS, Tray};
 use std::alloc::{AllocError, Global};

@@ -6,7 +6,7 @@ ghost use Rattle.trick_model.specs.Beside.{spread as spread_of};
 ghost use Rattle.trick_model.specs.ValidState.{AreNumbersOf};
 ghost use Rattle.trick_model.specs.Laws.{is_among};
 ghost use Rattle.trick_model.specs.State.{number_at};
-ghost use Rattle.trick_tray.specs.Scratch.{IsWritten, cell_ids, cleared};
+ghost use Rattle.trick_post_trays.specs.Scratch.{IsWritten, cell_ids, cleared};
 
 use std::alloc::{AllocError, Global};
 use std::marker::Model;
@@ -20,7 +20,7 @@ pub struct Scratch {
 }
 
 impl Model for Scratch {
-    ghost use Rattle.trick_tray.specs.Scratch.{AreStored, Numbers};
+    ghost use Rattle.trick_post_trays.specs.Scratch.{AreStored, Numbers};
 
     ghost Value = { Numbers };
 

@@ -2,17 +2,17 @@
 
 ghost use Rattle.std.specs.Prelude.{◌≡◌, ◌≤◌, IfOk, None, Some, length};
 ghost use Rattle.trick_model.specs.PlanOf.{plan_of};
-ghost use Rattle.trick_tray.specs.Trays.{AreEmptyTraysOf, IsTrayOf, held_in};
-ghost use Rattle.trick_post.specs.Work.{CanStart};
+ghost use Rattle.trick_post_trays.specs.Trays.{AreEmptyTraysOf, IsTrayOf, held_in};
+ghost use Rattle.trick_post_work.specs.Work.{CanStart};
 
 use crate::calendar::Calendar;
 use crate::lines::line;
 use std::alloc::{AllocError, Global};
 use trick_base::Items;
-use trick_chkpt::{jobs_of, scope};
+use trick_chkpt_printer::{jobs_of, scope};
 use trick_lang::{Cell, JobId};
 use trick_model::{Plan, Process, Taken, Thread};
-use trick_post::Job1;
+use trick_post_work::Job1;
 
 /// Threads go from 0 to 15.
 pub(crate) const THREADS: u8 = 16;

@@ -3,17 +3,17 @@
 ghost use Rattle.std.specs.Option.{IfSome};
 ghost use Rattle.std.specs.Prelude.{◌≡◌, ◌≤◌, IfOk, IsSome, None, length};
 ghost use Rattle.trick_eval.specs.Bench.{IsFor};
-ghost use Rattle.trick_job.specs.Belongs.{AreJobsOf, IsMemoryOf};
+ghost use Rattle.trick_phase_jobs.specs.Belongs.{AreJobsOf, IsMemoryOf};
 ghost use Rattle.trick_model.specs.Acceptance.{IsAccepted};
 ghost use Rattle.trick_model.specs.FaultList.{with_faults};
 ghost use Rattle.trick_model.specs.PlanOf.{plan_of};
 ghost use Rattle.trick_base.specs.Time.{tic_limit};
 ghost use Rattle.trick_model.specs.Valid.{ids};
-ghost use Rattle.trick_tray.specs.Calendars.{EndsInTime, IsCalendar, IsSet, line_work};
-ghost use Rattle.trick_tray.specs.Outputs.{IsOutcome, IsParcelOf};
-ghost use Rattle.trick_tray.specs.Trays.{AreSet, AreThere, HasRun, IsLaidOut, IsTrayOf, IsWorkerOf, held_in};
-ghost use Rattle.trick_post.specs.Work.{finished};
-ghost use Rattle.trick_post.specs.declared.posts.Job1.TheVariants as work;
+ghost use Rattle.trick_post_trays.specs.Calendars.{EndsInTime, IsCalendar, IsSet, line_work};
+ghost use Rattle.trick_post_trays.specs.Outputs.{IsOutcome, IsParcelOf};
+ghost use Rattle.trick_post_trays.specs.Trays.{AreSet, AreThere, HasRun, IsLaidOut, IsTrayOf, IsWorkerOf, held_in};
+ghost use Rattle.trick_post_work.specs.Work.{finished};
+ghost use Rattle.trick_post_work.specs.declared.posts.Job1.TheVariants as work;
 
 use crate::calendar::Calendar;
 use crate::lines::all_writes;
@@ -25,11 +25,11 @@ use std::alloc::{AllocError, Global};
 use trick_base::Items;
 use trick_cycle::laws::due_test_is_exact;
 use trick_eval::Bench;
-use trick_job::{Setting, run_jobs};
+use trick_phase_jobs::{Setting, run_jobs};
 use trick_lang::laws::write_law;
 use trick_lang::{CellRange, Cells, JobId};
 use trick_model::{Accepted, Faults, Flags, Plan};
-use trick_post::Job1;
+use trick_post_work::Job1;
 
 /// A bench, and a memory of its own. All of its buffers are made with it.
 #[derive(Drop)]

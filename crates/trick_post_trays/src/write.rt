@@ -4,15 +4,15 @@ ghost use Rattle.std.specs.List.{list_any, slice_index_or};
 ghost use Rattle.std.specs.Prelude.{◌≡◌, ◌&&◌, ◌<◌, ◌≤◌, [], IsTrue, length};
 ghost use Rattle.trick_access.specs.Ranges.{are_sorted};
 ghost use Rattle.trick_eval.specs.Bench.{covers};
-ghost use Rattle.trick_job.specs.Belongs.{IsMemoryOf};
+ghost use Rattle.trick_phase_jobs.specs.Belongs.{IsMemoryOf};
 ghost use Rattle.trick_lang.specs.Access.{is_in};
 ghost use Rattle.trick_lang.specs.Effect.{writes as writes_of};
 ghost use Rattle.trick_lang.specs.declared.class.Class.TheVariants as class;
 ghost use Rattle.trick_model.specs.Order.{is_of_class};
 ghost use Rattle.trick_model.specs.Valid.{ids};
-ghost use Rattle.trick_tray.specs.Calendars.{EndsInTime, has_work as has_work_of};
-ghost use Rattle.trick_tray.specs.Scratch.{IsWritten};
-ghost use Rattle.trick_tray.specs.Trays.{AreWrites};
+ghost use Rattle.trick_post_trays.specs.Calendars.{EndsInTime, has_work as has_work_of};
+ghost use Rattle.trick_post_trays.specs.Scratch.{IsWritten};
+ghost use Rattle.trick_post_trays.specs.Trays.{AreWrites};
 ghost use Rattle.trick_queue.specs.Line.{AreScheduled};
 
 use crate::scratch::Scratch;
@@ -20,7 +20,7 @@ use trick_base::Items;
 use trick_cycle::laws::due_test_is_exact;
 use trick_lang::{Cell, CellRange, Cells, JobId};
 use trick_model::Plan;
-use trick_post::Job1;
+use trick_post_work::Job1;
 use trick_queue::{next_of, times};
 
 // Writes the cells of a range.

@@ -11,9 +11,9 @@ use Rattle.trick_model.specs.declared.taken.Taken.{Taken}
 use Rattle.trick_model.specs.declared.thread.Process.{Process}
 use Rattle.trick_model.specs.declared.thread.Process.TheVariants as process
 use Rattle.trick_model.specs.declared.thread.Thread.{Thread}
-use Rattle.trick_post.specs.Laws.{IsFrameOf, IsPublished}
-use Rattle.trick_post.specs.Work.{publication, tics_between}
-use Rattle.trick_post.specs.declared.posts.Job1.TheVariants as kind
+use Rattle.trick_post_work.specs.Laws.{IsFrameOf, IsPublished}
+use Rattle.trick_post_work.specs.Work.{publication, tics_between}
+use Rattle.trick_post_work.specs.declared.posts.Job1.TheVariants as kind
 
 -- the jobs of these tics, in the order of tic and then of key
 abbrev due_in : Plan → Thread → Flags → List ℕ → List ℕ

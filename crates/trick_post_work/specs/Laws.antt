@@ -6,8 +6,8 @@ use Rattle.trick_model.specs.declared.flags.Flags.{Flags}
 use Rattle.trick_model.specs.declared.taken.Taken.{Taken}
 use Rattle.trick_model.specs.declared.thread.Process.TheVariants as process
 use Rattle.trick_model.specs.declared.thread.Thread.{Thread}
-use Rattle.trick_post.specs.Work.{publication}
-use Rattle.trick_post.specs.declared.posts.Job1.TheVariants as work
+use Rattle.trick_post_work.specs.Work.{publication}
+use Rattle.trick_post_work.specs.declared.posts.Job1.TheVariants as work
 
 -- The tics that a thread of this cycle works where it publishes at a tic: those of the cycle that ends
 -- there; at tic 0 none.

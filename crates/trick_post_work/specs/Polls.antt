@@ -1,7 +1,7 @@
 -- Whether the round of a thread was ready when it was asked for.
 use Rattle.std.specs.Prelude.{ℕ, suc, Bool, true, false, cond, List, [], ◌∷◌}
-use Rattle.trick_post.specs.declared.posts.Posted.{Posted}
-use Rattle.trick_post.specs.declared.posts.Posted.TheVariants.{Ready, NotYet}
+use Rattle.trick_post_work.specs.declared.posts.Posted.{Posted}
+use Rattle.trick_post_work.specs.declared.posts.Posted.TheVariants.{Ready, NotYet}
 
 -- A poll: the thread, the turn in which it was asked for, and the answer.
 pub record Poll : Type 0 where

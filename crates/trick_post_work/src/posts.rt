@@ -1,12 +1,12 @@
 ghost use Rattle.std.specs.Prelude.{◌≡◌, ◌≢◌, ℕ, ◌+◌, ◌≤◌, List, [], ◌∷◌, ◌++◌, IsSome, Option, Some, None};
-ghost use Rattle.trick_job.specs.Belongs.{IsMemoryOf};
+ghost use Rattle.trick_phase_jobs.specs.Belongs.{IsMemoryOf};
 ghost use Rattle.trick_model.specs.FaultList.{with_faults};
 ghost use Rattle.trick_model.specs.PlanOf.{plan_of};
 ghost use Rattle.trick_base.specs.Time.{tic_limit};
 ghost use Rattle.trick_model.specs.declared.plan.Plan.{Plan};
 ghost use Rattle.trick_outside.specs.Causes.{Rose, RoseBy};
-ghost use Rattle.trick_post.specs.Polls.{Poll, not_ready};
-ghost use Rattle.trick_post.specs.Work.{CanStart, finished, Started};
+ghost use Rattle.trick_post_work.specs.Polls.{Poll, not_ready};
+ghost use Rattle.trick_post_work.specs.Work.{CanStart, finished, Started};
 
 use trick_lang::Cells;
 use trick_model::{Faults, Taken};

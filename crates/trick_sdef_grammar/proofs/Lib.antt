@@ -8,3 +8,7 @@ mod BodyLimits
 mod Growing
 -- the grammar of files with larger limits
 mod FileLimits
+-- a grammar has no conflict exactly where it passes the test
+pub mod Conflicts
+-- the worked conflicts
+mod Named

@@ -6,3 +6,7 @@ pub mod FileProductions
 pub mod Larger
 -- the promises on limits
 pub mod Promises
+-- the grammars of the readers
+pub mod Readers
+-- worked conflicts, one of each kind
+pub mod Named

@@ -8,3 +8,5 @@ pub mod RefusedBodies
 pub mod ReadFiles
 -- worked simulation definitions that are refused
 pub mod RefusedFiles
+-- worked trees that pass the tests, and such that fail
+pub mod Worked

@@ -1,5 +1,6 @@
 //! The worked texts. Each function is a promise, and does nothing.
 
+ghost use Rattle.trick_sdef_worked.specs.Worked.{AreTold};
 ghost use Rattle.trick_sdef_worked.specs.ReadBodies.{BodiesAreRead};
 ghost use Rattle.trick_sdef_worked.specs.ReadFiles.{FilesAreRead};
 ghost use Rattle.trick_sdef_worked.specs.RefusedBodies.{BodiesAreRefused};
@@ -25,4 +26,9 @@ pub fn worked_files_are_read()
 /// The worked simulation definitions are refused, each at its place and for its reason.
 pub fn worked_files_are_refused()
     ensures { FilesAreRefused }
+{}
+
+/// Worked trees pass the tests and fail them.
+pub fn worked_trees_are_told()
+    ensures { AreTold }
 {}

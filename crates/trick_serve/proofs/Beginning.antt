@@ -4,7 +4,7 @@ use Rattle.std.specs.FinMap.{get}
 use Rattle.std.specs.Prelude.{Result}
 use Rattle.trick_base.proofs.Numbers.{none_below_zero}
 use Rattle.trick_base.specs.Files.{Files}
-use Rattle.trick_headline.specs.Clients.{WereSent}
+use Rattle.trick_serve_headline.specs.Clients.{WereSent}
 use Rattle.trick_model.specs.Files.{journal_name, messages_to, run_writes, turns_said}
 use Rattle.trick_model.specs.Plan.{Plan}
 use Rattle.trick_model.specs.Run.{opened}
@@ -13,12 +13,12 @@ use Rattle.trick_outside.proofs.DoesLemmas.{does_none}
 use Rattle.trick_outside.specs.declared.shelf.Shelf.{Ghosts as ShelfGhosts}
 use Rattle.trick_outside.specs.declared.stop.Stop.TheVariants.{Memory}
 use Rattle.trick_outside.specs.declared.stop.Stop.{Stop}
-use Rattle.trick_run_facts.specs.Left.{Left, untouched}
-use Rattle.trick_serial.specs.declared.summary.Summary.{Summary}
+use Rattle.trick_exec_laws.specs.Left.{Left, untouched}
+use Rattle.trick_exec_alone.specs.declared.summary.Summary.{Summary}
 use Rattle.trick_serve_door.specs.Taking.{Hosts}
-use Rattle.trick_serve_run.specs.Served.{HasServedRun, IsStoppedServed}
-use Rattle.trick_serve_run.specs.Serving.{moment, outside}
-use Rattle.trick_tic.specs.Steps.{steps_of}
+use Rattle.trick_serve.specs.Served.{HasServedRun, IsStoppedServed}
+use Rattle.trick_serve.specs.Serving.{moment, outside}
+use Rattle.trick_exec_tic.specs.Steps.{steps_of}
 
 none_at : {A : Type 0} (k : ℕ) (item : A) → (let none : List A = [] in slice_get none k ≡ Some item) → ⊥
 none_at k item is = cc

@@ -3,13 +3,13 @@ use Rattle.std.proofs.Common.{◌≡◌, ◌∙◌, ℕ, zero, suc, ◌+◌, Lis
 use Rattle.std.proofs.lemmas.List.Sums.{sum_by-cons}
 use Rattle.std.proofs.lemmas.List.{length-append}
 use Rattle.std.specs.Prelude.{cond, count_by}
-use Rattle.trick_line_facts.specs.Silence.{newcomers}
+use Rattle.trick_model_sessions.specs.Silence.{newcomers}
 use Rattle.trick_model.specs.declared.entry.Entry.{Entry}
 use Rattle.trick_model.specs.declared.entry.Entry.TheVariants.{Join, Said, Leave, Publish}
 use Rattle.trick_serve_facts.proofs.Joins.{joins_join}
 use Rattle.trick_serve_facts.specs.Joins.{numbers_from}
 use Rattle.trick_serve_facts.specs.Serves.{all_entries}
-use Rattle.trick_turns.specs.Joins.{is_join, joins_of}
+use Rattle.trick_exec_sources.specs.Joins.{is_join, joins_of}
 
 count_more : (entry : Entry) (entries : List Entry) → count_by is_join (entry ∷ entries) ≡ cond (is_join entry) 1 0 + count_by is_join entries
 count_more entry entries = sum_by-cons (λ (e : Entry). cond (is_join e) 1 0) entry entries

@@ -1,16 +1,16 @@
 -- A run was served, also from a spawner on that others had asked before.
 use Rattle.std.proofs.Common.{ℕ, ◌≤◌, List, Ok, Err, arith}
 use Rattle.std.specs.Prelude.{Result}
-use Rattle.trick_headline.specs.Clients.{ServesClients}
+use Rattle.trick_serve_headline.specs.Clients.{ServesClients}
 use Rattle.trick_model.specs.Plan.{Plan}
 use Rattle.trick_model.specs.State.{State}
 use Rattle.trick_model.specs.declared.entry.Entry.{Entry}
 use Rattle.trick_outside.specs.Causes.{RoseBy}
 use Rattle.trick_outside.specs.declared.stop.Stop.{Stop}
-use Rattle.trick_serial.specs.declared.summary.Summary.{Summary}
+use Rattle.trick_exec_alone.specs.declared.summary.Summary.{Summary}
 use Rattle.trick_serve_door.specs.Taking.{Hosts}
-use Rattle.trick_serve_run.specs.Served.{HasServedRun, IsStoppedServed, IsWholeServed}
-use Rattle.trick_serve_run.specs.Serving.{Moment, Outside, moment}
+use Rattle.trick_serve.specs.Served.{HasServedRun, IsStoppedServed, IsWholeServed}
+use Rattle.trick_serve.specs.Serving.{Moment, Outside, moment}
 
 -- the count had risen by as much before it rose once more
 rose_before : (first before count now : ℕ) → first ≤ before → RoseBy before count now → RoseBy first count now

@@ -1,20 +1,12 @@
--- What happens to a session, one thing after another.
-pub mod Living
--- Which client a seat is of, as seats change.
-pub mod Seating
--- What is told of the sessions that left.
-pub mod Leaving
--- Places of sessions.
-pub mod Placing
--- The rules of entries, as a list grows.
-pub mod Keeping
--- A list that is gathered from many sessions.
-pub mod Gathering
--- What a look at the clients came to.
-pub mod Looking
--- To which sessions no message was left out.
-pub mod Quick
--- Sessions that are not to leave as long as nothing comes of them.
-pub mod Calm
--- Answers that are no gap.
-pub mod Gaps
+-- A run that came to its end may be told as one that stopped for want of memory.
+pub mod Stopping
+-- What a run says, of a source of entries that is seen as its clients.
+pub mod Turning
+-- As many sessions join in a served run as have seats.
+pub mod Counting
+-- What a served run comes to, by what its run says and what became of its clients.
+pub mod Results
+-- A served run that could not begin.
+pub mod Beginning
+-- A run was served, also from a spawner on that others had asked before.
+pub mod Earlier

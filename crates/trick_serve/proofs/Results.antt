@@ -3,7 +3,7 @@ use Rattle.std.proofs.Common.{◌≡◌, Bool, true, false, List, [], Ok, Err, l
 use Rattle.std.proofs.lemmas.Bool.{false≢true}
 use Rattle.std.specs.Prelude.{◌&&◌, not, Result}
 use Rattle.trick_exec.specs.declared.ended.Ended.{Ended as EndedValue}
-use Rattle.trick_headline.specs.Tended.{SentToClients, ServesTended}
+use Rattle.trick_serve_headline.specs.Tended.{SentToClients, ServesTended}
 use Rattle.trick_model.specs.Plan.{Plan}
 use Rattle.trick_model.specs.Run.{opened}
 use Rattle.trick_model.specs.Session.{Message}
@@ -13,27 +13,27 @@ use Rattle.trick_outside.proofs.DoesLemmas.{does_fail}
 use Rattle.trick_outside.specs.declared.shelf.Shelf.{Ghosts as ShelfGhosts}
 use Rattle.trick_outside.specs.declared.stop.Stop.TheVariants.{Memory}
 use Rattle.trick_outside.specs.declared.stop.Stop.{Stop}
-use Rattle.trick_post.specs.declared.posts.Posts.{Ghosts as PostsGhosts}
-use Rattle.trick_run_facts.specs.Stopping.{StopsLeave}
-use Rattle.trick_run_facts.specs.Waiting.{RoundsAreBounded}
-use Rattle.trick_runs.specs.Hosts.{Place, hosts}
-use Rattle.trick_runs.specs.Ran.{Ran, Stopped}
-use Rattle.trick_serial.specs.declared.summary.Summary.{Summary}
-use Rattle.trick_serve.specs.Calls.{View, Went}
+use Rattle.trick_post_work.specs.declared.posts.Posts.{Ghosts as PostsGhosts}
+use Rattle.trick_exec_laws.specs.Stopping.{StopsLeave}
+use Rattle.trick_exec_laws.specs.Waiting.{RoundsAreBounded}
+use Rattle.trick_exec_meaning.specs.Hosts.{Place, hosts}
+use Rattle.trick_exec_meaning.specs.Ran.{Ran, Stopped}
+use Rattle.trick_exec_alone.specs.declared.summary.Summary.{Summary}
+use Rattle.trick_serve_source.specs.Calls.{View, Went}
 use Rattle.trick_serve_clients.specs.Tended.{HasTended}
 use Rattle.trick_serve_clients.specs.declared.closing.Closed.{Closed}
 use Rattle.trick_serve_door.specs.Taking.{Hosts as DoorHosts}
 use Rattle.trick_serve_facts.specs.Joins.{JoinsAreInOrder}
-use Rattle.trick_serve_run.proofs.Counting.{joins_counted}
-use Rattle.trick_serve_run.proofs.Stopping.{ran_stops}
-use Rattle.trick_serve_run.proofs.Turning.{ran_chosen, ran_right, stopped_right, stopped_went, was_served}
-use Rattle.trick_serve_run.specs.Ending.{concluded}
-use Rattle.trick_serve_run.specs.Ran.{HasRun}
-use Rattle.trick_serve_run.specs.Served.{HasServedRun, IsStoppedServed, IsWholeServed}
-use Rattle.trick_serve_run.specs.Serving.{Outside, moment, outside}
-use Rattle.trick_turns.specs.Joins.{joins_of}
-use Rattle.trick_turns.specs.Turns.{Answer}
-use Rattle.trick_turns.specs.declared.turns.Turns.{Ghosts as TurnsGhosts}
+use Rattle.trick_serve.proofs.Counting.{joins_counted}
+use Rattle.trick_serve.proofs.Stopping.{ran_stops}
+use Rattle.trick_serve.proofs.Turning.{ran_chosen, ran_right, stopped_right, stopped_went, was_served}
+use Rattle.trick_serve.specs.Ending.{concluded}
+use Rattle.trick_serve.specs.Ran.{HasRun}
+use Rattle.trick_serve.specs.Served.{HasServedRun, IsStoppedServed, IsWholeServed}
+use Rattle.trick_serve.specs.Serving.{Outside, moment, outside}
+use Rattle.trick_exec_sources.specs.Joins.{joins_of}
+use Rattle.trick_exec_sources.specs.Turns.{Answer}
+use Rattle.trick_exec_sources.specs.declared.turns.Turns.{Ghosts as TurnsGhosts}
 
 -- there was memory all along
 all_whole : (broke lacked : Bool) → (not broke && not lacked) ≡ true → (broke ≡ false) × (lacked ≡ false)

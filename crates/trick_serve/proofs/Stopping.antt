@@ -12,14 +12,14 @@ use Rattle.trick_outside.specs.Calls.{Call}
 use Rattle.trick_outside.specs.Does.{IsPartOf}
 use Rattle.trick_outside.specs.declared.stop.Stop.TheVariants.{Memory}
 use Rattle.trick_outside.specs.declared.stop.Stop.{Stop}
-use Rattle.trick_runs.proofs.DidLemmas.{did_as}
-use Rattle.trick_runs.proofs.Goes.{goes_paid}
-use Rattle.trick_runs.specs.Chosen.{of_all}
-use Rattle.trick_runs.specs.Hosts.{Hosts, Place}
-use Rattle.trick_runs.specs.Ran.{Ran, Stopped, last_answer}
-use Rattle.trick_runs.specs.Stops.{StopsAt, at_end}
-use Rattle.trick_tic.proofs.StepLemmas.{steps_of-append}
-use Rattle.trick_tic.specs.Steps.{steps_of}
+use Rattle.trick_exec_meaning.proofs.DidLemmas.{did_as}
+use Rattle.trick_exec_meaning.proofs.Goes.{goes_paid}
+use Rattle.trick_exec_meaning.specs.Chosen.{of_all}
+use Rattle.trick_exec_meaning.specs.Hosts.{Hosts, Place}
+use Rattle.trick_exec_meaning.specs.Ran.{Ran, Stopped, last_answer}
+use Rattle.trick_exec_meaning.specs.Stops.{StopsAt, at_end}
+use Rattle.trick_exec_tic.proofs.StepLemmas.{steps_of-append}
+use Rattle.trick_exec_tic.specs.Steps.{steps_of}
 
 -- the calls of a run are those before its last files, and those of its last files
 two_parts : (p : Plan) (s : State) (lists : List (List Entry))

@@ -9,22 +9,22 @@ use Rattle.trick_model.specs.State.{State, World}
 use Rattle.trick_model.specs.Turn.{is_frozen}
 use Rattle.trick_model.specs.declared.entry.Entry.{Entry}
 use Rattle.trick_outside.specs.declared.stop.Stop.{Stop}
-use Rattle.trick_post.specs.Polls.{Poll}
-use Rattle.trick_runs.specs.Answers.{IsSuccession, answers, no_more}
-use Rattle.trick_runs.specs.Hosts.{Hosts, Place}
-use Rattle.trick_runs.specs.Ran.{Handed, Ran, Stopped, last_answer}
-use Rattle.trick_runs.specs.Rounds.{AreChosen}
-use Rattle.trick_runs.specs.Turned.{Asks}
-use Rattle.trick_serial.specs.declared.summary.Summary.{Summary}
-use Rattle.trick_serve.specs.Calls.{View, Went}
-use Rattle.trick_serve.specs.Rolls.{ways_of}
-use Rattle.trick_serve.specs.declared.served.Served.{Served}
+use Rattle.trick_post_work.specs.Polls.{Poll}
+use Rattle.trick_exec_meaning.specs.Answers.{IsSuccession, answers, no_more}
+use Rattle.trick_exec_meaning.specs.Hosts.{Hosts, Place}
+use Rattle.trick_exec_meaning.specs.Ran.{Handed, Ran, Stopped, last_answer}
+use Rattle.trick_exec_meaning.specs.Rounds.{AreChosen}
+use Rattle.trick_exec_meaning.specs.Turned.{Asks}
+use Rattle.trick_exec_alone.specs.declared.summary.Summary.{Summary}
+use Rattle.trick_serve_source.specs.Calls.{View, Went}
+use Rattle.trick_serve_source.specs.Rolls.{ways_of}
+use Rattle.trick_serve_source.specs.declared.served.Served.{Served}
 use Rattle.trick_serve_door.specs.declared.arrival.Comes.{Comes}
 use Rattle.trick_serve_door.specs.declared.departure.Departure.{Departure}
 use Rattle.trick_serve_facts.proofs.Tales.{handed_serves}
 use Rattle.trick_serve_facts.specs.Serves.{GiveNothing, IsServedRun}
-use Rattle.trick_serve_run.specs.Ran.{HasRun}
-use Rattle.trick_turns.specs.Turns.{Answer}
+use Rattle.trick_serve.specs.Ran.{HasRun}
+use Rattle.trick_exec_sources.specs.Turns.{Answer}
 use Rattle.trick_wire.specs.Ends.{AreEnds}
 use Rattle.trick_wire.specs.declared.queue.Putter.{Putter}
 use Rattle.trick_wire.specs.declared.queue.Taker.{Taker}

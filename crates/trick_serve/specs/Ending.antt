@@ -2,7 +2,7 @@
 use Rattle.std.specs.Prelude.{Bool, true, false, Ok, Err, Result}
 use Rattle.trick_outside.specs.declared.stop.Stop.TheVariants.{Memory}
 use Rattle.trick_outside.specs.declared.stop.Stop.{Stop}
-use Rattle.trick_serial.specs.declared.summary.Summary.{Summary}
+use Rattle.trick_exec_alone.specs.declared.summary.Summary.{Summary}
 
 -- A run that came to its end has stopped for want of memory all the same, where there was none for its clients.
 abbrev pub concluded : Result Summary Stop → Bool → Result Summary Stop

@@ -6,10 +6,10 @@ use Rattle.trick_model.specs.Run.{final}
 use Rattle.trick_model.specs.State.{State}
 use Rattle.trick_model.specs.declared.entry.Entry.{Entry}
 use Rattle.trick_outside.specs.declared.stop.Stop.{Stop}
-use Rattle.trick_runs.specs.Hosts.{Hosts, Place}
-use Rattle.trick_runs.specs.Ran.{Ran, Stopped}
-use Rattle.trick_serial.specs.Serial.{summary_of}
-use Rattle.trick_serial.specs.declared.summary.Summary.{Summary}
+use Rattle.trick_exec_meaning.specs.Hosts.{Hosts, Place}
+use Rattle.trick_exec_meaning.specs.Ran.{Ran, Stopped}
+use Rattle.trick_exec_alone.specs.Serial.{summary_of}
+use Rattle.trick_exec_alone.specs.declared.summary.Summary.{Summary}
 
 -- A run from a state came to its end, and this is said of its last state; or it stopped. `D` is the type of its memory.
 abbrev pub HasRun : {S U M Q : Type 0} → Type 0 → Hosts S U M Q → Plan → State → Place S U Q → Place S U Q

@@ -1,8 +1,8 @@
 -- What a served run comes to.
 use Rattle.std.specs.Prelude.{◌≡◌, ℕ, false, List, ◌++◌, Some, Ok, Err, Result}
 use Rattle.trick_base.specs.Files.{Files}
-use Rattle.trick_headline.specs.Clients.{WereSent}
-use Rattle.trick_headline.specs.Headline.{ServesWhole}
+use Rattle.trick_serve_headline.specs.Clients.{WereSent}
+use Rattle.trick_serve_headline.specs.Headline.{ServesWhole}
 use Rattle.trick_model.specs.Files.{messages_to, run_writes, turns_said}
 use Rattle.trick_model.specs.Plan.{Plan}
 use Rattle.trick_model.specs.Run.{final, opened}
@@ -11,13 +11,13 @@ use Rattle.trick_model.specs.State.{State}
 use Rattle.trick_model.specs.declared.entry.Entry.{Entry}
 use Rattle.trick_outside.specs.Does.{Does}
 use Rattle.trick_outside.specs.declared.stop.Stop.{Stop}
-use Rattle.trick_run_facts.specs.Left.{Left}
-use Rattle.trick_runs.specs.Answers.{IsSuccession}
-use Rattle.trick_serial.specs.Serial.{summary_of}
-use Rattle.trick_serial.specs.declared.summary.Summary.{Summary}
-use Rattle.trick_serve_run.specs.Serving.{Moment, Outside}
-use Rattle.trick_tic.specs.Steps.{steps_of}
-use Rattle.trick_turns.specs.Joins.{joins_of}
+use Rattle.trick_exec_laws.specs.Left.{Left}
+use Rattle.trick_exec_meaning.specs.Answers.{IsSuccession}
+use Rattle.trick_exec_alone.specs.Serial.{summary_of}
+use Rattle.trick_exec_alone.specs.declared.summary.Summary.{Summary}
+use Rattle.trick_serve.specs.Serving.{Moment, Outside}
+use Rattle.trick_exec_tic.specs.Steps.{steps_of}
+use Rattle.trick_exec_sources.specs.Joins.{joins_of}
 
 -- A run from a state was served to its end under these lists: the joins, lines and leaves are those of its clients, each
 -- of which was served, and the publications were chosen by polls. All that the run on one thread writes under these

@@ -1,24 +1,24 @@
 //! The run of a plan by a source of entries that tells no journal.
 
 ghost use Rattle.std.specs.Prelude.{◌≡◌, None, false};
-ghost use Rattle.trick_beside.specs.Flight.{IsFree};
-ghost use Rattle.trick_job.specs.Belongs.{IsMemoryOf};
+ghost use Rattle.trick_exec_posts.specs.Flight.{IsFree};
+ghost use Rattle.trick_phase_jobs.specs.Belongs.{IsMemoryOf};
 ghost use Rattle.trick_model.specs.PlanOf.{plan_of};
 ghost use Rattle.trick_model.specs.State.{seen};
 ghost use Rattle.trick_model.specs.ValidState.{IsStateOf};
-ghost use Rattle.trick_runs.specs.Hosts.{at, hosts};
-ghost use Rattle.trick_serve_run.specs.Ran.{HasRun};
-ghost use Rattle.trick_turns.specs.Turns.{no_sessions};
+ghost use Rattle.trick_exec_meaning.specs.Hosts.{at, hosts};
+ghost use Rattle.trick_serve.specs.Ran.{HasRun};
+ghost use Rattle.trick_exec_sources.specs.Turns.{no_sessions};
 
 use trick_exec::{Start, run};
 use trick_lang::Cells;
 use trick_model::Accepted;
 use trick_outside::{Shelf, Stop};
-use trick_phase::Phases;
-use trick_post::Posts;
-use trick_serial::{Summary, summary_of};
-use trick_tic::Workers;
-use trick_turns::Turns;
+use trick_phase_jobs::Phases;
+use trick_post_work::Posts;
+use trick_exec_alone::{Summary, summary_of};
+use trick_exec_tic::Workers;
+use trick_exec_sources::Turns;
 
 /// Runs an accepted plan from a state by these workers, who have nothing in flight, over a source of entries that has
 /// given nothing yet and tells no journal, until the run is over. It writes the files of the run, and where it stops a

@@ -1,20 +1,13 @@
-//! The served run: the source of entries of a run with clients. Any number of sessions come and go; what their readers
-//! put into their inboxes is given to the run, and what the run says to them goes into their outboxes.
+//! The served run: the whole run of an accepted plan by threads, with clients. Whatever workers, readers, writers and
+//! the acceptor do, it comes to the files of the run on one thread under the lists that the clients gave.
+//! `docs/RULES.md` has the rules of a served run and `docs/FORMATS.md` its files.
 #![tactic(auto)]
 
-mod asks;
-mod calls;
-mod clients;
-mod entries;
-mod hang_up;
-mod hear;
-mod here;
-mod roll;
-mod seat;
-mod send;
+mod by_source;
 mod served;
+mod serving;
+mod tally;
+mod workers;
 
-pub use here::ServedHere;
-pub use roll::Roll;
-pub use seat::Seat;
-pub use served::{Finished, Served};
+pub use served::serve;
+pub use serving::{Service, Serving};

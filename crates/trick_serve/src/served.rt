@@ -1,84 +1,229 @@
-//! The source of entries of a run with clients.
+//! The served run, from the first client to the last link.
 
-ghost use Rattle.std.specs.Prelude.{◌≡◌, ◌+◌, ◌≤◌, [], false, length, not, true};
-ghost use Rattle.trick_serve.specs.Clients.{AreOfClients, IsLast, IsSilent, has_lack};
-ghost use Rattle.trick_serve.specs.Rules.{AreSeated};
-ghost use Rattle.trick_serve_door.specs.Departures.{left_of};
-ghost use Rattle.trick_wire.specs.Ends.{put_by, taken_by};
+ghost use Rattle.std.specs.Arc.{arc_value};
+ghost use Rattle.std.specs.Prelude.{◌≡◌, Err, Some};
+ghost use Rattle.trick_exec_posts.specs.Flight.{IsFree};
+ghost use Rattle.trick_phase_jobs.specs.Belongs.{IsMemoryOf};
+ghost use Rattle.trick_model.specs.PlanOf.{plan_of};
+ghost use Rattle.trick_model.specs.State.{seen};
+ghost use Rattle.trick_model.specs.ValidState.{IsStateOf};
+ghost use Rattle.trick_outside.specs.declared.stop.Stop.TheVariants.{Memory as WantOfMemory};
+ghost use Rattle.trick_serve_door.specs.Taking.{hosts};
+ghost use Rattle.trick_serve.specs.Served.{HasServedRun};
+ghost use Rattle.trick_serve.specs.Serving.{moment, outside};
 
-use crate::{Roll, Seat};
+use crate::by_source::run_by;
+use crate::serving::{Reception, Service, Serving};
+use crate::tally::{service_of, tally_of};
+use crate::workers::{crew_of, has_children};
 use std::alloc::Global;
-use std::sync::Arc;
-use trick_serve_door::{Comes, Departure};
-use trick_turn::Bell;
-use trick_wire::{Putter, Taker};
+use std::marker::Brand;
+use std::sync::{Arc, Wait};
+use std::thread::Threads;
+use trick_crew::WholeCrew;
+use trick_exec::Start;
+use trick_serve_headline::laws::{tended_clients_are_sent, tended_clients_are_served};
+use trick_lang::Cells;
+use trick_memory::Memory;
+use trick_model::{Accepted, Planned, State};
+use trick_outside::{Door, Gate, Shelf, Spawner, Stop};
+use trick_phase_jobs::Phases;
+use trick_post_work::Posts;
+use trick_exec_laws::laws::{rounds_are_bounded, stopped_runs_leave_fronts};
+use trick_exec_alone::one_thread;
+use trick_serve_source::{Served, ServedHere};
+use trick_serve_clients::{Opened, close_clients, close_here, open_clients};
+use trick_serve_facts::laws::joins_are_in_order;
+use trick_exec_tic::Workers;
 
-/// The clients of a run as its source of entries.
-#[derive(Drop)]
-pub struct Served<I, O, R> {
-    pub(crate) rt: R,
-    pub(crate) alloc: Global,
-    // Rung by readers, writers and the acceptor.
-    pub(crate) bell: Arc<Bell>,
-    pub(crate) roll: Roll,
-    // The sessions that can be sent messages.
-    pub(crate) reached: Vec<u32>,
-    // The clients that come.
-    pub(crate) coming: Taker<Comes<I, O>>,
-    // The numbers of those that left.
-    pub(crate) gone: Putter<Departure>,
-    // It was heard whether the door gave a client at once.
-    pub(crate) asked: bool,
-    // No client comes any more.
-    pub(crate) over: bool,
-    // There was no memory once.
-    pub(crate) broke: bool,
-    // The door was heard, and nothing came at the last look for a list.
-    pub(crate) idle: bool,
-    // The mark of the bell before that look.
-    pub(crate) mark: u64,
-    // Something had come of the door before its first client.
-    pub(crate) silent: bool,
-    // Session n is of the n-th client that was taken of those that come.
-    ghost clients: { AreOfClients (taken_by coming) roll.seats.items },
-    // That no client comes any more has its reason.
-    ghost last: { over ≡ true → IsLast (taken_by coming) roll.seats.items },
-    ghost reach: { AreSeated reached.items roll.seats.items },
-    // What came first was no client.
-    ghost first: { silent ≡ true → IsSilent (taken_by coming) },
-    // Where the door was heard and gave no client, something else had come of it.
-    ghost quiet: { asked ≡ true → roll.seats.items ≡ [] → silent ≡ true },
-    // A look at which nothing came was one after the door was heard, with memory.
-    ghost calm: { idle ≡ true → (asked ≡ true) × (broke ≡ false) },
-    // Nor did it come that there was no memory.
-    ghost memory: { broke ≡ false → has_lack (taken_by coming) ≡ false },
-    // Those of which it was told that they left are live no more.
-    ghost departed: { left_of (put_by gone) + length roll.live.items ≤ length roll.seats.items },
+// A run that could not begin, for want of memory.
+fn not_begun<D, S>(door: D, spawner: S) -> Service<D, S>
+    ensures { result ≡ record { ended = Err WantOfMemory; sessions = 0; door = door; spawner = spawner } }
+{
+    Service {
+        ended: Err(Stop::Memory),
+        sessions: 0,
+        door,
+        spawner,
+    }
 }
 
-/// What a source of entries hands out at the end of a run.
-#[derive(Drop)]
-pub struct Finished<I, O> {
-    /// The n-th is of the n-th client that was taken of `coming`.
-    pub seats: Vec<Seat>,
-    /// The clients that came. Those that wait there have no seat.
-    pub coming: Taker<Comes<I, O>>,
-    /// Which sessions left, and that the run is over.
-    pub gone: Putter<Departure>,
+// Serves the run of an accepted plan from a state by these workers, who have nothing in flight: opens its clients, runs
+// it, and closes the clients, also after an error. Where the acceptor was refused a thread, the source of entries asks
+// the door.
+fn serve_by<M: Cells + Drop, F: Shelf, D, S, R, H: Phases<M>, P: Posts>(
+    reception: Reception<D, S, R>,
+    accepted: &Accepted,
+    start: Start<M>,
+    shelf: &mut F,
+    workers: &mut Workers<H, P>,
+) -> Service<D, S>
+where
+    D: Door + Send + Drop + 'static,
+    D::In: Send + Drop + 'static,
+    D::Out: Send + Drop + 'static,
+    S: Spawner + Send + Drop + 'static,
+    R: Threads + Wait + Copy + Send + Drop + 'static,
+    requires own { H.is_for workers.old.phases accepted.now.plan }
+    requires posts { P.plan workers.old.posts ≡ accepted.now.plan }
+    requires free { IsFree (plan_of accepted.now.plan) (P.in_flight workers.old.posts) }
+    requires valid { IsStateOf (plan_of accepted.now.plan) (seen M.numbers start.state) }
+    requires memory { IsMemoryOf accepted.now.plan.program (M.numbers start.state.memory)
+        (M.scalars start.state.memory) }
+    ensures served { HasServedRun
+        (outside F.Shelf (hosts D.visited D.In.LinkIn D.Out.LinkOut S.failures D.has_client))
+        (plan_of accepted.now.plan) (seen M.numbers start.state)
+        (moment shelf.old reception.door reception.spawner) (moment shelf.new result.door result.spawner)
+        result.sessions result.ended }
+{
+    tended_clients_are_served::<D, S>();
+    tended_clients_are_sent::<D, S>();
+    joins_are_in_order();
+    rounds_are_bounded();
+    stopped_runs_leave_fronts::<M, F, P, Served<D::In, D::Out, R>>();
+    stopped_runs_leave_fronts::<M, F, P, ServedHere<D, S, R>>();
+    let Reception { rt, door, spawner } = reception;
+    match open_clients(rt, start.alloc, door, spawner) {
+        Opened::Open(clients) => {
+            let mut clients = clients;
+            let ended = run_by(accepted, start, shelf, workers, &mut clients.served);
+            let tally = tally_of(&clients.served);
+            service_of(ended, tally, close_clients(&rt, clients))
+        }
+        Opened::Here(clients) => {
+            let mut clients = clients;
+            let ended = run_by(accepted, start, shelf, workers, &mut clients.served);
+            let tally = tally_of(&clients.served.served);
+            service_of(ended, tally, close_here(&rt, clients))
+        }
+        Opened::OutOfMemory(door, spawner) => not_begun(door, spawner),
+    }
 }
 
-impl<I, O, R> Served<I, O, R> {
-    /// How many clients have joined.
-    pub fn count(&self) -> usize
-        ensures { result ≡ length self.now.roll.seats.items }
-    {
-        self.roll.seats.len()
-    }
+// Serves a run by a crew, and ends the crew, also after an error.
+fn serve_by_crew<P: Planned + Send + 'static, F: Shelf, D, S, G, R>(
+    serving: Serving<D, S, G, R>,
+    alloc: Global,
+    accepted: &Arc<Accepted, Global>,
+    state: State<Memory>,
+    shelf: &mut F,
+) -> Service<D, S>
+where
+    D: Door + Send + Drop + 'static,
+    D::In: Send + Drop + 'static,
+    D::Out: Send + Drop + 'static,
+    S: Spawner + Send + Drop + 'static,
+    G: Gate + Send + Sync + Drop + 'static,
+    R: Threads + Wait + Copy + Send + Drop + 'static,
+    requires plan { P.plan ≡ Some (arc_value accepted.now).plan }
+    requires valid { IsStateOf (plan_of (arc_value accepted.now).plan) (seen (λ memory. memory.numbers) state) }
+    requires memory { IsMemoryOf (arc_value accepted.now).plan.program state.memory.numbers state.memory.scalars }
+    ensures served { HasServedRun
+        (outside F.Shelf (hosts D.visited D.In.LinkIn D.Out.LinkOut S.failures D.has_client))
+        (plan_of (arc_value accepted.now).plan) (seen (λ memory. memory.numbers) state)
+        (moment shelf.old serving.door serving.spawner) (moment shelf.new result.door result.spawner)
+        result.sessions result.ended }
+{
+    let Serving {
+        rt,
+        door,
+        mut spawner,
+        gate,
+    } = serving;
+    let Ok(mut workers) = crew_of::<P, S, G, R>(rt, alloc, accepted, &mut spawner, gate) else {
+        return not_begun(door, spawner);
+    };
+    let reception = Reception { rt, door, spawner };
+    let service = serve_by(
+        reception,
+        accepted,
+        Start { alloc, state },
+        shelf,
+        &mut workers,
+    );
+    let Workers { phases, posts } = workers;
+    WholeCrew { phases, posts }.finish();
+    service
+}
 
-    /// Whether there was memory for each list that it was asked for. Where there was not, it gives none from then on.
-    pub fn is_whole(&self) -> bool
-        ensures { result ≡ not self.now.broke }
-    {
-        !self.broke
+// Serves a run whose jobs the caller does.
+fn serve_alone<F: Shelf, D, S, R>(
+    reception: Reception<D, S, R>,
+    alloc: Global,
+    accepted: &Arc<Accepted, Global>,
+    state: State<Memory>,
+    shelf: &mut F,
+) -> Service<D, S>
+where
+    D: Door + Send + Drop + 'static,
+    D::In: Send + Drop + 'static,
+    D::Out: Send + Drop + 'static,
+    S: Spawner + Send + Drop + 'static,
+    R: Threads + Wait + Copy + Send + Drop + 'static,
+    requires valid { IsStateOf (plan_of (arc_value accepted.now).plan) (seen (λ memory. memory.numbers) state) }
+    requires memory { IsMemoryOf (arc_value accepted.now).plan.program state.memory.numbers state.memory.scalars }
+    ensures served { HasServedRun
+        (outside F.Shelf (hosts D.visited D.In.LinkIn D.Out.LinkOut S.failures D.has_client))
+        (plan_of (arc_value accepted.now).plan) (seen (λ memory. memory.numbers) state)
+        (moment shelf.old reception.door reception.spawner) (moment shelf.new result.door result.spawner)
+        result.sessions result.ended }
+{
+    let Ok(mut workers) = one_thread::<Memory>(alloc, accepted) else {
+        let Reception { door, spawner, .. } = reception;
+        return not_begun(door, spawner);
+    };
+    serve_by(
+        reception,
+        accepted,
+        Start { alloc, state },
+        shelf,
+        &mut workers,
+    )
+}
+
+/// Runs an accepted plan, which it shares with its workers, from a state by threads, and serves the clients that the
+/// door gives, until the run is over. Each scheduled child thread that has a job is started in a thread of its own, as
+/// far as the spawner admits it, and so is each must-finish and asynchronous thread; where no child thread has a job the
+/// caller does all jobs. Threads of their own have the acceptor, and a reader and a writer for each client; where the
+/// acceptor was refused one the caller asks the door, and each client leaves at once. It writes the files of the run,
+/// and where it stops a part of them. At the end each client's links are back at the door, and no thread is left, also
+/// after an error.
+pub fn serve<F: Shelf, D, S, G, R>(
+    serving: Serving<D, S, G, R>,
+    alloc: Global,
+    accepted: &Arc<Accepted, Global>,
+    state: State<Memory>,
+    shelf: &mut F,
+) -> Service<D, S>
+where
+    D: Door + Send + Drop + 'static,
+    D::In: Send + Drop + 'static,
+    D::Out: Send + Drop + 'static,
+    S: Spawner + Send + Drop + 'static,
+    G: Gate + Send + Sync + Drop + 'static,
+    R: Threads + Wait + Copy + Send + Drop + 'static,
+    requires valid { IsStateOf (plan_of (arc_value accepted.now).plan) (seen (λ memory. memory.numbers) state) }
+    requires memory { IsMemoryOf (arc_value accepted.now).plan.program state.memory.numbers state.memory.scalars }
+    ensures served { HasServedRun
+        (outside F.Shelf (hosts D.visited D.In.LinkIn D.Out.LinkOut S.failures D.has_client))
+        (plan_of (arc_value accepted.now).plan) (seen (λ memory. memory.numbers) state)
+        (moment shelf.old serving.door serving.spawner) (moment shelf.new result.door result.spawner)
+        result.sessions result.ended }
+{
+    if has_children(accepted.plan()) {
+        return serve_by_crew::<Brand, F, D, S, G, R>(serving, alloc, accepted, state, shelf);
     }
+    let Serving {
+        rt,
+        door,
+        spawner,
+        ..
+    } = serving;
+    serve_alone(
+        Reception { rt, door, spawner },
+        alloc,
+        accepted,
+        state,
+        shelf,
+    )
 }

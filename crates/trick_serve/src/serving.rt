@@ -3,7 +3,7 @@
 use std::alloc::Global;
 use std::sync::Arc;
 use trick_outside::Stop;
-use trick_serial::Summary;
+use trick_exec_alone::Summary;
 
 /// What a served run works with, beside its plan, its first state and its shelf.
 #[derive(Drop)]

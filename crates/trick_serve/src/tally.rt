@@ -1,12 +1,12 @@
 //! What a served run comes to, once its clients are closed.
 
 ghost use Rattle.std.specs.Prelude.{◌≡◌, ◌&&◌, length, not};
-ghost use Rattle.trick_serve_run.specs.Ending.{concluded as concluded_of};
+ghost use Rattle.trick_serve.specs.Ending.{concluded as concluded_of};
 
 use crate::serving::Service;
 use trick_outside::Stop;
-use trick_serial::Summary;
-use trick_serve::Served;
+use trick_exec_alone::Summary;
+use trick_serve_source::Served;
 use trick_serve_clients::Closed;
 
 // What a source of entries tells at the end of a run.

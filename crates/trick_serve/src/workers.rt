@@ -2,17 +2,17 @@
 
 ghost use Rattle.std.specs.Arc.{arc_value};
 ghost use Rattle.std.specs.Prelude.{◌≡◌, ◌≤◌, ℕ, IfOk, None, Some};
-ghost use Rattle.trick_crew_whole.specs.InHand.{in_hand, plan_for};
+ghost use Rattle.trick_crew.specs.InHand.{in_hand, plan_for};
 
 use std::alloc::{AllocError, Global};
 use std::sync::{Arc, Wait};
 use std::thread::Threads;
-use trick_crew::Team;
-use trick_crew_whole::{Clerks, WholeCrew};
+use trick_crew_team::Team;
+use trick_crew::{Clerks, WholeCrew};
 use trick_memory::Memory;
 use trick_model::{Accepted, Plan, Planned};
 use trick_outside::{Gate, Spawner};
-use trick_tic::Workers;
+use trick_exec_tic::Workers;
 
 /// Whether some child thread of a plan has a job. Where none has, the caller does all jobs, as fast as on one thread.
 pub(crate) fn has_children(plan: &Plan) -> bool {

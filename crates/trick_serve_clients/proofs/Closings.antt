@@ -5,13 +5,13 @@ use Rattle.std.proofs.lemmas.List.{length-map}
 use Rattle.std.specs.Arc.{arc_value}
 use Rattle.trick_outside.specs.Visits.{Visit}
 use Rattle.trick_outside.specs.Visits as visit
-use Rattle.trick_serve.specs.Calls.{View}
-use Rattle.trick_serve.specs.Clients.{AreOfClients, IsLast, IsSilent, client_queues, clients_of, has_lack, has_over}
-use Rattle.trick_serve.specs.Rolls.{view_of}
-use Rattle.trick_serve.specs.Sides.{nobody, queues_of, side}
-use Rattle.trick_serve.specs.declared.seat.Seat.{Seat}
-use Rattle.trick_serve.specs.declared.served.Finished.{Finished}
-use Rattle.trick_serve.specs.declared.served.Served.{Served}
+use Rattle.trick_serve_source.specs.Calls.{View}
+use Rattle.trick_serve_source.specs.Clients.{AreOfClients, IsLast, IsSilent, client_queues, clients_of, has_lack, has_over}
+use Rattle.trick_serve_source.specs.Rolls.{view_of}
+use Rattle.trick_serve_source.specs.Sides.{nobody, queues_of, side}
+use Rattle.trick_serve_source.specs.declared.seat.Seat.{Seat}
+use Rattle.trick_serve_source.specs.declared.served.Finished.{Finished}
+use Rattle.trick_serve_source.specs.declared.served.Served.{Served}
 use Rattle.trick_serve_clients.proofs.Lateness.{no_others}
 use Rattle.trick_serve_clients.proofs.Telling.{NoneClosed, all_taken, clients_join, none_told, over_all, over_told, silent_not, told, told_arrivals}
 use Rattle.trick_serve_clients.proofs.Tending.{all_have, late_tended, seat_tended, sessions_count, told_seat}
@@ -39,9 +39,9 @@ use Rattle.trick_serve_door.specs.declared.departure.Departure.{Departure}
 use Rattle.trick_serve_door.specs.declared.ending.Ends.{Ends}
 use Rattle.trick_serve_door.specs.declared.taking.Accepting.{Accepting}
 use Rattle.trick_serve_door.specs.declared.taking.Taken.{Taken}
-use Rattle.trick_serve_start.specs.Running.{MatchRunning}
-use Rattle.trick_serve_start.specs.declared.running.RunningAcceptor.TheVariants.{Here, There}
-use Rattle.trick_serve_start.specs.declared.running.RunningAcceptor.{RunningAcceptor}
+use Rattle.trick_serve_door.specs.Running.{MatchRunning}
+use Rattle.trick_serve_door.specs.declared.running.RunningAcceptor.TheVariants.{Here, There}
+use Rattle.trick_serve_door.specs.declared.running.RunningAcceptor.{RunningAcceptor}
 use Rattle.trick_wire.specs.Ends.{AreEnds, IsSamePutter, IsSameTaker, put_by, taken_by}
 use Rattle.trick_wire.specs.declared.queue.Putter.{Putter}
 use Rattle.trick_wire.specs.declared.queue.Taker.{Taker}

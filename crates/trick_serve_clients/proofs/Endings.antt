@@ -8,7 +8,7 @@ use Rattle.std.specs.Prelude.{◌||◌, All, MatchOption}
 use Rattle.trick_outside.specs.Visits.{Back, Visit}
 use Rattle.trick_outside.specs.declared.link_in.LinkIn.{Ghosts as InGhosts}
 use Rattle.trick_outside.specs.declared.link_out.LinkOut.{Ghosts as OutGhosts}
-use Rattle.trick_serve.specs.declared.seat.Seat.{Seat}
+use Rattle.trick_serve_source.specs.declared.seat.Seat.{Seat}
 use Rattle.trick_serve_clients.specs.Ending.{AreEnded, EndsAll, IsEndedBy}
 use Rattle.trick_serve_clients.specs.Ends.{AreItsEnds, ends_left, seat_ends}
 use Rattle.trick_serve_clients.specs.declared.ending.EndsLeft.{EndsLeft}

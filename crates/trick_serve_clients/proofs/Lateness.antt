@@ -3,8 +3,8 @@ use Rattle.std.proofs.Common.{◌≡◌, ◌≢◌, ◌∙◌, ⊎_elim, ℕ, �
 use Rattle.std.proofs.lemmas.Bool.{cases_lt}
 use Rattle.std.proofs.lemmas.List.{length-map, map_push}
 use Rattle.std.specs.Prelude.{IfSome}
-use Rattle.trick_serve.proofs.Seating.{clients_more}
-use Rattle.trick_serve.specs.Clients.{clients_of}
+use Rattle.trick_serve_source.proofs.Seating.{clients_more}
+use Rattle.trick_serve_source.specs.Clients.{clients_of}
 use Rattle.trick_serve_clients.specs.Ends.{ends_of}
 use Rattle.trick_serve_clients.specs.Late.{AreKept, HasComeLate}
 use Rattle.trick_serve_door.specs.declared.arrival.Arrival.{Arrival}

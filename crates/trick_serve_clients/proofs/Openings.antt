@@ -2,8 +2,8 @@
 use Rattle.std.proofs.Common.{◌≡◌, ◌∙◌, ◌≤◌, false, [], ap, sym, subst}
 use Rattle.std.specs.Arc.{arc_value}
 use Rattle.trick_outside.specs.Causes.{Rose}
-use Rattle.trick_serve.specs.Rules.{sessions_by}
-use Rattle.trick_serve.specs.declared.served.Served.{Served}
+use Rattle.trick_serve_source.specs.Rules.{sessions_by}
+use Rattle.trick_serve_source.specs.declared.served.Served.{Served}
 use Rattle.trick_serve_clients.specs.Opened.{AreUnused, HasBegun, IsOpenHere, IsUnserved, start_with}
 use Rattle.trick_serve_clients.specs.declared.opening.ClientsHere.{ClientsHere}
 use Rattle.trick_serve_clients.specs.declared.opening.Ways.{Ways}
@@ -13,8 +13,8 @@ use Rattle.trick_serve_door.specs.declared.arrival.Comes.{Comes}
 use Rattle.trick_serve_door.specs.declared.departure.Departure.{Departure}
 use Rattle.trick_serve_door.specs.declared.taking.Accepting.{Accepting}
 use Rattle.trick_serve_door.specs.declared.taking.Taken.{Taken}
-use Rattle.trick_serve_start.specs.declared.running.RunningAcceptor.{RunningAcceptor}
-use Rattle.trick_turns.specs.Turns.{no_sessions}
+use Rattle.trick_serve_door.specs.declared.running.RunningAcceptor.{RunningAcceptor}
+use Rattle.trick_exec_sources.specs.Turns.{no_sessions}
 use Rattle.trick_wire.specs.Ends.{put_by, taken_by}
 use Rattle.trick_wire.specs.declared.queue.Putter.{Putter}
 use Rattle.trick_wire.specs.declared.queue.Taker.{Taker}

@@ -4,7 +4,7 @@ use Rattle.std.proofs.lemmas.Bool.{false≢true}
 use Rattle.std.proofs.lemmas.List.Elements.{All-head}
 use Rattle.std.specs.Prelude.{All}
 use Rattle.trick_outside.specs.Visits.{Back, Ended, Failed, Gave, NotYet, OutOfMemory, Visit, clients}
-use Rattle.trick_serve.specs.Clients.{IsSilent, clients_of, has_lack, has_over}
+use Rattle.trick_serve_source.specs.Clients.{IsSilent, clients_of, has_lack, has_over}
 use Rattle.trick_serve_door.specs.Taking.{IsEnd}
 use Rattle.trick_serve_door.specs.Told.{GivesFirst, IsOpen, links_of, told_clients, told_end, told_first}
 use Rattle.trick_serve_door.specs.declared.arrival.Arrival.{Arrival}

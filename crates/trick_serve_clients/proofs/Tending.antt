@@ -7,9 +7,9 @@ use Rattle.std.specs.Arc.{arc_value}
 use Rattle.std.specs.List.{slice_get}
 use Rattle.trick_outside.specs.declared.link_in.LinkIn.{Ghosts as InGhosts}
 use Rattle.trick_outside.specs.declared.link_out.LinkOut.{Ghosts as OutGhosts}
-use Rattle.trick_serve.specs.Clients.{client_queues, seat_queues}
-use Rattle.trick_serve.specs.Sides.{Queues, Side, nobody, queues_of, side, side_of}
-use Rattle.trick_serve.specs.declared.seat.Seat.{Seat}
+use Rattle.trick_serve_source.specs.Clients.{client_queues, seat_queues}
+use Rattle.trick_serve_source.specs.Sides.{Queues, Side, nobody, queues_of, side, side_of}
+use Rattle.trick_serve_source.specs.declared.seat.Seat.{Seat}
 use Rattle.trick_serve_clients.proofs.Endings.{NoneLacks}
 use Rattle.trick_serve_clients.specs.Ending.{AreEnded}
 use Rattle.trick_serve_clients.specs.Ends.{AreItsEnds, ends_of, seat_ends}

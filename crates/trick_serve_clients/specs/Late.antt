@@ -1,6 +1,6 @@
 -- Clients that come as the run ends.
 use Rattle.std.specs.Prelude.{◌≡◌, ◌≢◌, ◌≤◌, List, [], ◌∷◌, ◌++◌, length, map}
-use Rattle.trick_serve.specs.Clients.{clients_of}
+use Rattle.trick_serve_source.specs.Clients.{clients_of}
 use Rattle.trick_serve_clients.specs.Ends.{ends_of}
 use Rattle.trick_serve_door.specs.declared.arrival.Arrival.{Arrival}
 use Rattle.trick_serve_door.specs.declared.arrival.Comes.{Comes}

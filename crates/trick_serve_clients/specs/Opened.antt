@@ -1,8 +1,8 @@
 -- How the clients of a run are opened.
 use Rattle.std.specs.Prelude.{◌≡◌, ◌≤◌, false, []}
 use Rattle.trick_outside.specs.Causes.{Rose}
-use Rattle.trick_serve.specs.Rules.{sessions_by}
-use Rattle.trick_serve.specs.declared.served.Served.{Served}
+use Rattle.trick_serve_source.specs.Rules.{sessions_by}
+use Rattle.trick_serve_source.specs.declared.served.Served.{Served}
 use Rattle.trick_serve_clients.specs.declared.opening.Clients.{Clients}
 use Rattle.trick_serve_clients.specs.declared.opening.ClientsHere.{ClientsHere}
 use Rattle.trick_serve_clients.specs.declared.opening.Opened.{Opened}
@@ -15,9 +15,9 @@ use Rattle.trick_serve_door.specs.declared.arrival.Comes.{Comes}
 use Rattle.trick_serve_door.specs.declared.departure.Departure.{Departure}
 use Rattle.trick_serve_door.specs.declared.taking.Accepting.{Accepting}
 use Rattle.trick_serve_door.specs.declared.taking.Taken.{Taken}
-use Rattle.trick_serve_start.specs.Running.{MatchRunning}
-use Rattle.trick_serve_start.specs.declared.running.RunningAcceptor.{RunningAcceptor}
-use Rattle.trick_turns.specs.Turns.{no_sessions}
+use Rattle.trick_serve_door.specs.Running.{MatchRunning}
+use Rattle.trick_serve_door.specs.declared.running.RunningAcceptor.{RunningAcceptor}
+use Rattle.trick_exec_sources.specs.Turns.{no_sessions}
 use Rattle.trick_wire.specs.Ends.{AreEnds, put_by, taken_by}
 use Rattle.trick_wire.specs.declared.queue.Putter.{Putter}
 use Rattle.trick_wire.specs.declared.queue.Taker.{Taker}

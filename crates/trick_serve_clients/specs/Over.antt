@@ -1,8 +1,8 @@
 -- What is known once the source of entries and its acceptor are over.
 use Rattle.std.specs.Prelude.{◌≡◌, ◌≤◌, true, false, List, [], length}
-use Rattle.trick_serve.specs.Calls.{View}
-use Rattle.trick_serve.specs.Clients.{AreOfClients, IsLast, IsSilent, has_lack}
-use Rattle.trick_serve.specs.declared.served.Finished.{Finished}
+use Rattle.trick_serve_source.specs.Calls.{View}
+use Rattle.trick_serve_source.specs.Clients.{AreOfClients, IsLast, IsSilent, has_lack}
+use Rattle.trick_serve_source.specs.declared.served.Finished.{Finished}
 use Rattle.trick_serve_clients.specs.Late.{HasComeLate}
 use Rattle.trick_serve_door.specs.Accepted.{HasAccepted}
 use Rattle.trick_serve_door.specs.Departures.{left_of}

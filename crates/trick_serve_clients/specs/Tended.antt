@@ -6,9 +6,9 @@ use Rattle.trick_outside.specs.Visits.{Visit, clients}
 use Rattle.trick_outside.specs.Visits as visit
 use Rattle.trick_outside.specs.declared.link_in.LinkIn.{Ghosts as InGhosts}
 use Rattle.trick_outside.specs.declared.link_out.LinkOut.{Ghosts as OutGhosts}
-use Rattle.trick_serve.specs.Calls.{View}
-use Rattle.trick_serve.specs.Clients.{client_queues}
-use Rattle.trick_serve.specs.Sides.{Side, nobody, side}
+use Rattle.trick_serve_source.specs.Calls.{View}
+use Rattle.trick_serve_source.specs.Clients.{client_queues}
+use Rattle.trick_serve_source.specs.Sides.{Side, nobody, side}
 use Rattle.trick_serve_clients.specs.declared.closing.Closed.{Closed}
 use Rattle.trick_serve_door.specs.Returns.{backs_of}
 use Rattle.trick_serve_door.specs.Taking.{Hosts}

@@ -1,8 +1,8 @@
 //! How the clients of a run are closed.
 
 ghost use Rattle.std.specs.Prelude.{◌≡◌, []};
-ghost use Rattle.trick_serve.specs.Calls.{View};
-ghost use Rattle.trick_serve.specs.Rolls.{view_of};
+ghost use Rattle.trick_serve_source.specs.Calls.{View};
+ghost use Rattle.trick_serve_source.specs.Rolls.{view_of};
 ghost use Rattle.trick_serve_clients.specs.Opened.{HasBegun, start_with};
 ghost use Rattle.trick_serve_clients.specs.Over.{AreOver};
 ghost use Rattle.trick_serve_clients.specs.Tended.{HasTended};
@@ -16,9 +16,8 @@ use crate::{Clients, ClientsHere};
 use std::sync::Wait;
 use std::thread::Threads;
 use trick_outside::{Door, Spawner};
-use trick_serve::{Finished, ServedHere};
-use trick_serve_door::{Ends, Taken};
-use trick_serve_start::finish_accepting;
+use trick_serve_source::{Finished, ServedHere};
+use trick_serve_door::{Ends, Taken, finish_accepting};
 
 /// The door and the spawner of a run whose clients are closed.
 #[derive(Drop)]

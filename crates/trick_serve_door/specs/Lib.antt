@@ -14,3 +14,5 @@ pub mod Asking
 pub mod Returns
 -- What an acceptor has done, from its start to the end of the run.
 pub mod Accepted
+-- What an acceptor in a thread comes to, and where it is.
+pub mod Running

@@ -1,8 +1,8 @@
 -- What an acceptor in a thread comes to, and where it is.
-use Rattle.trick_serve_start.specs.declared.running.Outcome.TheVariants.{Back, Done}
-use Rattle.trick_serve_start.specs.declared.running.Outcome.{Outcome}
-use Rattle.trick_serve_start.specs.declared.running.RunningAcceptor.TheVariants.{Here, There}
-use Rattle.trick_serve_start.specs.declared.running.RunningAcceptor.{RunningAcceptor}
+use Rattle.trick_serve_door.specs.declared.running.Outcome.TheVariants.{Back, Done}
+use Rattle.trick_serve_door.specs.declared.running.Outcome.{Outcome}
+use Rattle.trick_serve_door.specs.declared.running.RunningAcceptor.TheVariants.{Here, There}
+use Rattle.trick_serve_door.specs.declared.running.RunningAcceptor.{RunningAcceptor}
 
 -- The first holds of the result, or the second of the work that was given back.
 abbrev pub MatchOutcome : {W T : Type 0} → Outcome W T → (T → Type 0) → (W → Type 0) → Type 0

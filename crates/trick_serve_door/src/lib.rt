@@ -1,6 +1,8 @@
 //! How the clients of a served run come and go: the acceptor, which takes clients from a door and starts the reader and
 //! the writer of each; the door as its caller asks it himself, where the acceptor was refused a thread; and the end of a
 //! session, at which both are taken in.
+//!
+//! How the acceptor of a served run is started in a thread of its own, and how it is waited for.
 #![tactic(auto)]
 
 mod acceptor;
@@ -14,13 +16,19 @@ mod fresh;
 mod past;
 mod places;
 mod queues;
+mod running;
 mod seat;
+mod starting;
 mod taking;
+mod waiting;
 
 pub use arrival::{Arrival, Comes};
 pub use ask::End;
 pub use asking::Asking;
 pub use departure::Departure;
-pub use ending::{SessionEnd, Ends, end_session};
+pub use ending::{Ends, SessionEnd, end_session};
 pub use past::Past;
+pub use running::{AcceptorThread, Accepts, Outcome, RunningAcceptor};
+pub use starting::start_accepting;
 pub use taking::{Accepting, Taken, accept};
+pub use waiting::finish_accepting;

@@ -5,7 +5,7 @@ ghost use Rattle.std.specs.Prelude.{◌≡◌};
 use std::snapshot::Snapshot;
 use std::thread::{Promise, PromisedHandle};
 use trick_outside::{Door, Spawner};
-use trick_serve_door::{Accepting, Taken};
+use crate::{Accepting, Taken};
 
 /// What a thread made of its work.
 #[derive(Drop)]
@@ -45,7 +45,7 @@ where
     ghost use Rattle.std.specs.Prelude.{◌≡◌};
     ghost use Rattle.trick_serve_door.specs.Accepted.{HasAccepted};
     ghost use Rattle.trick_serve_door.specs.Taking.{hosts, start_of};
-    ghost use Rattle.trick_serve_start.specs.Running.{MatchOutcome};
+    ghost use Rattle.trick_serve_door.specs.Running.{MatchOutcome};
 
     ghost kept_by = { λ promise outcome. MatchOutcome outcome
         (λ taken. HasAccepted (hosts D.visited D.In.LinkIn D.Out.LinkOut S.failures D.has_client)

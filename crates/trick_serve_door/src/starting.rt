@@ -8,9 +8,9 @@ ghost use Rattle.std.specs.Prelude.{◌≡◌, ◌≤◌, IfErr, IfOk};
 ghost use Rattle.trick_outside.specs.Causes.{Rose};
 ghost use Rattle.trick_serve_door.specs.Accepted.{HasAccepted};
 ghost use Rattle.trick_serve_door.specs.Taking.{hosts, start_of};
-ghost use Rattle.trick_serve_start.specs.Running.{MatchOutcome, MatchRunning};
+ghost use Rattle.trick_serve_door.specs.Running.{MatchOutcome, MatchRunning};
 
-use crate::{AcceptorThread, Accepts, Outcome, RunningAcceptor};
+use crate::{Accepting, AcceptorThread, Accepts, Outcome, RunningAcceptor, Taken, accept};
 use std::alloc::Global;
 use std::snapshot::Snapshot;
 use std::sync::atomic::{AtomicBool, Ordering};
@@ -18,7 +18,6 @@ use std::sync::{Arc, Wait};
 use std::thread;
 use std::thread::Threads;
 use trick_outside::{Door, Spawner};
-use trick_serve_door::{Accepting, Taken, accept};
 
 // Accepts, or gives the work back where it is wanted back.
 fn go<D: Door + Drop, S: Spawner + Drop, R: Threads + Wait + Copy + Send + Drop + 'static>(

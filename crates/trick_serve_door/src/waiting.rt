@@ -3,13 +3,12 @@
 ghost use Rattle.std.specs.Prelude.{◌≡◌};
 ghost use Rattle.trick_serve_door.specs.Accepted.{HasAccepted};
 ghost use Rattle.trick_serve_door.specs.Taking.{hosts, start_of};
-ghost use Rattle.trick_serve_start.specs.Running.{MatchRunning};
+ghost use Rattle.trick_serve_door.specs.Running.{MatchRunning};
 
-use crate::{AcceptorThread, Outcome, RunningAcceptor};
+use crate::{AcceptorThread, Outcome, RunningAcceptor, Taken, accept};
 use std::sync::Wait;
 use std::thread::Threads;
 use trick_outside::{Door, Spawner};
-use trick_serve_door::{Taken, accept};
 
 /// Waits for an acceptor, and hands on what it gives back: what an acceptor has done that began with this work. The
 /// caller has to have told it that the run is over, and closed the inbox and the outbox of each client: else it waits

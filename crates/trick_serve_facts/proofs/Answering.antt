@@ -5,12 +5,12 @@ use Rattle.std.proofs.lemmas.Bool.Decides.{eqb_tells}
 use Rattle.trick_model.specs.Session.{Message}
 use Rattle.trick_model.specs.declared.entry.Entry.{Entry}
 use Rattle.trick_model.specs.declared.session.Session.{Session}
-use Rattle.trick_serve.specs.Calls.{Answers, Breaks, Call, DoAll, Does, Hands, IsAnswered, IsGiven, Looks, View, Went, answer_of, answers_of}
-use Rattle.trick_serve.specs.Life.{Happening, Happens, Hears, IsSeated, IsSlow, IsTold, Lives, Misses, entries_of_all, own}
-use Rattle.trick_serve.specs.Sides.{Queues, Side, nobody, side, side_of}
-use Rattle.trick_serve.specs.declared.seat.Seat.{Seat}
+use Rattle.trick_serve_source.specs.Calls.{Answers, Breaks, Call, DoAll, Does, Hands, IsAnswered, IsGiven, Looks, View, Went, answer_of, answers_of}
+use Rattle.trick_serve_source.specs.Life.{Happening, Happens, Hears, IsSeated, IsSlow, IsTold, Lives, Misses, entries_of_all, own}
+use Rattle.trick_serve_source.specs.Sides.{Queues, Side, nobody, side, side_of}
+use Rattle.trick_serve_source.specs.declared.seat.Seat.{Seat}
 use Rattle.trick_serve_facts.proofs.Keeping.{handed_seated, whole_calls}
-use Rattle.trick_turns.specs.Turns.{Answer}
+use Rattle.trick_exec_sources.specs.Turns.{Answer}
 
 -- ---- one answer among calls
 

@@ -14,11 +14,11 @@ use Rattle.trick_model.specs.declared.entry.Cause.TheVariants as cause
 use Rattle.trick_model.specs.declared.entry.Entry.{Entry}
 use Rattle.trick_model.specs.declared.session.Session.{Session}
 use Rattle.trick_outside.specs.Causes.{Rose}
-use Rattle.trick_serve.specs.Calls.{View}
-use Rattle.trick_serve.specs.Ended.{has_end, is_end}
-use Rattle.trick_serve.specs.Life.{own}
-use Rattle.trick_serve.specs.Sides.{Queues, Side, nobody, side}
-use Rattle.trick_serve.specs.declared.seat.Seat.{Seat}
+use Rattle.trick_serve_source.specs.Calls.{View}
+use Rattle.trick_serve_source.specs.Ended.{has_end, is_end}
+use Rattle.trick_serve_source.specs.Life.{own}
+use Rattle.trick_serve_source.specs.Sides.{Queues, Side, nobody, side}
+use Rattle.trick_serve_source.specs.declared.seat.Seat.{Seat}
 use Rattle.trick_serve_facts.proofs.HangUps.{HasHungUp, hung_up_along, hung_up_none}
 use Rattle.trick_serve_facts.proofs.Keeping.{AllShown, HoldsAlong, IsKept, IsShown, ShownIn, run_keeps}
 use Rattle.trick_serve_facts.proofs.Lives.{entries_kept, lines_join}
@@ -27,7 +27,7 @@ use Rattle.trick_serve_facts.specs.Clients.{EndSays, IsUnsaid, LinkTale, OthersA
 use Rattle.trick_serve_facts.specs.Life.{HasEntries, HasLived, HasReason, is_fault, is_long_line, lines_in}
 use Rattle.trick_serve_facts.specs.Messages.{HasMessages}
 use Rattle.trick_serve_facts.specs.Serves.{GiveNothing, IsServedRun, all_entries, given_by, given_in}
-use Rattle.trick_turns.specs.Turns.{Answer}
+use Rattle.trick_exec_sources.specs.Turns.{Answer}
 use Rattle.trick_wire.specs.HasHeard.{IsMissing}
 use Rattle.trick_wire.specs.Puts.{IsTooLong, last_of, said}
 use Rattle.trick_wire.specs.declared.heard.Heard.{Heard}

@@ -2,7 +2,7 @@
 use Rattle.std.proofs.Common.{◌≡◌, ◌∙◌, ℕ, zero, suc, ◌+◌, true, false, List, [], ◌∷◌, ◌++◌, Option, Some, None, ap, length, map, refl, sym}
 use Rattle.std.proofs.lemmas.Bool.{and_parts, false≢true}
 use Rattle.std.specs.List.{filter}
-use Rattle.trick_line_facts.specs.Silence.{newcomers}
+use Rattle.trick_model_sessions.specs.Silence.{newcomers}
 use Rattle.trick_model.specs.Journal.{is_of_session}
 use Rattle.trick_model.specs.Plan.{Plan}
 use Rattle.trick_model.specs.Run.{after_turns, opened}
@@ -11,15 +11,15 @@ use Rattle.trick_model.specs.State.{World}
 use Rattle.trick_model.specs.Turn.{turn}
 use Rattle.trick_model.specs.declared.entry.Entry.{Entry}
 use Rattle.trick_model.specs.declared.entry.Entry.TheVariants.{Join, Said, Leave, Publish}
-use Rattle.trick_runs.specs.Answers.{given, list_answer}
-use Rattle.trick_serve.specs.Calls.{Answers, Breaks, Call, DoAll, Does, Hands, IsAnswered, Looks, View, Went}
+use Rattle.trick_exec_meaning.specs.Answers.{given, list_answer}
+use Rattle.trick_serve_source.specs.Calls.{Answers, Breaks, Call, DoAll, Does, Hands, IsAnswered, Looks, View, Went}
 use Rattle.trick_serve_facts.proofs.Answering.{HasGiven, given_went, none_listed, none_seated}
 use Rattle.trick_serve_facts.proofs.Joins.{joins_in_order, joins_join}
 use Rattle.trick_serve_facts.proofs.Keeping.{whole_before}
 use Rattle.trick_serve_facts.proofs.NoThreads.{come_first}
 use Rattle.trick_serve_facts.specs.Joins.{FirstClientsJoin, numbers_from}
 use Rattle.trick_serve_facts.specs.Serves.{Serves, all_entries, no_turn, one_more}
-use Rattle.trick_turns.specs.Turns.{Answer, Sessions, after_entries, in_next, is_among, is_succession, may_all_come, no_sessions}
+use Rattle.trick_exec_sources.specs.Turns.{Answer, Sessions, after_entries, in_next, is_among, is_succession, may_all_come, no_sessions}
 
 -- ---- what the door had answered stays
 

@@ -8,16 +8,16 @@ use Rattle.trick_model.specs.State.{World}
 use Rattle.trick_model.specs.Turn.{is_frozen, turn}
 use Rattle.trick_model.specs.declared.entry.Entry.{Entry}
 use Rattle.trick_model.specs.declared.mode.Mode.{Mode}
-use Rattle.trick_runs.specs.Answers.{list_answer}
-use Rattle.trick_serve.proofs.Placing.{side_past}
-use Rattle.trick_serve.specs.Calls.{Answers, Breaks, Call, DoAll, Hands, IsAnswered, Looks, View, Went, answers_of}
-use Rattle.trick_serve.specs.Sides.{Side}
+use Rattle.trick_exec_meaning.specs.Answers.{list_answer}
+use Rattle.trick_serve_source.proofs.Placing.{side_past}
+use Rattle.trick_serve_source.specs.Calls.{Answers, Breaks, Call, DoAll, Hands, IsAnswered, Looks, View, Went, answers_of}
+use Rattle.trick_serve_source.specs.Sides.{Side}
 use Rattle.trick_serve_facts.proofs.Clients.{others_absent}
 use Rattle.trick_serve_facts.proofs.Joins.{joins_in_order}
 use Rattle.trick_serve_facts.proofs.Outcomes.{clients_served}
 use Rattle.trick_serve_facts.specs.IsServed.{FreezeHasEntries, RunsAreServed}
 use Rattle.trick_serve_facts.specs.Serves.{Serves, no_turn, one_more}
-use Rattle.trick_turns.specs.Turns.{Answer}
+use Rattle.trick_exec_sources.specs.Turns.{Answer}
 
 -- ---- lists given in Freeze
 

@@ -3,21 +3,21 @@ use Rattle.std.proofs.Common.{◌≡◌, ◌≢◌, ◌∙◌, ◌⊎◌, inl, i
 use Rattle.std.proofs.lemmas.Bool.{and_parts, cases_lt, eq-eqb, ltb-true, ne_eqb}
 use Rattle.std.specs.List.{filter}
 use Rattle.std.specs.Prelude.{◌&&◌}
-use Rattle.trick_line_facts.specs.Silence.{newcomers}
+use Rattle.trick_model_sessions.specs.Silence.{newcomers}
 use Rattle.trick_model.specs.Journal.{is_entry, may_follow}
 use Rattle.trick_model.specs.declared.entry.Cause.{Cause}
 use Rattle.trick_model.specs.declared.entry.Entry.{Entry}
 use Rattle.trick_model.specs.declared.entry.Entry.TheVariants.{Join, Said, Leave, Publish}
-use Rattle.trick_runs.specs.Answers.{given}
-use Rattle.trick_serve.proofs.Placing.{side_at, side_past}
-use Rattle.trick_serve.specs.Life.{leave_of, own}
-use Rattle.trick_serve.specs.Sides.{Queues, Side, nobody, queues_of, side, side_of}
-use Rattle.trick_serve.specs.declared.seat.Seat.{Seat}
+use Rattle.trick_exec_meaning.specs.Answers.{given}
+use Rattle.trick_serve_source.proofs.Placing.{side_at, side_past}
+use Rattle.trick_serve_source.specs.Life.{leave_of, own}
+use Rattle.trick_serve_source.specs.Sides.{Queues, Side, nobody, queues_of, side, side_of}
+use Rattle.trick_serve_source.specs.declared.seat.Seat.{Seat}
 use Rattle.trick_serve_facts.proofs.Clients.{lives_at_end}
 use Rattle.trick_serve_facts.specs.Joins.{JoinsAreInOrder, numbers_from}
 use Rattle.trick_serve_facts.specs.Life.{HasEntries, life}
 use Rattle.trick_serve_facts.specs.Serves.{all_entries}
-use Rattle.trick_turns.specs.Turns.{Sessions, after_entries, after_entry, in_next, is_succession, may_all_come, may_come, no_sessions}
+use Rattle.trick_exec_sources.specs.Turns.{Sessions, after_entries, after_entry, in_next, is_succession, may_all_come, may_come, no_sessions}
 
 -- ---- joins of one session
 

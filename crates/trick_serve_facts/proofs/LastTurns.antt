@@ -6,8 +6,8 @@ use Rattle.std.proofs.lemmas.List.{append_cancel_left}
 use Rattle.std.proofs.lemmas.List.Concat.{flat_map-append}
 use Rattle.std.specs.Prelude.{nat_lt}
 use Rattle.trick_base.proofs.Numbers.{zero_at_most}
-use Rattle.trick_line_facts.proofs.Silence.{absent, leaving, left_gone}
-use Rattle.trick_line_facts.specs.Silence.{all_newcomers, entries_of as entries_to, is_there, newcomers}
+use Rattle.trick_model_sessions.proofs.Silence.{absent, leaving, left_gone}
+use Rattle.trick_model_sessions.specs.Silence.{all_newcomers, entries_of as entries_to, is_there, newcomers}
 use Rattle.trick_model.proofs.Runs.{runs_join}
 use Rattle.trick_model.specs.Files.{messages_to, session_text, turns_said}
 use Rattle.trick_model.specs.Plan.{Plan}
@@ -21,14 +21,14 @@ use Rattle.trick_model.specs.declared.entry.Cause.TheVariants as cause
 use Rattle.trick_model.specs.declared.entry.Entry.{Entry}
 use Rattle.trick_model.specs.declared.entry.Entry.TheVariants.{Join, Said, Leave, Publish}
 use Rattle.trick_model.specs.declared.session.Session.{Session}
-use Rattle.trick_runs.specs.Answers.{given, list_answer}
-use Rattle.trick_serve.proofs.Living.{left_stays}
-use Rattle.trick_serve.specs.Calls.{Answers, Breaks, Call, DoAll, Does, Hands, IsAnswered, IsGiven, Looks, View, Went, answers_of}
-use Rattle.trick_serve.specs.Life.{Can, Happening, Happens, Hears, IsSeated, IsSlow, IsTold, Lives, Misses, after, entries_of_all, leaves, own}
-use Rattle.trick_serve.specs.Messages.{IsHanded}
-use Rattle.trick_serve.specs.Rules.{AreQuick}
-use Rattle.trick_serve.specs.Sides.{Queues, Side, nobody, queues_of, side}
-use Rattle.trick_serve.specs.declared.seat.Seat.{Seat}
+use Rattle.trick_exec_meaning.specs.Answers.{given, list_answer}
+use Rattle.trick_serve_source.proofs.Living.{left_stays}
+use Rattle.trick_serve_source.specs.Calls.{Answers, Breaks, Call, DoAll, Does, Hands, IsAnswered, IsGiven, Looks, View, Went, answers_of}
+use Rattle.trick_serve_source.specs.Life.{Can, Happening, Happens, Hears, IsSeated, IsSlow, IsTold, Lives, Misses, after, entries_of_all, leaves, own}
+use Rattle.trick_serve_source.specs.Messages.{IsHanded}
+use Rattle.trick_serve_source.specs.Rules.{AreQuick}
+use Rattle.trick_serve_source.specs.Sides.{Queues, Side, nobody, queues_of, side}
+use Rattle.trick_serve_source.specs.declared.seat.Seat.{Seat}
 use Rattle.trick_serve_facts.proofs.Answering.{HasGiven, given_went, same_sessions}
 use Rattle.trick_serve_facts.proofs.Clients.{always}
 use Rattle.trick_serve_facts.proofs.Joins.{RiseAbove, given_joins, joins_rise, rise_lower}
@@ -41,7 +41,7 @@ use Rattle.trick_serve_facts.specs.LastTurns.{AreOfLastTurn}
 use Rattle.trick_serve_facts.specs.Life.{HasEntries, life}
 use Rattle.trick_serve_facts.specs.Messages.{HasMessages}
 use Rattle.trick_serve_facts.specs.Serves.{GiveNothing, IsServedRun, Serves, all_entries, no_turn, one_more}
-use Rattle.trick_turns.specs.Turns.{Answer, Sessions, after_entries, in_next}
+use Rattle.trick_exec_sources.specs.Turns.{Answer, Sessions, after_entries, in_next}
 
 -- ---- a slow session
 

@@ -10,11 +10,11 @@ use Rattle.trick_model.specs.declared.entry.Cause.{Cause}
 use Rattle.trick_model.specs.declared.entry.Cause.TheVariants as cause
 use Rattle.trick_model.specs.declared.entry.Entry.{Entry}
 use Rattle.trick_model.specs.declared.entry.Entry.TheVariants.{Join, Said, Leave, Publish}
-use Rattle.trick_runs.specs.Answers.{given}
-use Rattle.trick_serve.proofs.Placing.{side_past}
-use Rattle.trick_serve.specs.Life.{is_of, leave_of, own}
-use Rattle.trick_serve.specs.Sides.{Queues, Side, side}
-use Rattle.trick_serve.specs.declared.seat.Seat.{Seat}
+use Rattle.trick_exec_meaning.specs.Answers.{given}
+use Rattle.trick_serve_source.proofs.Placing.{side_past}
+use Rattle.trick_serve_source.specs.Life.{is_of, leave_of, own}
+use Rattle.trick_serve_source.specs.Sides.{Queues, Side, side}
+use Rattle.trick_serve_source.specs.declared.seat.Seat.{Seat}
 use Rattle.trick_serve_facts.proofs.Clients.{lives_at_end}
 use Rattle.trick_serve_facts.proofs.Joins.{place_of}
 use Rattle.trick_serve_facts.proofs.Keeping.{own_given, own_join}
@@ -22,7 +22,7 @@ use Rattle.trick_serve_facts.proofs.Waits.{among_other, among_push}
 use Rattle.trick_serve_facts.specs.Life.{HasEntries, HasReason}
 use Rattle.trick_serve_facts.specs.NoThreads.{FewNoThreads, is_no_thread, refused_seats}
 use Rattle.trick_serve_facts.specs.Serves.{all_entries}
-use Rattle.trick_turns.specs.Turns.{Sessions, after_entries, after_entry, in_next, is_among, is_succession, may_all_come, may_come, no_sessions}
+use Rattle.trick_exec_sources.specs.Turns.{Sessions, after_entries, after_entry, in_next, is_among, is_succession, may_all_come, may_come, no_sessions}
 
 -- ---- counts
 

@@ -7,9 +7,9 @@ use Rattle.trick_model.specs.Run.{opened}
 use Rattle.trick_model.specs.State.{State}
 use Rattle.trick_model.specs.declared.entry.Cause.{Cause}
 use Rattle.trick_model.specs.declared.entry.Entry.{Entry}
-use Rattle.trick_serve.specs.Calls.{View}
-use Rattle.trick_serve.specs.Life.{own}
-use Rattle.trick_serve.specs.Sides.{Queues, Side, side}
+use Rattle.trick_serve_source.specs.Calls.{View}
+use Rattle.trick_serve_source.specs.Life.{own}
+use Rattle.trick_serve_source.specs.Sides.{Queues, Side, side}
 use Rattle.trick_serve_facts.proofs.Clients.{fault_is, heard_is, hung_up_at_end, lives_at_end, messages_at_end}
 use Rattle.trick_serve_facts.proofs.HangUps.{HasHungUp, hung_up_by}
 use Rattle.trick_serve_facts.proofs.LastTurns.{dropped_last}

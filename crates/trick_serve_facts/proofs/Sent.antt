@@ -5,15 +5,15 @@ use Rattle.trick_model.specs.Files.{messages_to}
 use Rattle.trick_model.specs.Session.{Message}
 use Rattle.trick_model.specs.declared.entry.Entry.{Entry}
 use Rattle.trick_model.specs.declared.session.Session.{Session}
-use Rattle.trick_serve.specs.Calls.{Answers, Breaks, Call, DoAll, Does, Hands, IsAnswered, Looks, View, Went, message_of, messages_of}
-use Rattle.trick_serve.specs.Life.{Happening, Happens, Lives, after}
-use Rattle.trick_serve.specs.Sides.{Side, side}
-use Rattle.trick_serve.specs.declared.seat.Seat.{Seat}
+use Rattle.trick_serve_source.specs.Calls.{Answers, Breaks, Call, DoAll, Does, Hands, IsAnswered, Looks, View, Went, message_of, messages_of}
+use Rattle.trick_serve_source.specs.Life.{Happening, Happens, Lives, after}
+use Rattle.trick_serve_source.specs.Sides.{Side, side}
+use Rattle.trick_serve_source.specs.declared.seat.Seat.{Seat}
 use Rattle.trick_serve_facts.proofs.Keeping.{messages_join, one_to}
 use Rattle.trick_serve_facts.proofs.Messages.{messages_handed, messages_happen, messages_none, same_messages}
 use Rattle.trick_serve_facts.specs.Messages.{HasMessages}
 use Rattle.trick_serve_facts.specs.Sent.{ClientsAreSent, SentAreFronts}
-use Rattle.trick_turns.specs.Turns.{Answer}
+use Rattle.trick_exec_sources.specs.Turns.{Answer}
 use Rattle.trick_wire.proofs.Writing.{text_of-append}
 use Rattle.trick_wire.specs.HasWritten.{text_of}
 

@@ -11,10 +11,10 @@ use Rattle.trick_model.specs.declared.entry.Entry.{Entry}
 use Rattle.trick_outside.specs.Causes.{Rose}
 use Rattle.trick_outside.specs.declared.link_in.LinkIn.{Ghosts as InGhosts}
 use Rattle.trick_outside.specs.declared.link_out.LinkOut.{Ghosts as OutGhosts}
-use Rattle.trick_runs.specs.Answers.{list_answer}
-use Rattle.trick_runs.specs.Ran as ran
-use Rattle.trick_serve.specs.Calls.{View, Went}
-use Rattle.trick_serve.specs.Sides.{Side}
+use Rattle.trick_exec_meaning.specs.Answers.{list_answer}
+use Rattle.trick_exec_meaning.specs.Ran as ran
+use Rattle.trick_serve_source.specs.Calls.{View, Went}
+use Rattle.trick_serve_source.specs.Sides.{Side}
 use Rattle.trick_serve_door.specs.declared.arrival.Arrival.{Arrival}
 use Rattle.trick_serve_door.specs.declared.ending.SessionEnd.{SessionEnd}
 use Rattle.trick_serve_door.specs.declared.past.Past.{Past}
@@ -22,8 +22,8 @@ use Rattle.trick_serve_facts.specs.Clients.{EndSays}
 use Rattle.trick_serve_facts.specs.Life.{is_write_fault}
 use Rattle.trick_serve_facts.specs.Serves.{Serves, no_turn, one_more}
 use Rattle.trick_serve_facts.specs.Tales.{IsEndOf, tale_of}
-use Rattle.trick_turns.specs.Turns.{Answer}
-use Rattle.trick_turns.specs.declared.turns.Turns.{Ghosts as TurnsGhosts}
+use Rattle.trick_exec_sources.specs.Turns.{Answer}
+use Rattle.trick_exec_sources.specs.declared.turns.Turns.{Ghosts as TurnsGhosts}
 use Rattle.trick_wire.specs.HasWritten.{IsUnwritten, cause_of}
 use Rattle.trick_wire.specs.declared.heard.WriteStop.{WriteStop}
 use Rattle.trick_wire.specs.declared.heard.WriteStop.TheVariants as stop

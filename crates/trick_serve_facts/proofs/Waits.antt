@@ -17,21 +17,21 @@ use Rattle.trick_model.specs.declared.entry.Cause.TheVariants as cause
 use Rattle.trick_model.specs.declared.entry.Entry.{Entry}
 use Rattle.trick_model.specs.declared.entry.Entry.TheVariants.{Join, Said, Leave, Publish}
 use Rattle.trick_model.specs.declared.session.Session.{Session}
-use Rattle.trick_runs.specs.Answers.{list_answer, no_more}
-use Rattle.trick_runs.specs.Ran.{last_answer}
-use Rattle.trick_serve.specs.Calls.{Answers, Breaks, Call, DoAll, Does, Hands, IsAnswered, Looks, View, Went, answers_of}
-use Rattle.trick_serve.specs.Ended.{has_end, is_end}
-use Rattle.trick_serve.specs.Life.{Can, Happening, Happens, Hears, IsSeated, IsSlow, IsTold, Lives, Misses, after, entries_of, entries_of_all, leave_after, leave_by, leave_of, leaves, own, said_of}
-use Rattle.trick_serve.specs.Messages.{IsHanded}
-use Rattle.trick_serve.specs.Sides.{Queues, Side, nobody, side}
-use Rattle.trick_serve.specs.declared.seat.Seat.{Seat}
+use Rattle.trick_exec_meaning.specs.Answers.{list_answer, no_more}
+use Rattle.trick_exec_meaning.specs.Ran.{last_answer}
+use Rattle.trick_serve_source.specs.Calls.{Answers, Breaks, Call, DoAll, Does, Hands, IsAnswered, Looks, View, Went, answers_of}
+use Rattle.trick_serve_source.specs.Ended.{has_end, is_end}
+use Rattle.trick_serve_source.specs.Life.{Can, Happening, Happens, Hears, IsSeated, IsSlow, IsTold, Lives, Misses, after, entries_of, entries_of_all, leave_after, leave_by, leave_of, leaves, own, said_of}
+use Rattle.trick_serve_source.specs.Messages.{IsHanded}
+use Rattle.trick_serve_source.specs.Sides.{Queues, Side, nobody, side}
+use Rattle.trick_serve_source.specs.declared.seat.Seat.{Seat}
 use Rattle.trick_serve_facts.proofs.Clients.{heard_to_end, lives_at_end}
 use Rattle.trick_serve_facts.proofs.Keeping.{whole_before, whole_calls}
 use Rattle.trick_serve_facts.specs.Clients.{EndSays, LinkTale}
 use Rattle.trick_serve_facts.specs.Life.{HasLived, life}
 use Rattle.trick_serve_facts.specs.Serves.{IsServedRun, Serves, all_entries, no_turn, one_more}
 use Rattle.trick_serve_facts.specs.Waits.{ClientsAreHeardOut, IsHeardOut, WaitingIsOver, waits}
-use Rattle.trick_turns.specs.Turns.{Answer, Sessions, after_entries, after_entry, in_next, is_among}
+use Rattle.trick_exec_sources.specs.Turns.{Answer, Sessions, after_entries, after_entry, in_next, is_among}
 use Rattle.trick_wire.specs.declared.heard.Heard.{Heard}
 use Rattle.trick_wire.specs.declared.heard.Heard.TheVariants as heard
 

@@ -10,9 +10,9 @@ use Rattle.trick_model.specs.declared.entry.Cause.{Cause}
 use Rattle.trick_model.specs.declared.entry.Cause.TheVariants as cause
 use Rattle.trick_model.specs.declared.entry.Entry.{Entry}
 use Rattle.trick_outside.specs.Causes.{Rose}
-use Rattle.trick_serve.specs.Calls.{View}
-use Rattle.trick_serve.specs.Life.{own}
-use Rattle.trick_serve.specs.Sides.{Queues, Side, side}
+use Rattle.trick_serve_source.specs.Calls.{View}
+use Rattle.trick_serve_source.specs.Life.{own}
+use Rattle.trick_serve_source.specs.Sides.{Queues, Side, side}
 use Rattle.trick_serve_facts.specs.HangUps.{HangsUpIn}
 use Rattle.trick_serve_facts.specs.LastTurns.{AreOfLastTurn}
 use Rattle.trick_serve_facts.specs.Life.{AskBy, is_write_fault, life}

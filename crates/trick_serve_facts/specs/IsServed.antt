@@ -1,16 +1,16 @@
 -- What a run with clients came to.
 use Rattle.std.specs.Prelude.{◌≡◌, ◌≢◌, ℕ, ◌+◌, ◌≤◌, false, IsTrue, List, [], ◌∷◌, Some, filter, length}
-use Rattle.trick_line_facts.specs.Silence.{newcomers}
+use Rattle.trick_model_sessions.specs.Silence.{newcomers}
 use Rattle.trick_model.specs.Journal.{is_of_session}
 use Rattle.trick_model.specs.Plan.{Plan}
 use Rattle.trick_model.specs.Run.{opened}
 use Rattle.trick_model.specs.State.{State, World}
 use Rattle.trick_model.specs.Turn.{is_frozen, turn}
 use Rattle.trick_model.specs.declared.entry.Entry.{Entry}
-use Rattle.trick_runs.specs.Answers.{IsSuccession}
-use Rattle.trick_serve.specs.Calls.{View}
-use Rattle.trick_serve.specs.Sides.{Queues, side}
-use Rattle.trick_serve.specs.declared.seat.Seat.{Seat}
+use Rattle.trick_exec_meaning.specs.Answers.{IsSuccession}
+use Rattle.trick_serve_source.specs.Calls.{View}
+use Rattle.trick_serve_source.specs.Sides.{Queues, side}
+use Rattle.trick_serve_source.specs.declared.seat.Seat.{Seat}
 use Rattle.trick_serve_facts.specs.Clients.{EndSays, HasServed, IsAbsent, LinkTale}
 use Rattle.trick_serve_facts.specs.Joins.{numbers_from}
 use Rattle.trick_serve_facts.specs.Serves.{IsServedRun, all_entries}

@@ -1,11 +1,11 @@
 -- Which sessions join in a run.
 use Rattle.std.specs.Prelude.{◌≡◌, ℕ, zero, suc, ◌+◌, false, List, [], ◌∷◌, length}
-use Rattle.trick_line_facts.specs.Silence.{newcomers}
+use Rattle.trick_model_sessions.specs.Silence.{newcomers}
 use Rattle.trick_model.specs.Plan.{Plan}
 use Rattle.trick_model.specs.State.{State}
 use Rattle.trick_model.specs.declared.entry.Entry.{Entry}
-use Rattle.trick_runs.specs.Answers.{IsSuccession}
-use Rattle.trick_serve.specs.Calls.{View}
+use Rattle.trick_exec_meaning.specs.Answers.{IsSuccession}
+use Rattle.trick_serve_source.specs.Calls.{View}
 use Rattle.trick_serve_facts.specs.Serves.{IsServedRun, all_entries}
 
 -- so many numbers, from a first one on

@@ -6,10 +6,10 @@ use Rattle.trick_model.specs.Run.{opened}
 use Rattle.trick_model.specs.Session.{Message}
 use Rattle.trick_model.specs.State.{State}
 use Rattle.trick_model.specs.declared.entry.Entry.{Entry}
-use Rattle.trick_serve.specs.Calls.{View, Went}
-use Rattle.trick_serve.specs.Sides.{Queues, side}
+use Rattle.trick_serve_source.specs.Calls.{View, Went}
+use Rattle.trick_serve_source.specs.Sides.{Queues, side}
 use Rattle.trick_serve_facts.specs.Clients.{EndSays, LinkTale}
-use Rattle.trick_turns.specs.Turns.{Answer}
+use Rattle.trick_exec_sources.specs.Turns.{Answer}
 use Rattle.trick_wire.specs.HasWritten.{HasWritten, text_of}
 
 -- These messages were handed over in a run, and of those to session n the first ones were kept for its client; what was

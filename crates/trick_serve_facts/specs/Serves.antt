@@ -5,9 +5,9 @@ use Rattle.trick_model.specs.Run.{after_turns, opened}
 use Rattle.trick_model.specs.State.{State, World}
 use Rattle.trick_model.specs.Turn.{turn}
 use Rattle.trick_model.specs.declared.entry.Entry.{Entry}
-use Rattle.trick_runs.specs.Answers.{list_answer}
-use Rattle.trick_serve.specs.Calls.{View, Went}
-use Rattle.trick_turns.specs.Turns.{Answer}
+use Rattle.trick_exec_meaning.specs.Answers.{list_answer}
+use Rattle.trick_serve_source.specs.Calls.{View, Went}
+use Rattle.trick_exec_sources.specs.Turns.{Answer}
 
 -- the entries of a list that may not be given
 abbrev pub given_in : Option (List Entry) → List Entry

@@ -3,7 +3,7 @@ use Rattle.std.specs.Prelude.{◌≤◌}
 use Rattle.trick_outside.specs.Causes.{Rose}
 use Rattle.trick_outside.specs.declared.link_in.LinkIn.{Ghosts as InGhosts}
 use Rattle.trick_outside.specs.declared.link_out.LinkOut.{Ghosts as OutGhosts}
-use Rattle.trick_serve.specs.Sides.{Side}
+use Rattle.trick_serve_source.specs.Sides.{Side}
 use Rattle.trick_serve_door.specs.Seats.{IsPast}
 use Rattle.trick_serve_door.specs.declared.arrival.Arrival.{Arrival}
 use Rattle.trick_serve_door.specs.declared.ending.SessionEnd.{SessionEnd}

@@ -7,10 +7,10 @@ use Rattle.trick_model.specs.State.{State, World}
 use Rattle.trick_model.specs.Turn.{is_frozen}
 use Rattle.trick_model.specs.declared.entry.Cause.{Cause}
 use Rattle.trick_model.specs.declared.entry.Entry.{Entry}
-use Rattle.trick_runs.specs.Ran.{last_answer}
-use Rattle.trick_serve.specs.Calls.{View}
-use Rattle.trick_serve.specs.Life.{own}
-use Rattle.trick_serve.specs.Sides.{Queues, side}
+use Rattle.trick_exec_meaning.specs.Ran.{last_answer}
+use Rattle.trick_serve_source.specs.Calls.{View}
+use Rattle.trick_serve_source.specs.Life.{own}
+use Rattle.trick_serve_source.specs.Sides.{Queues, side}
 use Rattle.trick_serve_facts.specs.Clients.{EndSays, LinkTale}
 use Rattle.trick_serve_facts.specs.Life.{life}
 use Rattle.trick_serve_facts.specs.Serves.{IsServedRun, all_entries}

@@ -1,19 +1,19 @@
 -- All clients of a run, under its journal.
 use Rattle.std.proofs.Common.{◌≡◌, ◌∙◌, ℕ, ◌+◌, List, [], ◌∷◌, Bool, ap, refl, subst, sym}
 use Rattle.std.specs.Prelude.{◌&&◌, nat_lt}
-use Rattle.trick_headline.proofs.Clients.{served_as_noted}
-use Rattle.trick_headline.proofs.Entries.{joins_of_turn, refused_in, refused_join, refused_of_turn}
-use Rattle.trick_headline.proofs.Same.{the_same}
-use Rattle.trick_headline.specs.Clients.{IsClientServed, ServesClients, has_waited, tale_between}
-use Rattle.trick_headline.specs.Noted.{noted_of}
+use Rattle.trick_serve_headline.proofs.Clients.{served_as_noted}
+use Rattle.trick_serve_headline.proofs.Entries.{joins_of_turn, refused_in, refused_join, refused_of_turn}
+use Rattle.trick_serve_headline.proofs.Same.{the_same}
+use Rattle.trick_serve_headline.specs.Clients.{IsClientServed, ServesClients, has_waited, tale_between}
+use Rattle.trick_serve_headline.specs.Noted.{noted_of}
 use Rattle.trick_model.specs.Plan.{Plan}
 use Rattle.trick_model.specs.Run.{opened}
 use Rattle.trick_model.specs.State.{State, World}
 use Rattle.trick_model.specs.Turn.{is_frozen, turn}
 use Rattle.trick_model.specs.declared.entry.Entry.{Entry}
 use Rattle.trick_outside.specs.Causes.{RoseBy}
-use Rattle.trick_run_facts.specs.Left.{in_note_order, journal_lists}
-use Rattle.trick_run_facts.specs.Noting.{NotedDoSame}
+use Rattle.trick_exec_laws.specs.Left.{in_note_order, journal_lists}
+use Rattle.trick_exec_laws.specs.Noting.{NotedDoSame}
 use Rattle.trick_serve_door.specs.Taking.{Hosts}
 use Rattle.trick_serve_facts.specs.Clients.{LinkTale}
 use Rattle.trick_serve_facts.specs.Joins.{JoinsFirst}

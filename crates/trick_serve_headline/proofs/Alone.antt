@@ -4,10 +4,10 @@ use Rattle.std.proofs.lemmas.Bool.{and_parts, or_parts}
 use Rattle.std.proofs.lemmas.List.Folds.{list_any-append}
 use Rattle.std.specs.List.{filter, list_any}
 use Rattle.std.specs.Prelude.{None, Option, Some}
-use Rattle.trick_headline.proofs.Entries.{joins_join, joins_lines}
-use Rattle.trick_headline.specs.Alone.{RunsOfNobodyAreAlone}
-use Rattle.trick_journal_written.proofs.Coming.{comes}
-use Rattle.trick_line_facts.specs.Silence.{newcomers}
+use Rattle.trick_serve_headline.proofs.Entries.{joins_join, joins_lines}
+use Rattle.trick_serve_headline.specs.Alone.{RunsOfNobodyAreAlone}
+use Rattle.trick_exec_own_journal.proofs.Coming.{comes}
+use Rattle.trick_model_sessions.specs.Silence.{newcomers}
 use Rattle.trick_model.specs.Beside.{find_thread, has_round, is_in_flight, one_later}
 use Rattle.trick_model.specs.Journal.{is_of_session}
 use Rattle.trick_model.specs.Plan.{Plan, is_async, threads_beside}
@@ -17,12 +17,12 @@ use Rattle.trick_model.specs.Turn.{runs, turn}
 use Rattle.trick_model.specs.declared.entry.Entry.{Entry}
 use Rattle.trick_model.specs.declared.entry.Entry.TheVariants.{Join, Said, Leave, Publish}
 use Rattle.trick_model.specs.declared.thread.Thread.{Thread}
-use Rattle.trick_post.specs.Polls.{Poll}
-use Rattle.trick_run_facts.proofs.Notes.{only_lines}
-use Rattle.trick_runs.specs.Answers.{given}
-use Rattle.trick_runs.specs.Rounds.{AreChosen, Chooses, IsChosen, heard_state, idle, no_turn, none, not_yet, one_more, publications, ready, unasked}
+use Rattle.trick_post_work.specs.Polls.{Poll}
+use Rattle.trick_exec_laws.proofs.Notes.{only_lines}
+use Rattle.trick_exec_meaning.specs.Answers.{given}
+use Rattle.trick_exec_meaning.specs.Rounds.{AreChosen, Chooses, IsChosen, heard_state, idle, no_turn, none, not_yet, one_more, publications, ready, unasked}
 use Rattle.trick_serve_facts.specs.Serves.{all_entries}
-use Rattle.trick_turns.specs.Turns.{Sessions, after_entries, in_next, is_among, is_succession, may_all_come, no_sessions}
+use Rattle.trick_exec_sources.specs.Turns.{Sessions, after_entries, in_next, is_among, is_succession, may_all_come, no_sessions}
 
 -- ---- nobody says anything
 

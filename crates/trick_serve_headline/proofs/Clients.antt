@@ -1,18 +1,18 @@
 -- A client of a run under what its turns noted.
 use Rattle.std.proofs.Common.{◌≡◌, ◌∙◌, ℕ, List, [], ◌∷◌, ◌++◌, ap, append-nil, refl, subst, sym}
 use Rattle.std.specs.Prelude.{IsTrue}
-use Rattle.trick_headline.proofs.Entries.{own_of_turn}
-use Rattle.trick_headline.proofs.Same.{own_same}
-use Rattle.trick_headline.specs.Noted.{ClientsAreServedAsNoted, noted_of}
+use Rattle.trick_serve_headline.proofs.Entries.{own_of_turn}
+use Rattle.trick_serve_headline.proofs.Same.{own_same}
+use Rattle.trick_serve_headline.specs.Noted.{ClientsAreServedAsNoted, noted_of}
 use Rattle.trick_model.specs.Files.{messages_to, session_text}
 use Rattle.trick_model.specs.Plan.{Plan}
 use Rattle.trick_model.specs.Run.{after_turns, opened}
 use Rattle.trick_model.specs.State.{State, World}
 use Rattle.trick_model.specs.Turn.{turn}
 use Rattle.trick_model.specs.declared.entry.Entry.{Entry}
-use Rattle.trick_run_facts.specs.Left.{in_note_order, journal_lists}
-use Rattle.trick_run_facts.specs.Noting.{NotedDoSame}
-use Rattle.trick_serve.specs.Life.{is_idle}
+use Rattle.trick_exec_laws.specs.Left.{in_note_order, journal_lists}
+use Rattle.trick_exec_laws.specs.Noting.{NotedDoSame}
+use Rattle.trick_serve_source.specs.Life.{is_idle}
 use Rattle.trick_serve_facts.specs.HangUps.{HangsUpIn}
 use Rattle.trick_serve_facts.specs.LastTurns.{AreOfLastTurn}
 

@@ -4,7 +4,7 @@ use Rattle.std.proofs.lemmas.List.Elements.{All-cons, All-head, All-nil, All-tai
 use Rattle.std.proofs.lemmas.Option.{same_Some}
 use Rattle.std.specs.List.{slice_get}
 use Rattle.std.specs.Prelude.{All}
-use Rattle.trick_headline.specs.Clients.{EndsOver, IsAsk}
+use Rattle.trick_serve_headline.specs.Clients.{EndsOver, IsAsk}
 use Rattle.trick_outside.specs.Visits.{Back, Ended as HasEnded, Failed, Gave, NotYet, OutOfMemory, Visit, clients}
 use Rattle.trick_serve_clients.specs.Tended.{IsLastAnswer}
 use Rattle.trick_serve_door.specs.Told.{IsOpen, links_of}

@@ -3,16 +3,16 @@ use Rattle.std.proofs.Common.{◌≡◌, ◌∙◌, ℕ, ◌+◌, List, [], ◌�
 use Rattle.std.proofs.lemmas.List.Elements.{filter-append}
 use Rattle.std.proofs.lemmas.List.Sums.{sum_by-append, sum_by-cons}
 use Rattle.std.specs.Prelude.{count_by}
-use Rattle.trick_line_facts.specs.Silence.{newcomers}
+use Rattle.trick_model_sessions.specs.Silence.{newcomers}
 use Rattle.trick_model.specs.Journal.{is_of_session}
 use Rattle.trick_model.specs.Plan.{Plan}
 use Rattle.trick_model.specs.State.{World}
 use Rattle.trick_model.specs.Turn.{begun, heard, noted, turn}
 use Rattle.trick_model.specs.declared.entry.Entry.{Entry}
 use Rattle.trick_model.specs.declared.entry.Entry.TheVariants.{Join, Said, Leave, Publish}
-use Rattle.trick_run_facts.proofs.Notes.{lines_in, lines_noted, others_in}
-use Rattle.trick_run_facts.specs.Left.{in_note_order}
-use Rattle.trick_serve.specs.Life.{own}
+use Rattle.trick_exec_laws.proofs.Notes.{lines_in, lines_noted, others_in}
+use Rattle.trick_exec_laws.specs.Left.{in_note_order}
+use Rattle.trick_serve_source.specs.Life.{own}
 use Rattle.trick_serve_facts.proofs.Keeping.{own_given}
 use Rattle.trick_serve_facts.specs.NoThreads.{is_no_thread}
 

@@ -2,7 +2,7 @@
 use Rattle.std.proofs.Common.{◌≡◌, ◌∙◌, ℕ, List, [], ◌∷◌, ◌++◌, true, false, Some, None, ap, arith, inl, inr, length, refl}
 use Rattle.std.proofs.lemmas.List.Elements.{All-cons, All-nil}
 use Rattle.std.specs.Prelude.{codes}
-use Rattle.trick_headline.specs.Clients.{EndsOver, IsAsk, IsSentOf, ServesClients, Visits, has_waited}
+use Rattle.trick_serve_headline.specs.Clients.{EndsOver, IsAsk, IsSentOf, ServesClients, Visits, has_waited}
 use Rattle.trick_model.specs.Plan.{Plan}
 use Rattle.trick_model.specs.State.{State}
 use Rattle.trick_model.specs.declared.entry.Cause.TheVariants as cause
@@ -16,7 +16,7 @@ use Rattle.trick_serve_door.specs.Told.{IsOpen}
 use Rattle.trick_serve_facts.specs.Clients.{LinkTale}
 use Rattle.trick_serve_facts.specs.Joins.{JoinsFirst}
 use Rattle.trick_serve_facts.specs.NoThreads.{no_thread_leaves}
-use Rattle.trick_turns.specs.Turns.{no_sessions}
+use Rattle.trick_exec_sources.specs.Turns.{no_sessions}
 use Rattle.trick_wire.specs.declared.heard.WriteStop.TheVariants as stop
 
 -- ---- doors

@@ -1,18 +1,18 @@
 -- The headline of a run.
 use Rattle.std.proofs.Common.{◌∙◌, List, subst, sym}
 use Rattle.std.specs.FinMap.{get}
-use Rattle.trick_headline.proofs.All.{all_same}
-use Rattle.trick_headline.specs.Clients.{ServesClients}
-use Rattle.trick_headline.specs.Continued.{RunsWriteRemainders}
-use Rattle.trick_headline.specs.Headline.{RunsKeepHeadline}
-use Rattle.trick_journal_written.specs.Rules.{chosen}
-use Rattle.trick_journal_written.specs.Written.{TurnsAreCounted, WrittenJournals, written_text}
+use Rattle.trick_serve_headline.proofs.All.{all_same}
+use Rattle.trick_serve_headline.specs.Clients.{ServesClients}
+use Rattle.trick_serve_headline.specs.Continued.{RunsWriteRemainders}
+use Rattle.trick_serve_headline.specs.Headline.{RunsKeepHeadline}
+use Rattle.trick_exec_own_journal.specs.Rules.{chosen}
+use Rattle.trick_exec_own_journal.specs.Written.{TurnsAreCounted, WrittenJournals, written_text}
 use Rattle.trick_model.specs.Files.{journal_name}
 use Rattle.trick_model.specs.PlanOf.{plan_of}
 use Rattle.trick_model.specs.declared.entry.Entry.{Entry}
 use Rattle.trick_outside.specs.declared.shelf.Shelf.{Ghosts}
-use Rattle.trick_replay.specs.Replay.{lists_for}
-use Rattle.trick_run_facts.specs.Noting.{NotedDoSame}
+use Rattle.trick_exec_alone.specs.Replay.{lists_for}
+use Rattle.trick_exec_laws.specs.Noting.{NotedDoSame}
 use Rattle.trick_serve_door.specs.Taking.{Hosts}
 
 pub keep : {F D I O S : Type 0} → NotedDoSame → WrittenJournals → TurnsAreCounted → RunsWriteRemainders → (shelf : Ghosts F) (h : Hosts D I O S) → RunsKeepHeadline shelf h

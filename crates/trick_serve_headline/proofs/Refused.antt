@@ -3,11 +3,11 @@ use Rattle.std.proofs.Common.{◌≡◌, ◌∙◌, ℕ, suc, ◌+◌, ◌<◌, 
 use Rattle.std.proofs.lemmas.List.Sums.{sum_by-cons}
 use Rattle.std.proofs.lemmas.Option.{same_Some}
 use Rattle.std.specs.List.{slice_get}
-use Rattle.trick_headline.proofs.Doors.{none_some}
+use Rattle.trick_serve_headline.proofs.Doors.{none_some}
 use Rattle.trick_outside.specs.Causes.{RoseBy}
-use Rattle.trick_serve.specs.Clients.{client_queues}
-use Rattle.trick_serve.specs.Sides.{Queues, queues_of, side}
-use Rattle.trick_serve.specs.declared.seat.Seat.{Seat}
+use Rattle.trick_serve_source.specs.Clients.{client_queues}
+use Rattle.trick_serve_source.specs.Sides.{Queues, queues_of, side}
+use Rattle.trick_serve_source.specs.declared.seat.Seat.{Seat}
 use Rattle.trick_serve_door.specs.Told.{refused_of}
 use Rattle.trick_serve_door.specs.declared.arrival.Arrival.{Arrival}
 use Rattle.trick_serve_facts.specs.NoThreads.{refused_seats}

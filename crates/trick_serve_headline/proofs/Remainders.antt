@@ -3,8 +3,8 @@ use Rattle.std.proofs.Common.{◌≡◌, ◌∙◌, ℕ, List, [], ◌∷◌, �
 use Rattle.std.proofs.lemmas.List.Elements.{All-weaker}
 use Rattle.std.specs.Prelude.{codes, map}
 use Rattle.trick_base.specs.Content.{same_name}
-use Rattle.trick_headline.specs.Continued.{KeepsRows, RunsWriteRemainders}
-use Rattle.trick_line_facts.specs.Lines.{AllApplySame, RunsWriteSame, SameLinesWriteTheSame, line_texts, threads_in}
+use Rattle.trick_serve_headline.specs.Continued.{KeepsRows, RunsWriteRemainders}
+use Rattle.trick_model_sessions.specs.Lines.{AllApplySame, RunsWriteSame, SameLinesWriteTheSame, line_texts, threads_in}
 use Rattle.trick_model.specs.Files.{journal_name}
 use Rattle.trick_model.specs.Journal.{Noted, live_before, with_joins}
 use Rattle.trick_model.specs.Plan.{Plan}
@@ -16,7 +16,7 @@ use Rattle.trick_model.specs.Turn.{is_frozen}
 use Rattle.trick_model.specs.declared.entry.Entry.{Entry}
 use Rattle.trick_model.specs.declared.entry.Entry.TheVariants.{Join}
 use Rattle.trick_model.specs.declared.group.Group.{Group}
-use Rattle.trick_remainder.specs.Remainder.{IsLogRest, RemaindersAreWritten, late_lists, lists_after, state_at}
+use Rattle.trick_model_remainder.specs.Remainder.{IsLogRest, RemaindersAreWritten, late_lists, lists_after, state_at}
 
 -- ---- joins apply nothing
 

@@ -1,17 +1,17 @@
 -- A run under what its turns noted.
 use Rattle.std.proofs.Common.{◌≡◌, ◌∙◌, ℕ, List, [], ◌∷◌, ◌++◌, ap, refl, subst, sym}
-use Rattle.trick_headline.proofs.Entries.{joins_join, joins_of_turn, lines_of_turn, own_of_turn}
-use Rattle.trick_headline.specs.Noted.{RunsAreTheSameAsNoted}
-use Rattle.trick_line_facts.specs.Silence.{newcomers}
+use Rattle.trick_serve_headline.proofs.Entries.{joins_join, joins_of_turn, lines_of_turn, own_of_turn}
+use Rattle.trick_serve_headline.specs.Noted.{RunsAreTheSameAsNoted}
+use Rattle.trick_model_sessions.specs.Silence.{newcomers}
 use Rattle.trick_model.specs.Files.{messages_to}
 use Rattle.trick_model.specs.Plan.{Plan}
 use Rattle.trick_model.specs.Run.{opened}
 use Rattle.trick_model.specs.State.{World}
 use Rattle.trick_model.specs.Turn.{turn}
 use Rattle.trick_model.specs.declared.entry.Entry.{Entry}
-use Rattle.trick_run_facts.specs.Left.{in_note_order, journal_lists}
-use Rattle.trick_run_facts.specs.Noting.{NotedDoSame}
-use Rattle.trick_serve.specs.Life.{own}
+use Rattle.trick_exec_laws.specs.Left.{in_note_order, journal_lists}
+use Rattle.trick_exec_laws.specs.Noting.{NotedDoSame}
+use Rattle.trick_serve_source.specs.Life.{own}
 use Rattle.trick_serve_facts.proofs.Keeping.{own_join}
 use Rattle.trick_serve_facts.specs.IsServed.{FreezeHasEntries}
 use Rattle.trick_serve_facts.specs.Serves.{all_entries}

@@ -1,7 +1,7 @@
 -- What clients of a run that stopped were sent.
 use Rattle.std.proofs.Common.{◌≡◌, ◌∙◌, ℕ, ◌+◌, List, [], ◌∷◌, ◌++◌, ap, append_assoc, refl, sym}
-use Rattle.trick_headline.specs.Clients.{IsSentOf}
-use Rattle.trick_headline.specs.Stopped.{FrontsAreSent}
+use Rattle.trick_serve_headline.specs.Clients.{IsSentOf}
+use Rattle.trick_serve_headline.specs.Stopped.{FrontsAreSent}
 use Rattle.trick_model.specs.Files.{messages_to}
 use Rattle.trick_serve_door.specs.Taking.{Hosts}
 use Rattle.trick_serve_facts.proofs.Keeping.{messages_join}

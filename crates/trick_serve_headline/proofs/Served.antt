@@ -1,11 +1,11 @@
 -- The clients of a whole run that were tended were served, as its door has them.
 use Rattle.std.proofs.Common.{◌≡◌, ◌∙◌, ◌⊎◌, inl, inr, ⊎_elim, ℕ, ◌+◌, ◌<◌, ◌≤◌, true, false, List, None, Some, arith, length, refl, subst, sym}
-use Rattle.trick_headline.proofs.Doors.{open_over}
-use Rattle.trick_headline.proofs.Lives.{lines_told}
-use Rattle.trick_headline.proofs.Refused.{refused_fewer, rose_less}
-use Rattle.trick_headline.proofs.Tended.{IsClient, asks_of, same_tale, seat_says, sent_late, visits_of}
-use Rattle.trick_headline.specs.Clients.{EndsOver, IsClientServed, ServesClients, has_waited, tale_between}
-use Rattle.trick_headline.specs.Tended.{ServesTended}
+use Rattle.trick_serve_headline.proofs.Doors.{open_over}
+use Rattle.trick_serve_headline.proofs.Lives.{lines_told}
+use Rattle.trick_serve_headline.proofs.Refused.{refused_fewer, rose_less}
+use Rattle.trick_serve_headline.proofs.Tended.{IsClient, asks_of, same_tale, seat_says, sent_late, visits_of}
+use Rattle.trick_serve_headline.specs.Clients.{EndsOver, IsClientServed, ServesClients, has_waited, tale_between}
+use Rattle.trick_serve_headline.specs.Tended.{ServesTended}
 use Rattle.trick_model.specs.Commands.{lines as lines_of}
 use Rattle.trick_model.specs.Plan.{Plan}
 use Rattle.trick_model.specs.Run.{after_turns, opened}
@@ -13,11 +13,11 @@ use Rattle.trick_model.specs.State.{State}
 use Rattle.trick_model.specs.declared.entry.Cause.{Cause}
 use Rattle.trick_model.specs.declared.entry.Cause.TheVariants as cause
 use Rattle.trick_model.specs.declared.entry.Entry.{Entry}
-use Rattle.trick_runs.specs.Answers.{IsSuccession}
-use Rattle.trick_runs.specs.Ran.{last_answer}
-use Rattle.trick_serve.specs.Calls.{View}
-use Rattle.trick_serve.specs.Clients.{client_queues}
-use Rattle.trick_serve.specs.Sides.{side}
+use Rattle.trick_exec_meaning.specs.Answers.{IsSuccession}
+use Rattle.trick_exec_meaning.specs.Ran.{last_answer}
+use Rattle.trick_serve_source.specs.Calls.{View}
+use Rattle.trick_serve_source.specs.Clients.{client_queues}
+use Rattle.trick_serve_source.specs.Sides.{side}
 use Rattle.trick_serve_clients.specs.Tended.{HasNoMore, HasTended, IsTendedSeat}
 use Rattle.trick_serve_clients.specs.declared.closing.Closed.{Closed}
 use Rattle.trick_serve_door.specs.Taking.{Hosts}

@@ -4,15 +4,15 @@ use Rattle.std.proofs.lemmas.Bool.{cases_lt}
 use Rattle.std.proofs.lemmas.List.Elements.{All-append, All-weaker}
 use Rattle.std.proofs.lemmas.Option.{same_Some, slice_get_within}
 use Rattle.std.specs.List.{slice_get}
-use Rattle.trick_headline.proofs.Doors.{all_given, last_asks, links_count, links_get, open_ask}
-use Rattle.trick_headline.proofs.Sent.{sent_more}
-use Rattle.trick_headline.specs.Clients.{IsAsk, IsSentOf, Visits, WereSent, tale_between}
+use Rattle.trick_serve_headline.proofs.Doors.{all_given, last_asks, links_count, links_get, open_ask}
+use Rattle.trick_serve_headline.proofs.Sent.{sent_more}
+use Rattle.trick_serve_headline.specs.Clients.{IsAsk, IsSentOf, Visits, WereSent, tale_between}
 use Rattle.trick_model.specs.Files.{messages_to}
 use Rattle.trick_model.specs.Session.{Message}
 use Rattle.trick_outside.specs.Visits.{Visit, clients}
-use Rattle.trick_serve.specs.Calls.{View, Went}
-use Rattle.trick_serve.specs.Clients.{client_queues}
-use Rattle.trick_serve.specs.Sides.{Side, nobody, side}
+use Rattle.trick_serve_source.specs.Calls.{View, Went}
+use Rattle.trick_serve_source.specs.Clients.{client_queues}
+use Rattle.trick_serve_source.specs.Sides.{Side, nobody, side}
 use Rattle.trick_serve_clients.specs.Tended.{HasTended, IsTended, IsTendedSeat}
 use Rattle.trick_serve_clients.specs.declared.closing.Closed.{Closed}
 use Rattle.trick_serve_door.specs.Taking.{Hosts}
@@ -22,7 +22,7 @@ use Rattle.trick_serve_facts.proofs.Tales.{end_says}
 use Rattle.trick_serve_facts.specs.Clients.{EndSays}
 use Rattle.trick_serve_facts.specs.Sent.{ClientsAreSent, HasBeenSent}
 use Rattle.trick_serve_facts.specs.Tales.{tale_of}
-use Rattle.trick_turns.specs.Turns.{Answer}
+use Rattle.trick_exec_sources.specs.Turns.{Answer}
 use Rattle.trick_wire.specs.HasWritten.{HasWritten}
 
 module _ {D I O S : Type 0} (h : Hosts D I O S) (door : D) (spawner : S) (v : View) (closed : Closed D S) (tended : HasTended h door spawner v closed) where

@@ -1,15 +1,15 @@
 -- A run to which no client came: where no thread is asynchronous, it is the run without clients.
 use Rattle.std.specs.List.{list_any}
 use Rattle.std.specs.Prelude.{◌≡◌, ℕ, false, List, []}
-use Rattle.trick_line_facts.specs.Silence.{newcomers}
+use Rattle.trick_model_sessions.specs.Silence.{newcomers}
 use Rattle.trick_model.specs.Plan.{Plan, is_async, threads_beside}
 use Rattle.trick_model.specs.Run.{Fits, IsOwnJournal, opened}
 use Rattle.trick_model.specs.State.{State}
 use Rattle.trick_model.specs.declared.entry.Entry.{Entry}
 use Rattle.trick_model.specs.declared.thread.Thread.{Thread}
-use Rattle.trick_post.specs.Polls.{Poll}
-use Rattle.trick_runs.specs.Answers.{IsSuccession}
-use Rattle.trick_runs.specs.Rounds.{AreChosen}
+use Rattle.trick_post_work.specs.Polls.{Poll}
+use Rattle.trick_exec_meaning.specs.Answers.{IsSuccession}
+use Rattle.trick_exec_meaning.specs.Rounds.{AreChosen}
 use Rattle.trick_serve_facts.specs.Serves.{all_entries}
 
 -- No thread of a plan is asynchronous.

@@ -1,7 +1,7 @@
 -- What the clients of a run came to, as its door has them.
 use Rattle.std.specs.List.{slice_get}
 use Rattle.std.specs.Prelude.{◌≡◌, ◌⊎◌, ◌<◌, ◌≤◌, ◌+◌, ℕ, Bool, true, ◌&&◌, nat_lt, All, List, [], ◌∷◌, ◌++◌, Some, None, length}
-use Rattle.trick_line_facts.specs.Silence.{newcomers}
+use Rattle.trick_model_sessions.specs.Silence.{newcomers}
 use Rattle.trick_model.specs.Commands.{lines as lines_of}
 use Rattle.trick_model.specs.Plan.{Plan}
 use Rattle.trick_model.specs.Run.{after_turns, opened}
@@ -14,7 +14,7 @@ use Rattle.trick_outside.specs.Links.{Took}
 use Rattle.trick_outside.specs.Visits.{Back, Ended as HasEnded, Failed, Gave, NotYet, OutOfMemory, Visit, clients}
 use Rattle.trick_outside.specs.declared.link_in.LinkIn.{Ghosts as InGhosts}
 use Rattle.trick_outside.specs.declared.link_out.LinkOut.{Ghosts as OutGhosts}
-use Rattle.trick_serve.specs.Sides.{Queues}
+use Rattle.trick_serve_source.specs.Sides.{Queues}
 use Rattle.trick_serve_door.specs.Returns.{backs_of}
 use Rattle.trick_serve_door.specs.Taking.{Hosts}
 use Rattle.trick_serve_door.specs.declared.ending.SessionEnd.{SessionEnd}

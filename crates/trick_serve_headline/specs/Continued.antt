@@ -1,7 +1,7 @@
 -- A run that goes on from a turn of another run: it writes the remainder of its files.
 use Rattle.std.specs.Prelude.{◌≡◌, ◌<◌, ◌≤◌, ℕ, All, IsTrue, false, List, ◌++◌, codes, Option, Some}
 use Rattle.trick_base.specs.Content.{same_name}
-use Rattle.trick_line_facts.specs.Lines.{AllApplySame}
+use Rattle.trick_model_sessions.specs.Lines.{AllApplySame}
 use Rattle.trick_model.specs.Files.{file, journal_name}
 use Rattle.trick_model.specs.Journal.{Noted}
 use Rattle.trick_model.specs.Plan.{Plan}
@@ -12,7 +12,7 @@ use Rattle.trick_model.specs.State.{State}
 use Rattle.trick_model.specs.declared.entry.Entry.{Entry}
 use Rattle.trick_model.specs.declared.group.Group.{Group}
 use Rattle.trick_model.specs.declared.plan.Plan.{Plan as PlanValue}
-use Rattle.trick_remainder.specs.Remainder.{added, early_writes, is_made, late_lists, late_writes, state_at, whole_file}
+use Rattle.trick_model_remainder.specs.Remainder.{added, early_writes, is_made, late_lists, late_writes, state_at, whole_file}
 
 -- the file of a name after a run that goes on from the state before a turn, under these lists
 abbrev pub continued_file : Plan → State → List Noted → (turn : ℕ) → List (List Entry) → List ℕ → Option (List ℕ)

@@ -3,9 +3,9 @@
 use Rattle.std.specs.FinMap.{get}
 use Rattle.std.specs.Prelude.{◌≡◌, ◌<◌, ◌≤◌, ℕ, false, List, Some}
 use Rattle.trick_base.specs.Files.{Files}
-use Rattle.trick_headline.specs.Clients.{ServesClients}
-use Rattle.trick_headline.specs.Continued.{WritesRemainder}
-use Rattle.trick_line_facts.specs.Lines.{AllApplySame}
+use Rattle.trick_serve_headline.specs.Clients.{ServesClients}
+use Rattle.trick_serve_headline.specs.Continued.{WritesRemainder}
+use Rattle.trick_model_sessions.specs.Lines.{AllApplySame}
 use Rattle.trick_model.specs.Acceptance.{IsAccepted}
 use Rattle.trick_model.specs.Files.{file, journal_name}
 use Rattle.trick_model.specs.Journal.{Noted}
@@ -19,12 +19,12 @@ use Rattle.trick_model.specs.declared.entry.Entry.{Entry}
 use Rattle.trick_model.specs.declared.journal.Journal.{Journal}
 use Rattle.trick_model.specs.declared.plan.Plan.{Plan}
 use Rattle.trick_outside.specs.declared.shelf.Shelf.{Ghosts}
-use Rattle.trick_post.specs.Polls.{Poll}
-use Rattle.trick_remainder.specs.Remainder.{late_lists, state_at}
-use Rattle.trick_replay.specs.Replay.{lists_for}
-use Rattle.trick_run_facts.specs.Waiting.{NoneWaitsLonger}
-use Rattle.trick_runs.specs.Answers.{IsSuccession}
-use Rattle.trick_runs.specs.Rounds.{AreChosen}
+use Rattle.trick_post_work.specs.Polls.{Poll}
+use Rattle.trick_model_remainder.specs.Remainder.{late_lists, state_at}
+use Rattle.trick_exec_alone.specs.Replay.{lists_for}
+use Rattle.trick_exec_laws.specs.Waiting.{NoneWaitsLonger}
+use Rattle.trick_exec_meaning.specs.Answers.{IsSuccession}
+use Rattle.trick_exec_meaning.specs.Rounds.{AreChosen}
 use Rattle.trick_serve_door.specs.Taking.{Hosts}
 
 -- ---- what was run

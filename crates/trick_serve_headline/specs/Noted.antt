@@ -1,14 +1,14 @@
 -- A run under what its turns noted, and so under the journal that it wrote: it is the same to each session.
 use Rattle.std.specs.Prelude.{◌≡◌, ℕ, List}
-use Rattle.trick_line_facts.specs.Silence.{newcomers}
+use Rattle.trick_model_sessions.specs.Silence.{newcomers}
 use Rattle.trick_model.specs.Files.{session_text}
 use Rattle.trick_model.specs.Plan.{Plan}
 use Rattle.trick_model.specs.Run.{opened}
 use Rattle.trick_model.specs.State.{State}
 use Rattle.trick_model.specs.declared.entry.Entry.{Entry}
-use Rattle.trick_run_facts.specs.Left.{journal_lists}
-use Rattle.trick_serve.specs.Life.{own}
-use Rattle.trick_serve.specs.Sides.{Queues}
+use Rattle.trick_exec_laws.specs.Left.{journal_lists}
+use Rattle.trick_serve_source.specs.Life.{own}
+use Rattle.trick_serve_source.specs.Sides.{Queues}
 use Rattle.trick_serve_facts.specs.Clients.{HasServed, LinkTale}
 use Rattle.trick_serve_facts.specs.IsServed.{FreezeHasEntries}
 use Rattle.trick_serve_facts.specs.Serves.{all_entries}

@@ -1,14 +1,14 @@
 -- What a run that stopped leaves, and what its clients were sent.
 use Rattle.std.specs.Prelude.{List}
 use Rattle.trick_base.specs.Files.{Files}
-use Rattle.trick_headline.specs.Clients.{WereSent}
+use Rattle.trick_serve_headline.specs.Clients.{WereSent}
 use Rattle.trick_model.specs.Files.{messages_to, session_text}
 use Rattle.trick_model.specs.Plan.{Plan}
 use Rattle.trick_model.specs.Run.{Lasts, opened}
 use Rattle.trick_model.specs.Session.{Message}
 use Rattle.trick_model.specs.State.{State, World}
 use Rattle.trick_model.specs.declared.entry.Entry.{Entry}
-use Rattle.trick_run_facts.specs.Left.{Left}
+use Rattle.trick_exec_laws.specs.Left.{Left}
 use Rattle.trick_serve_door.specs.Taking.{Hosts}
 
 -- A run that was given these lists, and had handed over these messages, left its files so. In each whole run that goes on

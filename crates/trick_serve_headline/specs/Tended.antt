@@ -1,20 +1,20 @@
 -- From what became of the clients of a run to what its door has of them.
 use Rattle.std.specs.Prelude.{◌≡◌, false, List, []}
-use Rattle.trick_headline.specs.Clients.{ServesClients, WereSent}
+use Rattle.trick_serve_headline.specs.Clients.{ServesClients, WereSent}
 use Rattle.trick_model.specs.Files.{messages_to}
 use Rattle.trick_model.specs.Plan.{Plan}
 use Rattle.trick_model.specs.Run.{after_turns, opened}
 use Rattle.trick_model.specs.Session.{Message}
 use Rattle.trick_model.specs.State.{State}
 use Rattle.trick_model.specs.declared.entry.Entry.{Entry}
-use Rattle.trick_runs.specs.Answers.{IsSuccession}
-use Rattle.trick_runs.specs.Ran.{last_answer}
-use Rattle.trick_serve.specs.Calls.{View, Went}
+use Rattle.trick_exec_meaning.specs.Answers.{IsSuccession}
+use Rattle.trick_exec_meaning.specs.Ran.{last_answer}
+use Rattle.trick_serve_source.specs.Calls.{View, Went}
 use Rattle.trick_serve_clients.specs.Tended.{HasTended}
 use Rattle.trick_serve_clients.specs.declared.closing.Closed.{Closed}
 use Rattle.trick_serve_door.specs.Taking.{Hosts}
 use Rattle.trick_serve_facts.specs.Serves.{IsServedRun}
-use Rattle.trick_turns.specs.Turns.{Answer}
+use Rattle.trick_exec_sources.specs.Turns.{Answer}
 
 -- The clients of a whole run were served, as its door has them: where its turns were served to the answer that ends it,
 -- its lists keep the rules of entries, its clients were tended, and each client whose writer had no memory was told so.

@@ -1,11 +1,11 @@
 //! The laws. A function that calls one of these may rest on what it says; the call itself does nothing.
 
-ghost use Rattle.trick_headline.specs.Alone.{RunsOfNobodyAreAlone};
-ghost use Rattle.trick_headline.specs.Continued.{RunsWriteRemainders};
-ghost use Rattle.trick_headline.specs.Headline.{RunsKeepHeadline};
-ghost use Rattle.trick_headline.specs.Noted.{ClientsAreServedAsNoted, RunsAreTheSameAsNoted};
-ghost use Rattle.trick_headline.specs.Stopped.{FrontsAreSent};
-ghost use Rattle.trick_headline.specs.Tended.{SentToClients, ServesTended};
+ghost use Rattle.trick_serve_headline.specs.Alone.{RunsOfNobodyAreAlone};
+ghost use Rattle.trick_serve_headline.specs.Continued.{RunsWriteRemainders};
+ghost use Rattle.trick_serve_headline.specs.Headline.{RunsKeepHeadline};
+ghost use Rattle.trick_serve_headline.specs.Noted.{ClientsAreServedAsNoted, RunsAreTheSameAsNoted};
+ghost use Rattle.trick_serve_headline.specs.Stopped.{FrontsAreSent};
+ghost use Rattle.trick_serve_headline.specs.Tended.{SentToClients, ServesTended};
 ghost use Rattle.trick_serve_door.specs.Taking.{hosts};
 
 use trick_outside::{Door, Shelf, Spawner};
@@ -15,7 +15,7 @@ use trick_outside::{Door, Shelf, Spawner};
 pub fn runs_are_the_same_as_noted()
     ensures { RunsAreTheSameAsNoted }
 {
-    trick_run_facts::laws::noted_turns_do_the_same();
+    trick_exec_laws::laws::noted_turns_do_the_same();
 }
 
 /// A client that was served in a run was served in its run under what its turns noted, by the same lines and the same
@@ -23,7 +23,7 @@ pub fn runs_are_the_same_as_noted()
 pub fn clients_are_served_as_noted()
     ensures { ClientsAreServedAsNoted }
 {
-    trick_run_facts::laws::noted_turns_do_the_same();
+    trick_exec_laws::laws::noted_turns_do_the_same();
 }
 
 /// A run that goes on from the state before a turn of a run under a journal writes the remainder of that run's files,
@@ -31,8 +31,8 @@ pub fn clients_are_served_as_noted()
 pub fn runs_write_remainders()
     ensures { RunsWriteRemainders }
 {
-    trick_remainder::laws::remainders_are_written();
-    trick_line_facts::laws::same_lines_write_the_same();
+    trick_model_remainder::laws::remainders_are_written();
+    trick_model_sessions::laws::same_lines_write_the_same();
 }
 
 /// A whole run in which nobody joined is the run without clients, where no thread of its plan is asynchronous.
@@ -47,9 +47,9 @@ pub fn served_runs_keep_the_headline<F: Shelf, D: Door, S: Spawner>()
     runs_are_the_same_as_noted();
     clients_are_served_as_noted();
     runs_write_remainders();
-    trick_run_facts::laws::noted_turns_do_the_same();
-    trick_journal_written::laws::written_journals_are_journals();
-    trick_journal_written::laws::turns_are_counted();
+    trick_exec_laws::laws::noted_turns_do_the_same();
+    trick_exec_own_journal::laws::written_journals_are_journals();
+    trick_exec_own_journal::laws::turns_are_counted();
 }
 
 /// Where each client of a run that stopped was sent a first part of the messages to it that were handed over, it was sent

@@ -1,8 +1,8 @@
 -- Answers that are no gap.
 use Rattle.std.specs.Prelude.{ℕ}
-use Rattle.trick_turns.specs.Gap.{IfGap}
-use Rattle.trick_turns.specs.declared.turns.Next.{Next}
-use Rattle.trick_turns.specs.declared.turns.Next.TheVariants as next
+use Rattle.trick_exec_sources.specs.Gap.{IfGap}
+use Rattle.trick_exec_sources.specs.declared.turns.Next.{Next}
+use Rattle.trick_exec_sources.specs.declared.turns.Next.TheVariants as next
 
 -- Whatever is said of a gap is so where there is none.
 pub no_gap : (r : Next) (fact : ℕ → Type 0) → IfGap r (λ turns. ⊥) → IfGap r fact

@@ -15,15 +15,15 @@ use Rattle.trick_model.specs.declared.entry.Cause.TheVariants as cause
 use Rattle.trick_model.specs.declared.entry.Entry.{Entry}
 use Rattle.trick_model.specs.declared.entry.Entry.TheVariants.{Join, Leave}
 use Rattle.trick_model.specs.declared.session.Session.{Session}
-use Rattle.trick_serve.proofs.Keeping.{keeps_all, keeps_leave, keeps_more, keeps_none, without_if}
-use Rattle.trick_serve.proofs.Living.{left_stays, lives_more, lives_none, other, own_all, own_all_other, own_leave, own_leave_other, own_more, own_more_other, own_pair, listed_same}
-use Rattle.trick_serve.proofs.Placing.{among_filter, filter_all, filter_twice, live_left, live_push, live_same, side_after, side_at, side_before, side_other, side_past, side_push, side_set}
-use Rattle.trick_serve.specs.Gathering.{Gathers, HasListed, HasLooked}
-use Rattle.trick_serve.specs.Life.{Goes, Happening, HangsUp, IsSeated, Lives, is_idle, entries_of, entries_of_all, own}
-use Rattle.trick_serve.specs.Rules.{AreSeated, Keeps, is_live, sessions_by}
-use Rattle.trick_serve.specs.Sides.{Side, nobody, queues_of, side, side_of}
-use Rattle.trick_serve.specs.declared.seat.Seat.{Seat}
-use Rattle.trick_turns.specs.Turns.{Sessions, after_entry, in_next, is_among}
+use Rattle.trick_serve_source.proofs.Keeping.{keeps_all, keeps_leave, keeps_more, keeps_none, without_if}
+use Rattle.trick_serve_source.proofs.Living.{left_stays, lives_more, lives_none, other, own_all, own_all_other, own_leave, own_leave_other, own_more, own_more_other, own_pair, listed_same}
+use Rattle.trick_serve_source.proofs.Placing.{among_filter, filter_all, filter_twice, live_left, live_push, live_same, side_after, side_at, side_before, side_other, side_past, side_push, side_set}
+use Rattle.trick_serve_source.specs.Gathering.{Gathers, HasListed, HasLooked}
+use Rattle.trick_serve_source.specs.Life.{Goes, Happening, HangsUp, IsSeated, Lives, is_idle, entries_of, entries_of_all, own}
+use Rattle.trick_serve_source.specs.Rules.{AreSeated, Keeps, is_live, sessions_by}
+use Rattle.trick_serve_source.specs.Sides.{Side, nobody, queues_of, side, side_of}
+use Rattle.trick_serve_source.specs.declared.seat.Seat.{Seat}
+use Rattle.trick_exec_sources.specs.Turns.{Sessions, after_entry, in_next, is_among}
 use Rattle.trick_wire.specs.Ends.{put_by, taken_by}
 
 -- ---- a list begins

@@ -8,11 +8,11 @@ use Rattle.trick_model.specs.Journal.{is_entry, is_line, is_of_session, is_sessi
 use Rattle.trick_model.specs.declared.entry.Cause.{Cause}
 use Rattle.trick_model.specs.declared.entry.Entry.{Entry}
 use Rattle.trick_model.specs.declared.entry.Entry.TheVariants.{Join, Said, Leave, Publish}
-use Rattle.trick_serve.proofs.Living.{left_stays}
-use Rattle.trick_serve.specs.Life.{Can, Happening, Happens, Hears, IsSeated, IsSlow, IsTold, Misses, after, entries_of, entries_of_all, leave_after, leave_by, leave_of, leaves}
-use Rattle.trick_serve.specs.Rules.{Keeps}
-use Rattle.trick_serve.specs.Sides.{IsHere, Side, nobody}
-use Rattle.trick_turns.specs.Turns.{Sessions, after_entries, after_entry, is_among, may_all_come, may_come}
+use Rattle.trick_serve_source.proofs.Living.{left_stays}
+use Rattle.trick_serve_source.specs.Life.{Can, Happening, Happens, Hears, IsSeated, IsSlow, IsTold, Misses, after, entries_of, entries_of_all, leave_after, leave_by, leave_of, leaves}
+use Rattle.trick_serve_source.specs.Rules.{Keeps}
+use Rattle.trick_serve_source.specs.Sides.{IsHere, Side, nobody}
+use Rattle.trick_exec_sources.specs.Turns.{Sessions, after_entries, after_entry, is_among, may_all_come, may_come}
 use Rattle.trick_wire.specs.declared.heard.Heard.TheVariants as heard
 
 -- ---- one entry more

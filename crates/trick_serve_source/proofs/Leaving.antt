@@ -4,8 +4,8 @@ use Rattle.std.proofs.lemmas.List.{length-append, length_push}
 use Rattle.std.proofs.lemmas.List.Elements.{filter-append}
 use Rattle.std.specs.List.{filter}
 use Rattle.std.specs.Prelude.{OnErr, OnOk, not}
-use Rattle.trick_serve.specs.Rules.{is_live}
-use Rattle.trick_serve.specs.declared.seat.Seat.{Seat}
+use Rattle.trick_serve_source.specs.Rules.{is_live}
+use Rattle.trick_serve_source.specs.declared.seat.Seat.{Seat}
 use Rattle.trick_serve_door.specs.Departures.{left_of}
 use Rattle.trick_serve_door.specs.declared.departure.Departure.{Departure}
 use Rattle.trick_serve_door.specs.declared.departure.Departure.TheVariants.{Run, Session}

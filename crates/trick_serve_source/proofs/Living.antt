@@ -9,9 +9,9 @@ use Rattle.trick_model.specs.declared.entry.Cause.TheVariants as cause
 use Rattle.trick_model.specs.declared.entry.Entry.{Entry}
 use Rattle.trick_model.specs.declared.entry.Entry.TheVariants.{Join, Said, Leave}
 use Rattle.trick_model.specs.declared.session.Session.{Session}
-use Rattle.trick_serve.specs.Gathering.{HasListed}
-use Rattle.trick_serve.specs.Life.{Can, Happening, Happens, Hears, IsSeated, IsSlow, IsTold, Lives, Misses, after, entries_of, entries_of_all, is_of, leave_after, leave_by, leave_of, leaves, own, said_of}
-use Rattle.trick_serve.specs.Sides.{Queues, Side}
+use Rattle.trick_serve_source.specs.Gathering.{HasListed}
+use Rattle.trick_serve_source.specs.Life.{Can, Happening, Happens, Hears, IsSeated, IsSlow, IsTold, Lives, Misses, after, entries_of, entries_of_all, is_of, leave_after, leave_by, leave_of, leaves, own, said_of}
+use Rattle.trick_serve_source.specs.Sides.{Queues, Side}
 use Rattle.trick_wire.specs.declared.heard.Heard.{Heard}
 use Rattle.trick_wire.specs.declared.heard.Heard.TheVariants as heard
 

@@ -5,9 +5,9 @@ use Rattle.std.proofs.lemmas.List.{get_or-map, get_or-set_other, get_or-set_same
 use Rattle.std.proofs.lemmas.List.Elements.{All-cons, All-head, All-nil, All-push, All-tail, filter-append}
 use Rattle.std.specs.List.{All, filter, list_any}
 use Rattle.std.specs.Prelude.{not, ◌&&◌, ◌||◌}
-use Rattle.trick_serve.specs.Rules.{AreSeated, is_live}
-use Rattle.trick_serve.specs.Sides.{Side, nobody, side, side_of}
-use Rattle.trick_serve.specs.declared.seat.Seat.{Seat}
+use Rattle.trick_serve_source.specs.Rules.{AreSeated, is_live}
+use Rattle.trick_serve_source.specs.Sides.{Side, nobody, side, side_of}
+use Rattle.trick_serve_source.specs.declared.seat.Seat.{Seat}
 
 -- ---- the side at a place
 

@@ -4,10 +4,10 @@ use Rattle.std.proofs.lemmas.Bool.{cases_lt, not-true}
 use Rattle.std.proofs.lemmas.Bool.Decides.{eqb_tells}
 use Rattle.std.proofs.lemmas.List.{get_or_default}
 use Rattle.std.specs.Prelude.{not}
-use Rattle.trick_serve.proofs.Placing.{kept_where, side_other, side_set}
-use Rattle.trick_serve.specs.Rules.{AreQuick, is_live}
-use Rattle.trick_serve.specs.Sides.{Side, side}
-use Rattle.trick_serve.specs.declared.seat.Seat.{Seat}
+use Rattle.trick_serve_source.proofs.Placing.{kept_where, side_other, side_set}
+use Rattle.trick_serve_source.specs.Rules.{AreQuick, is_live}
+use Rattle.trick_serve_source.specs.Sides.{Side, side}
+use Rattle.trick_serve_source.specs.declared.seat.Seat.{Seat}
 use Rattle.std.specs.List.{filter}
 
 -- what is asked of a session

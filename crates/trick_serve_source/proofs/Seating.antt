@@ -4,13 +4,13 @@ use Rattle.std.proofs.lemmas.Bool.{false≢true}
 use Rattle.std.proofs.lemmas.List.{nil_from_length, get_or-map, length-map, map-append, map-set, set-get_or}
 use Rattle.trick_model.specs.declared.entry.Entry.{Entry}
 use Rattle.trick_model.specs.declared.session.Session.{Session}
-use Rattle.trick_serve.proofs.Living.{some≢none}
-use Rattle.trick_serve.specs.Clients.{AreOfClients, IsLast, IsSilent, KeepQueues, client_queues, clients_of, has_lack, has_over, is_silent, seat_queues}
-use Rattle.trick_serve.specs.Gathering.{HasListed, HasLooked}
-use Rattle.trick_serve.specs.Life.{Happening, Happens, Hears, IsSeated, IsSlow, IsTold, Misses, after}
-use Rattle.trick_serve.specs.Messages.{IsHanded}
-use Rattle.trick_serve.specs.Sides.{Queues, Side, queues_of, side_of}
-use Rattle.trick_serve.specs.declared.seat.Seat.{Seat}
+use Rattle.trick_serve_source.proofs.Living.{some≢none}
+use Rattle.trick_serve_source.specs.Clients.{AreOfClients, IsLast, IsSilent, KeepQueues, client_queues, clients_of, has_lack, has_over, is_silent, seat_queues}
+use Rattle.trick_serve_source.specs.Gathering.{HasListed, HasLooked}
+use Rattle.trick_serve_source.specs.Life.{Happening, Happens, Hears, IsSeated, IsSlow, IsTold, Misses, after}
+use Rattle.trick_serve_source.specs.Messages.{IsHanded}
+use Rattle.trick_serve_source.specs.Sides.{Queues, Side, queues_of, side_of}
+use Rattle.trick_serve_source.specs.declared.seat.Seat.{Seat}
 use Rattle.trick_serve_door.specs.declared.arrival.Arrival.{Arrival}
 use Rattle.trick_serve_door.specs.declared.arrival.Comes.{Comes}
 use Rattle.trick_serve_door.specs.declared.arrival.Comes.TheVariants as comes

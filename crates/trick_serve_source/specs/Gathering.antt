@@ -4,11 +4,11 @@ use Rattle.trick_model.specs.declared.entry.Cause.TheVariants as cause
 use Rattle.trick_model.specs.declared.entry.Entry.{Entry}
 use Rattle.trick_model.specs.declared.entry.Entry.TheVariants.{Leave}
 use Rattle.trick_model.specs.declared.session.Session.{Session}
-use Rattle.trick_serve.specs.Life.{Happening, Happens, HangsUp, Hears, Lives, Misses, entries_of, entries_of_all, is_exit, own}
+use Rattle.trick_serve_source.specs.Life.{Happening, Happens, HangsUp, Hears, Lives, Misses, entries_of, entries_of_all, is_exit, own}
 use Rattle.trick_wire.specs.declared.heard.Heard.TheVariants as heard
-use Rattle.trick_serve.specs.Rules.{Keeps, sessions_by}
-use Rattle.trick_serve.specs.Sides.{Side, side}
-use Rattle.trick_serve.specs.declared.seat.Seat.{Seat}
+use Rattle.trick_serve_source.specs.Rules.{Keeps, sessions_by}
+use Rattle.trick_serve_source.specs.Sides.{Side, side}
+use Rattle.trick_serve_source.specs.declared.seat.Seat.{Seat}
 
 -- A line that was taken of session n is listed, with its leave where it asks for it; or there was no memory to look at
 -- it, and the session leaves for that.

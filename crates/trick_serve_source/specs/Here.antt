@@ -1,13 +1,13 @@
 -- What the source of entries did, call after call, where its caller asks the door.
 use Rattle.std.specs.Prelude.{List, [], ◌++◌}
 use Rattle.trick_model.specs.Session.{Message}
-use Rattle.trick_serve.specs.CallLaws.{went_on_join, went_on_none}
-use Rattle.trick_serve.specs.Calls.{WentOn}
-use Rattle.trick_serve.specs.Rolls.{view_of, ways_of}
-use Rattle.trick_serve.specs.declared.here.ServedHere.{ServedHere}
+use Rattle.trick_serve_source.specs.CallLaws.{went_on_join, went_on_none}
+use Rattle.trick_serve_source.specs.Calls.{WentOn}
+use Rattle.trick_serve_source.specs.Rolls.{view_of, ways_of}
+use Rattle.trick_serve_source.specs.declared.here.ServedHere.{ServedHere}
 use Rattle.trick_serve_door.specs.Asking.{KeepsAsking}
 use Rattle.trick_serve_door.specs.Taking.{Hosts}
-use Rattle.trick_turns.specs.Turns.{Answer}
+use Rattle.trick_exec_sources.specs.Turns.{Answer}
 
 -- From the first moment to the second just these answers were given, and these messages handed over, by the same
 -- queues, and whoever asks the door did nothing but ask.

@@ -11,9 +11,9 @@ use Rattle.trick_model.specs.declared.entry.Cause.TheVariants as cause
 use Rattle.trick_model.specs.declared.entry.Entry.{Entry}
 use Rattle.trick_model.specs.declared.entry.Entry.TheVariants.{Join, Said, Leave, Publish}
 use Rattle.trick_model.specs.declared.session.Session.{Session}
-use Rattle.trick_serve.specs.Ended.{has_end}
-use Rattle.trick_serve.specs.Sides.{IsHere, IsQuick, Queues, Side, nobody, side}
-use Rattle.trick_serve.specs.declared.seat.Seat.{Seat}
+use Rattle.trick_serve_source.specs.Ended.{has_end}
+use Rattle.trick_serve_source.specs.Sides.{IsHere, IsQuick, Queues, Side, nobody, side}
+use Rattle.trick_serve_source.specs.declared.seat.Seat.{Seat}
 use Rattle.trick_wire.specs.declared.heard.Heard.{Heard}
 use Rattle.trick_wire.specs.declared.heard.Heard.TheVariants as heard
 use Rattle.trick_wire.specs.declared.heard.WriteStop.{WriteStop}

@@ -5,13 +5,13 @@ use Rattle.std.specs.declared.alloc.Global.{Global}
 use Rattle.std.specs.declared.vec.Vec.{Vec}
 use Rattle.trick_model.specs.declared.entry.Entry.{Entry}
 use Rattle.trick_model.specs.declared.session.Session.{Session}
-use Rattle.trick_serve.specs.Calls.{StaysSilent, View, Went}
-use Rattle.trick_serve.specs.Life.{AllLive, Lives}
-use Rattle.trick_serve.specs.Rolls.{AreEnded, IsGathered}
-use Rattle.trick_serve.specs.Rules.{AreQuick, Keeps, sessions_by}
-use Rattle.trick_serve.specs.Sides.{side}
-use Rattle.trick_serve.specs.declared.roll.Roll.{Roll}
-use Rattle.trick_turns.specs.Turns.{in_next}
+use Rattle.trick_serve_source.specs.Calls.{StaysSilent, View, Went}
+use Rattle.trick_serve_source.specs.Life.{AllLive, Lives}
+use Rattle.trick_serve_source.specs.Rolls.{AreEnded, IsGathered}
+use Rattle.trick_serve_source.specs.Rules.{AreQuick, Keeps, sessions_by}
+use Rattle.trick_serve_source.specs.Sides.{side}
+use Rattle.trick_serve_source.specs.declared.roll.Roll.{Roll}
+use Rattle.trick_exec_sources.specs.Turns.{in_next}
 
 -- After looks at which nothing came.
 pub record HasLooked (old mid : View) : Type 0 where

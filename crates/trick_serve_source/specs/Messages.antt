@@ -1,6 +1,6 @@
 -- A message that is handed to a session.
 use Rattle.std.specs.Prelude.{◌≡◌, ◌⊎◌, ℕ, true, false, List, [], ◌∷◌, ◌++◌, Some}
-use Rattle.trick_serve.specs.Sides.{Queues, Side}
+use Rattle.trick_serve_source.specs.Sides.{Queues, Side}
 use Rattle.trick_wire.specs.Ends.{HasWaiting}
 
 -- It is put into the outbox.

@@ -8,14 +8,14 @@ use Rattle.trick_model.specs.declared.entry.Cause.TheVariants as cause
 use Rattle.trick_model.specs.declared.entry.Entry.{Entry}
 use Rattle.trick_model.specs.declared.entry.Entry.TheVariants.{Join, Leave}
 use Rattle.trick_model.specs.declared.session.Session.{Session}
-use Rattle.trick_serve.specs.Calls.{View}
-use Rattle.trick_serve.specs.Gathering.{Gathers}
-use Rattle.trick_serve.specs.Rules.{sessions_by}
-use Rattle.trick_serve.specs.Ended.{has_end}
-use Rattle.trick_serve.specs.Sides.{side}
-use Rattle.trick_serve.specs.declared.roll.Roll.{Roll}
-use Rattle.trick_serve.specs.declared.seat.Seat.{Seat}
-use Rattle.trick_serve.specs.declared.served.Served.{Served}
+use Rattle.trick_serve_source.specs.Calls.{View}
+use Rattle.trick_serve_source.specs.Gathering.{Gathers}
+use Rattle.trick_serve_source.specs.Rules.{sessions_by}
+use Rattle.trick_serve_source.specs.Ended.{has_end}
+use Rattle.trick_serve_source.specs.Sides.{side}
+use Rattle.trick_serve_source.specs.declared.roll.Roll.{Roll}
+use Rattle.trick_serve_source.specs.declared.seat.Seat.{Seat}
+use Rattle.trick_serve_source.specs.declared.served.Served.{Served}
 use Rattle.trick_serve_door.specs.declared.arrival.Comes.{Comes}
 use Rattle.trick_serve_door.specs.declared.departure.Departure.{Departure}
 use Rattle.trick_wire.specs.declared.queue.Shared.{Shared}

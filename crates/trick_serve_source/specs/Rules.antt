@@ -4,9 +4,9 @@ use Rattle.std.specs.Prelude.{◌≡◌, ℕ, ◌-◌, ◌<◌, ◌≤◌, Bool,
 use Rattle.std.specs.List.{All}
 use Rattle.trick_model.specs.Journal.{is_of_session}
 use Rattle.trick_model.specs.declared.entry.Entry.{Entry}
-use Rattle.trick_serve.specs.Sides.{side}
-use Rattle.trick_serve.specs.declared.seat.Seat.{Seat}
-use Rattle.trick_turns.specs.Turns.{Sessions, after_entries, may_all_come}
+use Rattle.trick_serve_source.specs.Sides.{side}
+use Rattle.trick_serve_source.specs.declared.seat.Seat.{Seat}
+use Rattle.trick_exec_sources.specs.Turns.{Sessions, after_entries, may_all_come}
 
 -- whether a session has not left
 abbrev pub is_live : List Seat → ℕ → Bool

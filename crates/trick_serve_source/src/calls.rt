@@ -4,12 +4,12 @@ ghost use Rattle.std.specs.Prelude.{◌≡◌, ◌++◌, ◌<◌, ◌+◌, ◌-�
 ghost use Rattle.std.specs.Prelude.{List, OnOk, cond, false, filter, is_ok, length, not, ℕ, true};
 ghost use Rattle.std.specs.Vec.{vec_capacity, vec_len};
 ghost use Rattle.trick_model.specs.declared.session.Session.{Session};
-ghost use Rattle.trick_serve.specs.Clients.{KeepQueues, client_queues, seat_queues};
-ghost use Rattle.trick_serve.specs.Gathering.{Gathers};
-ghost use Rattle.trick_serve.specs.Messages.{IsHanded};
-ghost use Rattle.trick_serve.specs.Rolls.{AreEnded, HasRoom, IsGathered, IsSameRoll, seated_entries};
-ghost use Rattle.trick_serve.specs.Rules.{AreCalm, AreQuick, is_live};
-ghost use Rattle.trick_serve.specs.Sides.{side};
+ghost use Rattle.trick_serve_source.specs.Clients.{KeepQueues, client_queues, seat_queues};
+ghost use Rattle.trick_serve_source.specs.Gathering.{Gathers};
+ghost use Rattle.trick_serve_source.specs.Messages.{IsHanded};
+ghost use Rattle.trick_serve_source.specs.Rolls.{AreEnded, HasRoom, IsGathered, IsSameRoll, seated_entries};
+ghost use Rattle.trick_serve_source.specs.Rules.{AreCalm, AreQuick, is_live};
+ghost use Rattle.trick_serve_source.specs.Sides.{side};
 ghost use Rattle.trick_serve_door.specs.Departures.{left_of};
 ghost use Rattle.trick_wire.specs.Ends.{IsSamePutter, put_by};
 

@@ -3,16 +3,16 @@
 ghost use Rattle.std.specs.Prelude.{◌≡◌, ◌≢◌, ◌≤◌, ◌++◌, ◌∷◌, [], ℕ, List};
 ghost use Rattle.std.specs.Prelude.{IfOk, None, Ok, OnOk, false, filter, is_ok, length, true};
 ghost use Rattle.trick_model.specs.declared.session.Session.{Session};
-ghost use Rattle.trick_serve.specs.Calls.{WentOn};
-ghost use Rattle.trick_serve.specs.Clients.{AreOfClients, IsLast, IsSilent, has_lack};
-ghost use Rattle.trick_serve.specs.Looks.{Came, HasFound, HasNoMore};
-ghost use Rattle.trick_serve.specs.Rolls.{IsGathered, view_of, ways_of};
-ghost use Rattle.trick_serve.specs.Rules.{AreCalm, AreQuick, is_live, sessions_by};
-ghost use Rattle.trick_serve.specs.declared.seat.Seat.{Seat};
+ghost use Rattle.trick_serve_source.specs.Calls.{WentOn};
+ghost use Rattle.trick_serve_source.specs.Clients.{AreOfClients, IsLast, IsSilent, has_lack};
+ghost use Rattle.trick_serve_source.specs.Looks.{Came, HasFound, HasNoMore};
+ghost use Rattle.trick_serve_source.specs.Rolls.{IsGathered, view_of, ways_of};
+ghost use Rattle.trick_serve_source.specs.Rules.{AreCalm, AreQuick, is_live, sessions_by};
+ghost use Rattle.trick_serve_source.specs.declared.seat.Seat.{Seat};
 ghost use Rattle.trick_serve_door.specs.Departures.{left_of};
 ghost use Rattle.trick_serve_door.specs.declared.departure.Departure.TheVariants.{Run};
-ghost use Rattle.trick_turns.specs.Gap.{IfGap};
-ghost use Rattle.trick_turns.specs.Turns.{Gives, GoesOn, Pays, answered, no_sessions};
+ghost use Rattle.trick_exec_sources.specs.Gap.{IfGap};
+ghost use Rattle.trick_exec_sources.specs.Turns.{Gives, GoesOn, Pays, answered, no_sessions};
 ghost use Rattle.trick_model.specs.State.{seen};
 ghost use Rattle.trick_model.specs.Turn.{is_frozen as is_frozen_of};
 ghost use Rattle.trick_wire.specs.Ends.{IsSamePutter, IsSameTaker, put_by, taken_by};
@@ -27,7 +27,7 @@ use trick_lang::Cells;
 use trick_model::{Entry, Mode, Session, State};
 use trick_serve_door::{Comes, Departure};
 use trick_turn::Bell;
-use trick_turns::{Next, Turns};
+use trick_exec_sources::{Next, Turns};
 use trick_wire::{Putter, Taker};
 
 // Whether no time passes in a mode.
@@ -361,7 +361,7 @@ impl<I: Drop, O: Drop, R: Wait + Copy> Served<I, O, R> {
 
 impl<M: Cells, I: Drop, O: Drop, R: Wait + Copy> Turns<M> for Served<I, O, R> {
     ghost use Rattle.std.specs.Prelude.{◌<◌};
-    ghost use Rattle.trick_serve.specs.CallLaws.{seated_among, went_on_join, went_on_none};
+    ghost use Rattle.trick_serve_source.specs.CallLaws.{seated_among, went_on_join, went_on_none};
 
     ghost went = { λ old answers messages new. WentOn (view_of old) (view_of new) (ways_of old) (ways_of new)
         answers messages };

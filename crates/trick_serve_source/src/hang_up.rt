@@ -3,10 +3,10 @@
 ghost use Rattle.std.specs.Prelude.{◌≡◌, ◌||◌, ◌++◌, ◌∷◌, ◌<◌, ◌≤◌, [], List, ℕ, OnErr, OnOk, false, is_ok, length, true};
 ghost use Rattle.trick_model.specs.Session.{is_empty};
 ghost use Rattle.trick_model.specs.declared.session.Session.{Session};
-ghost use Rattle.trick_serve.specs.Clients.{KeepQueues};
-ghost use Rattle.trick_serve.specs.Gathering.{Gathers, HasLooked};
-ghost use Rattle.trick_serve.specs.Rules.{AreSeated};
-ghost use Rattle.trick_serve.specs.Sides.{side_of};
+ghost use Rattle.trick_serve_source.specs.Clients.{KeepQueues};
+ghost use Rattle.trick_serve_source.specs.Gathering.{Gathers, HasLooked};
+ghost use Rattle.trick_serve_source.specs.Rules.{AreSeated};
+ghost use Rattle.trick_serve_source.specs.Sides.{side_of};
 
 use crate::Seat;
 use crate::hear::leave;

@@ -7,12 +7,12 @@ ghost use Rattle.std.specs.Vec.{vec_capacity, vec_len};
 ghost use Rattle.trick_model.specs.Journal.{is_line};
 ghost use Rattle.trick_model.specs.declared.entry.Entry.TheVariants.{Leave};
 ghost use Rattle.trick_model.specs.declared.session.Session.{Session};
-ghost use Rattle.trick_serve.specs.Clients.{KeepQueues};
-ghost use Rattle.trick_serve.specs.Gathering.{Gathers, HasListed, IsListed};
-ghost use Rattle.trick_serve.specs.Life.{is_exit};
-ghost use Rattle.trick_serve.specs.Rules.{AreQuick, AreSeated, is_live};
-ghost use Rattle.trick_serve.specs.Sides.{side_of};
-ghost use Rattle.trick_serve.specs.declared.seat.Seat.{Seat};
+ghost use Rattle.trick_serve_source.specs.Clients.{KeepQueues};
+ghost use Rattle.trick_serve_source.specs.Gathering.{Gathers, HasListed, IsListed};
+ghost use Rattle.trick_serve_source.specs.Life.{is_exit};
+ghost use Rattle.trick_serve_source.specs.Rules.{AreQuick, AreSeated, is_live};
+ghost use Rattle.trick_serve_source.specs.Sides.{side_of};
+ghost use Rattle.trick_serve_source.specs.declared.seat.Seat.{Seat};
 
 use crate::Seat;
 use std::alloc::{AllocError, Global};

@@ -1,6 +1,6 @@
 //! The source of entries of a run whose caller asks the door himself.
 
-ghost use Rattle.trick_serve.specs.Here.{WentHere};
+ghost use Rattle.trick_serve_source.specs.Here.{WentHere};
 
 use crate::Served;
 use std::alloc::{AllocError, Global};
@@ -9,7 +9,7 @@ use trick_lang::Cells;
 use trick_model::{Session, State};
 use trick_outside::{Door, Spawner};
 use trick_serve_door::Asking;
-use trick_turns::{Next, Turns};
+use trick_exec_sources::{Next, Turns};
 
 /// The clients of a run as its source of entries, where no thread takes them: the door is asked before each look at
 /// what came.
@@ -32,9 +32,9 @@ where
     D::Out: Drop,
 {
     ghost use Rattle.std.specs.Prelude.{◌<◌, ◌≤◌, None, false, length};
-    ghost use Rattle.trick_serve.specs.CallLaws.{seated_among};
-    ghost use Rattle.trick_serve.specs.Here.{went_here_join, went_here_none};
-    ghost use Rattle.trick_serve.specs.Rules.{sessions_by};
+    ghost use Rattle.trick_serve_source.specs.CallLaws.{seated_among};
+    ghost use Rattle.trick_serve_source.specs.Here.{went_here_join, went_here_none};
+    ghost use Rattle.trick_serve_source.specs.Rules.{sessions_by};
     ghost use Rattle.trick_serve_door.specs.Taking.{hosts};
 
     ghost went = { λ old answers messages new. WentHere

@@ -1,6 +1,6 @@
 //! The sessions by their numbers.
 
-ghost use Rattle.trick_serve.specs.Rules.{AreSeated};
+ghost use Rattle.trick_serve_source.specs.Rules.{AreSeated};
 
 use crate::Seat;
 use trick_model::Entry;

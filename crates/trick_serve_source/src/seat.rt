@@ -1,7 +1,7 @@
 //! The place of one session.
 
 ghost use Rattle.std.specs.Prelude.{◌≡◌, [], false, true, IsTrue};
-ghost use Rattle.trick_serve.specs.Ended.{has_end};
+ghost use Rattle.trick_serve_source.specs.Ended.{has_end};
 ghost use Rattle.trick_wire.specs.Ends.{put_by, taken_by};
 
 use trick_serve_door::{Arrival, Ends};

@@ -1,8 +1,8 @@
 //! A message that is handed to a session.
 
 ghost use Rattle.std.specs.Prelude.{◌≡◌};
-ghost use Rattle.trick_serve.specs.Messages.{IsHanded};
-ghost use Rattle.trick_serve.specs.Sides.{side_of};
+ghost use Rattle.trick_serve_source.specs.Messages.{IsHanded};
+ghost use Rattle.trick_serve_source.specs.Sides.{side_of};
 
 use crate::Seat;
 use std::sync::Wait;

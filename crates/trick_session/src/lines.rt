@@ -13,7 +13,7 @@ use crate::Reply;
 use crate::session::remove;
 use std::alloc::{AllocError, Global};
 use trick_base::Word;
-use trick_deed::{deed_in_plan, find_cell};
+use trick_plan_deeds::{deed_in_plan, find_cell};
 use trick_model::{Action, Command, Plan, Session};
 
 // The most variables of a session.

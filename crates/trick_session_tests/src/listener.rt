@@ -1,29 +1,28 @@
 //! What the sessions of a journal are sent: a source of entries that keeps it.
 
 ghost use Rattle.std.specs.Prelude.{◌≡◌, ℕ, None, IfOk, false};
-ghost use Rattle.trick_job.specs.Belongs.{IsMemoryOf};
-ghost use Rattle.trick_journal_turns.specs.Replay.{sessions_of};
+ghost use Rattle.trick_phase_jobs.specs.Belongs.{IsMemoryOf};
+ghost use Rattle.trick_exec_sources.specs.Replay.{sessions_of};
 ghost use Rattle.trick_model.specs.PlanOf.{plan_of};
 ghost use Rattle.trick_model.specs.State.{seen};
 ghost use Rattle.trick_model.specs.ValidState.{IsStateOf};
-ghost use Rattle.trick_turns.specs.Turns.{no_sessions};
+ghost use Rattle.trick_exec_sources.specs.Turns.{no_sessions};
 
 use std::alloc::{AllocError, Global};
 use std::sync::Arc;
 use std::test::Fail;
 use trick_exec::{Ended, Start, run};
 use trick_journal::read;
-use trick_journal_turns::JournalTurns;
+use trick_exec_sources::{JournalTurns, Next, Turns};
 use trick_lang::Cells;
 use trick_memory::Memory;
 use trick_model::{Accepted, Journal, Mode, Session, State, laws};
 use trick_outside::MemoryShelf;
-use trick_phase::Phases;
-use trick_post::Posts;
-use trick_ready::ready;
-use trick_serial::{first_state, one_thread};
-use trick_tic::Workers;
-use trick_turns::{Next, Turns};
+use trick_phase_jobs::Phases;
+use trick_post_work::Posts;
+use trick_top_texts::ready;
+use trick_exec_alone::{first_state, one_thread};
+use trick_exec_tic::Workers;
 
 /// A journal, and the messages to sessions, in order.
 #[derive(Drop)]
@@ -35,7 +34,7 @@ struct Listener {
 
 impl<M: Cells> Turns<M> for Listener {
     ghost use Rattle.std.specs.Prelude.{refl, Some, true};
-    ghost use Rattle.trick_journal_turns.specs.Replay.{AreTold, told_join, told_of};
+    ghost use Rattle.trick_exec_sources.specs.Replay.{AreTold, told_join, told_of};
 
     ghost went = { λ old answers messages new. AreTold (told_of old.journal) answers (told_of new.journal) };
 

@@ -5,7 +5,7 @@ use crate::line::push_escaped;
 use std::alloc::{AllocError, Global};
 use trick_base::Word;
 use trick_gen::make;
-use trick_words::{Command, Task, Texts, read_command};
+use trick_top_words::{Command, Task, Texts, read_command};
 
 // The words of a text: one blank stands between two words, and two blanks have an empty word between.
 fn words_of(alloc: Global, text: &[u8]) -> Result<Vec<Word>, AllocError> {

@@ -4,7 +4,7 @@ use crate::cases::Call;
 use crate::line::push_escaped;
 use crate::settings::program;
 use std::alloc::{AllocError, Global};
-use trick_declare::{Declaration, SpelledDeclaration, declare, first_name};
+use trick_plan_variables::{Declaration, SpelledDeclaration, declare, first_name};
 use trick_model::Plan;
 use trick_plan::plan;
 

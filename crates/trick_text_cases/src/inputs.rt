@@ -5,7 +5,7 @@ use crate::line::push_escaped;
 use std::alloc::{AllocError, Global};
 use trick_check::resolve;
 use trick_input::{Form, RunForm, read_input};
-use trick_refusal::{check_line, input_line, s_define_line};
+use trick_top_refusals::{check_line, input_line, s_define_line};
 use trick_sdef::read_sdef;
 
 // A line as a text.

@@ -3,7 +3,7 @@
 use crate::cases::{Call, number_of};
 use std::alloc::{AllocError, Global};
 use trick_base::Items;
-use trick_order::{OrderFault, are_callees, laws, order};
+use trick_check_order::{OrderFault, are_callees, laws, order};
 
 // How many methods of an order are shown at most.
 const SHOWN: usize = 10;

@@ -9,8 +9,7 @@ use trick_base::Items;
 use trick_input::{Call as InputCall, read_input};
 use trick_lang::Program;
 use trick_model::Thread;
-use trick_settings::{Settings, is_frame, settings_in};
-use trick_threads::{Setting, queues, threads};
+use trick_plan_settings::{Setting, Settings, is_frame, queues, settings_in, threads};
 
 /// A program without objects.
 pub(crate) fn program(alloc: Global) -> Program {

@@ -1,37 +1,59 @@
--- What words ask for, worked; and wrong bodies that no row holds, whatever their proofs are.
-use Rattle.std.proofs.Common.{◌≡◌, List, ℕ, ◌∷◌, Option, None, true, false, refl}
-use Rattle.trick_outside.specs.Calls.{Call, Get, Stopped, fails}
-use Rattle.trick_outside.specs.Pieces as pieces
-use Rattle.trick_outside.specs.declared.sink.Sink.{Ghosts}
-use Rattle.trick_outside.specs.declared.stop.Stop.TheVariants.{Shelf}
-use Rattle.trick_top.proofs.OutcomeLemmas.{faults}
-use Rattle.trick_top.proofs.PrintLemmas.{Given}
-use Rattle.trick_top.specs.Aims as aim
-use Rattle.trick_top.specs.Outcome.{Outcome}
-use Rattle.trick_top.specs.Verdict.{OutOfMemory, Verdict}
-use Rattle.trick_top.specs.Words.{Wanted, aim_of_task, has_task, journal_of}
-use Rattle.trick_words.specs.declared.command.Task.TheVariants.{Run}
+-- Ports, lines and counts, worked.
+use Rattle.std.proofs.Common.{◌≡◌, ℕ, Bool, true, false, None, Some, Err, refl}
+use Rattle.std.specs.Prelude.{◌-◌, ◌^◌, ◌++◌, codes, pos}
+use Rattle.trick_outside.specs.declared.stop.Stop.TheVariants as stop
+use Rattle.trick_exec_alone.specs.declared.summary.Summary.{Summary}
+use Rattle.trick_top_alone.specs.Verdict.{OutOfMemory, Served, ShelfFault, ended_facts, line_of, status_of}
+use Rattle.trick_top.specs.Ports.{port_of_task}
+use Rattle.trick_top.specs.Rows.{has_risen, served_verdict}
+use Rattle.trick_top_words.specs.declared.command.Task.TheVariants.{Run, Serial}
 
--- `run`, with a port or not, runs its texts without a journal
-run_aims : (port : Option ℕ) → (aim_of_task (Run port) ≡ aim.Run) × (journal_of (Run port) ≡ None)
-run_aims port = (refl, refl)
+-- ---- ports
 
--- and the call that waits for nobody has no `run`
-run_alone : (port : Option ℕ) → has_task false (Run port) ≡ false
-run_alone port = refl
+a_port : port_of_task (Run (Some 7000)) ≡ Some 7000
+a_port = refl
 
--- a call after one that failed
-no_call_after : (wanted : Wanted) (verdict : Verdict) (name : List ℕ) (call : Call) (calls : List Call)
-    → Outcome wanted (Stopped (Get name) Shelf ∷ call ∷ calls) verdict → ⊥
-no_call_after wanted verdict name call calls outcome =
-    let none = (faults wanted (Stopped (Get name) Shelf ∷ call ∷ calls) verdict outcome).ends.0 refl in
-    cc
+no_port : port_of_task (Run None) ≡ None
+no_port = refl
 
--- a call that failed, told as want of memory
-not_as_memory : (wanted : Wanted) (calls : List Call) → Outcome wanted calls OutOfMemory → fails calls ≡ true → ⊥
-not_as_memory wanted calls outcome fault = let is = (faults wanted calls OutOfMemory outcome).there fault in cc
+no_run : port_of_task Serial ≡ None
+no_run = refl
 
--- a sink that failed, told as want of memory
-not_as_six : {O : Type 0} {sink : Ghosts O} {old new : O} {verdict : Verdict} → (so : Given sink old new verdict 6)
-    → pieces.fails so.pieces ≡ true → ⊥
-not_as_six so fault = let is = so.fault fault in cc
+-- ---- what is said of a run
+
+-- four turns, 3,000,001 tics, and no fault
+four_turns : Summary
+four_turns = record { turns = 4; tic = 3000001; faults = 0; sum = pos 103 }
+
+it_ended : (sessions : ℕ) → line_of (Served four_turns sessions false) ≡ ended_facts four_turns sessions ++ codes "\n"
+it_ended sessions = refl
+
+its_door_failed : (sessions : ℕ) → line_of (Served four_turns sessions true) ≡ ended_facts four_turns sessions ++ codes " door=failed\n"
+its_door_failed sessions = refl
+
+-- a door that failed is no fault of the run
+no_fault : status_of (Served four_turns 0 true) ≡ 0
+unfolding four_turns
+no_fault = refl
+
+some_faults : status_of (Served (record four_turns { faults = 2 }) 0 false) ≡ 4
+unfolding four_turns
+some_faults = refl
+
+by_shelf : (sessions : ℕ) (failed : Bool) → served_verdict (Err stop.Shelf) sessions failed ≡ ShelfFault
+by_shelf sessions failed = refl
+
+by_memory : (sessions : ℕ) (failed : Bool) → served_verdict (Err stop.Memory) sessions failed ≡ OutOfMemory
+by_memory sessions failed = refl
+
+-- ---- counts
+
+it_rose : has_risen 3 4 ≡ true
+it_rose = refl
+
+it_stayed : has_risen 3 3 ≡ false
+it_stayed = refl
+
+-- at its end a count cannot rise, and says so
+at_its_end : has_risen (2 ^ 64 - 1) (2 ^ 64 - 1) ≡ true
+at_its_end = refl

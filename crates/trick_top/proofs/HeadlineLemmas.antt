@@ -1,10 +1,10 @@
 -- The headline of a run that came to its end.
 use Rattle.std.proofs.Common.{◌≡◌, ◌≢◌, ◌∙◌, ◌≤◌, ℕ, List, [], Option, Some, None, Ok, Err, inl, inr, ap, arith, length, refl, subst, sym}
 use Rattle.std.specs.Prelude.{◌⊎◌, Result}
-use Rattle.trick_headline.specs.Alone.{RunsOfNobodyAreAlone}
-use Rattle.trick_headline.specs.Clients.{ServesClients}
-use Rattle.trick_headline.specs.Headline.{Headline, RunsKeepHeadline}
-use Rattle.trick_line_facts.specs.Silence.{newcomers}
+use Rattle.trick_serve_headline.specs.Alone.{RunsOfNobodyAreAlone}
+use Rattle.trick_serve_headline.specs.Clients.{ServesClients}
+use Rattle.trick_serve_headline.specs.Headline.{Headline, RunsKeepHeadline}
+use Rattle.trick_model_sessions.specs.Silence.{newcomers}
 use Rattle.trick_model.specs.Laws.{PlansAreSound, StartsValid}
 use Rattle.trick_model.specs.PlanOf.{plan_of}
 use Rattle.trick_model.specs.Run.{final}
@@ -17,23 +17,23 @@ use Rattle.trick_outside.specs.Visits.{clients}
 use Rattle.trick_outside.specs.declared.sink.Sink as sink
 use Rattle.trick_outside.specs.declared.stop.Stop.TheVariants as stop
 use Rattle.trick_outside.specs.declared.stop.Stop.{Stop}
-use Rattle.trick_serial.specs.Serial.{summary_of}
-use Rattle.trick_serial.specs.declared.summary.Summary.{Summary}
+use Rattle.trick_exec_alone.specs.Serial.{summary_of}
+use Rattle.trick_exec_alone.specs.declared.summary.Summary.{Summary}
 use Rattle.trick_serve_door.specs.Taking.{Hosts}
 use Rattle.trick_serve_facts.specs.Joins.{numbers_from}
 use Rattle.trick_serve_facts.specs.Serves.{all_entries}
-use Rattle.trick_serve_run.specs.Served.{HasServedRun, IsWholeServed}
-use Rattle.trick_serve_run.specs.Serving.{Moment, Outside, moment}
-use Rattle.trick_top.proofs.PrintLemmas.{decided, given as shown}
-use Rattle.trick_top.specs.First.{IsFirst}
-use Rattle.trick_top.specs.Printed.{Prints}
-use Rattle.trick_top.specs.Status.{TookLine}
-use Rattle.trick_top.specs.Verdict.{Served, Verdict, line_of, status_of}
-use Rattle.trick_top_serve.proofs.RowLemmas.{Ran, found_same, row_cases}
-use Rattle.trick_top_serve.specs.Answers.{AnswersRun}
-use Rattle.trick_top_serve.specs.Headline.{Begins, KeepsHeadline, TellsServed}
-use Rattle.trick_top_serve.specs.Rows.{has_risen, served_verdict}
-use Rattle.trick_turns.specs.Joins.{joins_of}
+use Rattle.trick_serve.specs.Served.{HasServedRun, IsWholeServed}
+use Rattle.trick_serve.specs.Serving.{Moment, Outside, moment}
+use Rattle.trick_top_alone.proofs.PrintLemmas.{decided, given as shown}
+use Rattle.trick_top_alone.specs.First.{IsFirst}
+use Rattle.trick_top_alone.specs.Printed.{Prints}
+use Rattle.trick_top_alone.specs.Status.{TookLine}
+use Rattle.trick_top_alone.specs.Verdict.{Served, Verdict, line_of, status_of}
+use Rattle.trick_top.proofs.RowLemmas.{Ran, found_same, row_cases}
+use Rattle.trick_top.specs.Answers.{AnswersRun}
+use Rattle.trick_top.specs.Headline.{Begins, KeepsHeadline, TellsServed}
+use Rattle.trick_top.specs.Rows.{has_risen, served_verdict}
+use Rattle.trick_exec_sources.specs.Joins.{joins_of}
 
 -- the first state's turn is one that is counted
 first_counted : StartsValid → PlansAreSound → (plan : Plan) (from : Option (List ℕ)) (first : State) → IsFirst plan from first → first.turn ≤ last_turn

@@ -1,18 +1,15 @@
-pub mod FoundLemmas
-pub mod OutcomeLemmas
-pub mod SaysLemmas
-pub mod StandsLemmas
--- What a run that stopped leaves of its files.
-pub mod StoppedLemmas
-pub mod CompleteLemmas
-pub mod PrintLemmas
-pub mod JoinLemmas
-pub mod ActedLemmas
-pub mod ReplayLemmas
-pub mod GoneLemmas
-pub mod GeneratedLemmas
+-- What words say that ask for a port.
+pub mod PortLemmas
+-- How texts go whose run does not begin.
+pub mod ServeLemmas
+-- The row of a run: one that did not begin, or one that did.
+pub mod RowLemmas
+-- What a run that began says of each status.
+pub mod RanLemmas
+-- What each clause says, of all words.
 pub mod TopLemmas
-pub mod WordLemmas
--- What a row says where the call has the command `run`.
-pub mod TellsLemmas
+-- The headline of a run that came to its end.
+pub mod HeadlineLemmas
+-- What stands of a run.
+pub mod StandLemmas
 mod Examples

@@ -1,10 +1,10 @@
 -- What words say that ask for a port.
 use Rattle.std.proofs.Common.{◌≡◌, ◌∙◌, ℕ, List, None, Some, ap, sym}
 use Rattle.std.specs.Prelude.{MatchOption, Option}
-use Rattle.trick_top.proofs.CompleteLemmas.{AreOneLine}
-use Rattle.trick_top_serve.specs.Ports.{AsksForNoPort, AsksForPort, port_of}
-use Rattle.trick_words.specs.Command.{AreRefused, Asks}
-use Rattle.trick_words.specs.declared.command.Command.{Command}
+use Rattle.trick_top_alone.proofs.CompleteLemmas.{AreOneLine}
+use Rattle.trick_top.specs.Ports.{AsksForNoPort, AsksForPort, port_of}
+use Rattle.trick_top_words.specs.Command.{AreRefused, Asks}
+use Rattle.trick_top_words.specs.declared.command.Command.{Command}
 
 -- a command that was read names a port, or none
 pub says_port : AreOneLine → (words : List (List ℕ)) (command : Command) → Asks words command → (port : Option ℕ) → port ≡ port_of command

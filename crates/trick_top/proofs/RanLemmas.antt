@@ -15,30 +15,30 @@ use Rattle.trick_outside.specs.declared.shelf.Shelf.{Ghosts}
 use Rattle.trick_outside.specs.declared.sink.Sink as sink
 use Rattle.trick_outside.specs.declared.stop.Stop.TheVariants as stop
 use Rattle.trick_outside.specs.declared.stop.Stop.{Stop}
-use Rattle.trick_ready.specs.Meaning.{HaveOneMeaning}
-use Rattle.trick_ready.specs.Texts.{IsPlanRefused}
-use Rattle.trick_serial.specs.declared.summary.Summary.{Summary}
-use Rattle.trick_serve_run.specs.Served.{HasServedRun}
-use Rattle.trick_serve_run.specs.Serving.{Moment, Outside, moment}
-use Rattle.trick_top.proofs.CompleteLemmas.{AreOneLine, IsEnd, ended_is_end, not_run, same_asked}
-use Rattle.trick_top.proofs.FoundLemmas.{lacks_none, leave_reads, reads_quiet, same_texts}
-use Rattle.trick_top.proofs.PrintLemmas.{Given, decided, given as shown, not_ended}
-use Rattle.trick_top.proofs.TellsLemmas.{each_command}
-use Rattle.trick_top.proofs.TopLemmas.{same_sources}
-use Rattle.trick_top.proofs.WordLemmas.{run_alone, run_task}
-use Rattle.trick_top.specs.Called.{HasCalled}
-use Rattle.trick_top.specs.Found.{reads, texts}
-use Rattle.trick_top.specs.Sources.{AreNamed, Sources, texts_of}
-use Rattle.trick_top.specs.Status.{AreRefusedTexts, EndsWith, Finds, Gives, IsMisfitIn, files_held, for_checkpoint, for_journal, for_text, texts_generated}
-use Rattle.trick_top.specs.Verdict.{ShelfFault, status_of}
-use Rattle.trick_top.specs.Words.{AreRefused, Asks, aim_of, aim_of_task, names_of, with_run}
-use Rattle.trick_words.specs.declared.command.Texts.{Texts}
-use Rattle.trick_words.specs.declared.command.Command.TheVariants as commands
-use Rattle.trick_words.specs.declared.command.Command.{Command}
-use Rattle.trick_top.specs.Aims as aim
-use Rattle.trick_top.specs.Aims.{Aim}
-use Rattle.trick_top_serve.proofs.RowLemmas.{Ran}
-use Rattle.trick_top_serve.specs.Rows.{has_risen, served_verdict}
+use Rattle.trick_top_texts.specs.Meaning.{HaveOneMeaning}
+use Rattle.trick_top_texts.specs.Texts.{IsPlanRefused}
+use Rattle.trick_exec_alone.specs.declared.summary.Summary.{Summary}
+use Rattle.trick_serve.specs.Served.{HasServedRun}
+use Rattle.trick_serve.specs.Serving.{Moment, Outside, moment}
+use Rattle.trick_top_alone.proofs.CompleteLemmas.{AreOneLine, IsEnd, ended_is_end, not_run, same_asked}
+use Rattle.trick_top_alone.proofs.FoundLemmas.{lacks_none, leave_reads, reads_quiet, same_texts}
+use Rattle.trick_top_alone.proofs.PrintLemmas.{Given, decided, given as shown, not_ended}
+use Rattle.trick_top_alone.proofs.TellsLemmas.{each_command}
+use Rattle.trick_top_alone.proofs.TopLemmas.{same_sources}
+use Rattle.trick_top_alone.proofs.WordLemmas.{run_alone, run_task}
+use Rattle.trick_top_alone.specs.Called.{HasCalled}
+use Rattle.trick_top_alone.specs.Found.{reads, texts}
+use Rattle.trick_top_alone.specs.Sources.{AreNamed, Sources, texts_of}
+use Rattle.trick_top_alone.specs.Status.{AreRefusedTexts, EndsWith, Finds, Gives, IsMisfitIn, files_held, for_checkpoint, for_journal, for_text, texts_generated}
+use Rattle.trick_top_alone.specs.Verdict.{ShelfFault, status_of}
+use Rattle.trick_top_alone.specs.Words.{AreRefused, Asks, aim_of, aim_of_task, names_of, with_run}
+use Rattle.trick_top_words.specs.declared.command.Texts.{Texts}
+use Rattle.trick_top_words.specs.declared.command.Command.TheVariants as commands
+use Rattle.trick_top_words.specs.declared.command.Command.{Command}
+use Rattle.trick_top_alone.specs.Aims as aim
+use Rattle.trick_top_alone.specs.Aims.{Aim}
+use Rattle.trick_top.proofs.RowLemmas.{Ran}
+use Rattle.trick_top.specs.Rows.{has_risen, served_verdict}
 
 -- ---- verdicts of a run that was served
 

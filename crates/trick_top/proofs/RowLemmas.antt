@@ -7,32 +7,32 @@ use Rattle.trick_outside.proofs.DoesLemmas.{Joins, went_none}
 use Rattle.trick_outside.specs.Calls.{AllLeave, Call}
 use Rattle.trick_outside.specs.declared.shelf.Shelf.{Ghosts}
 use Rattle.trick_outside.specs.declared.sink.Sink as sink
-use Rattle.trick_refusal.specs.Checkpoint.{checkpoint_line}
-use Rattle.trick_serve_run.specs.Serving.{Moment, Outside, moment}
-use Rattle.trick_top.proofs.FoundLemmas.{leave_reads}
-use Rattle.trick_top.proofs.GoneLemmas.{gone_further, gone_unknown, gone_unread}
-use Rattle.trick_top.proofs.PrintLemmas.{decided, given as shown}
-use Rattle.trick_top.proofs.StandsLemmas.{unread_same}
-use Rattle.trick_top.proofs.TellsLemmas.{not_known, ran}
-use Rattle.trick_top.proofs.WordLemmas.{run_task}
-use Rattle.trick_top.specs.Acts as acts
-use Rattle.trick_top.specs.Answered.{HasAnswered}
-use Rattle.trick_top.specs.Found.{reads}
-use Rattle.trick_top.specs.Outcome.{HasFound, HasGone, HasPerformed, Performed, Unread, acted, missing, no_memory_to_read, not_read, not_understood}
-use Rattle.trick_top.specs.Outcome as outcome
-use Rattle.trick_top.specs.Printed.{Prints}
-use Rattle.trick_top.specs.Sources.{AreNamed, Sources, texts_of}
-use Rattle.trick_top.specs.Status.{HoldsSame}
-use Rattle.trick_top.specs.Verdict.{OutOfMemory, TextRefused, Verdict, status_of}
-use Rattle.trick_top.specs.Words.{Asked, AsksToRun, Unknown, aim_of_task, names_of, with_run}
-use Rattle.trick_words.specs.declared.command.Texts.{Texts}
-use Rattle.trick_words.specs.declared.command.Command.TheVariants as commands
-use Rattle.trick_top.specs.Aims.{Run}
-use Rattle.trick_top.specs.Aims.{Aim}
-use Rattle.trick_top_serve.specs.Answers.{AnswersRun}
-use Rattle.trick_top_serve.specs.Headline.{Begins}
-use Rattle.trick_top_serve.specs.Rows.{DoesNotBegin, IsServedSo, ServesWords, asked, begun, found, no_memory, no_memory_to_serve}
-use Rattle.trick_top_serve.specs.Rows.{not_begun, plan_refused, text_refused, unloaded, unread}
+use Rattle.trick_top_refusals.specs.Checkpoint.{checkpoint_line}
+use Rattle.trick_serve.specs.Serving.{Moment, Outside, moment}
+use Rattle.trick_top_alone.proofs.FoundLemmas.{leave_reads}
+use Rattle.trick_top_alone.proofs.GoneLemmas.{gone_further, gone_unknown, gone_unread}
+use Rattle.trick_top_alone.proofs.PrintLemmas.{decided, given as shown}
+use Rattle.trick_top_alone.proofs.StandsLemmas.{unread_same}
+use Rattle.trick_top_alone.proofs.TellsLemmas.{not_known, ran}
+use Rattle.trick_top_alone.proofs.WordLemmas.{run_task}
+use Rattle.trick_top_alone.specs.Acts as acts
+use Rattle.trick_top_alone.specs.Answered.{HasAnswered}
+use Rattle.trick_top_alone.specs.Found.{reads}
+use Rattle.trick_top_alone.specs.Outcome.{HasFound, HasGone, HasPerformed, Performed, Unread, acted, missing, no_memory_to_read, not_read, not_understood}
+use Rattle.trick_top_alone.specs.Outcome as outcome
+use Rattle.trick_top_alone.specs.Printed.{Prints}
+use Rattle.trick_top_alone.specs.Sources.{AreNamed, Sources, texts_of}
+use Rattle.trick_top_alone.specs.Status.{HoldsSame}
+use Rattle.trick_top_alone.specs.Verdict.{OutOfMemory, TextRefused, Verdict, status_of}
+use Rattle.trick_top_alone.specs.Words.{Asked, AsksToRun, Unknown, aim_of_task, names_of, with_run}
+use Rattle.trick_top_words.specs.declared.command.Texts.{Texts}
+use Rattle.trick_top_words.specs.declared.command.Command.TheVariants as commands
+use Rattle.trick_top_alone.specs.Aims.{Run}
+use Rattle.trick_top_alone.specs.Aims.{Aim}
+use Rattle.trick_top.specs.Answers.{AnswersRun}
+use Rattle.trick_top.specs.Headline.{Begins}
+use Rattle.trick_top.specs.Rows.{DoesNotBegin, IsServedSo, ServesWords, asked, begun, found, no_memory, no_memory_to_serve}
+use Rattle.trick_top.specs.Rows.{not_begun, plan_refused, text_refused, unloaded, unread}
 
 -- ---- texts whose run does not begin
 

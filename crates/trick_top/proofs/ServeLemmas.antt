@@ -4,23 +4,23 @@ use Rattle.std.specs.Prelude.{◌⊎◌}
 use Rattle.trick_codes.specs.Loads.{Refuses}
 use Rattle.trick_codes.specs.declared.load_fault.LoadFault.TheVariants as load_fault
 use Rattle.trick_codes.specs.declared.load_fault.LoadFault.{LoadFault}
-use Rattle.trick_load.specs.CheckpointLines.{checkpoint}
+use Rattle.trick_chkpt.specs.CheckpointLines.{checkpoint}
 use Rattle.trick_model.specs.State.{State}
 use Rattle.trick_model.specs.declared.plan.Plan.{Plan}
-use Rattle.trick_ready.specs.Answers.{IsUnready}
-use Rattle.trick_ready.specs.Texts.{IsReady}
-use Rattle.trick_ready.specs.declared.unready.Unready.TheVariants as unready
-use Rattle.trick_ready.specs.declared.unready.Unready.{Unready}
-use Rattle.trick_refusal.specs.Checkpoint.{checkpoint_line}
-use Rattle.trick_resume.specs.Loaded.{IsCheckpointOf}
-use Rattle.trick_serve_run.specs.Serving.{Moment, Outside, moment}
-use Rattle.trick_top.specs.Outcome.{HasFound, HasNotFound}
-use Rattle.trick_top.specs.Sources.{AreNamed, Sources, texts_of}
-use Rattle.trick_top.specs.Verdict.{OutOfMemory, TextRefused, Verdict, unloaded_verdict, unready_verdict}
-use Rattle.trick_top.specs.Words.{names_of}
-use Rattle.trick_words.specs.declared.command.Texts.{Texts}
-use Rattle.trick_top_serve.specs.Firsts.{HasNoFirst}
-use Rattle.trick_top_serve.specs.Rows.{DoesNotBegin, ServesCommand, ServesTexts, found, no_memory, not_begun, plan_refused, text_refused, unloaded, unread}
+use Rattle.trick_top_texts.specs.Answers.{IsUnready}
+use Rattle.trick_top_texts.specs.Texts.{IsReady}
+use Rattle.trick_top_texts.specs.declared.unready.Unready.TheVariants as unready
+use Rattle.trick_top_texts.specs.declared.unready.Unready.{Unready}
+use Rattle.trick_top_refusals.specs.Checkpoint.{checkpoint_line}
+use Rattle.trick_chkpt_state.specs.Loaded.{IsCheckpointOf}
+use Rattle.trick_serve.specs.Serving.{Moment, Outside, moment}
+use Rattle.trick_top_alone.specs.Outcome.{HasFound, HasNotFound}
+use Rattle.trick_top_alone.specs.Sources.{AreNamed, Sources, texts_of}
+use Rattle.trick_top_alone.specs.Verdict.{OutOfMemory, TextRefused, Verdict, unloaded_verdict, unready_verdict}
+use Rattle.trick_top_alone.specs.Words.{names_of}
+use Rattle.trick_top_words.specs.declared.command.Texts.{Texts}
+use Rattle.trick_top.specs.Firsts.{HasNoFirst}
+use Rattle.trick_top.specs.Rows.{DoesNotBegin, ServesCommand, ServesTexts, found, no_memory, not_begun, plan_refused, text_refused, unloaded, unread}
 
 -- ---- a text that is no checkpoint
 

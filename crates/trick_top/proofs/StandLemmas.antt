@@ -1,17 +1,17 @@
 -- What stands of a run.
 use Rattle.std.proofs.Common.{ℕ, List, [], Ok, Err, inl, inr}
 use Rattle.std.specs.Prelude.{Result}
-use Rattle.trick_headline.specs.Stopped.{FrontsAreSent}
+use Rattle.trick_serve_headline.specs.Stopped.{FrontsAreSent}
 use Rattle.trick_model.specs.PlanOf.{plan_of}
 use Rattle.trick_outside.proofs.DoesLemmas.{Joins}
 use Rattle.trick_outside.specs.declared.sink.Sink as sink
 use Rattle.trick_outside.specs.declared.stop.Stop.{Stop}
-use Rattle.trick_serial.specs.declared.summary.Summary.{Summary}
-use Rattle.trick_serve_run.specs.Served.{HasServedRun}
-use Rattle.trick_serve_run.specs.Serving.{Moment, Outside, moment}
-use Rattle.trick_top_serve.proofs.RowLemmas.{Ran, found_same, row_cases}
-use Rattle.trick_top_serve.specs.Answers.{AnswersRun}
-use Rattle.trick_top_serve.specs.Stands.{StandsServed, done, not_begun, stopped}
+use Rattle.trick_exec_alone.specs.declared.summary.Summary.{Summary}
+use Rattle.trick_serve.specs.Served.{HasServedRun}
+use Rattle.trick_serve.specs.Serving.{Moment, Outside, moment}
+use Rattle.trick_top.proofs.RowLemmas.{Ran, found_same, row_cases}
+use Rattle.trick_top.specs.Answers.{AnswersRun}
+use Rattle.trick_top.specs.Stands.{StandsServed, done, not_begun, stopped}
 
 module _ {F D I O S K : Type 0} {o : Outside F D I O S} {failures : D → ℕ} {sink : sink.Ghosts K} {words : List (List ℕ)} {old new : Moment F D S}
     {before now : K} {status : ℕ} (fronts : FrontsAreSent o.clients) where

@@ -1,12 +1,12 @@
 -- What the top call answers: as the call that waits for nobody, or by a row of `run`.
 use Rattle.std.specs.Prelude.{◌≡◌, ℕ, List}
 use Rattle.trick_outside.specs.declared.sink.Sink as sink
-use Rattle.trick_serve_run.specs.Serving.{Moment, Outside}
-use Rattle.trick_top.specs.Answered.{HasAnswered}
-use Rattle.trick_top.specs.Printed.{Prints}
-use Rattle.trick_top.specs.Verdict.{Verdict}
-use Rattle.trick_top.specs.Words.{AsksNoRun, without_run}
-use Rattle.trick_top_serve.specs.Rows.{ServesWords}
+use Rattle.trick_serve.specs.Serving.{Moment, Outside}
+use Rattle.trick_top_alone.specs.Answered.{HasAnswered}
+use Rattle.trick_top_alone.specs.Printed.{Prints}
+use Rattle.trick_top_alone.specs.Verdict.{Verdict}
+use Rattle.trick_top_alone.specs.Words.{AsksNoRun, without_run}
+use Rattle.trick_top.specs.Rows.{ServesWords}
 
 -- One row of the table of statuses of `run`: how it went with the shelf, the door and the spawner, and what was
 -- printed, in all pieces that the sink was given.

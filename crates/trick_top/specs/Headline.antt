@@ -1,7 +1,7 @@
 -- The headline as a clause: where a run that words ask for came to its end.
 use Rattle.std.specs.Prelude.{◌≡◌, ◌<◌, ℕ, List, []}
-use Rattle.trick_headline.specs.Alone.{HasNoAsynchronous}
-use Rattle.trick_headline.specs.Headline.{Headline, ServesWhole}
+use Rattle.trick_serve_headline.specs.Alone.{HasNoAsynchronous}
+use Rattle.trick_serve_headline.specs.Headline.{Headline, ServesWhole}
 use Rattle.trick_model.specs.PlanOf.{plan_of}
 use Rattle.trick_model.specs.Run.{IsOwnJournal, final}
 use Rattle.trick_model.specs.State.{State}
@@ -10,18 +10,18 @@ use Rattle.trick_model.specs.declared.entry.Entry.{Entry}
 use Rattle.trick_model.specs.declared.plan.Plan.{Plan}
 use Rattle.trick_outside.specs.Visits.{clients}
 use Rattle.trick_outside.specs.declared.sink.Sink as sink
-use Rattle.trick_ready.specs.Texts.{IsReady}
-use Rattle.trick_serial.specs.Serial.{summary_of}
-use Rattle.trick_serve_run.specs.Serving.{Moment, Outside}
-use Rattle.trick_top.specs.First.{IsFirst}
-use Rattle.trick_top.specs.Outcome.{HasFound}
-use Rattle.trick_top.specs.Sources.{AreNamed, Sources, texts_of}
-use Rattle.trick_top.specs.Status.{TookLine}
-use Rattle.trick_top.specs.Verdict.{Served, ended_status, line_of}
-use Rattle.trick_top.specs.Words.{AsksToRun, names_of}
-use Rattle.trick_words.specs.declared.command.Texts.{Texts}
-use Rattle.trick_top_serve.specs.Rows.{has_risen}
-use Rattle.trick_turns.specs.Joins.{joins_of}
+use Rattle.trick_top_texts.specs.Texts.{IsReady}
+use Rattle.trick_exec_alone.specs.Serial.{summary_of}
+use Rattle.trick_serve.specs.Serving.{Moment, Outside}
+use Rattle.trick_top_alone.specs.First.{IsFirst}
+use Rattle.trick_top_alone.specs.Outcome.{HasFound}
+use Rattle.trick_top_alone.specs.Sources.{AreNamed, Sources, texts_of}
+use Rattle.trick_top_alone.specs.Status.{TookLine}
+use Rattle.trick_top_alone.specs.Verdict.{Served, ended_status, line_of}
+use Rattle.trick_top_alone.specs.Words.{AsksToRun, names_of}
+use Rattle.trick_top_words.specs.declared.command.Texts.{Texts}
+use Rattle.trick_top.specs.Rows.{has_risen}
+use Rattle.trick_exec_sources.specs.Joins.{joins_of}
 
 -- The words ask to run this; its files were found, with these texts, which have this accepted plan; and this is the state
 -- from which it is run. The shelf was `mid` then.

@@ -1,28 +1,12 @@
--- How a command ends: statuses and printed lines.
-pub mod Verdict
--- What is done with a simulation whose plan is accepted.
-pub mod Aims
--- Which words ask for which command.
-pub mod Words
--- The two texts of a generated simulation, as files.
-pub mod Generated
--- The texts with which something is done.
-pub mod Sources
--- The state from which a run starts.
-pub mod First
--- Which run of a plan it is: one without clients, or that under a journal.
-pub mod Runs
--- What a command does with an accepted plan.
-pub mod Acts
--- Files that were read one after another, and found.
-pub mod Found
--- How a command may go on a shelf.
-pub mod Outcome
--- How its verdict is printed.
-pub mod Printed
--- What each status says.
-pub mod Status
--- What the calls say of the status.
-pub mod Called
--- One row of the table of statuses.
-pub mod Answered
+-- Which words ask for clients at a port.
+pub mod Ports
+-- The state from which a plan is run, as it was found.
+pub mod Firsts
+-- How `run` goes: a case for each row of the table of statuses.
+pub mod Rows
+-- What the top call answers: as the call that waits for nobody, or by a row of `run`.
+pub mod Answers
+-- The headline, where a run came to its end.
+pub mod Headline
+-- What stands of a run, whatever the status is.
+pub mod Stands

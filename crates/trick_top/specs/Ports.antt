@@ -1,10 +1,10 @@
 -- Which words ask for clients at a port.
 use Rattle.std.specs.Prelude.{◌≡◌, ℕ, List, Option, Some, None}
-use Rattle.trick_words.specs.Command.{Asks}
-use Rattle.trick_words.specs.declared.command.Command.TheVariants as commands
-use Rattle.trick_words.specs.declared.command.Command.{Command}
-use Rattle.trick_words.specs.declared.command.Task.TheVariants as task
-use Rattle.trick_words.specs.declared.command.Task.{Task}
+use Rattle.trick_top_words.specs.Command.{Asks}
+use Rattle.trick_top_words.specs.declared.command.Command.TheVariants as commands
+use Rattle.trick_top_words.specs.declared.command.Command.{Command}
+use Rattle.trick_top_words.specs.declared.command.Task.TheVariants as task
+use Rattle.trick_top_words.specs.declared.command.Task.{Task}
 
 -- the port of a task: only that of a run has one
 abbrev pub port_of_task : Task → Option ℕ

@@ -7,17 +7,17 @@ use Rattle.trick_model.specs.State.{State}
 use Rattle.trick_model.specs.declared.plan.Plan.{Plan}
 use Rattle.trick_outside.specs.declared.stop.Stop.TheVariants as stop
 use Rattle.trick_outside.specs.declared.stop.Stop.{Stop}
-use Rattle.trick_ready.specs.Texts.{IsPlanRefused, IsReady, IsTextRefused}
-use Rattle.trick_refusal.specs.Checkpoint.{checkpoint_line}
-use Rattle.trick_serial.specs.declared.summary.Summary.{Summary}
-use Rattle.trick_serve_run.specs.Served.{HasServedRun}
-use Rattle.trick_serve_run.specs.Serving.{Moment, Outside, moment}
-use Rattle.trick_top.specs.First.{IsFirst, IsUnloaded}
-use Rattle.trick_top.specs.Outcome.{HasFound, HasNotFound}
-use Rattle.trick_top.specs.Sources.{AreNamed, Sources, texts_of}
-use Rattle.trick_top.specs.Verdict.{OutOfMemory, PlanRefused, Served, ShelfFault, TextRefused, Verdict}
-use Rattle.trick_top.specs.Words.{AsksToRun, names_of}
-use Rattle.trick_words.specs.declared.command.Texts.{Texts}
+use Rattle.trick_top_texts.specs.Texts.{IsPlanRefused, IsReady, IsTextRefused}
+use Rattle.trick_top_refusals.specs.Checkpoint.{checkpoint_line}
+use Rattle.trick_exec_alone.specs.declared.summary.Summary.{Summary}
+use Rattle.trick_serve.specs.Served.{HasServedRun}
+use Rattle.trick_serve.specs.Serving.{Moment, Outside, moment}
+use Rattle.trick_top_alone.specs.First.{IsFirst, IsUnloaded}
+use Rattle.trick_top_alone.specs.Outcome.{HasFound, HasNotFound}
+use Rattle.trick_top_alone.specs.Sources.{AreNamed, Sources, texts_of}
+use Rattle.trick_top_alone.specs.Verdict.{OutOfMemory, PlanRefused, Served, ShelfFault, TextRefused, Verdict}
+use Rattle.trick_top_alone.specs.Words.{AsksToRun, names_of}
+use Rattle.trick_top_words.specs.declared.command.Texts.{Texts}
 
 -- ---- what is said of a run
 

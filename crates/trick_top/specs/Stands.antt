@@ -1,15 +1,15 @@
 -- What stands of a run, whatever the status is.
 use Rattle.std.specs.Prelude.{◌≡◌, ℕ, List, Some}
 use Rattle.trick_base.specs.Files.{Files}
-use Rattle.trick_headline.specs.Stopped.{LeavesServed}
+use Rattle.trick_serve_headline.specs.Stopped.{LeavesServed}
 use Rattle.trick_model.specs.PlanOf.{plan_of}
 use Rattle.trick_model.specs.Session.{Message}
 use Rattle.trick_model.specs.State.{State}
 use Rattle.trick_model.specs.declared.entry.Entry.{Entry}
 use Rattle.trick_model.specs.declared.plan.Plan.{Plan}
-use Rattle.trick_serve_run.specs.Serving.{Moment, Outside}
-use Rattle.trick_top.specs.Status.{HoldsSame}
-use Rattle.trick_top_serve.specs.Headline.{Begins, ServesToEnd}
+use Rattle.trick_serve.specs.Serving.{Moment, Outside}
+use Rattle.trick_top_alone.specs.Status.{HoldsSame}
+use Rattle.trick_top.specs.Headline.{Begins, ServesToEnd}
 
 -- A run that words ask for began, and stopped when it was given these lists. The whole lines of its journal tell what
 -- happened, where the shelf tells what it holds: every other file that a run makes is as it was, or a first part of its

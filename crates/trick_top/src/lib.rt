@@ -1,22 +1,11 @@
-//! The top call of all commands that wait for nobody, over any shelf of files and any sink of printed lines; and the steps
-//! that the command `run` shares with them.
+//! The top call of the whole program: every command, and `run` with threads and clients, over any shelf of files, any
+//! sink of printed lines and any door of clients. `docs/RULES.md` has the rules of the command line and of served runs.
 #![tactic(auto)]
 
-mod alone;
-mod files;
-mod generated;
-mod plans;
-mod replays;
+mod ports;
 mod runs;
-mod sources;
 mod texts;
-mod verdict;
-mod words;
+mod top;
 
-pub use alone::{print, print_out_of_memory, tricks_alone};
-pub use files::read_named;
-pub use runs::unloaded;
-pub use sources::{Contents, Sources, as_sources};
-pub use texts::refused;
-pub use verdict::Verdict;
-pub use words::read_run;
+pub use ports::port_wanted;
+pub use top::{Finished, tricks};

@@ -1,12 +1,12 @@
 //! The port that words ask for.
 
 ghost use Rattle.std.specs.Prelude.{◌≡◌, IfOk, MatchOption};
-ghost use Rattle.trick_top_serve.specs.Ports.{AsksForNoPort, AsksForPort};
-ghost use Rattle.trick_top_serve.specs.Ports.{port_of as port_of_command, port_of_task as port_of_this};
+ghost use Rattle.trick_top.specs.Ports.{AsksForNoPort, AsksForPort};
+ghost use Rattle.trick_top.specs.Ports.{port_of as port_of_command, port_of_task as port_of_this};
 
 use std::alloc::{AllocError, Global};
 use trick_base::Word;
-use trick_words::{Command, Task, laws, read_command};
+use trick_top_words::{Command, Task, laws, read_command};
 
 /// The port of a task.
 fn port_of_task(task: &Task) -> Option<u16>

@@ -7,40 +7,40 @@ ghost use Rattle.trick_model.specs.declared.journal.Journal.{Journal};
 ghost use Rattle.trick_model.specs.declared.plan.Plan.{Plan};
 ghost use Rattle.trick_outside.specs.Causes.{Rose};
 ghost use Rattle.trick_outside.specs.Does.{Went};
-ghost use Rattle.trick_ready.specs.Texts.{IsPlanRefused};
+ghost use Rattle.trick_top_texts.specs.Texts.{IsPlanRefused};
 ghost use Rattle.trick_serve_door.specs.Taking.{hosts};
-ghost use Rattle.trick_serve_run.specs.Serving.{moment, outside};
-ghost use Rattle.trick_top.specs.Acts.{last_state, length_verdict};
-ghost use Rattle.trick_top.specs.Aims as aims;
-ghost use Rattle.trick_top.specs.Answered.{HasAnswered};
-ghost use Rattle.trick_top.specs.Called.{HasCalled};
-ghost use Rattle.trick_top.specs.Sources.{Sources};
-ghost use Rattle.trick_top.specs.Status.{AreAccepted, AreRefusedTexts, EndsWith, Finds, Gives, HoldsSame, HoldsTexts};
-ghost use Rattle.trick_top.specs.Status.{IsDone, IsFittingIn, IsMisfitIn, IsRefusal, Misfits, MissesFile};
-ghost use Rattle.trick_top.specs.Status.{RefusesPlan, RefusesText, RunsToEnd, Stands, TookLine, end_verdict};
-ghost use Rattle.trick_top.specs.Verdict.{NoFile, Usage, line_of};
-ghost use Rattle.trick_top.specs.Verdict.{Verdict as VerdictOf};
-ghost use Rattle.trick_top.specs.Words.{AreRefused, Asks, AsksNoRun, AsksToRun, aim_of, with_run, without_run};
-ghost use Rattle.trick_top_serve.specs.Answers.{Answers, AnswersRun};
-ghost use Rattle.trick_top_serve.specs.Headline.{KeepsHeadline};
-ghost use Rattle.trick_top_serve.specs.Stands.{StandsServed};
-ghost use Rattle.trick_words.specs.declared.command.Command.TheVariants as commands;
-ghost use Rattle.trick_words.specs.declared.command.Command.{Command as CommandOf};
-ghost use Rattle.trick_words.specs.declared.command.Texts.{Texts as TextsOf};
+ghost use Rattle.trick_serve.specs.Serving.{moment, outside};
+ghost use Rattle.trick_top_alone.specs.Acts.{last_state, length_verdict};
+ghost use Rattle.trick_top_alone.specs.Aims as aims;
+ghost use Rattle.trick_top_alone.specs.Answered.{HasAnswered};
+ghost use Rattle.trick_top_alone.specs.Called.{HasCalled};
+ghost use Rattle.trick_top_alone.specs.Sources.{Sources};
+ghost use Rattle.trick_top_alone.specs.Status.{AreAccepted, AreRefusedTexts, EndsWith, Finds, Gives, HoldsSame, HoldsTexts};
+ghost use Rattle.trick_top_alone.specs.Status.{IsDone, IsFittingIn, IsMisfitIn, IsRefusal, Misfits, MissesFile};
+ghost use Rattle.trick_top_alone.specs.Status.{RefusesPlan, RefusesText, RunsToEnd, Stands, TookLine, end_verdict};
+ghost use Rattle.trick_top_alone.specs.Verdict.{NoFile, Usage, line_of};
+ghost use Rattle.trick_top_alone.specs.Verdict.{Verdict as VerdictOf};
+ghost use Rattle.trick_top_alone.specs.Words.{AreRefused, Asks, AsksNoRun, AsksToRun, aim_of, with_run, without_run};
+ghost use Rattle.trick_top.specs.Answers.{Answers, AnswersRun};
+ghost use Rattle.trick_top.specs.Headline.{KeepsHeadline};
+ghost use Rattle.trick_top.specs.Stands.{StandsServed};
+ghost use Rattle.trick_top_words.specs.declared.command.Command.TheVariants as commands;
+ghost use Rattle.trick_top_words.specs.declared.command.Command.{Command as CommandOf};
+ghost use Rattle.trick_top_words.specs.declared.command.Texts.{Texts as TextsOf};
 
 use crate::texts::serve_command;
 use std::alloc::Global;
 use std::sync::{Arc, Wait};
 use std::thread::Threads;
 use trick_base::Word;
-use trick_headline::laws::{
+use trick_serve_headline::laws::{
     fronts_are_sent, runs_of_nobody_are_alone, served_runs_keep_the_headline,
 };
 use trick_outside::{Door, Gate, Shelf, Sink, Spawner};
-use trick_ready::laws::texts_have_one_meaning;
-use trick_serve_run::Serving;
-use trick_top::{print, print_out_of_memory, read_run, tricks_alone};
-use trick_words::{Texts, laws};
+use trick_top_texts::laws::texts_have_one_meaning;
+use trick_serve::Serving;
+use trick_top_alone::{print, print_out_of_memory, read_run, tricks_alone};
+use trick_top_words::{Texts, laws};
 
 /// How the program ends: its status, and the door and the spawner that it was handed.
 #[derive(Debug, Drop)]

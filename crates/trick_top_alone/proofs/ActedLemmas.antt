@@ -2,7 +2,7 @@
 use Rattle.std.proofs.Common.{◌≡◌, ◌≢◌, ◌∙◌, ℕ, List, [], Ok, Err, None, Option, Some, refl, sym, subst, ap, inl, inr}
 use Rattle.std.proofs.lemmas.Bool.{false_from_ne_true}
 use Rattle.std.specs.Prelude.{◌⊎◌, Result}
-use Rattle.trick_load.specs.CheckpointLines.{checkpoint}
+use Rattle.trick_chkpt.specs.CheckpointLines.{checkpoint}
 use Rattle.trick_codes.specs.Loads.{Refuses}
 use Rattle.trick_codes.specs.declared.load_fault.LoadFault.TheVariants as load_fault
 use Rattle.trick_codes.specs.declared.load_fault.LoadFault.{LoadFault}
@@ -14,18 +14,18 @@ use Rattle.trick_outside.specs.Calls.{fails}
 use Rattle.trick_outside.specs.declared.shelf.Shelf.{Ghosts}
 use Rattle.trick_outside.specs.declared.stop.Stop.TheVariants as stop
 use Rattle.trick_outside.specs.declared.stop.Stop.{Stop}
-use Rattle.trick_refusal.specs.Checkpoint.{checkpoint_line}
-use Rattle.trick_resume.specs.Loaded.{IsCheckpointOf}
-use Rattle.trick_serial.specs.Serial.{RunsSerially, summary_of}
-use Rattle.trick_serial.specs.declared.summary.Summary.{Summary}
-use Rattle.trick_top.proofs.JoinLemmas.{none_join}
-use Rattle.trick_top.specs.Acts.{Acts, HasActed, StopsWith, accepted_verdict, checked, ended_verdict, last_state, listed, listed_verdict}
-use Rattle.trick_top.specs.Acts.{no_memory, no_memory_to_write, not_written, ran, run_steps, unloaded}
-use Rattle.trick_top.specs.First.{IsFirst, IsLoadedFrom}
-use Rattle.trick_top.specs.Runs.{IsUnderWay}
-use Rattle.trick_top.specs.Verdict.{Ended as EndedBy, OutOfMemory, TextRefused, Verdict, run_verdict, unloaded_verdict}
-use Rattle.trick_top.specs.Aims as aim
-use Rattle.trick_top.specs.Aims.{Aim}
+use Rattle.trick_top_refusals.specs.Checkpoint.{checkpoint_line}
+use Rattle.trick_chkpt_state.specs.Loaded.{IsCheckpointOf}
+use Rattle.trick_exec_alone.specs.Serial.{RunsSerially, summary_of}
+use Rattle.trick_exec_alone.specs.declared.summary.Summary.{Summary}
+use Rattle.trick_top_alone.proofs.JoinLemmas.{none_join}
+use Rattle.trick_top_alone.specs.Acts.{Acts, HasActed, StopsWith, accepted_verdict, checked, ended_verdict, last_state, listed, listed_verdict}
+use Rattle.trick_top_alone.specs.Acts.{no_memory, no_memory_to_write, not_written, ran, run_steps, unloaded}
+use Rattle.trick_top_alone.specs.First.{IsFirst, IsLoadedFrom}
+use Rattle.trick_top_alone.specs.Runs.{IsUnderWay}
+use Rattle.trick_top_alone.specs.Verdict.{Ended as EndedBy, OutOfMemory, TextRefused, Verdict, run_verdict, unloaded_verdict}
+use Rattle.trick_top_alone.specs.Aims as aim
+use Rattle.trick_top_alone.specs.Aims.{Aim}
 
 -- it ended without a call of the shelf
 pub acted_quiet : {S : Type 0} {shelf : Ghosts S} (s : S) (plan : Plan) (from journal : Option (List ℕ)) (t : Aim) (verdict : Verdict) → shelf.called s [] s

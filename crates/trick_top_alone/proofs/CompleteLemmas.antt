@@ -8,28 +8,28 @@ use Rattle.trick_model.specs.declared.journal.Journal.{Journal}
 use Rattle.trick_model.specs.declared.plan.Plan.{Plan}
 use Rattle.trick_outside.proofs.CallLemmas.{fails-late}
 use Rattle.trick_outside.specs.Calls.{AllLeave, Call, fails}
-use Rattle.trick_ready.specs.Meaning.{HaveOneMeaning}
-use Rattle.trick_ready.specs.Texts.{IsPlanRefused, IsReady, IsTextRefused}
-use Rattle.trick_top.proofs.FoundLemmas.{in_the_midst, lacks_none, leave_reads, reads_quiet, same_texts}
-use Rattle.trick_top.proofs.OutcomeLemmas.{faults, steps_quiet}
-use Rattle.trick_resume.specs.Loaded.{IsCheckpointOf}
-use Rattle.trick_top.specs.Acts.{Acts, checked, last_state, listed, misfits, no_journal, no_memory, no_memory_to_write, not_written, ran, unloaded}
-use Rattle.trick_top.specs.First.{IsFirst, IsLoadedFrom}
-use Rattle.trick_top.specs.Found.{names, reads, texts}
-use Rattle.trick_top.specs.Generated.{text_steps, text_writes}
-use Rattle.trick_top.specs.Outcome.{Generates, Goes, GoesOn, Outcome, Performed, acted, gone_on, missing, no_memory_for_texts, no_memory_to_read}
-use Rattle.trick_top.specs.Outcome.{not_read, not_understood, plan_refused, text_refused, texts_not_written, texts_run, unread}
-use Rattle.trick_top.specs.Runs.{IsFitting, IsJournalFor, IsWholeRun, IsWholeUnder}
-use Rattle.trick_top.specs.Sources.{Sources, generated_sources}
-use Rattle.trick_top.specs.Status.{AreAccepted, AreRefusedTexts, IsFittingIn, IsMisfitIn, for_checkpoint, for_journal, for_text}
-use Rattle.trick_top.specs.Verdict.{Usage, Verdict, ended_status, status_of, with_objects}
-use Rattle.trick_top.specs.Words.{AreRefused, Asked, Asks, IsWanted, Nothing, Unknown, Wanted, Words, names_of}
-use Rattle.trick_words.specs.declared.command.Texts.{Texts}
-use Rattle.trick_words.specs.declared.command.Command.TheVariants as commands
-use Rattle.trick_words.specs.declared.command.Command.{Command}
-use Rattle.trick_top.specs.Aims as aim
-use Rattle.trick_top.specs.Aims.{Aim}
-use Rattle.trick_words.specs.Command as lines
+use Rattle.trick_top_texts.specs.Meaning.{HaveOneMeaning}
+use Rattle.trick_top_texts.specs.Texts.{IsPlanRefused, IsReady, IsTextRefused}
+use Rattle.trick_top_alone.proofs.FoundLemmas.{in_the_midst, lacks_none, leave_reads, reads_quiet, same_texts}
+use Rattle.trick_top_alone.proofs.OutcomeLemmas.{faults, steps_quiet}
+use Rattle.trick_chkpt_state.specs.Loaded.{IsCheckpointOf}
+use Rattle.trick_top_alone.specs.Acts.{Acts, checked, last_state, listed, misfits, no_journal, no_memory, no_memory_to_write, not_written, ran, unloaded}
+use Rattle.trick_top_alone.specs.First.{IsFirst, IsLoadedFrom}
+use Rattle.trick_top_alone.specs.Found.{names, reads, texts}
+use Rattle.trick_top_alone.specs.Generated.{text_steps, text_writes}
+use Rattle.trick_top_alone.specs.Outcome.{Generates, Goes, GoesOn, Outcome, Performed, acted, gone_on, missing, no_memory_for_texts, no_memory_to_read}
+use Rattle.trick_top_alone.specs.Outcome.{not_read, not_understood, plan_refused, text_refused, texts_not_written, texts_run, unread}
+use Rattle.trick_top_alone.specs.Runs.{IsFitting, IsJournalFor, IsWholeRun, IsWholeUnder}
+use Rattle.trick_top_alone.specs.Sources.{Sources, generated_sources}
+use Rattle.trick_top_alone.specs.Status.{AreAccepted, AreRefusedTexts, IsFittingIn, IsMisfitIn, for_checkpoint, for_journal, for_text}
+use Rattle.trick_top_alone.specs.Verdict.{Usage, Verdict, ended_status, status_of, with_objects}
+use Rattle.trick_top_alone.specs.Words.{AreRefused, Asked, Asks, IsWanted, Nothing, Unknown, Wanted, Words, names_of}
+use Rattle.trick_top_words.specs.declared.command.Texts.{Texts}
+use Rattle.trick_top_words.specs.declared.command.Command.TheVariants as commands
+use Rattle.trick_top_words.specs.declared.command.Command.{Command}
+use Rattle.trick_top_alone.specs.Aims as aim
+use Rattle.trick_top_alone.specs.Aims.{Aim}
+use Rattle.trick_top_words.specs.Command as lines
 
 -- words are one line at most
 abbrev pub AreOneLine : Type 0

@@ -6,8 +6,8 @@ use Rattle.std.specs.FinMap.{get}
 use Rattle.std.specs.Prelude.{Option}
 use Rattle.trick_base.specs.Files.{Files, Write, all_written, written}
 use Rattle.trick_outside.specs.Calls.{AllLeave, Call, Read, fails}
-use Rattle.trick_tic.specs.Steps.{steps_of}
-use Rattle.trick_top.specs.Found.{Found, names, reads, texts}
+use Rattle.trick_exec_tic.specs.Steps.{steps_of}
+use Rattle.trick_top_alone.specs.Found.{Found, names, reads, texts}
 
 pub names-append : (early late : List Found) → names (early ++ late) ≡ names early ++ names late
 names-append [] late = refl

@@ -9,14 +9,14 @@ use Rattle.trick_outside.specs.Does.{Does, Went}
 use Rattle.trick_outside.specs.declared.shelf.Shelf.{Ghosts}
 use Rattle.trick_outside.specs.declared.stop.Stop.TheVariants.{Memory, Shelf}
 use Rattle.trick_outside.specs.declared.stop.Stop.{Stop}
-use Rattle.trick_tic.specs.Steps.{steps_of}
-use Rattle.trick_top.specs.Generated.{both_writes, text_steps}
-use Rattle.trick_top.specs.Outcome.{Generates, HasGone, HasPerformed, Performed, no_memory_for_texts, texts_not_written, texts_run}
-use Rattle.trick_top.specs.Sources.{generated_sources}
-use Rattle.trick_top.specs.Verdict.{OutOfMemory, ShelfFault, Verdict, with_objects}
-use Rattle.trick_top.specs.Words.{Asked}
-use Rattle.trick_words.specs.declared.command.Command.TheVariants as commands
-use Rattle.trick_top.specs.Aims.{Run}
+use Rattle.trick_exec_tic.specs.Steps.{steps_of}
+use Rattle.trick_top_alone.specs.Generated.{both_writes, text_steps}
+use Rattle.trick_top_alone.specs.Outcome.{Generates, HasGone, HasPerformed, Performed, no_memory_for_texts, texts_not_written, texts_run}
+use Rattle.trick_top_alone.specs.Sources.{generated_sources}
+use Rattle.trick_top_alone.specs.Verdict.{OutOfMemory, ShelfFault, Verdict, with_objects}
+use Rattle.trick_top_alone.specs.Words.{Asked}
+use Rattle.trick_top_words.specs.declared.command.Command.TheVariants as commands
+use Rattle.trick_top_alone.specs.Aims.{Run}
 
 -- both texts are those of so many objects
 pub of_objects : {S T : Type 0} {shelf : Ghosts S} {old new : S} {result : Result T Stop} (objects : ℕ) (definition input : List ℕ) → Does shelf old new result (steps_of (both_writes definition input))

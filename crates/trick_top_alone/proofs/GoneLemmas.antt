@@ -7,22 +7,22 @@ use Rattle.trick_outside.specs.Calls.{Call, Get, Read, Stopped}
 use Rattle.trick_outside.specs.Does.{Went}
 use Rattle.trick_outside.specs.declared.shelf.Shelf.{Ghosts}
 use Rattle.trick_outside.specs.declared.stop.Stop.TheVariants.{Memory, Shelf}
-use Rattle.trick_ready.specs.Answers.{IsUnready}
-use Rattle.trick_ready.specs.Texts.{IsReady}
-use Rattle.trick_ready.specs.declared.unready.Unready.TheVariants as unready
-use Rattle.trick_ready.specs.declared.unready.Unready.{Unready}
-use Rattle.trick_top.proofs.FoundLemmas.{names-append, reads-append, texts-append}
-use Rattle.trick_top.specs.Found.{Found, names, reads}
-use Rattle.trick_top.specs.Acts.{HasActed}
-use Rattle.trick_top.specs.Outcome.{HasFound, HasGone, HasNotFound, HasPerformed, Performed, Unread, acted, gone_on, missing, no_memory_to_read, not_read, not_understood, plan_refused, text_refused}
-use Rattle.trick_top.specs.Outcome as outcome
-use Rattle.trick_top.specs.Sources.{AreNamed, Sources, texts_of}
-use Rattle.trick_top.specs.Verdict.{NoFile, OutOfMemory, ShelfFault, Usage, Verdict, unready_verdict, verdict_of}
-use Rattle.trick_top.specs.declared.verdict.Verdict as declared
-use Rattle.trick_top.specs.Words.{Asked, Nothing, Unknown, aim_of_task, journal_of, names_of}
-use Rattle.trick_words.specs.declared.command.Texts.{Texts}
-use Rattle.trick_words.specs.declared.command.Command.TheVariants as commands
-use Rattle.trick_top.specs.Aims.{Aim}
+use Rattle.trick_top_texts.specs.Answers.{IsUnready}
+use Rattle.trick_top_texts.specs.Texts.{IsReady}
+use Rattle.trick_top_texts.specs.declared.unready.Unready.TheVariants as unready
+use Rattle.trick_top_texts.specs.declared.unready.Unready.{Unready}
+use Rattle.trick_top_alone.proofs.FoundLemmas.{names-append, reads-append, texts-append}
+use Rattle.trick_top_alone.specs.Found.{Found, names, reads}
+use Rattle.trick_top_alone.specs.Acts.{HasActed}
+use Rattle.trick_top_alone.specs.Outcome.{HasFound, HasGone, HasNotFound, HasPerformed, Performed, Unread, acted, gone_on, missing, no_memory_to_read, not_read, not_understood, plan_refused, text_refused}
+use Rattle.trick_top_alone.specs.Outcome as outcome
+use Rattle.trick_top_alone.specs.Sources.{AreNamed, Sources, texts_of}
+use Rattle.trick_top_alone.specs.Verdict.{NoFile, OutOfMemory, ShelfFault, Usage, Verdict, unready_verdict, verdict_of}
+use Rattle.trick_top_alone.specs.declared.verdict.Verdict as declared
+use Rattle.trick_top_alone.specs.Words.{Asked, Nothing, Unknown, aim_of_task, journal_of, names_of}
+use Rattle.trick_top_words.specs.declared.command.Texts.{Texts}
+use Rattle.trick_top_words.specs.declared.command.Command.TheVariants as commands
+use Rattle.trick_top_alone.specs.Aims.{Aim}
 
 -- the words ask for nothing
 pub gone_nowhere : {S : Type 0} {shelf : Ghosts S} (s : S) → shelf.called s [] s → HasGone shelf s s Nothing Usage

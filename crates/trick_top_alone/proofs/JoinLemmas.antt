@@ -10,7 +10,7 @@ use Rattle.trick_model.specs.Turn.{runs, turn}
 use Rattle.trick_model.specs.declared.entry.Entry.TheVariants.{Publish}
 use Rattle.trick_model.specs.declared.entry.Entry.{Entry}
 use Rattle.trick_model.specs.declared.thread.Thread.{Thread}
-use Rattle.trick_turns.specs.Joins.{is_join, joins_of}
+use Rattle.trick_exec_sources.specs.Joins.{is_join, joins_of}
 
 -- publications are no joins
 published : (p : Plan) (threads : List Thread) (s : State) → count_by is_join (all_published p threads s) ≡ 0

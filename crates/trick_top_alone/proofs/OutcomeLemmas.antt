@@ -5,18 +5,18 @@ use Rattle.trick_base.specs.Files.{Write}
 use Rattle.trick_model.specs.declared.plan.Plan.{Plan}
 use Rattle.trick_outside.proofs.CallLemmas.{ends-append, fails-late, not_both, part_ends, part_of_all}
 use Rattle.trick_outside.specs.Calls.{Call, EndAtFault, fails, is_fault}
-use Rattle.trick_tic.specs.Steps.{steps_of}
-use Rattle.trick_top.proofs.FoundLemmas.{reads_quiet}
-use Rattle.trick_top.specs.Acts.{Acts, all_writes, checked, listed, misfits, no_journal, no_memory, no_memory_to_write, not_written, ran, run_steps, unloaded}
-use Rattle.trick_top.specs.Found.{reads}
-use Rattle.trick_top.specs.Outcome.{Generates, Outcome, Performed, Unread, acted, gone_on, missing, no_memory_for_texts, no_memory_to_read, not_read, not_understood, plan_refused, text_refused, texts_not_written, texts_run, unread}
-use Rattle.trick_top.specs.Generated.{text_steps, text_writes}
-use Rattle.trick_top.specs.Runs.{short_steps, short_writes}
-use Rattle.trick_top.specs.Sources.{Sources}
-use Rattle.trick_top.specs.Verdict.{OutOfMemory, ShelfFault, Usage, Verdict, with_objects}
-use Rattle.trick_top.specs.Words.{Asked, Nothing, Unknown, Wanted}
-use Rattle.trick_words.specs.declared.command.Command.TheVariants as commands
-use Rattle.trick_top.specs.Aims.{Aim}
+use Rattle.trick_exec_tic.specs.Steps.{steps_of}
+use Rattle.trick_top_alone.proofs.FoundLemmas.{reads_quiet}
+use Rattle.trick_top_alone.specs.Acts.{Acts, all_writes, checked, listed, misfits, no_journal, no_memory, no_memory_to_write, not_written, ran, run_steps, unloaded}
+use Rattle.trick_top_alone.specs.Found.{reads}
+use Rattle.trick_top_alone.specs.Outcome.{Generates, Outcome, Performed, Unread, acted, gone_on, missing, no_memory_for_texts, no_memory_to_read, not_read, not_understood, plan_refused, text_refused, texts_not_written, texts_run, unread}
+use Rattle.trick_top_alone.specs.Generated.{text_steps, text_writes}
+use Rattle.trick_top_alone.specs.Runs.{short_steps, short_writes}
+use Rattle.trick_top_alone.specs.Sources.{Sources}
+use Rattle.trick_top_alone.specs.Verdict.{OutOfMemory, ShelfFault, Usage, Verdict, with_objects}
+use Rattle.trick_top_alone.specs.Words.{Asked, Nothing, Unknown, Wanted}
+use Rattle.trick_top_words.specs.declared.command.Command.TheVariants as commands
+use Rattle.trick_top_alone.specs.Aims.{Aim}
 
 -- the verdict is `ShelfFault` exactly where a call failed, and that call was the last
 pub record Faults (calls : List Call) (verdict : Verdict) : Type 0 where

@@ -4,9 +4,9 @@ use Rattle.std.specs.Prelude.{◌⊎◌}
 use Rattle.trick_outside.specs.Pieces.{Piece, Pieces, fails, stops}
 use Rattle.trick_outside.specs.Puts.{ArePiecesOf}
 use Rattle.trick_outside.specs.declared.sink.Sink.{Ghosts}
-use Rattle.trick_top.specs.Printed.{Prints, cut_off, no_line, not_printed, printed}
-use Rattle.trick_top.specs.Status.{EndsWith, TookLine}
-use Rattle.trick_top.specs.Verdict.{Ended, Generated, Served, ShelfFault, Verdict, ended_status, is_made, line_of, status_of}
+use Rattle.trick_top_alone.specs.Printed.{Prints, cut_off, no_line, not_printed, printed}
+use Rattle.trick_top_alone.specs.Status.{EndsWith, TookLine}
+use Rattle.trick_top_alone.specs.Verdict.{Ended, Generated, Served, ShelfFault, Verdict, ended_status, is_made, line_of, status_of}
 
 -- a run that came to its end has status 0 or 4
 pub not_ended : (faults due : ℕ) → due ≢ 0 → due ≢ 4 → ended_status faults ≡ due → ⊥

@@ -5,7 +5,7 @@ use Rattle.std.specs.Prelude.{◌⊎◌, Result}
 use Rattle.trick_journal.specs.Refusals.{IsRefused}
 use Rattle.trick_journal.specs.declared.journal_fault.JournalFault.TheVariants as fault
 use Rattle.trick_journal.specs.declared.journal_fault.JournalFault.{JournalFault}
-use Rattle.trick_journal_facts.specs.Facts.{RefusedIsNone}
+use Rattle.trick_journal.specs.Facts.{RefusedIsNone}
 use Rattle.trick_lang.specs.declared.class.Class.TheVariants as class
 use Rattle.trick_model.specs.Plan.{Plan as PlanSeen}
 use Rattle.trick_model.specs.PlanOf.{plan_of}
@@ -18,16 +18,16 @@ use Rattle.trick_outside.specs.Calls.{fails}
 use Rattle.trick_outside.specs.declared.shelf.Shelf.{Ghosts}
 use Rattle.trick_outside.specs.declared.stop.Stop.TheVariants as stop
 use Rattle.trick_outside.specs.declared.stop.Stop.{Stop}
-use Rattle.trick_refusal.specs.Journal.{journal_line}
-use Rattle.trick_replay.specs.Replay.{RunsReplay, lists_for}
-use Rattle.trick_replay.specs.declared.replayed.Replayed.TheVariants as replayed
-use Rattle.trick_replay.specs.declared.replayed.Replayed.{Replayed}
-use Rattle.trick_top.proofs.ActedLemmas.{acted_quiet}
-use Rattle.trick_top.specs.Acts.{HasActed, misfits, no_journal, no_memory, no_memory_to_write, not_written, ran}
-use Rattle.trick_top.specs.First.{IsFirst}
-use Rattle.trick_top.specs.Runs.{IsJournalFor}
-use Rattle.trick_top.specs.Verdict.{OutOfMemory, TextRefused, Verdict, replay_verdict, unread_verdict}
-use Rattle.trick_top.specs.Aims as aim
+use Rattle.trick_top_refusals.specs.Journal.{journal_line}
+use Rattle.trick_exec_alone.specs.Replay.{RunsReplay, lists_for}
+use Rattle.trick_exec_alone.specs.declared.replayed.Replayed.TheVariants as replayed
+use Rattle.trick_exec_alone.specs.declared.replayed.Replayed.{Replayed}
+use Rattle.trick_top_alone.proofs.ActedLemmas.{acted_quiet}
+use Rattle.trick_top_alone.specs.Acts.{HasActed, misfits, no_journal, no_memory, no_memory_to_write, not_written, ran}
+use Rattle.trick_top_alone.specs.First.{IsFirst}
+use Rattle.trick_top_alone.specs.Runs.{IsJournalFor}
+use Rattle.trick_top_alone.specs.Verdict.{OutOfMemory, TextRefused, Verdict, replay_verdict, unread_verdict}
+use Rattle.trick_top_alone.specs.Aims as aim
 
 -- a run that starts anew starts at turn 0
 pub turn_of_start : (p : PlanSeen) → (start p).turn ≡ 0

@@ -12,27 +12,27 @@ use Rattle.trick_outside.proofs.WriteLemmas.{all_done}
 use Rattle.trick_outside.specs.Calls.{AllLeave, Call}
 use Rattle.trick_outside.specs.Does.{Went}
 use Rattle.trick_outside.specs.declared.shelf.Shelf.{Ghosts}
-use Rattle.trick_ready.specs.Texts.{IsReady}
-use Rattle.trick_tic.proofs.StepLemmas as steps
-use Rattle.trick_tic.specs.Steps.{steps_of}
-use Rattle.trick_top.proofs.CompleteLemmas.{not_check, not_list}
-use Rattle.trick_top.proofs.FoundLemmas.{leave_reads, leave_steps}
-use Rattle.trick_top.proofs.OutcomeLemmas.{faults}
-use Rattle.trick_top.specs.Acts.{Acts, all_writes, checked, listed, misfits, no_journal, no_memory, no_memory_to_write, not_written, ran, run_steps, unloaded}
-use Rattle.trick_top.specs.First.{IsFirst}
-use Rattle.trick_top.specs.Found.{reads}
-use Rattle.trick_top.specs.Generated.{text_steps, text_writes}
-use Rattle.trick_top.specs.Outcome.{Generates, Outcome, Performed, Unread, acted, gone_on, missing, no_memory_for_texts, no_memory_to_read, not_read, not_understood, plan_refused, text_refused, texts_not_written, texts_run, unread}
-use Rattle.trick_top.specs.Runs.{IsMisfit, IsWholeRun, short_steps, short_writes}
-use Rattle.trick_top.specs.Sources.{Sources}
-use Rattle.trick_top.specs.Status.{Come, Misfits, Reads, RunsToEnd, Says, earlier_writes, files_found, of_checkpoint, of_journal, of_text, texts_made}
-use Rattle.trick_top.specs.Verdict.{ShelfFault, Verdict, with_objects}
-use Rattle.trick_top.specs.Words.{Asked, Asks, IsWanted, Nothing, Unknown, Wanted, Words, names_of, aim_of, aim_of_task}
-use Rattle.trick_words.specs.declared.command.Texts.{Texts}
-use Rattle.trick_words.specs.declared.command.Command.TheVariants as commands
-use Rattle.trick_words.specs.declared.command.Command.{Command}
-use Rattle.trick_top.specs.Aims as aim
-use Rattle.trick_top.specs.Aims.{Aim}
+use Rattle.trick_top_texts.specs.Texts.{IsReady}
+use Rattle.trick_exec_tic.proofs.StepLemmas as steps
+use Rattle.trick_exec_tic.specs.Steps.{steps_of}
+use Rattle.trick_top_alone.proofs.CompleteLemmas.{not_check, not_list}
+use Rattle.trick_top_alone.proofs.FoundLemmas.{leave_reads, leave_steps}
+use Rattle.trick_top_alone.proofs.OutcomeLemmas.{faults}
+use Rattle.trick_top_alone.specs.Acts.{Acts, all_writes, checked, listed, misfits, no_journal, no_memory, no_memory_to_write, not_written, ran, run_steps, unloaded}
+use Rattle.trick_top_alone.specs.First.{IsFirst}
+use Rattle.trick_top_alone.specs.Found.{reads}
+use Rattle.trick_top_alone.specs.Generated.{text_steps, text_writes}
+use Rattle.trick_top_alone.specs.Outcome.{Generates, Outcome, Performed, Unread, acted, gone_on, missing, no_memory_for_texts, no_memory_to_read, not_read, not_understood, plan_refused, text_refused, texts_not_written, texts_run, unread}
+use Rattle.trick_top_alone.specs.Runs.{IsMisfit, IsWholeRun, short_steps, short_writes}
+use Rattle.trick_top_alone.specs.Sources.{Sources}
+use Rattle.trick_top_alone.specs.Status.{Come, Misfits, Reads, RunsToEnd, Says, earlier_writes, files_found, of_checkpoint, of_journal, of_text, texts_made}
+use Rattle.trick_top_alone.specs.Verdict.{ShelfFault, Verdict, with_objects}
+use Rattle.trick_top_alone.specs.Words.{Asked, Asks, IsWanted, Nothing, Unknown, Wanted, Words, names_of, aim_of, aim_of_task}
+use Rattle.trick_top_words.specs.declared.command.Texts.{Texts}
+use Rattle.trick_top_words.specs.declared.command.Command.TheVariants as commands
+use Rattle.trick_top_words.specs.declared.command.Command.{Command}
+use Rattle.trick_top_alone.specs.Aims as aim
+use Rattle.trick_top_alone.specs.Aims.{Aim}
 
 -- what is held after writes that are all done
 pub written_by : (writes : List Write) (before now : Files) → AllLeave (steps_of writes) before now → now ≡ all_written writes before

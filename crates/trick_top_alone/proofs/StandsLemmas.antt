@@ -12,27 +12,27 @@ use Rattle.trick_outside.proofs.WriteLemmas.{front_of}
 use Rattle.trick_outside.specs.Calls.{AllLeave, Call}
 use Rattle.trick_outside.specs.Does.{IsPartOf, Went}
 use Rattle.trick_outside.specs.declared.shelf.Shelf.{Ghosts}
-use Rattle.trick_ready.specs.Texts.{IsReady}
-use Rattle.trick_run_facts.specs.Left.{Left}
-use Rattle.trick_tic.proofs.StepLemmas as steps
-use Rattle.trick_tic.specs.Steps.{steps_of}
-use Rattle.trick_top.proofs.FoundLemmas.{leave_reads, leave_steps}
-use Rattle.trick_top.proofs.SaysLemmas.{leave_earlier, written_by}
-use Rattle.trick_top.proofs.StoppedLemmas.{left_so}
-use Rattle.trick_top.specs.Acts.{Acts, StopsWith, all_writes, checked, listed, misfits, no_journal, no_memory, no_memory_to_write, not_written, ran, run_steps, unloaded}
-use Rattle.trick_top.specs.First.{IsFirst}
-use Rattle.trick_top.specs.Found.{reads}
-use Rattle.trick_top.specs.Generated.{text_steps, text_writes}
-use Rattle.trick_top.specs.Outcome.{Generates, Outcome, Performed, Unread, acted, gone_on, missing, no_memory_for_texts, no_memory_to_read, not_read, not_understood, plan_refused, text_refused, texts_not_written, texts_run, unread}
-use Rattle.trick_top.specs.Runs.{IsUnderWay, short_writes}
-use Rattle.trick_top.specs.Sources.{Sources, texts_of}
-use Rattle.trick_top.specs.Status.{AskForFiles, Finds, Gives, HoldsSame, HoldsTexts, MayWrite, Reads, Says, Stands, a_front, earlier_writes, files_held, nothing, of_misfit, of_texts, of_whole, texts_generated}
-use Rattle.trick_top.specs.Verdict.{NoFile, PlanRefused, TextRefused, Usage, Verdict}
-use Rattle.trick_top.specs.Words.{Asked, Asks, IsWanted, Nothing, Unknown, Wanted, Words, names_of, aim_of}
-use Rattle.trick_words.specs.declared.command.Command.TheVariants as commands
-use Rattle.trick_words.specs.declared.command.Command.{Command}
-use Rattle.trick_top.specs.Aims.{Run}
-use Rattle.trick_top.specs.Aims.{Aim}
+use Rattle.trick_top_texts.specs.Texts.{IsReady}
+use Rattle.trick_exec_laws.specs.Left.{Left}
+use Rattle.trick_exec_tic.proofs.StepLemmas as steps
+use Rattle.trick_exec_tic.specs.Steps.{steps_of}
+use Rattle.trick_top_alone.proofs.FoundLemmas.{leave_reads, leave_steps}
+use Rattle.trick_top_alone.proofs.SaysLemmas.{leave_earlier, written_by}
+use Rattle.trick_top_alone.proofs.StoppedLemmas.{left_so}
+use Rattle.trick_top_alone.specs.Acts.{Acts, StopsWith, all_writes, checked, listed, misfits, no_journal, no_memory, no_memory_to_write, not_written, ran, run_steps, unloaded}
+use Rattle.trick_top_alone.specs.First.{IsFirst}
+use Rattle.trick_top_alone.specs.Found.{reads}
+use Rattle.trick_top_alone.specs.Generated.{text_steps, text_writes}
+use Rattle.trick_top_alone.specs.Outcome.{Generates, Outcome, Performed, Unread, acted, gone_on, missing, no_memory_for_texts, no_memory_to_read, not_read, not_understood, plan_refused, text_refused, texts_not_written, texts_run, unread}
+use Rattle.trick_top_alone.specs.Runs.{IsUnderWay, short_writes}
+use Rattle.trick_top_alone.specs.Sources.{Sources, texts_of}
+use Rattle.trick_top_alone.specs.Status.{AskForFiles, Finds, Gives, HoldsSame, HoldsTexts, MayWrite, Reads, Says, Stands, a_front, earlier_writes, files_held, nothing, of_misfit, of_texts, of_whole, texts_generated}
+use Rattle.trick_top_alone.specs.Verdict.{NoFile, PlanRefused, TextRefused, Usage, Verdict}
+use Rattle.trick_top_alone.specs.Words.{Asked, Asks, IsWanted, Nothing, Unknown, Wanted, Words, names_of, aim_of}
+use Rattle.trick_top_words.specs.declared.command.Command.TheVariants as commands
+use Rattle.trick_top_words.specs.declared.command.Command.{Command}
+use Rattle.trick_top_alone.specs.Aims.{Run}
+use Rattle.trick_top_alone.specs.Aims.{Aim}
 
 -- a file that was not read leaves all as it was
 pub unread_same : {wanted : List (List ℕ)} {calls : List Call} {verdict : Verdict} (held now : Files) → Unread wanted calls verdict → AllLeave calls held now → now ≡ held

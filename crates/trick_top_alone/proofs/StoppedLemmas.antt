@@ -14,15 +14,15 @@ use Rattle.trick_model.specs.Turn.{is_frozen, turn}
 use Rattle.trick_model.specs.declared.entry.Entry.{Entry}
 use Rattle.trick_model.specs.declared.plan.Plan.{Plan}
 use Rattle.trick_outside.specs.Calls.{AllLeave, Call}
-use Rattle.trick_run_facts.proofs.Lasting.{AllOn}
-use Rattle.trick_run_facts.proofs.Leaves.{left_of_calls}
-use Rattle.trick_run_facts.specs.Left.{Left}
-use Rattle.trick_runs.specs.Follows.{Follows}
-use Rattle.trick_runs.specs.Laws.{told_by}
-use Rattle.trick_runs.specs.Stops.{StopsAt, at_end, before, between, in_turn}
-use Rattle.trick_top.specs.Acts.{StopsWith}
-use Rattle.trick_top.specs.Runs.{IsUnderWay}
-use Rattle.trick_turns.specs.Turns.{Told, behind}
+use Rattle.trick_exec_laws.proofs.Lasting.{AllOn}
+use Rattle.trick_exec_laws.proofs.Leaves.{left_of_calls}
+use Rattle.trick_exec_laws.specs.Left.{Left}
+use Rattle.trick_exec_meaning.specs.Follows.{Follows}
+use Rattle.trick_exec_meaning.specs.Laws.{told_by}
+use Rattle.trick_exec_meaning.specs.Stops.{StopsAt, at_end, before, between, in_turn}
+use Rattle.trick_top_alone.specs.Acts.{StopsWith}
+use Rattle.trick_top_alone.specs.Runs.{IsUnderWay}
+use Rattle.trick_exec_sources.specs.Turns.{Told, behind}
 
 -- ---- before each turn the run was not over
 

@@ -3,17 +3,17 @@ use Rattle.std.proofs.Common.{◌≡◌, ℕ, List, Option, inl, inr, refl, true
 use Rattle.std.specs.Prelude.{◌⊎◌}
 use Rattle.trick_outside.specs.declared.shelf.Shelf as shelf
 use Rattle.trick_outside.specs.declared.sink.Sink as sink
-use Rattle.trick_top.specs.Answered.{HasAnswered}
-use Rattle.trick_top.specs.Outcome.{HasGone}
-use Rattle.trick_top.specs.Printed.{Prints}
-use Rattle.trick_top.specs.Verdict.{OutOfMemory, Verdict}
-use Rattle.trick_top.specs.Words.{Asked, Asks, AsksNoRun, AsksToRun, IsWanted, Nothing, Unknown, Wanted, Words}
-use Rattle.trick_top.specs.Words.{has_command, has_task, with_run, without_run}
-use Rattle.trick_words.specs.declared.command.Command.TheVariants as commands
-use Rattle.trick_words.specs.declared.command.Command.{Command}
-use Rattle.trick_words.specs.declared.command.Task.TheVariants as task
-use Rattle.trick_words.specs.declared.command.Task.{Task}
-use Rattle.trick_words.specs.declared.command.Texts.{Texts}
+use Rattle.trick_top_alone.specs.Answered.{HasAnswered}
+use Rattle.trick_top_alone.specs.Outcome.{HasGone}
+use Rattle.trick_top_alone.specs.Printed.{Prints}
+use Rattle.trick_top_alone.specs.Verdict.{OutOfMemory, Verdict}
+use Rattle.trick_top_alone.specs.Words.{Asked, Asks, AsksNoRun, AsksToRun, IsWanted, Nothing, Unknown, Wanted, Words}
+use Rattle.trick_top_alone.specs.Words.{has_command, has_task, with_run, without_run}
+use Rattle.trick_top_words.specs.declared.command.Command.TheVariants as commands
+use Rattle.trick_top_words.specs.declared.command.Command.{Command}
+use Rattle.trick_top_words.specs.declared.command.Task.TheVariants as task
+use Rattle.trick_top_words.specs.declared.command.Task.{Task}
+use Rattle.trick_top_words.specs.declared.command.Texts.{Texts}
 
 -- a call with `run` has each task
 each_task : (t : Task) → has_task true t ≡ true

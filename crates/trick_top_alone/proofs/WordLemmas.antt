@@ -1,16 +1,16 @@
 -- The words that are read.
 use Rattle.std.proofs.Common.{◌≡◌, ℕ, List, None, Some, false, true, refl, sym, ◌∙◌, ap, subst}
 use Rattle.std.specs.Prelude.{MatchOption, Option}
-use Rattle.trick_top.proofs.CompleteLemmas.{AreOneLine}
-use Rattle.trick_top.specs.Aims as aim
-use Rattle.trick_top.specs.Words.{AreRefused, Asks, AsksNoRun, AsksToRun, aim_of_task, has_command, has_task, journal_of, without_run}
-use Rattle.trick_words.specs.Command as lines
-use Rattle.trick_words.specs.CommandLine.{Text}
-use Rattle.trick_words.specs.declared.command.Command.TheVariants as commands
-use Rattle.trick_words.specs.declared.command.Command.{Command}
-use Rattle.trick_words.specs.declared.command.Task.TheVariants as task
-use Rattle.trick_words.specs.declared.command.Task.{Task}
-use Rattle.trick_words.specs.declared.command.Texts.{Texts}
+use Rattle.trick_top_alone.proofs.CompleteLemmas.{AreOneLine}
+use Rattle.trick_top_alone.specs.Aims as aim
+use Rattle.trick_top_alone.specs.Words.{AreRefused, Asks, AsksNoRun, AsksToRun, aim_of_task, has_command, has_task, journal_of, without_run}
+use Rattle.trick_top_words.specs.Command as lines
+use Rattle.trick_top_words.specs.CommandLine.{Text}
+use Rattle.trick_top_words.specs.declared.command.Command.TheVariants as commands
+use Rattle.trick_top_words.specs.declared.command.Command.{Command}
+use Rattle.trick_top_words.specs.declared.command.Task.TheVariants as task
+use Rattle.trick_top_words.specs.declared.command.Task.{Task}
+use Rattle.trick_top_words.specs.declared.command.Texts.{Texts}
 
 -- a command that was read is one that the call without threads has, or not
 pub says_words : AreOneLine → (words : List Text) (command : Command) → lines.Asks words command → (result : Option Command)

@@ -15,18 +15,18 @@ use Rattle.trick_model.specs.declared.plan.Plan.{Plan}
 use Rattle.trick_outside.specs.Calls.{Call, fails}
 use Rattle.trick_outside.specs.Does.{IsPartOf, Went}
 use Rattle.trick_outside.specs.declared.shelf.Shelf.{Ghosts}
-use Rattle.trick_refusal.specs.Checkpoint.{checkpoint_line}
-use Rattle.trick_refusal.specs.Journal.{journal_line}
-use Rattle.trick_runs.specs.Stops.{StopsAt}
-use Rattle.trick_turns.specs.Joins.{joins_of}
-use Rattle.trick_serial.specs.Serial.{summary_of}
-use Rattle.trick_tic.specs.Steps.{steps_of}
-use Rattle.trick_top.specs.First.{IsFirst, IsUnloaded}
-use Rattle.trick_top.specs.Runs.{IsMisfit, IsUnderWay, IsUnread, IsWholeRun, given_turn, short_steps}
-use Rattle.trick_top.specs.Verdict.{Verdict, Accepted, Ended, JournalLength, Listed, OutOfMemory, ShelfFault}
-use Rattle.trick_top.specs.Verdict.{TextRefused}
-use Rattle.trick_top.specs.Aims as aim
-use Rattle.trick_top.specs.Aims.{Aim}
+use Rattle.trick_top_refusals.specs.Checkpoint.{checkpoint_line}
+use Rattle.trick_top_refusals.specs.Journal.{journal_line}
+use Rattle.trick_exec_meaning.specs.Stops.{StopsAt}
+use Rattle.trick_exec_sources.specs.Joins.{joins_of}
+use Rattle.trick_exec_alone.specs.Serial.{summary_of}
+use Rattle.trick_exec_tic.specs.Steps.{steps_of}
+use Rattle.trick_top_alone.specs.First.{IsFirst, IsUnloaded}
+use Rattle.trick_top_alone.specs.Runs.{IsMisfit, IsUnderWay, IsUnread, IsWholeRun, given_turn, short_steps}
+use Rattle.trick_top_alone.specs.Verdict.{Verdict, Accepted, Ended, JournalLength, Listed, OutOfMemory, ShelfFault}
+use Rattle.trick_top_alone.specs.Verdict.{TextRefused}
+use Rattle.trick_top_alone.specs.Aims as aim
+use Rattle.trick_top_alone.specs.Aims.{Aim}
 
 -- What `check` says. The threads are thread 0 and each child thread with a job: an accepted plan has
 -- no others.

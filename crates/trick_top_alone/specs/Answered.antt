@@ -3,10 +3,10 @@
 use Rattle.std.specs.Prelude.{ℕ}
 use Rattle.trick_outside.specs.declared.shelf.Shelf as shelf
 use Rattle.trick_outside.specs.declared.sink.Sink as sink
-use Rattle.trick_top.specs.Outcome.{HasGone}
-use Rattle.trick_top.specs.Printed.{Prints}
-use Rattle.trick_top.specs.Verdict.{Verdict}
-use Rattle.trick_top.specs.Words.{IsWanted, Wanted, Words}
+use Rattle.trick_top_alone.specs.Outcome.{HasGone}
+use Rattle.trick_top_alone.specs.Printed.{Prints}
+use Rattle.trick_top_alone.specs.Verdict.{Verdict}
+use Rattle.trick_top_alone.specs.Words.{IsWanted, Wanted, Words}
 
 pub record HasAnswered {S O : Type 0} (shelf : shelf.Ghosts S) (sink : sink.Ghosts O) (old new : S) (before now : O)
     (words : Words) (status : ℕ) : Type 0 where

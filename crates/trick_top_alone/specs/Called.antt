@@ -7,7 +7,7 @@ use Rattle.trick_outside.specs.Pieces.{Piece, Pieces}
 use Rattle.trick_outside.specs.Puts.{ArePiecesOf}
 use Rattle.trick_outside.specs.declared.shelf.Shelf.{Ghosts}
 use Rattle.trick_outside.specs.declared.sink.Sink as sink
-use Rattle.trick_top.specs.Verdict.{Verdict, line_of}
+use Rattle.trick_top_alone.specs.Verdict.{Verdict, line_of}
 
 -- All calls of both objects, and what they say. The shelf is not called after a call that failed; the
 -- sink is given one line, once, and nothing after a piece that it did not take.

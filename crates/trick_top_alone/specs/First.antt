@@ -1,6 +1,6 @@
 -- The state from which a run starts: that of the plan's start, or the one of which a text is the checkpoint.
 use Rattle.std.specs.Prelude.{◌≡◌, ◌≢◌, ℕ, List, Option, Some, None}
-use Rattle.trick_load.specs.CheckpointLines.{checkpoint}
+use Rattle.trick_chkpt.specs.CheckpointLines.{checkpoint}
 use Rattle.trick_codes.specs.Loads.{Refuses}
 use Rattle.trick_codes.specs.declared.load_fault.LoadFault.TheVariants as fault
 use Rattle.trick_codes.specs.declared.load_fault.LoadFault.{LoadFault}
@@ -8,7 +8,7 @@ use Rattle.trick_model.specs.PlanOf.{plan_of}
 use Rattle.trick_model.specs.Run.{start}
 use Rattle.trick_model.specs.State.{State}
 use Rattle.trick_model.specs.declared.plan.Plan.{Plan}
-use Rattle.trick_resume.specs.Loaded.{IsCheckpointOf}
+use Rattle.trick_chkpt_state.specs.Loaded.{IsCheckpointOf}
 
 -- The text is the checkpoint of this state of a plan, and of no other one.
 pub record IsLoadedFrom (plan : Plan) (text : List ℕ) (s : State) : Type 0 where

@@ -4,7 +4,7 @@ use Rattle.trick_base.specs.Files.{Write}
 use Rattle.trick_gen.specs.Texts.{definition_text, input_text}
 use Rattle.trick_model.specs.Turn.{file_writes}
 use Rattle.trick_outside.specs.Calls.{Call}
-use Rattle.trick_tic.specs.Steps.{steps_of}
+use Rattle.trick_exec_tic.specs.Steps.{steps_of}
 
 -- both texts, each in a file of its own, the S_define first
 abbrev pub both_writes : (definition input : List ℕ) → List Write

@@ -6,17 +6,17 @@ use Rattle.trick_outside.specs.Calls.{Call, Get, Read, Stopped, fails}
 use Rattle.trick_outside.specs.Does.{IsPartOf, Went}
 use Rattle.trick_outside.specs.declared.shelf.Shelf.{Ghosts}
 use Rattle.trick_outside.specs.declared.stop.Stop.TheVariants.{Shelf, Memory}
-use Rattle.trick_ready.specs.Texts.{IsPlanRefused, IsReady, IsTextRefused}
-use Rattle.trick_top.specs.Acts.{Acts}
-use Rattle.trick_top.specs.Found.{Found, names, reads, texts}
-use Rattle.trick_top.specs.Generated.{text_steps}
-use Rattle.trick_top.specs.Sources.{AreNamed, Sources, generated_sources, texts_of}
-use Rattle.trick_top.specs.Verdict.{Verdict, Usage, NoFile, TextRefused, PlanRefused, ShelfFault, OutOfMemory, with_objects}
-use Rattle.trick_top.specs.Words.{Wanted, Asked, Nothing, Unknown, aim_of_task, names_of}
-use Rattle.trick_words.specs.declared.command.Texts.{Texts}
-use Rattle.trick_words.specs.declared.command.Command.TheVariants as commands
-use Rattle.trick_top.specs.Aims as aim
-use Rattle.trick_top.specs.Aims.{Aim}
+use Rattle.trick_top_texts.specs.Texts.{IsPlanRefused, IsReady, IsTextRefused}
+use Rattle.trick_top_alone.specs.Acts.{Acts}
+use Rattle.trick_top_alone.specs.Found.{Found, names, reads, texts}
+use Rattle.trick_top_alone.specs.Generated.{text_steps}
+use Rattle.trick_top_alone.specs.Sources.{AreNamed, Sources, generated_sources, texts_of}
+use Rattle.trick_top_alone.specs.Verdict.{Verdict, Usage, NoFile, TextRefused, PlanRefused, ShelfFault, OutOfMemory, with_objects}
+use Rattle.trick_top_alone.specs.Words.{Wanted, Asked, Nothing, Unknown, aim_of_task, names_of}
+use Rattle.trick_top_words.specs.declared.command.Texts.{Texts}
+use Rattle.trick_top_words.specs.declared.command.Command.TheVariants as commands
+use Rattle.trick_top_alone.specs.Aims as aim
+use Rattle.trick_top_alone.specs.Aims.{Aim}
 
 -- How the texts of a simulation go: they decide first, by the lines that refuse them, and then what is done
 -- with the plan that they have.

@@ -3,7 +3,7 @@ use Rattle.std.specs.Prelude.{◌≡◌, ℕ, true}
 use Rattle.trick_outside.specs.Puts.{Puts}
 use Rattle.trick_outside.specs.declared.print.Printed.TheVariants as answer
 use Rattle.trick_outside.specs.declared.sink.Sink.{Ghosts}
-use Rattle.trick_top.specs.Verdict.{Verdict, OutOfMemory, is_made, line_of, status_of}
+use Rattle.trick_top_alone.specs.Verdict.{Verdict, OutOfMemory, is_made, line_of, status_of}
 
 -- From old to new the sink was given one line, piece after piece, and nothing else.
 pub data Prints {O : Type 0} (sink : Ghosts O) (old new : O) : Verdict → ℕ → Type 0 where

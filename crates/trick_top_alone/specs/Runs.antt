@@ -12,11 +12,11 @@ use Rattle.trick_model.specs.declared.entry.Entry.{Entry}
 use Rattle.trick_model.specs.declared.journal.Journal.{Journal}
 use Rattle.trick_model.specs.declared.plan.Plan.{Plan}
 use Rattle.trick_outside.specs.Calls.{Call}
-use Rattle.trick_runs.specs.Follows.{Follows}
-use Rattle.trick_runs.specs.Laws.{told_by}
-use Rattle.trick_runs.specs.Ran.{writes_so_far}
-use Rattle.trick_replay.specs.Replay.{lists_below, lists_for}
-use Rattle.trick_tic.specs.Steps.{steps_of}
+use Rattle.trick_exec_meaning.specs.Follows.{Follows}
+use Rattle.trick_exec_meaning.specs.Laws.{told_by}
+use Rattle.trick_exec_meaning.specs.Ran.{writes_so_far}
+use Rattle.trick_exec_alone.specs.Replay.{lists_below, lists_for}
+use Rattle.trick_exec_tic.specs.Steps.{steps_of}
 
 -- ---- journals
 

@@ -1,10 +1,10 @@
 -- The texts with which something is done.
 use Rattle.std.specs.Prelude.{◌≡◌, ℕ, List, ◌∷◌, ◌++◌, Option, None, is_some, option_map, option_to_list}
 use Rattle.trick_gen.specs.Texts.{definition_text, input_text}
-use Rattle.trick_top.specs.declared.sources.Contents as contents
-use Rattle.trick_top.specs.declared.sources.Sources as declared
-use Rattle.trick_top.specs.Words.{journal_of}
-use Rattle.trick_words.specs.declared.command.Texts.{Texts}
+use Rattle.trick_top_alone.specs.declared.sources.Contents as contents
+use Rattle.trick_top_alone.specs.declared.sources.Sources as declared
+use Rattle.trick_top_alone.specs.Words.{journal_of}
+use Rattle.trick_top_words.specs.declared.command.Texts.{Texts}
 
 -- The two texts of a simulation, that of the checkpoint from which a run goes on, and that of the journal under
 -- which it runs, each of these two where there is one.

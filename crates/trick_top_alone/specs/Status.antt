@@ -17,27 +17,27 @@ use Rattle.trick_outside.specs.Calls.{Call, Read}
 use Rattle.trick_outside.specs.Causes.{Rose}
 use Rattle.trick_outside.specs.Does.{Went}
 use Rattle.trick_outside.specs.declared.shelf.Shelf.{Ghosts}
-use Rattle.trick_ready.specs.Texts.{IsPlanRefused, IsReady, IsTextRefused}
-use Rattle.trick_refusal.specs.Checkpoint.{checkpoint_line}
-use Rattle.trick_refusal.specs.Journal.{journal_line}
-use Rattle.trick_resume.specs.Loaded.{IsCheckpointOf}
-use Rattle.trick_run_facts.specs.Left.{Left}
-use Rattle.trick_top.specs.Acts.{accepted_verdict, all_writes, ended_verdict, last_state, length_verdict}
-use Rattle.trick_top.specs.Acts.{listed_verdict, run_steps}
-use Rattle.trick_top.specs.First.{IsFirst, IsUnloaded}
-use Rattle.trick_top.specs.Found.{Found, names, reads, texts}
-use Rattle.trick_top.specs.Generated.{text_steps, text_writes}
-use Rattle.trick_top.specs.Runs.{IsFitting, IsJournalFor, IsMisfit, IsUnderWay, IsUnread, IsWholeRun, short_steps}
-use Rattle.trick_top.specs.Runs.{short_writes}
-use Rattle.trick_top.specs.Sources.{AreNamed, Sources, generated_sources, texts_of}
-use Rattle.trick_top.specs.Verdict.{Verdict, Accepted, Ended, Generated, JournalLength, Listed, NoFile}
-use Rattle.trick_top.specs.Verdict.{OutOfMemory, PlanRefused, Served, ShelfFault, TextRefused, Usage, with_objects}
-use Rattle.trick_top.specs.Words.{AreRefused, Asks, Words, aim_of, aim_of_task, names_of}
-use Rattle.trick_words.specs.declared.command.Texts.{Texts}
-use Rattle.trick_words.specs.declared.command.Command.TheVariants as commands
-use Rattle.trick_words.specs.declared.command.Command.{Command}
-use Rattle.trick_top.specs.Aims as aim
-use Rattle.trick_top.specs.Aims.{Aim}
+use Rattle.trick_top_texts.specs.Texts.{IsPlanRefused, IsReady, IsTextRefused}
+use Rattle.trick_top_refusals.specs.Checkpoint.{checkpoint_line}
+use Rattle.trick_top_refusals.specs.Journal.{journal_line}
+use Rattle.trick_chkpt_state.specs.Loaded.{IsCheckpointOf}
+use Rattle.trick_exec_laws.specs.Left.{Left}
+use Rattle.trick_top_alone.specs.Acts.{accepted_verdict, all_writes, ended_verdict, last_state, length_verdict}
+use Rattle.trick_top_alone.specs.Acts.{listed_verdict, run_steps}
+use Rattle.trick_top_alone.specs.First.{IsFirst, IsUnloaded}
+use Rattle.trick_top_alone.specs.Found.{Found, names, reads, texts}
+use Rattle.trick_top_alone.specs.Generated.{text_steps, text_writes}
+use Rattle.trick_top_alone.specs.Runs.{IsFitting, IsJournalFor, IsMisfit, IsUnderWay, IsUnread, IsWholeRun, short_steps}
+use Rattle.trick_top_alone.specs.Runs.{short_writes}
+use Rattle.trick_top_alone.specs.Sources.{AreNamed, Sources, generated_sources, texts_of}
+use Rattle.trick_top_alone.specs.Verdict.{Verdict, Accepted, Ended, Generated, JournalLength, Listed, NoFile}
+use Rattle.trick_top_alone.specs.Verdict.{OutOfMemory, PlanRefused, Served, ShelfFault, TextRefused, Usage, with_objects}
+use Rattle.trick_top_alone.specs.Words.{AreRefused, Asks, Words, aim_of, aim_of_task, names_of}
+use Rattle.trick_top_words.specs.declared.command.Texts.{Texts}
+use Rattle.trick_top_words.specs.declared.command.Command.TheVariants as commands
+use Rattle.trick_top_words.specs.declared.command.Command.{Command}
+use Rattle.trick_top_alone.specs.Aims as aim
+use Rattle.trick_top_alone.specs.Aims.{Aim}
 
 -- The status is the one that is due, or there was no memory, or the sink failed.
 abbrev pub EndsWith : ℕ → ℕ → Type 0

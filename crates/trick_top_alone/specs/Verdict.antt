@@ -7,15 +7,15 @@ use Rattle.trick_journal.specs.declared.journal_fault.JournalFault.TheVariants a
 use Rattle.trick_journal.specs.declared.journal_fault.JournalFault.{JournalFault}
 use Rattle.trick_outside.specs.declared.stop.Stop.TheVariants as stop
 use Rattle.trick_outside.specs.declared.stop.Stop.{Stop}
-use Rattle.trick_ready.specs.declared.unready.Unready.TheVariants as unready
-use Rattle.trick_ready.specs.declared.unready.Unready.{Unready}
-use Rattle.trick_refusal.specs.Checkpoint.{checkpoint_line}
-use Rattle.trick_refusal.specs.Journal.{journal_line, length_line}
-use Rattle.trick_replay.specs.declared.replayed.Replayed.TheVariants as replayed
-use Rattle.trick_replay.specs.declared.replayed.Replayed.{Replayed}
-use Rattle.trick_serial.specs.declared.summary.Summary as serial
-use Rattle.trick_top.specs.declared.verdict.Verdict as declared
-use Rattle.trick_top.specs.declared.verdict.Verdict.TheVariants as declared_verdict
+use Rattle.trick_top_texts.specs.declared.unready.Unready.TheVariants as unready
+use Rattle.trick_top_texts.specs.declared.unready.Unready.{Unready}
+use Rattle.trick_top_refusals.specs.Checkpoint.{checkpoint_line}
+use Rattle.trick_top_refusals.specs.Journal.{journal_line, length_line}
+use Rattle.trick_exec_alone.specs.declared.replayed.Replayed.TheVariants as replayed
+use Rattle.trick_exec_alone.specs.declared.replayed.Replayed.{Replayed}
+use Rattle.trick_exec_alone.specs.declared.summary.Summary as serial
+use Rattle.trick_top_alone.specs.declared.verdict.Verdict as declared
+use Rattle.trick_top_alone.specs.declared.verdict.Verdict.TheVariants as declared_verdict
 
 pub data Verdict : Type 0 where
   -- the words ask for no command

@@ -1,13 +1,13 @@
 -- Which words ask for what.
 use Rattle.std.specs.Prelude.{◌≡◌, ℕ, Bool, true, List, ◌∷◌, ◌++◌, Option, Some, None, option_to_list, false}
-use Rattle.trick_top.specs.Aims as aim
-use Rattle.trick_top.specs.Aims.{Aim}
-use Rattle.trick_words.specs.Command as lines
-use Rattle.trick_words.specs.declared.command.Command.TheVariants as commands
-use Rattle.trick_words.specs.declared.command.Command.{Command}
-use Rattle.trick_words.specs.declared.command.Task.TheVariants as task
-use Rattle.trick_words.specs.declared.command.Task.{Task}
-use Rattle.trick_words.specs.declared.command.Texts.{Texts}
+use Rattle.trick_top_alone.specs.Aims as aim
+use Rattle.trick_top_alone.specs.Aims.{Aim}
+use Rattle.trick_top_words.specs.Command as lines
+use Rattle.trick_top_words.specs.declared.command.Command.TheVariants as commands
+use Rattle.trick_top_words.specs.declared.command.Command.{Command}
+use Rattle.trick_top_words.specs.declared.command.Task.TheVariants as task
+use Rattle.trick_top_words.specs.declared.command.Task.{Task}
+use Rattle.trick_top_words.specs.declared.command.Texts.{Texts}
 
 -- The words of a command line, and whether the call that they are said to has the command `run`: the call that waits
 -- for nobody does not.

@@ -1,17 +1,17 @@
 //! The files that a command names.
 
 ghost use Rattle.std.specs.Prelude.{◌≡◌, ◌∷◌, [], IfErr, IfOk, is_some, option_map, option_to_list};
-ghost use Rattle.trick_top.specs.Outcome.{HasFound, HasNotFound};
-ghost use Rattle.trick_top.specs.Sources.{AreNamed, contents_of, texts_of};
-ghost use Rattle.trick_top.specs.Verdict.{verdict_of};
-ghost use Rattle.trick_top.specs.Words.{journal_of as journal_of_task, names_of};
+ghost use Rattle.trick_top_alone.specs.Outcome.{HasFound, HasNotFound};
+ghost use Rattle.trick_top_alone.specs.Sources.{AreNamed, contents_of, texts_of};
+ghost use Rattle.trick_top_alone.specs.Verdict.{verdict_of};
+ghost use Rattle.trick_top_alone.specs.Words.{journal_of as journal_of_task, names_of};
 
 use crate::sources::Contents;
 use crate::verdict::Verdict;
 use std::alloc::Global;
 use trick_base::{Items, Word};
 use trick_outside::{Got, Shelf, get};
-use trick_words::{Task, Texts};
+use trick_top_words::{Task, Texts};
 
 /// The name of the journal under which a simulation is run, where there is one.
 fn journal_of(task: &Task) -> Option<&Word>

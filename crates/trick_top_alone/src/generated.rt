@@ -4,12 +4,12 @@ ghost use Rattle.std.specs.Prelude.{◌≡◌, IfOk};
 ghost use Rattle.trick_gen.specs.Texts.{definition_text, input_text};
 ghost use Rattle.trick_model.specs.Turn.{file_writes};
 ghost use Rattle.trick_outside.specs.Does.{Does};
-ghost use Rattle.trick_tic.specs.Steps.{steps_of};
-ghost use Rattle.trick_top.specs.Generated.{both_writes, text_steps};
-ghost use Rattle.trick_top.specs.Outcome.{HasGone};
-ghost use Rattle.trick_top.specs.Verdict.{verdict_of, with_objects as with_objects_of};
-ghost use Rattle.trick_top.specs.Words.{Asked};
-ghost use Rattle.trick_words.specs.declared.command.Command.TheVariants as commands;
+ghost use Rattle.trick_exec_tic.specs.Steps.{steps_of};
+ghost use Rattle.trick_top_alone.specs.Generated.{both_writes, text_steps};
+ghost use Rattle.trick_top_alone.specs.Outcome.{HasGone};
+ghost use Rattle.trick_top_alone.specs.Verdict.{verdict_of, with_objects as with_objects_of};
+ghost use Rattle.trick_top_alone.specs.Words.{Asked};
+ghost use Rattle.trick_top_words.specs.declared.command.Command.TheVariants as commands;
 
 use crate::sources::Sources;
 use crate::texts::perform_on;
@@ -18,7 +18,7 @@ use std::alloc::Global;
 use trick_base::Word;
 use trick_gen::{Generated, make};
 use trick_outside::{Shelf, Stop, write_file};
-use trick_words::Task;
+use trick_top_words::Task;
 
 /// The name of the S_define.
 const DEFINITION_NAME: &[u8] = b"gen.S_define";

@@ -2,11 +2,11 @@
 
 ghost use Rattle.std.specs.Arc.{arc_value};
 ghost use Rattle.std.specs.Prelude.{◌≡◌, ◌⊎◌};
-ghost use Rattle.trick_top.specs.Acts.{HasActed, accepted_verdict, listed_verdict};
-ghost use Rattle.trick_top.specs.Aims as aim;
-ghost use Rattle.trick_top.specs.Sources.{sources_of};
-ghost use Rattle.trick_top.specs.Verdict.{OutOfMemory, verdict_of};
-ghost use Rattle.trick_top.specs.Words.{aim_of_task};
+ghost use Rattle.trick_top_alone.specs.Acts.{HasActed, accepted_verdict, listed_verdict};
+ghost use Rattle.trick_top_alone.specs.Aims as aim;
+ghost use Rattle.trick_top_alone.specs.Sources.{sources_of};
+ghost use Rattle.trick_top_alone.specs.Verdict.{OutOfMemory, verdict_of};
+ghost use Rattle.trick_top_alone.specs.Words.{aim_of_task};
 
 use crate::replays::replay;
 use crate::runs::run;
@@ -17,7 +17,7 @@ use std::sync::Arc;
 use trick_memory::listing;
 use trick_model::{Accepted, Plan};
 use trick_outside::Shelf;
-use trick_words::Task;
+use trick_top_words::Task;
 
 /// What `check` says of an accepted plan.
 fn accepted(plan: &Plan) -> Verdict<'static>

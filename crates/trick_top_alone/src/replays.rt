@@ -2,21 +2,20 @@
 
 ghost use Rattle.std.specs.Arc.{arc_value};
 ghost use Rattle.std.specs.Prelude.{◌≡◌, ◌⊎◌, Some, None, option_map};
-ghost use Rattle.trick_top.specs.Acts.{HasActed};
-ghost use Rattle.trick_top.specs.Aims as aim;
-ghost use Rattle.trick_top.specs.Verdict.{OutOfMemory, replay_verdict, unread_verdict, verdict_of};
+ghost use Rattle.trick_top_alone.specs.Acts.{HasActed};
+ghost use Rattle.trick_top_alone.specs.Aims as aim;
+ghost use Rattle.trick_top_alone.specs.Verdict.{OutOfMemory, replay_verdict, unread_verdict, verdict_of};
 
 use crate::runs::unloaded;
 use crate::verdict::Verdict;
 use std::alloc::Global;
 use std::sync::Arc;
-use trick_journal::{JournalFault, read};
-use trick_journal_facts::laws;
+use trick_journal::{JournalFault, laws, read};
 use trick_model::Accepted;
 use trick_outside::{Shelf, Stop};
-use trick_refusal::journal_line;
-use trick_replay::{Replayed, replay as replay_new, replay_from};
-use trick_resume::resume;
+use trick_top_refusals::journal_line;
+use trick_exec_alone::{Replayed, replay as replay_new, replay_from};
+use trick_chkpt_state::resume;
 
 /// The turn at which a plan's own start begins.
 const FIRST_TURN: u64 = 0;

@@ -1,7 +1,7 @@
 //! The texts with which something is done.
 
 ghost use Rattle.std.specs.Prelude.{◌≡◌, option_map};
-ghost use Rattle.trick_top.specs.Sources.{contents_of, sources_of};
+ghost use Rattle.trick_top_alone.specs.Sources.{contents_of, sources_of};
 
 use trick_base::Items;
 

@@ -1,13 +1,13 @@
 ghost use Rattle.std.specs.Prelude.{◌≡◌, ◌++◌, IfNone, IfOk, IfSome, true};
-ghost use Rattle.trick_top.specs.Verdict.{Accepted, Ended as EndedBy, Generated as GeneratedBy, is_made, line_of};
-ghost use Rattle.trick_top.specs.Verdict.{Served as ServedBy, ended_facts as ended_facts_of};
-ghost use Rattle.trick_top.specs.Verdict.{ended_status as ended_status_of, generated_line as generated_line_of};
-ghost use Rattle.trick_top.specs.Verdict.{status_of, verdict_of};
+ghost use Rattle.trick_top_alone.specs.Verdict.{Accepted, Ended as EndedBy, Generated as GeneratedBy, is_made, line_of};
+ghost use Rattle.trick_top_alone.specs.Verdict.{Served as ServedBy, ended_facts as ended_facts_of};
+ghost use Rattle.trick_top_alone.specs.Verdict.{ended_status as ended_status_of, generated_line as generated_line_of};
+ghost use Rattle.trick_top_alone.specs.Verdict.{status_of, verdict_of};
 
 use std::alloc::{AllocError, Global};
 use trick_base::Word;
-use trick_refusal::length_line;
-use trick_serial::Summary;
+use trick_top_refusals::length_line;
+use trick_exec_alone::Summary;
 
 const USAGE: &[u8] = b"usage: tricks serial|run|replay|check|list|gen\n";
 

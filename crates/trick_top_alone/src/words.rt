@@ -1,12 +1,12 @@
 //! What words ask for.
 
 ghost use Rattle.std.specs.Prelude.{◌≡◌, IfOk, MatchOption, false, true};
-ghost use Rattle.trick_top.specs.Words.{AreRefused, Asks, AsksNoRun, AsksToRun, has_command, has_task, without_run};
-ghost use Rattle.trick_words.specs.declared.command.Command.TheVariants as commands;
+ghost use Rattle.trick_top_alone.specs.Words.{AreRefused, Asks, AsksNoRun, AsksToRun, has_command, has_task, without_run};
+ghost use Rattle.trick_top_words.specs.declared.command.Command.TheVariants as commands;
 
 use std::alloc::{AllocError, Global};
 use trick_base::Word;
-use trick_words::{Command, Task, Texts, laws, read_command};
+use trick_top_words::{Command, Task, Texts, laws, read_command};
 
 /// Whether no threads are needed for a task.
 fn is_alone(task: &Task) -> bool

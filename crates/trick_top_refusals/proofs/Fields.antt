@@ -2,7 +2,7 @@
 use Rattle.std.proofs.Common.{◌≡◌, ◌+◌, ◌<◌, ◌++◌, ◌∷◌, ℕ, List, ◌∙◌}
 use Rattle.std.proofs.Common.{append_assoc, codes, drop, length, map, slice_index_or}
 use Rattle.std.proofs.lemmas.List.{drop_more}
-use Rattle.trick_refusal.specs.Line.{fields}
+use Rattle.trick_top_refusals.specs.Line.{fields}
 
 -- one more field after the bytes so far
 one_more : (bytes field : List ℕ) (rest : List (List ℕ))

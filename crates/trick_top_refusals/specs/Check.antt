@@ -4,7 +4,7 @@ use Rattle.trick_check.specs.declared.fault.CheckFault.{CheckFault}
 use Rattle.trick_check.specs.declared.fault.CheckFault.TheVariants.{Twice, Unknown, NotScalar, Recursive}
 use Rattle.trick_check.specs.declared.fault.CheckFault.TheVariants.{TooManyCells, TooManyJobs, TooManySteps}
 use Rattle.trick_check.specs.declared.fault.CheckFault.TheVariants.{OutOfMemory}
-use Rattle.trick_refusal.specs.Line.{out_of_memory, refused, refused_at, refused_name, s_define}
+use Rattle.trick_top_refusals.specs.Line.{out_of_memory, refused, refused_at, refused_name, s_define}
 
 abbrev pub check_line : CheckFault → List ℕ
 check_line (Twice name) = refused_name (codes "Twice") s_define name

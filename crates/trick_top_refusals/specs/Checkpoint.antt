@@ -2,7 +2,7 @@
 use Rattle.std.specs.Prelude.{ℕ, List, codes}
 use Rattle.trick_codes.specs.declared.load_fault.LoadFault.{LoadFault}
 use Rattle.trick_codes.specs.declared.load_fault.LoadFault.TheVariants as fault
-use Rattle.trick_refusal.specs.Line.{checkpoint, out_of_memory, refused_at}
+use Rattle.trick_top_refusals.specs.Line.{checkpoint, out_of_memory, refused_at}
 
 abbrev pub checkpoint_line : LoadFault → List ℕ
 checkpoint_line (fault.BadLine line) = refused_at (codes "BadLine") checkpoint line

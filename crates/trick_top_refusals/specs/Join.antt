@@ -1,10 +1,10 @@
 -- The lines of what the join of a program and an input is refused for. They are told of the input.
 use Rattle.std.specs.Prelude.{ℕ, List, codes}
-use Rattle.trick_lines.specs.declared.fault.JoinFault.{JoinFault}
-use Rattle.trick_lines.specs.declared.fault.JoinFault.TheVariants.{Time, UnknownName, UnknownJob, OutOfRange}
-use Rattle.trick_lines.specs.declared.fault.JoinFault.TheVariants.{TwiceNamed, BadAction, TooMany, OutOfMemory}
-use Rattle.trick_refusal.specs.Line.{input, out_of_memory, refused_above, refused_at}
-use Rattle.trick_refusal.specs.Texts.{time_line}
+use Rattle.trick_plan_lines.specs.declared.fault.JoinFault.{JoinFault}
+use Rattle.trick_plan_lines.specs.declared.fault.JoinFault.TheVariants.{Time, UnknownName, UnknownJob, OutOfRange}
+use Rattle.trick_plan_lines.specs.declared.fault.JoinFault.TheVariants.{TwiceNamed, BadAction, TooMany, OutOfMemory}
+use Rattle.trick_top_refusals.specs.Line.{input, out_of_memory, refused_above, refused_at}
+use Rattle.trick_top_refusals.specs.Texts.{time_line}
 
 abbrev pub join_line : JoinFault → List ℕ
 join_line (Time fault) = time_line input fault

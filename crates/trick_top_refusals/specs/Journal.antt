@@ -2,7 +2,7 @@
 use Rattle.std.specs.Prelude.{ℕ, List, [], ◌∷◌, codes, decimal}
 use Rattle.trick_journal.specs.declared.journal_fault.JournalFault.{JournalFault}
 use Rattle.trick_journal.specs.declared.journal_fault.JournalFault.TheVariants as fault
-use Rattle.trick_refusal.specs.Line.{journal, out_of_memory, refused, refused_at}
+use Rattle.trick_top_refusals.specs.Line.{journal, out_of_memory, refused, refused_at}
 
 abbrev pub journal_line : JournalFault → List ℕ
 journal_line (fault.BadLine line) = refused_at (codes "BadLine") journal line

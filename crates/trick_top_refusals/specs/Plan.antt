@@ -8,7 +8,7 @@ use Rattle.trick_race.specs.declared.fault.PlanFault.{PlanFault}
 use Rattle.trick_race.specs.declared.fault.PlanFault.TheVariants.{NoThread, ClassOnChild, Backwards}
 use Rattle.trick_race.specs.declared.fault.PlanFault.TheVariants.{SharedWriter, AsyncRecorded, AsyncEvent, Race}
 use Rattle.trick_race.specs.declared.fault.PlanFault.TheVariants.{OutOfMemory}
-use Rattle.trick_refusal.specs.Line.{out_of_memory, refused}
+use Rattle.trick_top_refusals.specs.Line.{out_of_memory, refused}
 
 -- a job is told by its name and its instance
 abbrev pub job : Plan → ℕ → List ℕ

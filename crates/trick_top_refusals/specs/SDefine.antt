@@ -1,7 +1,7 @@
 -- The lines of what an S_define is refused for.
 use Rattle.std.specs.Prelude.{ℕ, List, codes}
-use Rattle.trick_refusal.specs.Line.{out_of_memory, refused_above, refused_at, s_define}
-use Rattle.trick_refusal.specs.Texts.{text_line, time_line}
+use Rattle.trick_top_refusals.specs.Line.{out_of_memory, refused_above, refused_at, s_define}
+use Rattle.trick_top_refusals.specs.Texts.{text_line, time_line}
 use Rattle.trick_sdef.specs.declared.fault.SdefFault.{SdefFault}
 use Rattle.trick_sdef.specs.declared.fault.SdefFault.TheVariants.{Text, Expected, NotInProfile, LoopBound}
 use Rattle.trick_sdef.specs.declared.fault.SdefFault.TheVariants.{LongList, Time, OutOfMemory}

@@ -1,6 +1,6 @@
 -- The lines of the faults of a text before it is read, and of times.
 use Rattle.std.specs.Prelude.{ℕ, List, codes}
-use Rattle.trick_refusal.specs.Line.{out_of_memory, refused_at}
+use Rattle.trick_top_refusals.specs.Line.{out_of_memory, refused_at}
 use Rattle.trick_text.specs.declared.fault.TextFault.{TextFault}
 use Rattle.trick_text.specs.declared.fault.TextFault.TheVariants.{LongText, BadByte, OpenComment}
 use Rattle.trick_text.specs.declared.fault.TextFault.TheVariants.{LongNumber, OutOfMemory}

@@ -5,17 +5,17 @@ use Rattle.trick_codes.specs.declared.load_fault.LoadFault.TheVariants as load
 use Rattle.trick_input.specs.declared.fault.InputFault.TheVariants as input
 use Rattle.trick_journal.specs.declared.journal_fault.JournalFault.TheVariants as journal
 use Rattle.trick_lang.specs.declared.job.Job.{Job}
-use Rattle.trick_lines.specs.declared.fault.JoinFault.TheVariants as join
+use Rattle.trick_plan_lines.specs.declared.fault.JoinFault.TheVariants as join
 use Rattle.trick_model.specs.Plan.{Event, Plan, no_job}
 use Rattle.trick_model.specs.declared.group.Group.{Group}
 use Rattle.trick_race.specs.declared.fault.PlanFault.TheVariants as plan
-use Rattle.trick_refusal.specs.Check.{check_line}
-use Rattle.trick_refusal.specs.Checkpoint.{checkpoint_line}
-use Rattle.trick_refusal.specs.Input.{input_line}
-use Rattle.trick_refusal.specs.Join.{join_line}
-use Rattle.trick_refusal.specs.Journal.{journal_line, length_line}
-use Rattle.trick_refusal.specs.Plan.{plan_line}
-use Rattle.trick_refusal.specs.SDefine.{s_define_line}
+use Rattle.trick_top_refusals.specs.Check.{check_line}
+use Rattle.trick_top_refusals.specs.Checkpoint.{checkpoint_line}
+use Rattle.trick_top_refusals.specs.Input.{input_line}
+use Rattle.trick_top_refusals.specs.Join.{join_line}
+use Rattle.trick_top_refusals.specs.Journal.{journal_line, length_line}
+use Rattle.trick_top_refusals.specs.Plan.{plan_line}
+use Rattle.trick_top_refusals.specs.SDefine.{s_define_line}
 use Rattle.trick_sdef.specs.declared.fault.SdefFault.TheVariants as sdef
 use Rattle.trick_text.specs.declared.fault.TextFault.TheVariants as text
 use Rattle.trick_text.specs.declared.fault.TimeFault.TheVariants as time

@@ -2,8 +2,8 @@
 
 ghost use Rattle.std.specs.Prelude.{◌≡◌, IfOk};
 ghost use Rattle.trick_check.specs.declared.fault.CheckFault.TheVariants.{TooManySteps};
-ghost use Rattle.trick_refusal.specs.Check.{check_line as line_of};
-ghost use Rattle.trick_refusal.specs.Line.{refused_name as refused_name_line};
+ghost use Rattle.trick_top_refusals.specs.Check.{check_line as line_of};
+ghost use Rattle.trick_top_refusals.specs.Line.{refused_name as refused_name_line};
 
 use crate::field::Field;
 use crate::line::{out_of_memory, refused, refused_at};

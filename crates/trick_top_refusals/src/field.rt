@@ -1,7 +1,7 @@
 //! What a line says after its code.
 
 ghost use Rattle.std.specs.Prelude.{◌≡◌, ◌++◌, OnOk, codes};
-ghost use Rattle.trick_refusal.specs.Seen.{field_text};
+ghost use Rattle.trick_top_refusals.specs.Seen.{field_text};
 
 use itoa::Buffer;
 use std::alloc::AllocError;

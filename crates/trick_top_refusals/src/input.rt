@@ -1,7 +1,7 @@
 //! The lines of what an input is refused for.
 
 ghost use Rattle.std.specs.Prelude.{◌≡◌, IfOk};
-ghost use Rattle.trick_refusal.specs.Input.{input_line as line_of};
+ghost use Rattle.trick_top_refusals.specs.Input.{input_line as line_of};
 
 use crate::line::{out_of_memory, refused_at};
 use crate::name::INPUT;

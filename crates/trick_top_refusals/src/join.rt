@@ -1,13 +1,13 @@
 //! The lines of what the join of a program and an input is refused for.
 
 ghost use Rattle.std.specs.Prelude.{◌≡◌, IfOk};
-ghost use Rattle.trick_refusal.specs.Join.{join_line as line_of};
+ghost use Rattle.trick_top_refusals.specs.Join.{join_line as line_of};
 
 use crate::line::{out_of_memory, refused_above, refused_at};
 use crate::name::INPUT;
 use crate::text::time_line;
 use std::alloc::{AllocError, Global};
-use trick_lines::JoinFault;
+use trick_plan_lines::JoinFault;
 
 /// The line of an input that makes no plan of a program, with its line feed: `refused`, the code, `input`,
 /// and the line of the fault; and for one too many its limit after the line. Refuses for want of memory

@@ -1,7 +1,7 @@
 //! The lines of what a journal is refused for.
 
 ghost use Rattle.std.specs.Prelude.{◌≡◌, IfOk};
-ghost use Rattle.trick_refusal.specs.Journal.{journal_line as line_of, length_line as line_of_length};
+ghost use Rattle.trick_top_refusals.specs.Journal.{journal_line as line_of, length_line as line_of_length};
 
 use crate::field::Field;
 use crate::line::{out_of_memory, refused, refused_at};

@@ -1,7 +1,7 @@
 //! Worked lines. Each function is a promise, and does nothing.
 
 ghost use Rattle.trick_model.specs.Plan.{Plan};
-ghost use Rattle.trick_refusal.specs.Worked.{HaveCheckLines, HaveCheckpointLines, HaveInputLines, HaveJoinLines, HaveJournalLines, HavePlanLines, HaveSDefineLines};
+ghost use Rattle.trick_top_refusals.specs.Worked.{HaveCheckLines, HaveCheckpointLines, HaveInputLines, HaveJoinLines, HaveJournalLines, HavePlanLines, HaveSDefineLines};
 
 /// The lines of what an S_define is refused for.
 pub fn s_define_lines()

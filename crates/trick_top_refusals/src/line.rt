@@ -1,10 +1,10 @@
 //! The line of a refusal.
 
 ghost use Rattle.std.specs.Prelude.{◌≡◌, ◌++◌, IfOk, OnOk, map};
-ghost use Rattle.trick_refusal.specs.Line.{fields as fields_of, out_of_memory as out_of_memory_line};
-ghost use Rattle.trick_refusal.specs.Line.{refused as refused_line, refused_above as refused_above_line};
-ghost use Rattle.trick_refusal.specs.Line.{refused_at as refused_at_line};
-ghost use Rattle.trick_refusal.specs.Seen.{field_text};
+ghost use Rattle.trick_top_refusals.specs.Line.{fields as fields_of, out_of_memory as out_of_memory_line};
+ghost use Rattle.trick_top_refusals.specs.Line.{refused as refused_line, refused_above as refused_above_line};
+ghost use Rattle.trick_top_refusals.specs.Line.{refused_at as refused_at_line};
+ghost use Rattle.trick_top_refusals.specs.Seen.{field_text};
 
 use crate::field::{Field, push_field};
 use std::alloc::{AllocError, Global};

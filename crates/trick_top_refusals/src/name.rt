@@ -2,7 +2,7 @@
 
 ghost use Rattle.std.specs.Prelude.{◌≡◌, IfOk};
 ghost use Rattle.trick_model.specs.PlanOf.{plan_of};
-ghost use Rattle.trick_refusal.specs.Plan.{event as event_text, group as group_text, job as job_text};
+ghost use Rattle.trick_top_refusals.specs.Plan.{event as event_text, group as group_text, job as job_text};
 
 use itoa::Buffer;
 use std::alloc::{AllocError, Global};

@@ -3,7 +3,7 @@
 ghost use Rattle.std.specs.Prelude.{◌≡◌, IfOk};
 ghost use Rattle.trick_model.specs.PlanOf.{plan_of};
 ghost use Rattle.trick_race.specs.declared.fault.PlanFault.TheVariants.{Backwards, Race};
-ghost use Rattle.trick_refusal.specs.Plan.{plan_line as line_of};
+ghost use Rattle.trick_top_refusals.specs.Plan.{plan_line as line_of};
 
 use crate::field::Field;
 use crate::line::{out_of_memory, refused};

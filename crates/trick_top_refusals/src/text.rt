@@ -1,7 +1,7 @@
 //! The lines of the faults of a text before it is read, and of times. `source` names the text.
 
 ghost use Rattle.std.specs.Prelude.{◌≡◌, IfOk};
-ghost use Rattle.trick_refusal.specs.Texts.{text_line as text_line_of, time_line as time_line_of};
+ghost use Rattle.trick_top_refusals.specs.Texts.{text_line as text_line_of, time_line as time_line_of};
 
 use crate::line::{out_of_memory, refused_at};
 use std::alloc::{AllocError, Global};

@@ -12,7 +12,7 @@ use std::sync::{Arc, Wait};
 use std::test::Fail;
 use std::thread::Threads;
 use trick_outside::{MemoryOut, ScriptDoor, ScriptIn};
-use trick_top_serve::port_wanted;
+use trick_top::port_wanted;
 
 /// What a client says that watches the counter and lets it run.
 const WATCHES: &[u8] = b"trick.var_add(\"counter.n\")

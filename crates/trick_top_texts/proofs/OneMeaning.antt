@@ -4,38 +4,38 @@ use Rattle.trick_check.specs.declared.fault.CheckFault.{CheckFault}
 use Rattle.trick_check.specs.declared.fault.CheckFault.TheVariants as check
 use Rattle.trick_check.specs.Named.{AreSame, IsNamed}
 use Rattle.trick_check.specs.Refused.{IsRefused}
-use Rattle.trick_draft.specs.declared.draft.Draft.{Draft}
+use Rattle.trick_plan_draft.specs.declared.draft.Draft.{Draft}
 use Rattle.trick_input.specs.declared.call.Call.{Call}
 use Rattle.trick_input.specs.declared.fault.InputFault.{InputFault}
 use Rattle.trick_lang.specs.SDefineOf.{sdefine_of}
 use Rattle.trick_lang.specs.SyntaxTree.{SDefine}
 use Rattle.trick_lang.specs.declared.program.Program.{Program}
-use Rattle.trick_lines.specs.Laws.{AnswersOne}
-use Rattle.trick_draft.specs.Drafts.{begun}
-use Rattle.trick_draft.specs.Jobs.{jobs_of}
-use Rattle.trick_lines.specs.declared.fault.JoinFault.{JoinFault}
-use Rattle.trick_lines.specs.declared.fault.JoinFault.TheVariants as join
+use Rattle.trick_plan_lines.specs.Laws.{AnswersOne}
+use Rattle.trick_plan_draft.specs.Drafts.{begun}
+use Rattle.trick_plan_draft.specs.Jobs.{jobs_of}
+use Rattle.trick_plan_lines.specs.declared.fault.JoinFault.{JoinFault}
+use Rattle.trick_plan_lines.specs.declared.fault.JoinFault.TheVariants as join
 use Rattle.trick_model.specs.Acceptance.{IsAccepted}
 use Rattle.trick_model.specs.Plan as model
 use Rattle.trick_model.specs.PlanOf.{plan_of}
 use Rattle.trick_model.specs.declared.plan.Plan.{Plan}
 use Rattle.trick_plan.specs.Plan.{AreAnswered, IsPlan}
-use Rattle.trick_ready.specs.Texts.{AreUnjoined, HasLines, HasProgram, HavePlan, IsInputUnread, IsPlanRefused}
-use Rattle.trick_ready.specs.Texts.{IsReady, IsTextRefused, IsUnnamed, IsUnread}
-use Rattle.trick_ready.specs.Texts.{at_input, at_join, at_names, at_s_define}
-use Rattle.trick_refusal.specs.Check.{check_line}
-use Rattle.trick_refusal.specs.Input.{input_line}
-use Rattle.trick_refusal.specs.Join.{join_line}
-use Rattle.trick_refusal.specs.SDefine.{s_define_line}
-use Rattle.trick_ready.proofs.OneReading.{one_reading}
-use Rattle.trick_ready.proofs.OneTree.{one_tree}
-use Rattle.trick_ready.proofs.SameParts.{answered_same, said_same}
-use Rattle.trick_ready.proofs.Unrefused as plans
-use Rattle.trick_ready.specs.Meaning.{HaveOneMeaning}
+use Rattle.trick_top_texts.specs.Texts.{AreUnjoined, HasLines, HasProgram, HavePlan, IsInputUnread, IsPlanRefused}
+use Rattle.trick_top_texts.specs.Texts.{IsReady, IsTextRefused, IsUnnamed, IsUnread}
+use Rattle.trick_top_texts.specs.Texts.{at_input, at_join, at_names, at_s_define}
+use Rattle.trick_top_refusals.specs.Check.{check_line}
+use Rattle.trick_top_refusals.specs.Input.{input_line}
+use Rattle.trick_top_refusals.specs.Join.{join_line}
+use Rattle.trick_top_refusals.specs.SDefine.{s_define_line}
+use Rattle.trick_top_texts.proofs.OneReading.{one_reading}
+use Rattle.trick_top_texts.proofs.OneTree.{one_tree}
+use Rattle.trick_top_texts.proofs.SameParts.{answered_same, said_same}
+use Rattle.trick_top_texts.proofs.Unrefused as plans
+use Rattle.trick_top_texts.specs.Meaning.{HaveOneMeaning}
 use Rattle.trick_plan.specs.Meaning.{plan_said}
 use Rattle.trick_plan.specs.Laws.{PlansAreSaid}
 use Rattle.trick_sdef.specs.declared.fault.SdefFault.{SdefFault}
-use Rattle.trick_settings.specs.Settings.{settings_in}
+use Rattle.trick_plan_settings.specs.Settings.{settings_in}
 
 -- a refusal of a join other than a want of memory is one of the lines
 said : (p : Program) (calls : List Call) (fault : JoinFault) → IsPlan p calls (Err fault)

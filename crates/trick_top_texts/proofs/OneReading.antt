@@ -7,8 +7,8 @@ use Rattle.trick_input.specs.Lines.{Calls, calls_of, lines}
 use Rattle.trick_input.specs.declared.call.Call.{Call}
 use Rattle.trick_input.specs.declared.fault.InputFault.{InputFault}
 use Rattle.trick_input.specs.declared.fault.InputFault.TheVariants as faults
-use Rattle.trick_ready.proofs.Uncut.{cut_and_uncut, uncut_once}
-use Rattle.trick_ready.specs.Readings.{HasOneReading}
+use Rattle.trick_top_texts.proofs.Uncut.{cut_and_uncut, uncut_once}
+use Rattle.trick_top_texts.specs.Readings.{HasOneReading}
 use Rattle.trick_text.proofs.Unique.{one_cut}
 use Rattle.trick_text.specs.Tokens.{IsCut, IsUncut}
 use Rattle.trick_text.specs.declared.fault.FirstFault.{FirstFault}

@@ -11,8 +11,8 @@ use Rattle.trick_grammar.specs.Text.{IsRefusedAt, IsText, read_all}
 use Rattle.trick_lang.specs.SDefineOf.{sdefine_of}
 use Rattle.trick_lang.specs.SyntaxTree as tree
 use Rattle.trick_lang.specs.declared.syntax.definition.SDefine.{SDefine}
-use Rattle.trick_ready.proofs.Uncut.{cut_and_uncut, uncut_once}
-use Rattle.trick_ready.specs.Readings.{HasOneTree}
+use Rattle.trick_top_texts.proofs.Uncut.{cut_and_uncut, uncut_once}
+use Rattle.trick_top_texts.specs.Readings.{HasOneTree}
 use Rattle.trick_sdef.specs.Answers.{IsAnswer, IsRead, IsSDefine, IsToldBy, fault_of_text, file, told_behind}
 use Rattle.trick_sdef.specs.declared.fault.SdefFault.{SdefFault}
 use Rattle.trick_sdef.specs.declared.fault.SdefFault.TheVariants as faults

@@ -11,21 +11,21 @@ use Rattle.trick_input.specs.declared.fault.InputFault.TheVariants as reading
 use Rattle.trick_lang.specs.SDefineOf.{sdefine_of}
 use Rattle.trick_lang.specs.declared.program.Program.{Program}
 use Rattle.trick_lang.specs.declared.syntax.definition.SDefine.{SDefine}
-use Rattle.trick_lines.specs.declared.fault.JoinFault.{JoinFault}
-use Rattle.trick_lines.specs.declared.fault.JoinFault.TheVariants as join
+use Rattle.trick_plan_lines.specs.declared.fault.JoinFault.{JoinFault}
+use Rattle.trick_plan_lines.specs.declared.fault.JoinFault.TheVariants as join
 use Rattle.trick_model.specs.PlanOf.{plan_of}
 use Rattle.trick_model.specs.declared.plan.Plan.{Plan}
 use Rattle.trick_plan.specs.Plan.{IsPlan}
 use Rattle.trick_race.specs.Refusals.{HoldsBefore, NamesFirst}
 use Rattle.trick_race.specs.declared.fault.PlanFault.{PlanFault}
 use Rattle.trick_race.specs.declared.fault.PlanFault.TheVariants as race
-use Rattle.trick_ready.specs.Texts.{HasLines, HasProgram, HavePlan, IsPlanRefused, IsTextRefused}
-use Rattle.trick_ready.specs.Texts.{at_input, at_join, at_names, at_s_define}
-use Rattle.trick_refusal.specs.Check.{check_line}
-use Rattle.trick_refusal.specs.Input.{input_line}
-use Rattle.trick_refusal.specs.Join.{join_line}
-use Rattle.trick_refusal.specs.Plan.{plan_line}
-use Rattle.trick_refusal.specs.SDefine.{s_define_line}
+use Rattle.trick_top_texts.specs.Texts.{HasLines, HasProgram, HavePlan, IsPlanRefused, IsTextRefused}
+use Rattle.trick_top_texts.specs.Texts.{at_input, at_join, at_names, at_s_define}
+use Rattle.trick_top_refusals.specs.Check.{check_line}
+use Rattle.trick_top_refusals.specs.Input.{input_line}
+use Rattle.trick_top_refusals.specs.Join.{join_line}
+use Rattle.trick_top_refusals.specs.Plan.{plan_line}
+use Rattle.trick_top_refusals.specs.SDefine.{s_define_line}
 use Rattle.trick_sdef.specs.Answers.{IsSDefine}
 use Rattle.trick_sdef.specs.declared.fault.SdefFault.{SdefFault}
 use Rattle.trick_sdef.specs.declared.fault.SdefFault.TheVariants as sdef

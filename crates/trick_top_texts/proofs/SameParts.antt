@@ -1,16 +1,16 @@
 -- Programs with the same parts have the same answers and the same plans.
 use Rattle.std.proofs.Common.{◌≡◌, ◌∙◌, ◌∷◌, ℕ, pos, true, List, [], None, Result, Ok, ap, length, map, refl, replicate, subst, sym}
 use Rattle.std.specs.List.{slice_get, slice_index_or}
-use Rattle.trick_blocks.specs.Bodies.{Body}
-use Rattle.trick_blocks.specs.Held.{bodies_of}
-use Rattle.trick_blocks.specs.Kept.{codes_in}
-use Rattle.trick_draft.specs.Cells.{known_cells, only_names}
-use Rattle.trick_draft.specs.Drafts.{with_items}
-use Rattle.trick_draft.specs.declared.draft.Draft.{Draft}
-use Rattle.trick_draft.specs.declared.event.EventDraft.{EventDraft}
-use Rattle.trick_draft.specs.declared.group.GroupDraft.{GroupDraft}
-use Rattle.trick_ending.specs.Added.{added}
-use Rattle.trick_ending.specs.Ending.{plan_group}
+use Rattle.trick_check_blocks.specs.Bodies.{Body}
+use Rattle.trick_check_blocks.specs.Held.{bodies_of}
+use Rattle.trick_check_blocks.specs.Kept.{codes_in}
+use Rattle.trick_plan_draft.specs.Cells.{known_cells, only_names}
+use Rattle.trick_plan_draft.specs.Drafts.{with_items}
+use Rattle.trick_plan_draft.specs.declared.draft.Draft.{Draft}
+use Rattle.trick_plan_draft.specs.declared.event.EventDraft.{EventDraft}
+use Rattle.trick_plan_draft.specs.declared.group.GroupDraft.{GroupDraft}
+use Rattle.trick_plan.specs.Added.{added}
+use Rattle.trick_plan.specs.Ending.{plan_group}
 use Rattle.trick_input.specs.declared.call.Call.{Call}
 use Rattle.trick_lang.specs.Access.{block_reads, block_writes}
 use Rattle.trick_lang.specs.Effect.{first_of, object_of}
@@ -27,15 +27,15 @@ use Rattle.trick_lang.specs.declared.program.Program.{Program}
 use Rattle.trick_lang.specs.declared.tree.Block.{Block}
 use Rattle.trick_lang.specs.declared.variable.EnumItem.{EnumItem}
 use Rattle.trick_lang.specs.declared.variable.Variable.{Variable}
-use Rattle.trick_lines.specs.Drafted.{Drafted}
-use Rattle.trick_lines.specs.declared.fault.JoinFault.{JoinFault}
+use Rattle.trick_plan_lines.specs.Drafted.{Drafted}
+use Rattle.trick_plan_lines.specs.declared.fault.JoinFault.{JoinFault}
 use Rattle.trick_model.specs.Commands.{command_of}
 use Rattle.trick_model.specs.Plan.{Plan}
 use Rattle.trick_plan.specs.Plan.{AreAnswered}
 use Rattle.trick_plan.specs.Meaning.{event_said, plan_said}
 use Rattle.trick_check.specs.Named.{AreSame}
-use Rattle.trick_settings.specs.Settings.{settings_in}
-use Rattle.trick_settings.specs.declared.settings.Settings.{Settings}
+use Rattle.trick_plan_settings.specs.Settings.{settings_in}
+use Rattle.trick_plan_settings.specs.declared.settings.Settings.{Settings}
 
 -- ---- answers
 

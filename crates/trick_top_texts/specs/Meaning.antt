@@ -2,7 +2,7 @@
 use Rattle.std.specs.Prelude.{◌≡◌, ℕ, List}
 use Rattle.trick_model.specs.PlanOf.{plan_of}
 use Rattle.trick_model.specs.declared.plan.Plan.{Plan}
-use Rattle.trick_ready.specs.Texts.{HavePlan, IsPlanRefused, IsReady, IsTextRefused}
+use Rattle.trick_top_texts.specs.Texts.{HavePlan, IsPlanRefused, IsReady, IsTextRefused}
 
 -- Two texts say one thing: where they have a plan no text is refused, and all their plans mean one; a text is refused
 -- by one line, and where a plan of theirs is accepted none is refused.

@@ -3,13 +3,13 @@
 ghost use Rattle.std.specs.Prelude.{Err, IfErr, IfOk, List, ℕ};
 ghost use Rattle.trick_input.specs.Answers.{IsInput};
 ghost use Rattle.trick_lang.specs.declared.program.Program.{Program};
-ghost use Rattle.trick_ready.specs.Answers.{IsUnready};
-ghost use Rattle.trick_ready.specs.Texts.{HasLines, HasProgram};
+ghost use Rattle.trick_top_texts.specs.Answers.{IsUnready};
+ghost use Rattle.trick_top_texts.specs.Texts.{HasLines, HasProgram};
 
 use crate::Unready;
 use std::alloc::Global;
 use trick_input::{Call, InputFault, read_input};
-use trick_refusal::input_line;
+use trick_top_refusals::input_line;
 
 // The refusal of an input by its reader.
 fn unread(alloc: Global, fault: InputFault) -> Unready

@@ -2,8 +2,8 @@
 //! nothing.
 
 ghost use Rattle.std.specs.Prelude.{List, ℕ};
-ghost use Rattle.trick_ready.specs.Meaning.{HaveOneMeaning};
-ghost use Rattle.trick_ready.specs.Readings.{HasOneReading, HasOneTree};
+ghost use Rattle.trick_top_texts.specs.Meaning.{HaveOneMeaning};
+ghost use Rattle.trick_top_texts.specs.Readings.{HasOneReading, HasOneTree};
 
 /// An S_define has one tree or one refusal of its reader, but for a want of memory.
 pub fn s_defines_have_one_tree()
@@ -22,6 +22,6 @@ pub fn texts_have_one_meaning()
     trick_check::laws::a_file_has_one_program();
     trick_check::laws::a_file_has_one_refusal();
     trick_check::laws::no_file_is_named_and_refused();
-    trick_lines::laws::lines_answer_one();
+    trick_plan_lines::laws::lines_answer_one();
     trick_plan::laws::plans_are_said();
 }

@@ -6,8 +6,8 @@ ghost use Rattle.trick_lang.specs.declared.program.Program.{Program};
 ghost use Rattle.trick_model.specs.PlanOf.{plan_of};
 ghost use Rattle.trick_plan.specs.Plan.{IsPlan};
 ghost use Rattle.trick_race.specs.Refusals.{HoldsBefore, NamesFirst};
-ghost use Rattle.trick_ready.specs.Answers.{IsUnready};
-ghost use Rattle.trick_ready.specs.Texts.{HasLines, HasProgram, HavePlan, IsReady};
+ghost use Rattle.trick_top_texts.specs.Answers.{IsUnready};
+ghost use Rattle.trick_top_texts.specs.Texts.{HasLines, HasProgram, HavePlan, IsReady};
 
 use crate::Unready;
 use std::alloc::Global;
@@ -16,7 +16,7 @@ use trick_lang::Program;
 use trick_model::{Accepted, Plan};
 use trick_plan::{JoinFault, plan};
 use trick_race::{PlanFault, judge};
-use trick_refusal::{join_line, plan_line};
+use trick_top_refusals::{join_line, plan_line};
 
 // The refusal of a program and lines that have no plan.
 fn unjoined(alloc: Global, fault: JoinFault) -> Unready

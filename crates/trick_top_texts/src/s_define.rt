@@ -4,8 +4,8 @@ ghost use Rattle.std.specs.Prelude.{Err, IfErr, IfOk, List, Ok, ℕ};
 ghost use Rattle.trick_check.specs.Named.{IsNamed};
 ghost use Rattle.trick_check.specs.Refused.{IsRefused};
 ghost use Rattle.trick_lang.specs.SDefineOf.{sdefine_of};
-ghost use Rattle.trick_ready.specs.Answers.{IsUnready};
-ghost use Rattle.trick_ready.specs.Texts.{HasProgram};
+ghost use Rattle.trick_top_texts.specs.Answers.{IsUnready};
+ghost use Rattle.trick_top_texts.specs.Texts.{HasProgram};
 ghost use Rattle.trick_sdef.specs.Answers.{IsSDefine};
 
 use crate::Unready;
@@ -13,7 +13,7 @@ use std::alloc::Global;
 use trick_check::{CheckFault, resolve};
 use trick_lang::Program;
 use trick_lang::syntax::SDefine;
-use trick_refusal::{check_line, s_define_line};
+use trick_top_refusals::{check_line, s_define_line};
 use trick_sdef::{SdefFault, read_sdef};
 
 // The refusal of an S_define by its reader.

@@ -1,8 +1,8 @@
 //! From two texts to the plan that is accepted.
 
 ghost use Rattle.std.specs.Prelude.{IfErr, IfOk};
-ghost use Rattle.trick_ready.specs.Answers.{IsUnready};
-ghost use Rattle.trick_ready.specs.Texts.{HavePlan, IsReady};
+ghost use Rattle.trick_top_texts.specs.Answers.{IsUnready};
+ghost use Rattle.trick_top_texts.specs.Texts.{HavePlan, IsReady};
 
 use crate::Unready;
 use crate::input::lines;

@@ -1,8 +1,8 @@
 //! Why two texts are not ready.
 
 ghost use Rattle.std.specs.Prelude.{IfOk, List, ℕ};
-ghost use Rattle.trick_ready.specs.Answers.{IsUnready};
-ghost use Rattle.trick_ready.specs.Texts.{IsPlanRefused, IsTextRefused};
+ghost use Rattle.trick_top_texts.specs.Answers.{IsUnready};
+ghost use Rattle.trick_top_texts.specs.Texts.{IsPlanRefused, IsTextRefused};
 
 use std::alloc::AllocError;
 

@@ -4,7 +4,7 @@ use Rattle.std.specs.Char.{digit_value, is_ascii_digit}
 use Rattle.std.specs.List.{list_all}
 use Rattle.std.specs.Result.{OkIff}
 use Rattle.std.specs.Str.Parse.{AllDigits, ParsesUnsigned, digits_value}
-use Rattle.trick_words.specs.Command.{IsNumber}
+use Rattle.trick_top_words.specs.Command.{IsNumber}
 use Rattle.std.proofs.lemmas.Str.Parse.{numerals_by_value, parse_digits, tells_digits}
 
 small : (byte : ℕ) → is_ascii_digit byte ≡ true → digit_value byte < 10

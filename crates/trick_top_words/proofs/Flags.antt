@@ -11,10 +11,10 @@ use Rattle.clap.specs.Walk.{Held, Names, Rule, Text, arg_by_long, arg_by_short, 
 use Rattle.clap.specs.declared.error.kind.ErrorKind.TheVariants as error
 use Rattle.clap.specs.Faults.{bundle_fault, flag_word_fault, flags_fault, turn_fault, word_fault}
 use Rattle.clap.specs.Simple.{Shape}
-use Rattle.trick_words.specs.CommandLine.{Given, IsAllowed, IsAmong}
-use Rattle.trick_words.specs.Plain.{is_bare}
-use Rattle.trick_words.proofs.Turns.{Last, dashed_with, held, or_else_parts, stand, waiting_for}
-use Rattle.trick_words.proofs.Lines.{of_option}
+use Rattle.trick_top_words.specs.CommandLine.{Given, IsAllowed, IsAmong}
+use Rattle.trick_top_words.specs.Plain.{is_bare}
+use Rattle.trick_top_words.proofs.Turns.{Last, dashed_with, held, or_else_parts, stand, waiting_for}
+use Rattle.trick_top_words.proofs.Lines.{of_option}
 
 -- ---- a word that is refused
 

@@ -13,9 +13,9 @@ use Rattle.clap.specs.Kinds.{Kinds, check_kinds, or_else}
 use Rattle.clap.specs.Faults.{check_fault, defaults_fault, settle_fault, turn_fault, walk_fault}
 use Rattle.clap.specs.Takes.{is_given}
 use Rattle.clap.specs.Simple.{Shape}
-use Rattle.trick_words.specs.CommandLine.{Given, IsAmong, NoneTwice, has_name}
-use Rattle.trick_words.proofs.Rows.{rows, single}
-use Rattle.trick_words.proofs.Turns.{KnowsOption, bytes_same, or_else_free, or_else_parts}
+use Rattle.trick_top_words.specs.CommandLine.{Given, IsAmong, NoneTwice, has_name}
+use Rattle.trick_top_words.proofs.Rows.{rows, single}
+use Rattle.trick_top_words.proofs.Turns.{KnowsOption, bytes_same, or_else_free, or_else_parts}
 
 -- ---- names that stand once
 

@@ -7,11 +7,11 @@ use Rattle.clap.specs.Walk.{Held, Row, Text, Walk, finished, idle, settled, walk
 use Rattle.clap.specs.Kinds.{Kinds, check_kinds, or_else}
 use Rattle.clap.specs.Faults.{check_fault, defaults_fault, settle_fault, turn_fault, use_fault, walk_fault}
 use Rattle.clap.specs.Simple.{Shape}
-use Rattle.trick_words.specs.CommandLine.{Fills, Given, IsAllowed, IsAmong, Item, NoneTwice, SpellsAll, has_hyphen, option, positional}
-use Rattle.trick_words.proofs.Rows.{no_default_fault, no_defaults, rows, single, use_needs, use_new}
-use Rattle.trick_words.proofs.Flags.{IsMet}
-use Rattle.trick_words.proofs.Turns.{IsReady, KnowsLast, KnowsOption, Last, dashed, dashed_with, full, held, met_none, nothing, open_turn, or_else_free, or_else_parts, place_turn, settle_free, settle_needs, settle_rows, so_far, stand, stray_turn, value_turn, waiting_for, waits, with_turn}
-use Rattle.trick_words.proofs.Lines.{Ahead, Apart, Fits, Fresh, apart_rest, ends, fresh_last, lacks, lacks_is, lacks_last, lacks_place, lacks_used, of_option, total, total_join, total_parts, twice_last, twice_new}
+use Rattle.trick_top_words.specs.CommandLine.{Fills, Given, IsAllowed, IsAmong, Item, NoneTwice, SpellsAll, has_hyphen, option, positional}
+use Rattle.trick_top_words.proofs.Rows.{no_default_fault, no_defaults, rows, single, use_needs, use_new}
+use Rattle.trick_top_words.proofs.Flags.{IsMet}
+use Rattle.trick_top_words.proofs.Turns.{IsReady, KnowsLast, KnowsOption, Last, dashed, dashed_with, full, held, met_none, nothing, open_turn, or_else_free, or_else_parts, place_turn, settle_free, settle_needs, settle_rows, so_far, stand, stray_turn, value_turn, waiting_for, waits, with_turn}
+use Rattle.trick_top_words.proofs.Lines.{Ahead, Apart, Fits, Fresh, apart_rest, ends, fresh_last, lacks, lacks_is, lacks_last, lacks_place, lacks_used, of_option, total, total_join, total_parts, twice_last, twice_new}
 
 module _ (s : Shape) (places options : List Text) (fits : Fits s places options) where
   abbrev Met : List Text → Type 0

@@ -1,16 +1,16 @@
 -- Words ask for one command at most: it is made of the kind and of the values.
 use Rattle.std.proofs.Common.{◌≡◌, ◌∙◌, ap, sym, refl, ℕ, List, Option, Some, None, option_map}
 use Rattle.std.specs.Str.Parse.{digits_value}
-use Rattle.trick_words.specs.CommandLine.{Text}
-use Rattle.trick_words.specs.Command.{Asks, HasRest, HasTexts, Holds, IsCount, IsPort, kind_of, kind_of_task}
-use Rattle.trick_words.specs.Reads.{Values, values_in}
-use Rattle.trick_words.specs.declared.Kind.{Kind}
-use Rattle.trick_words.specs.declared.Kind.TheVariants as kind
-use Rattle.trick_words.specs.declared.command.Command.{Command}
-use Rattle.trick_words.specs.declared.command.Command.TheVariants as command
-use Rattle.trick_words.specs.declared.command.Task.{Task}
-use Rattle.trick_words.specs.declared.command.Task.TheVariants as task
-use Rattle.trick_words.proofs.Unique.{one_line}
+use Rattle.trick_top_words.specs.CommandLine.{Text}
+use Rattle.trick_top_words.specs.Command.{Asks, HasRest, HasTexts, Holds, IsCount, IsPort, kind_of, kind_of_task}
+use Rattle.trick_top_words.specs.Reads.{Values, values_in}
+use Rattle.trick_top_words.specs.declared.Kind.{Kind}
+use Rattle.trick_top_words.specs.declared.Kind.TheVariants as kind
+use Rattle.trick_top_words.specs.declared.command.Command.{Command}
+use Rattle.trick_top_words.specs.declared.command.Command.TheVariants as command
+use Rattle.trick_top_words.specs.declared.command.Task.{Task}
+use Rattle.trick_top_words.specs.declared.command.Task.TheVariants as task
+use Rattle.trick_top_words.proofs.Unique.{one_line}
 
 abbrev if_both : Option Text → Option Text → (Text → Text → Command) → Option Command
 if_both None second make = None

@@ -21,17 +21,17 @@ use Rattle.clap.specs.Simple.{App, HasMatchesOf, subcommand_of, subcommand_rows,
 use Rattle.clap.specs.declared.parser.matches.ArgMatches.{ArgMatches}
 use Rattle.clap.specs.declared.parser.matches.ArgMatches.TheViews.{out-ArgMatches, out-SubCommand}
 use Rattle.clap.specs.declared.parser.matches.SubCommand.{SubCommand}
-use Rattle.trick_words.specs.Commands.{name_of, options_of, places_of}
-use Rattle.trick_words.specs.CommandLine.{Given, IsAllowed, IsAmong, IsLine, value_of}
-use Rattle.trick_words.specs.Plain.{is_bare, is_plain}
-use Rattle.trick_words.specs.Reads.{IsCommand, IsUsage}
-use Rattle.trick_words.specs.Rules.{all_app}
-use Rattle.trick_words.specs.declared.Kind.{Kind}
-use Rattle.trick_words.specs.declared.Kind.TheVariants as kind
-use Rattle.trick_words.proofs.Flags.{IsMet, met as met_word}
-use Rattle.trick_words.proofs.Main.{allowed_from, complete, sound}
-use Rattle.trick_words.proofs.Rows.{rows}
-use Rattle.trick_words.proofs.Tops.{fault_is, fits, knows, no_command, no_words, shape_for, simple, simple_and_free, subcommand_is}
+use Rattle.trick_top_words.specs.Commands.{name_of, options_of, places_of}
+use Rattle.trick_top_words.specs.CommandLine.{Given, IsAllowed, IsAmong, IsLine, value_of}
+use Rattle.trick_top_words.specs.Plain.{is_bare, is_plain}
+use Rattle.trick_top_words.specs.Reads.{IsCommand, IsUsage}
+use Rattle.trick_top_words.specs.Rules.{all_app}
+use Rattle.trick_top_words.specs.declared.Kind.{Kind}
+use Rattle.trick_top_words.specs.declared.Kind.TheVariants as kind
+use Rattle.trick_top_words.proofs.Flags.{IsMet, met as met_word}
+use Rattle.trick_top_words.proofs.Main.{allowed_from, complete, sound}
+use Rattle.trick_top_words.proofs.Rows.{rows}
+use Rattle.trick_top_words.proofs.Tops.{fault_is, fits, knows, no_command, no_words, shape_for, simple, simple_and_free, subcommand_is}
 
 -- ---- the names of the commands
 

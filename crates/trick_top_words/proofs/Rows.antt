@@ -10,7 +10,7 @@ use Rattle.clap.specs.Faults.{defaults_fault, use_fault}
 use Rattle.clap.specs.declared.builder.action.ArgAction.TheVariants.{Set}
 use Rattle.clap.specs.declared.builder.value_parser.ValueParser.TheVariants as vp
 use Rattle.clap.specs.declared.parser.matches.ValueSource.TheVariants.{CommandLine}
-use Rattle.trick_words.specs.CommandLine.{Given, has_name}
+use Rattle.trick_top_words.specs.CommandLine.{Given, has_name}
 
 -- ---- an argument with one value
 

@@ -10,16 +10,16 @@ use Rattle.clap.specs.Faults.{check_fault, defaults_fault, entered_fault, fault_
 use Rattle.clap.specs.Simple.{App, Shape, built, built_leaf, entered, inherited, is_simple, marked_built, names_of, subcommand_of}
 use Rattle.clap.specs.declared.error.kind.ErrorKind.TheVariants as error
 use Rattle.clap.proofs.OnLiterals.{clap_on_literals}
-use Rattle.trick_words.specs.CommandLine.{IsAmong, has_hyphen}
-use Rattle.trick_words.specs.Plain.{is_bare}
-use Rattle.trick_words.specs.Commands.{name_of, options_of, places_of}
-use Rattle.trick_words.specs.Rules.{all_app, form_app, top_app}
-use Rattle.trick_words.specs.declared.Kind.{Kind}
-use Rattle.trick_words.specs.declared.Kind.TheVariants as kind
-use Rattle.trick_words.proofs.Rows.{single}
-use Rattle.trick_words.proofs.Turns.{held, no_dashes, no_long, no_short, nothing, or_else_nil, or_else_parts, stand, turn_by}
-use Rattle.trick_words.proofs.Flags.{Knows, met}
-use Rattle.trick_words.proofs.Lines.{Ahead, Fits, total}
+use Rattle.trick_top_words.specs.CommandLine.{IsAmong, has_hyphen}
+use Rattle.trick_top_words.specs.Plain.{is_bare}
+use Rattle.trick_top_words.specs.Commands.{name_of, options_of, places_of}
+use Rattle.trick_top_words.specs.Rules.{all_app, form_app, top_app}
+use Rattle.trick_top_words.specs.declared.Kind.{Kind}
+use Rattle.trick_top_words.specs.declared.Kind.TheVariants as kind
+use Rattle.trick_top_words.proofs.Rows.{single}
+use Rattle.trick_top_words.proofs.Turns.{held, no_dashes, no_long, no_short, nothing, or_else_nil, or_else_parts, stand, turn_by}
+use Rattle.trick_top_words.proofs.Flags.{Knows, met}
+use Rattle.trick_top_words.proofs.Lines.{Ahead, Fits, total}
 
 -- a command as it is built below the others
 abbrev pub shape_for : Kind → Shape

@@ -10,8 +10,8 @@ use Rattle.clap.specs.Kinds.{Kinds, or_else}
 use Rattle.clap.specs.Faults.{settle_fault, step_fault, turn_fault, use_fault, word_fault}
 use Rattle.clap.specs.Simple.{Shape}
 use Rattle.clap.specs.declared.error.kind.ErrorKind.TheVariants as kind
-use Rattle.trick_words.specs.CommandLine.{Given, has_hyphen, has_name}
-use Rattle.trick_words.proofs.Rows.{rows, single, use_needs, use_new, used_new}
+use Rattle.trick_top_words.specs.CommandLine.{Given, has_hyphen, has_name}
+use Rattle.trick_top_words.proofs.Rows.{rows, single, use_needs, use_new, used_new}
 
 -- ---- where the walk stands
 

@@ -5,15 +5,15 @@ use Rattle.std.specs.List.{AllByRecursion}
 use Rattle.std.specs.Str.{bytes_eq}
 use Rattle.std.specs.Prelude.{fold}
 use Rattle.clap.specs.Walk.{Row, Text, finished, walked}
-use Rattle.trick_words.specs.Commands.{name_of, options_of, places_of}
-use Rattle.trick_words.specs.CommandLine.{Fills, Given, Item, has_name, option, positional, value_of}
-use Rattle.trick_words.specs.Reads.{IsCommand}
-use Rattle.trick_words.specs.declared.Kind.{Kind}
-use Rattle.trick_words.proofs.Main.{complete}
-use Rattle.trick_words.proofs.Reading.{same_kind, tail_same}
-use Rattle.trick_words.proofs.Rows.{row, rows}
-use Rattle.trick_words.proofs.Tops.{fits, shape_for}
-use Rattle.trick_words.proofs.Turns.{bytes_same, nothing, stand}
+use Rattle.trick_top_words.specs.Commands.{name_of, options_of, places_of}
+use Rattle.trick_top_words.specs.CommandLine.{Fills, Given, Item, has_name, option, positional, value_of}
+use Rattle.trick_top_words.specs.Reads.{IsCommand}
+use Rattle.trick_top_words.specs.declared.Kind.{Kind}
+use Rattle.trick_top_words.proofs.Main.{complete}
+use Rattle.trick_top_words.proofs.Reading.{same_kind, tail_same}
+use Rattle.trick_top_words.proofs.Rows.{row, rows}
+use Rattle.trick_top_words.proofs.Tops.{fits, shape_for}
+use Rattle.trick_top_words.proofs.Turns.{bytes_same, nothing, stand}
 
 pair_same : (p q : Text × Text) → row p ≡ row q → p ≡ q
 pair_same p q e =

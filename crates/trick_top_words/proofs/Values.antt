@@ -9,17 +9,17 @@ use Rattle.clap.proofs.WalkLemmas.{first_value-rows}
 use Rattle.clap.specs.Matches.{first_value, found_of}
 use Rattle.clap.specs.Walk.{Row, first_of, rows_of}
 use Rattle.clap.specs.declared.parser.matches.ArgMatches.{ArgMatches}
-use Rattle.trick_words.specs.CommandLine.{Given, Text, value_of}
-use Rattle.trick_words.specs.Commands.{name_of, places_of}
-use Rattle.trick_words.specs.Command.{AreRefused, Asks, Holds, kind_of}
-use Rattle.trick_words.specs.Fields.{HasPlaces, IsFound, IsNone, IsNoneFound, IsOf, IsWhole}
-use Rattle.trick_words.specs.Reads.{IsCommand, IsRead, IsUsage, Reads, Values, values_by, values_in, values_of}
-use Rattle.trick_words.specs.declared.Kind.{Kind}
-use Rattle.trick_words.specs.declared.Kind.TheVariants as kind
-use Rattle.trick_words.specs.declared.command.Command.{Command}
-use Rattle.trick_words.proofs.Reading.{first_is, same_kind}
-use Rattle.trick_words.proofs.Rows.{rows}
-use Rattle.trick_words.proofs.Unique.{each_place, one_line}
+use Rattle.trick_top_words.specs.CommandLine.{Given, Text, value_of}
+use Rattle.trick_top_words.specs.Commands.{name_of, places_of}
+use Rattle.trick_top_words.specs.Command.{AreRefused, Asks, Holds, kind_of}
+use Rattle.trick_top_words.specs.Fields.{HasPlaces, IsFound, IsNone, IsNoneFound, IsOf, IsWhole}
+use Rattle.trick_top_words.specs.Reads.{IsCommand, IsRead, IsUsage, Reads, Values, values_by, values_in, values_of}
+use Rattle.trick_top_words.specs.declared.Kind.{Kind}
+use Rattle.trick_top_words.specs.declared.Kind.TheVariants as kind
+use Rattle.trick_top_words.specs.declared.command.Command.{Command}
+use Rattle.trick_top_words.proofs.Reading.{first_is, same_kind}
+use Rattle.trick_top_words.proofs.Rows.{rows}
+use Rattle.trick_top_words.proofs.Unique.{each_place, one_line}
 
 abbrev all_values : (s i j f p n : Option Text) → Values
 all_values s i j f p n = record { s_define = s; input = i; journal = j; from = f; port = p; count = n }

@@ -4,14 +4,14 @@ use Rattle.std.specs.List.{All, list_all}
 use Rattle.std.specs.Str.{IsUtf8}
 use Rattle.std.specs.Str.Parse.{digits_value}
 use Rattle.std.specs.Char.{is_ascii_digit}
-use Rattle.trick_words.specs.CommandLine.{Given, Text}
-use Rattle.trick_words.specs.Reads.{IsCommand, Values, values_in}
-use Rattle.trick_words.specs.declared.Kind.{Kind}
-use Rattle.trick_words.specs.declared.Kind.TheVariants as kind
-use Rattle.trick_words.specs.declared.command.Command.{Command}
-use Rattle.trick_words.specs.declared.command.Command.TheVariants as command
-use Rattle.trick_words.specs.declared.command.Task.{Task}
-use Rattle.trick_words.specs.declared.command.Task.TheVariants as task
+use Rattle.trick_top_words.specs.CommandLine.{Given, Text}
+use Rattle.trick_top_words.specs.Reads.{IsCommand, Values, values_in}
+use Rattle.trick_top_words.specs.declared.Kind.{Kind}
+use Rattle.trick_top_words.specs.declared.Kind.TheVariants as kind
+use Rattle.trick_top_words.specs.declared.command.Command.{Command}
+use Rattle.trick_top_words.specs.declared.command.Command.TheVariants as command
+use Rattle.trick_top_words.specs.declared.command.Task.{Task}
+use Rattle.trick_top_words.specs.declared.command.Task.TheVariants as task
 
 -- from one to this many decimal digits, with a value from 1 to this one
 pub record IsNumber (longest most : ℕ) (digits : Text) (number : ℕ) : Type 0 where

@@ -1,8 +1,8 @@
 -- The six commands.
 use Rattle.std.specs.Prelude.{◌∷◌, [], List, codes}
-use Rattle.trick_words.specs.CommandLine.{Text}
-use Rattle.trick_words.specs.declared.Kind.{Kind}
-use Rattle.trick_words.specs.declared.Kind.TheVariants as kind
+use Rattle.trick_top_words.specs.CommandLine.{Text}
+use Rattle.trick_top_words.specs.declared.Kind.{Kind}
+use Rattle.trick_top_words.specs.declared.Kind.TheVariants as kind
 
 abbrev pub name_of : Kind → Text
 name_of kind.Serial = codes "serial"

@@ -1,12 +1,12 @@
 -- What a command has of the values of its line.
 use Rattle.std.specs.Prelude.{◌≡◌, Option, is_some, true}
 use Rattle.clap.specs.declared.parser.matches.ArgMatches.{ArgMatches}
-use Rattle.trick_words.specs.CommandLine.{Text}
-use Rattle.trick_words.specs.Command.{Holds, kind_of}
-use Rattle.trick_words.specs.Reads.{IsRead, Values}
-use Rattle.trick_words.specs.declared.Kind.{Kind}
-use Rattle.trick_words.specs.declared.Kind.TheVariants as kind
-use Rattle.trick_words.specs.declared.command.Command.{Command}
+use Rattle.trick_top_words.specs.CommandLine.{Text}
+use Rattle.trick_top_words.specs.Command.{Holds, kind_of}
+use Rattle.trick_top_words.specs.Reads.{IsRead, Values}
+use Rattle.trick_top_words.specs.declared.Kind.{Kind}
+use Rattle.trick_top_words.specs.declared.Kind.TheVariants as kind
+use Rattle.trick_top_words.specs.declared.command.Command.{Command}
 
 -- these values after this name ask for this command
 abbrev pub IsOf : Kind → Values → Command → Type 0

@@ -1,7 +1,7 @@
 -- The words that are refused before `clap` reads them.
 use Rattle.std.specs.Prelude.{◌||◌, Bool, not, codes}
 use Rattle.std.specs.Str.{bytes_eq}
-use Rattle.trick_words.specs.CommandLine.{Text}
+use Rattle.trick_top_words.specs.CommandLine.{Text}
 
 -- a hyphen alone, two of them, or an option with nothing after `=`: `clap` takes these words, and no line has them
 abbrev pub is_bare : Text → Bool

@@ -5,9 +5,9 @@ use Rattle.clap.specs.Matches.{first_value, found_of}
 use Rattle.clap.specs.Simple.{subcommand_rows_of}
 use Rattle.clap.specs.Walk.{Row, first_of}
 use Rattle.clap.specs.declared.parser.matches.ArgMatches.{ArgMatches}
-use Rattle.trick_words.specs.Commands.{name_of, options_of, places_of}
-use Rattle.trick_words.specs.CommandLine.{Given, IsLine, Text, value_of}
-use Rattle.trick_words.specs.declared.Kind.{Kind}
+use Rattle.trick_top_words.specs.Commands.{name_of, options_of, places_of}
+use Rattle.trick_top_words.specs.CommandLine.{Given, IsLine, Text, value_of}
+use Rattle.trick_top_words.specs.declared.Kind.{Kind}
 
 -- the words are a line of this command, and give these values
 abbrev pub IsCommand : List Text → Kind → Given → Type 0

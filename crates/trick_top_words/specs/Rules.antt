@@ -3,10 +3,10 @@ use Rattle.std.specs.Prelude.{◌∷◌, [], Some, List, fold, true, codes}
 use Rattle.clap.specs.Walk.{Rule}
 use Rattle.clap.specs.Simple.{App, new_app, new_rule, on_top, with_rule, with_subcommand}
 use Rattle.clap.specs.declared.builder.action.ArgAction.TheVariants.{Set}
-use Rattle.trick_words.specs.Commands.{name_of, options_of, places_of}
-use Rattle.trick_words.specs.CommandLine.{Text}
-use Rattle.trick_words.specs.declared.Kind.{Kind}
-use Rattle.trick_words.specs.declared.Kind.TheVariants as kind
+use Rattle.trick_top_words.specs.Commands.{name_of, options_of, places_of}
+use Rattle.trick_top_words.specs.CommandLine.{Text}
+use Rattle.trick_top_words.specs.declared.Kind.{Kind}
+use Rattle.trick_top_words.specs.declared.Kind.TheVariants as kind
 
 abbrev pub place_rule : Text → Rule
 place_rule name = record (new_rule name) { required = true; action = Some Set }

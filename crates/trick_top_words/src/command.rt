@@ -3,10 +3,10 @@
 ghost use Rattle.std.specs.Prelude.{◌≡◌, IfOk, MatchOption, Some, map};
 ghost use Rattle.std.specs.List.{All};
 ghost use Rattle.std.specs.Str.{IsUtf8};
-ghost use Rattle.trick_words.specs.Command.{AreRefused, Asks, HasRest, kind_of_task};
-ghost use Rattle.trick_words.specs.Fields.{HasPlaces, HasTwo, IsFound, IsGiven, IsNone, IsNoneFound, IsOf, IsWhole};
-ghost use Rattle.trick_words.specs.Reads.{text_of, values_of};
-ghost use Rattle.trick_words.specs.declared.Kind.TheVariants as kind;
+ghost use Rattle.trick_top_words.specs.Command.{AreRefused, Asks, HasRest, kind_of_task};
+ghost use Rattle.trick_top_words.specs.Fields.{HasPlaces, HasTwo, IsFound, IsGiven, IsNone, IsNoneFound, IsOf, IsWhole};
+ghost use Rattle.trick_top_words.specs.Reads.{text_of, values_of};
+ghost use Rattle.trick_top_words.specs.declared.Kind.TheVariants as kind;
 
 use crate::Kind;
 use crate::command_line::{kind_of, read};

@@ -3,9 +3,9 @@
 ghost use Rattle.std.specs.Prelude.{◌≡◌, ◌≢◌, IfOk, MatchOption, map, codes};
 ghost use Rattle.std.specs.List.{All, list_all};
 ghost use Rattle.std.specs.Str.{IsUtf8};
-ghost use Rattle.trick_words.specs.Commands.{name_of};
-ghost use Rattle.trick_words.specs.Plain.{is_plain as is_plain_word};
-ghost use Rattle.trick_words.specs.Reads.{IsUsage, Reads};
+ghost use Rattle.trick_top_words.specs.Commands.{name_of};
+ghost use Rattle.trick_top_words.specs.Plain.{is_plain as is_plain_word};
+ghost use Rattle.trick_top_words.specs.Reads.{IsUsage, Reads};
 
 use crate::Kind;
 use crate::commands::all;

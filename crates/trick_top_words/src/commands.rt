@@ -4,8 +4,8 @@ ghost use Rattle.std.specs.Prelude.{◌≡◌, ◌∷◌, [], IfOk, IsOkAnd, fal
 ghost use Rattle.clap.specs.Words.{app_of, new_app, with_rule, with_subcommand};
 ghost use Rattle.clap.specs.Simple.{shape_of};
 ghost use Rattle.clap.specs.declared.builder.command.Command.TheViews.{out-Command as fields_of};
-ghost use Rattle.trick_words.specs.Rules.{all_app, form_app, option_rule, place_rule, top_app, with_places};
-ghost use Rattle.trick_words.specs.declared.Kind.TheVariants as kind;
+ghost use Rattle.trick_top_words.specs.Rules.{all_app, form_app, option_rule, place_rule, top_app, with_places};
+ghost use Rattle.trick_top_words.specs.declared.Kind.TheVariants as kind;
 
 use clap::{Arg, ArgAction, Command};
 use std::alloc::{AllocError, Global};

@@ -2,8 +2,8 @@
 //! the call.
 
 ghost use Rattle.std.specs.Prelude.{◌≡◌, ℕ, List};
-ghost use Rattle.trick_words.specs.Command.{Asks};
-ghost use Rattle.trick_words.specs.declared.command.Command.{Command};
+ghost use Rattle.trick_top_words.specs.Command.{Asks};
+ghost use Rattle.trick_top_words.specs.declared.command.Command.{Command};
 
 /// Words ask for one command at most.
 pub fn one_command()

@@ -6,9 +6,9 @@ use Rattle.std.specs.Option.{option_to_list, unwrap_or}
 use Rattle.std.proofs.lemmas.Bool.{and_parts, le-leb, leb-true, ltb-true, not-true, or_from, or_parts}
 use Rattle.std.proofs.lemmas.List.Elements.{All-append, All-cons, All-head, All-nil, All-tail}
 use Rattle.std.proofs.lemmas.List.Folds.{list_any-append}
-use Rattle.trick_feed.specs.Fed.{Fed, fed, held_behind, HasTaken}
-use Rattle.trick_feed.specs.declared.fault.FeedFault.{FeedFault}
-use Rattle.trick_feed.specs.declared.fault.FeedFault.TheVariants.{LongLine, OutOfMemory}
+use Rattle.trick_command.specs.Fed.{Fed, fed, held_behind, HasTaken}
+use Rattle.trick_command.specs.declared.feed_fault.FeedFault.{FeedFault}
+use Rattle.trick_command.specs.declared.feed_fault.FeedFault.TheVariants.{LongLine, OutOfMemory}
 use Rattle.trick_model.specs.Commands.{lines_behind, without_return}
 use Rattle.trick_model.specs.Journal.{is_line}
 use Rattle.trick_wire.specs.Feeding.{HoldsLines}

@@ -1,7 +1,7 @@
 -- What is known once both ends of a queue are in one hand.
 use Rattle.std.proofs.Common.{◌≡◌, ℕ, List, [], ◌∷◌, ◌++◌, Option, Some, None, arith, length, length-append, sym, refl, ap, ◌∙◌, subst, ◌⊎◌, inl, inr, ⊎_elim, append_assoc, append-nil}
 use Rattle.std.proofs.lemmas.List.{nil_from_length}
-use Rattle.trick_feed.specs.Fed.{held_behind}
+use Rattle.trick_command.specs.Fed.{held_behind}
 use Rattle.trick_model.specs.Commands.{lines}
 use Rattle.trick_outside.specs.Causes.{Rose}
 use Rattle.trick_wire.proofs.Reading.{late_lines, lines_go_on, too_long_stays}

@@ -1,7 +1,7 @@
 -- What a reader puts, step after step.
 use Rattle.std.proofs.Common.{◌≡◌, ℕ, List, [], ◌∷◌, ◌++◌, ◌≤◌, Option, Some, None, MatchOption, arith, sym, refl, ap, ◌∙◌, subst, ◌⊎◌, ⊎_elim, append_assoc, append-nil}
-use Rattle.trick_feed.proofs.Pieces.{in_two}
-use Rattle.trick_feed.specs.Fed.{Fed, fed, held_behind, nothing_fed, HasTaken}
+use Rattle.trick_command.proofs.FedPieces.{in_two}
+use Rattle.trick_command.specs.Fed.{Fed, fed, held_behind, nothing_fed, HasTaken}
 use Rattle.trick_model.specs.Commands.{lines, lines_behind}
 use Rattle.trick_outside.specs.Links.{Gave}
 use Rattle.trick_outside.proofs.LinkLemmas.{gave_then}

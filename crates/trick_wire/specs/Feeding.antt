@@ -1,7 +1,7 @@
 -- Feeds of which each line is one of a client.
 use Rattle.std.specs.Prelude.{◌≡◌, ℕ, List, Some, IsTrue}
 use Rattle.std.specs.List.{All}
-use Rattle.trick_feed.specs.Fed.{Fed}
+use Rattle.trick_command.specs.Fed.{Fed}
 use Rattle.trick_model.specs.Journal.{is_line}
 
 -- Each line that waits has at most 4,096 bytes and no line feed, and so has what is held of the next.

@@ -1,6 +1,6 @@
 -- What a reader has read of its link, and put into its inbox.
 use Rattle.std.specs.Prelude.{◌≡◌, ℕ, ◌≤◌, List, Option, Some}
-use Rattle.trick_feed.specs.Fed.{Fed}
+use Rattle.trick_command.specs.Fed.{Fed}
 use Rattle.trick_outside.specs.Causes.{Rose}
 use Rattle.trick_outside.specs.Links.{Gave}
 use Rattle.trick_wire.specs.Puts.{HasPut, IsFed}

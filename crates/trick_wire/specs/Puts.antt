@@ -1,6 +1,6 @@
 -- What a reader puts into its inbox.
 use Rattle.std.specs.Prelude.{◌≡◌, ℕ, List, [], ◌∷◌, ◌++◌, None}
-use Rattle.trick_feed.specs.Fed.{Fed, fed, held_behind, nothing_fed}
+use Rattle.trick_command.specs.Fed.{Fed, fed, held_behind, nothing_fed}
 use Rattle.trick_model.specs.Commands.{lines}
 use Rattle.trick_wire.specs.declared.heard.Heard.{Heard}
 use Rattle.trick_wire.specs.declared.heard.Heard.TheVariants as heard

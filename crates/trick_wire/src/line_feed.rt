@@ -2,12 +2,12 @@
 
 ghost use Rattle.std.specs.Prelude.{◌≡◌, ◌≢◌, ◌↔◌, ◌++◌, [], Err, None};
 ghost use Rattle.std.specs.Option.{option_to_list};
-ghost use Rattle.trick_feed.specs.Fed.{HasTaken, fed, nothing_fed};
+ghost use Rattle.trick_command.specs.Fed.{HasTaken, fed, nothing_fed};
 
 use crate::FedLine;
 use std::alloc::Global;
 use std::marker::Model;
-use trick_feed::{Feed, FeedFault};
+use trick_command::{Feed, FeedFault};
 
 /// A feed whose lines have at most 4,096 bytes and no line feed. Contracts see it as the feed.
 #[derive(Drop)]
@@ -16,7 +16,7 @@ pub(crate) struct LineFeed {
 }
 
 impl Model for LineFeed {
-    ghost use Rattle.trick_feed.specs.Fed.{Fed};
+    ghost use Rattle.trick_command.specs.Fed.{Fed};
     ghost use Rattle.trick_wire.specs.Feeding.{HoldsLines};
 
     ghost Value = { Fed };

@@ -10,7 +10,7 @@ use crate::line_feed::LineFeed;
 use crate::{Heard, Putter, ReadStop};
 use std::alloc::Global;
 use std::sync::{Arc, Wait};
-use trick_feed::FeedFault;
+use trick_command::FeedFault;
 use trick_outside::{LinkIn, Read1};
 use trick_turn::Bell;
 

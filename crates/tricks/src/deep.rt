@@ -6,7 +6,7 @@ use std::test::Fail;
 use std::thread;
 use trick_base::Word;
 use trick_outside::{MemoryShelf, MemorySink};
-use trick_top::tricks_alone;
+use trick_top_alone::tricks_alone;
 
 /// The methods of the class: with its variables and its constructor nearly the 4,096 parts that it may have.
 const METHODS: u32 = 4090;

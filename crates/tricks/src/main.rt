@@ -18,9 +18,9 @@ use std::thread::Threads;
 use std::{env, fs, io};
 use trick_base::Word;
 use trick_outside::{Door, EndedDoor, MemoryOut, NoGate, ScriptIn, Shelf, Sink, ThreadSpawner};
-use trick_tcp::TcpDoor;
-use trick_top::print_out_of_memory;
-use trick_top_serve::{port_wanted, tricks};
+use trick_outside_tcp::TcpDoor;
+use trick_top_alone::print_out_of_memory;
+use trick_top::{port_wanted, tricks};
 
 /// The status where standard output cannot be written.
 const NO_OUTPUT: u8 = 8;

@@ -4,13 +4,13 @@ use Rattle.trick_check.proofs.Lists.{definitions_many, members_found}
 use Rattle.trick_check.proofs.order.order_at.Goals as goal
 use Rattle.trick_check.specs.Parts.{IsOneOrder, calls_at, parts_at}
 use Rattle.trick_lang.specs.Syntax.{class_parts_of, definitions_of}
-use Rattle.trick_names.specs.Calls.{class_calls}
-use Rattle.trick_names.specs.Names.{Names}
-use Rattle.trick_names.specs.Places.{members_at}
-use Rattle.trick_names.specs.Tables.{tables_of}
-use Rattle.trick_names.specs.declared.tables.Member.{Member}
-use Rattle.trick_names.specs.declared.tables.Tables.{Tables}
-use Rattle.trick_order.specs.Calls.{AreCallees, IsFirst}
+use Rattle.trick_check_names.specs.Calls.{class_calls}
+use Rattle.trick_check_names.specs.Names.{Names}
+use Rattle.trick_check_names.specs.Places.{members_at}
+use Rattle.trick_check_names.specs.Tables.{tables_of}
+use Rattle.trick_check_names.specs.declared.tables.Member.{Member}
+use Rattle.trick_check_names.specs.declared.tables.Tables.{Tables}
+use Rattle.trick_check_order.specs.Calls.{AreCallees, IsFirst}
 
 pub bounds-groups-class : goal.bounds-groups-class
 bounds-groups-class c =

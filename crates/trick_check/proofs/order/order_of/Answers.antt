@@ -2,7 +2,7 @@ use Rattle.std.proofs.Common.{◌≡◌, IfOk, sym, ◌∙◌, subst}
 use Rattle.trick_check.proofs.Lists.{both_ok}
 use Rattle.trick_check.proofs.order.order_of.Goals as goal
 use Rattle.trick_check.specs.Parts.{IsOneOrder}
-use Rattle.trick_order.specs.Calls.{AreCallees, IsFirst, IsOrderOf, order_of}
+use Rattle.trick_check_order.specs.Calls.{AreCallees, IsFirst, IsOrderOf, order_of}
 
 pub order-requires : goal.order-requires
 order-requires c = record { callees = subst AreCallees (sym (c.as_slice.ensures.value ∙ c.in-Ok.ensures)) c.requires.there }

@@ -1,12 +1,12 @@
 use Rattle.std.proofs.Common.{ap, ◌∙◌}
-use Rattle.trick_bodies.specs.Classes.{made}
-use Rattle.trick_cells.specs.Tables.{item_rows}
+use Rattle.trick_check_bodies.specs.Classes.{made}
+use Rattle.trick_check_cells.specs.Tables.{item_rows}
 use Rattle.trick_check.proofs.Long.{short_jobs}
 use Rattle.trick_check.proofs.Whole.{cells_are, draft_whole, layout_is}
 use Rattle.trick_check.proofs.program.make.Goals as goal
 use Rattle.trick_lang.specs.Syntax.{definitions_of}
-use Rattle.trick_names.specs.Tables.{tables_of}
-use Rattle.trick_names.specs.declared.tables.Tables.{Tables}
+use Rattle.trick_check_names.specs.Tables.{tables_of}
+use Rattle.trick_check_names.specs.declared.tables.Tables.{Tables}
 
 pub returns-clause-draft : goal.returns-clause-draft
 returns-clause-draft c =

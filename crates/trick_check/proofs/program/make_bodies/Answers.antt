@@ -1,17 +1,17 @@
 use Rattle.std.proofs.Common.{◌≡◌, ◌≤◌, IfOk, length, ap, sym, ◌∙◌, subst, arith}
-use Rattle.trick_bodies.specs.Classes.{made}
-use Rattle.trick_cells.specs.Cells.{all_groups}
-use Rattle.trick_cells.specs.Counts.{names_count}
-use Rattle.trick_cells.specs.Tables.{layout_of}
+use Rattle.trick_check_bodies.specs.Classes.{made}
+use Rattle.trick_check_cells.specs.Cells.{all_groups}
+use Rattle.trick_check_cells.specs.Counts.{names_count}
+use Rattle.trick_check_cells.specs.Tables.{layout_of}
 use Rattle.trick_check.proofs.Joining.{count_is}
 use Rattle.trick_check.proofs.Lists.{definitions_many}
 use Rattle.trick_check.proofs.program.make_bodies.Goals as goal
 use Rattle.trick_check.specs.Refused.{cells_in}
 use Rattle.trick_check.specs.Walk.{file_layout, made_of_first, objects_of, sizes_of}
 use Rattle.trick_lang.specs.Syntax.{definitions_of}
-use Rattle.trick_layout.specs.Kept.{AreLaid}
-use Rattle.trick_names.specs.Tables.{tables_of}
-use Rattle.trick_names.specs.declared.tables.Tables.{Tables}
+use Rattle.trick_check_names.specs.Kept.{AreLaid}
+use Rattle.trick_check_names.specs.Tables.{tables_of}
+use Rattle.trick_check_names.specs.declared.tables.Tables.{Tables}
 
 pub make_classes-requires-clause-layout : goal.make_classes-requires-clause-layout
 make_classes-requires-clause-layout c =

@@ -1,9 +1,9 @@
 use Rattle.std.proofs.Common.{◌≡◌, IsTrue, List, ap, ◌∙◌, subst}
-use Rattle.trick_bodies.specs.Classes.{Made, made}
+use Rattle.trick_check_bodies.specs.Classes.{Made, made}
 use Rattle.trick_check.proofs.Refusing.{long_refused}
 use Rattle.trick_check.proofs.program.make_jobs.Goals as goal
 use Rattle.trick_check.specs.Walk.{all_made, jobs_named}
-use Rattle.trick_jobs.specs.Jobs.{jobs_from}
+use Rattle.trick_check_bodies.specs.Jobs.{jobs_from}
 use Rattle.trick_lang.specs.Syntax.{definitions_of}
 use Rattle.trick_lang.specs.Valid.{are_short}
 use Rattle.trick_lang.specs.declared.object.Object.{Object}

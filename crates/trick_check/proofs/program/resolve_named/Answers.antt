@@ -7,7 +7,7 @@ use Rattle.trick_check.specs.Refused.{IsRefused, NamesAreRight}
 use Rattle.trick_lang.specs.SDefineOf.{sdefine_of}
 use Rattle.trick_lang.specs.Syntax.{definitions_of}
 use Rattle.trick_lang.specs.declared.syntax.definition.Definition.{Definition}
-use Rattle.trick_names.specs.Tables.{tables_of}
+use Rattle.trick_check_names.specs.Tables.{tables_of}
 
 pub draft_of-requires-clause-tables : goal.draft_of-requires-clause-tables
 draft_of-requires-clause-tables c =

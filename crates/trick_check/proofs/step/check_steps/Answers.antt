@@ -1,4 +1,4 @@
-use Rattle.trick_bodies.specs.Classes.{made}
+use Rattle.trick_check_bodies.specs.Classes.{made}
 use Rattle.trick_check.proofs.Long.{long_job_is}
 use Rattle.trick_check.proofs.step.check_steps.Goals as goal
 

@@ -1,5 +1,5 @@
 use Rattle.std.proofs.Common.{arith}
-use Rattle.trick_bodies.specs.Classes.{made}
+use Rattle.trick_check_bodies.specs.Classes.{made}
 use Rattle.trick_check.proofs.Long.{counted, large_steps, next_short, short_all, small_steps}
 use Rattle.trick_check.proofs.step.first_long.Goals as goal
 use Rattle.trick_check.specs.Refused.{steps_in}

@@ -1,5 +1,5 @@
 use Rattle.std.proofs.Common.{◌≡◌, ◌≤◌, ◌<◌, ℕ, Some, slice_get}
-use Rattle.trick_bodies.specs.Classes.{made}
+use Rattle.trick_check_bodies.specs.Classes.{made}
 use Rattle.trick_check.proofs.step.first_long.Given as goal
 use Rattle.trick_check.specs.Refused.{steps_in}
 use Rattle.trick_lang.specs.declared.job.Job.{Job}

@@ -1,5 +1,5 @@
 use Rattle.std.proofs.Common.{ap, sym, ◌∙◌}
-use Rattle.trick_bodies.specs.Classes.{made}
+use Rattle.trick_check_bodies.specs.Classes.{made}
 use Rattle.trick_check.proofs.Lists.{on_ok}
 use Rattle.trick_check.proofs.walk.add_definition.Goals as goal
 use Rattle.trick_check.specs.Parts.{order_at, parts_at}

@@ -1,7 +1,7 @@
 use Rattle.std.proofs.Common.{◌≡◌, ◌<◌, [], get_or, length, true, ap, sym, ◌∙◌, subst, arith}
 use Rattle.std.proofs.lemmas.List.{get_or_default}
-use Rattle.trick_bodies.specs.Classes.{made}
-use Rattle.trick_blocks.specs.Kept.{is_one_of}
+use Rattle.trick_check_bodies.specs.Classes.{made}
+use Rattle.trick_check_blocks.specs.Kept.{is_one_of}
 use Rattle.trick_check.proofs.Joining.{order_takes}
 use Rattle.trick_check.proofs.Lists.{definitions_many, on_ok, parts_many}
 use Rattle.trick_check.proofs.Walked.{class_made}

@@ -1,11 +1,11 @@
 use Rattle.std.proofs.Common.{◌≡◌, add-one, false, get_or, length, ap, sym, ◌∙◌, subst, arith}
-use Rattle.trick_bodies.specs.Classes.{Made, made}
+use Rattle.trick_check_bodies.specs.Classes.{Made, made}
 use Rattle.trick_check.proofs.Walked.{first_layout, sizes_fit}
 use Rattle.trick_check.proofs.walk.make_classes.Goals as goal
 use Rattle.trick_check.specs.Parts.{order_at, parts_at}
 use Rattle.trick_check.specs.Walk.{SizesFit, has_object, made_of_first, nothing_made, with_class_if}
 use Rattle.trick_lang.specs.Syntax.{definitions_of}
-use Rattle.trick_layout.specs.Kept.{AreLaid}
+use Rattle.trick_check_names.specs.Kept.{AreLaid}
 
 pub loop-class-init : goal.loop-class-init
 loop-class-init c = record {

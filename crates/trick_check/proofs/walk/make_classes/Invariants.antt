@@ -1,5 +1,5 @@
 use Rattle.std.proofs.Common.{◌≡◌}
-use Rattle.trick_bodies.specs.Classes.{AreWhole, made}
+use Rattle.trick_check_bodies.specs.Classes.{AreWhole, made}
 use Rattle.trick_check.proofs.walk.make_classes.Given as goal
 use Rattle.trick_check.specs.Walk.{made_of_first}
 use Rattle.trick_lang.specs.Syntax.{definitions_of}

@@ -1,8 +1,8 @@
 use Rattle.std.proofs.Common.{◌≡◌, ◌+◌, ◌++◌, ◌∷◌, [], ap, ◌∙◌}
-use Rattle.trick_blocks.proofs.Grow.{bodies_grown}
-use Rattle.trick_blocks.proofs.block.add_block.Goals as goal
-use Rattle.trick_blocks.specs.Bodies.{all_depth}
-use Rattle.trick_blocks.specs.Held.{bodies_of}
+use Rattle.trick_check_blocks.proofs.Grow.{bodies_grown}
+use Rattle.trick_check_blocks.proofs.block.add_block.Goals as goal
+use Rattle.trick_check_blocks.specs.Bodies.{all_depth}
+use Rattle.trick_check_blocks.specs.Held.{bodies_of}
 use Rattle.trick_lang.specs.TreeOf.{code_list}
 
 pub returns-clause-blocks : goal.returns-clause-blocks

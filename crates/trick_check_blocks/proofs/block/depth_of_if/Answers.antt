@@ -1,8 +1,8 @@
 use Rattle.std.proofs.Common.{max, ap, ◌∙◌}
-use Rattle.trick_blocks.proofs.Depths.{else_first}
-use Rattle.trick_blocks.proofs.block.depth_of_if.Goals as goal
-use Rattle.trick_blocks.specs.Bodies.{branch_depth}
-use Rattle.trick_blocks.specs.Held.{bodies_of}
+use Rattle.trick_check_blocks.proofs.Depths.{else_first}
+use Rattle.trick_check_blocks.proofs.block.depth_of_if.Goals as goal
+use Rattle.trick_check_blocks.specs.Bodies.{branch_depth}
+use Rattle.trick_check_blocks.specs.Held.{bodies_of}
 use Rattle.trick_lang.specs.Tree.{NoElse}
 use Rattle.trick_lang.specs.TreeOf.{branches_of, else_of}
 

@@ -1,8 +1,8 @@
 use Rattle.std.proofs.Common.{◌≡◌, ◌++◌, ◌∷◌, [], OnOk, length, subst}
-use Rattle.trick_blocks.proofs.method.add_body.Goals as goal
-use Rattle.trick_blocks.specs.Bodies.{with_bodies}
-use Rattle.trick_blocks.specs.Codes.{all_codes, all_inner}
-use Rattle.trick_blocks.specs.Held.{bodies_of}
+use Rattle.trick_check_blocks.proofs.method.add_body.Goals as goal
+use Rattle.trick_check_blocks.specs.Bodies.{with_bodies}
+use Rattle.trick_check_blocks.specs.Codes.{all_codes, all_inner}
+use Rattle.trick_check_blocks.specs.Held.{bodies_of}
 use Rattle.trick_lang.specs.Syntax.{statements_of_list}
 
 pub returns-clause-blocks : goal.returns-clause-blocks

@@ -1,9 +1,9 @@
 use Rattle.std.proofs.Common.{◌≡◌, ◌+◌, drop, get_or, slice_get, ap, sym, ◌∙◌, subst}
-use Rattle.trick_blocks.proofs.Rows.{laid_part, next_number}
-use Rattle.trick_blocks.proofs.method.resolve_class.Goals as goal
-use Rattle.trick_blocks.specs.Held.{bodies_of}
-use Rattle.trick_blocks.specs.Methods.{progress, with_parts}
-use Rattle.trick_blocks.specs.Room.{IsLaid}
+use Rattle.trick_check_blocks.proofs.Rows.{laid_part, next_number}
+use Rattle.trick_check_blocks.proofs.method.resolve_class.Goals as goal
+use Rattle.trick_check_blocks.specs.Held.{bodies_of}
+use Rattle.trick_check_blocks.specs.Methods.{progress, with_parts}
+use Rattle.trick_check_blocks.specs.Room.{IsLaid}
 use Rattle.trick_lang.specs.Syntax.{class_parts_of}
 
 pub loop-number-preserved : goal.loop-number-preserved

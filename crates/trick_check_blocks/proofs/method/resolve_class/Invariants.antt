@@ -1,8 +1,8 @@
 use Rattle.std.proofs.Common.{◌≡◌, drop}
-use Rattle.trick_blocks.proofs.method.resolve_class.Given as goal
-use Rattle.trick_blocks.specs.Held.{bodies_of}
-use Rattle.trick_blocks.specs.Methods.{progress, with_parts}
-use Rattle.trick_blocks.specs.Room.{IsLaid}
+use Rattle.trick_check_blocks.proofs.method.resolve_class.Given as goal
+use Rattle.trick_check_blocks.specs.Held.{bodies_of}
+use Rattle.trick_check_blocks.specs.Methods.{progress, with_parts}
+use Rattle.trick_check_blocks.specs.Room.{IsLaid}
 use Rattle.trick_lang.specs.Syntax.{class_parts_of}
 
 -- what is left makes of what is made what all make of what there was

@@ -1,13 +1,13 @@
 use Rattle.std.proofs.Common.{◌≡◌, ◌+◌, ◌-◌, length, take, drop, ap, sym, ◌∙◌}
-use Rattle.trick_blocks.proofs.Rows.{as_many, codes_new, take_rest}
-use Rattle.trick_blocks.proofs.method.resolve_method.Goals as goal
-use Rattle.trick_blocks.specs.Bodies.{with_bodies}
-use Rattle.trick_blocks.specs.Codes.{all_count}
-use Rattle.trick_blocks.specs.Held.{bodies_of}
-use Rattle.trick_blocks.specs.Methods.{block_slots, body_blocks, progress, world_with}
+use Rattle.trick_check_blocks.proofs.Rows.{as_many, codes_new, take_rest}
+use Rattle.trick_check_blocks.proofs.method.resolve_method.Goals as goal
+use Rattle.trick_check_blocks.specs.Bodies.{with_bodies}
+use Rattle.trick_check_blocks.specs.Codes.{all_count}
+use Rattle.trick_check_blocks.specs.Held.{bodies_of}
+use Rattle.trick_check_blocks.specs.Methods.{block_slots, body_blocks, progress, world_with}
 use Rattle.trick_lang.specs.Syntax.{method_of, statements_of_list}
 use Rattle.trick_lang.specs.TreeOf.{codes_of}
-use Rattle.trick_names.specs.Names.{with_name}
+use Rattle.trick_check_names.specs.Names.{with_name}
 
 pub returns : goal.returns
 returns c =

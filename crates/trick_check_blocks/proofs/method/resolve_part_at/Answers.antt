@@ -1,8 +1,8 @@
 use Rattle.std.proofs.Common.{◌≡◌, OnOk, Some, ap, sym, ◌∙◌, subst}
-use Rattle.trick_blocks.proofs.Rows.{part_past, part_in}
-use Rattle.trick_blocks.proofs.method.resolve_part_at.Goals as goal
-use Rattle.trick_blocks.specs.Held.{bodies_of}
-use Rattle.trick_blocks.specs.Methods.{progress, with_part}
+use Rattle.trick_check_blocks.proofs.Rows.{part_past, part_in}
+use Rattle.trick_check_blocks.proofs.method.resolve_part_at.Goals as goal
+use Rattle.trick_check_blocks.specs.Held.{bodies_of}
+use Rattle.trick_check_blocks.specs.Methods.{progress, with_part}
 use Rattle.trick_lang.specs.Syntax.{class_part_of}
 
 pub returns-then-number-parts : goal.returns-then-number-parts

@@ -1,11 +1,11 @@
 use Rattle.std.proofs.Common.{◌+◌, drop, ap, sym, ◌∙◌, subst}
 use Rattle.trick_base.proofs.ListLemmas.{next_item}
 use Rattle.trick_lang.specs.Syntax.{parts_of_list}
-use Rattle.trick_blocks.proofs.Build.{followed_splits}
-use Rattle.trick_blocks.proofs.Fitting.{step_fits}
-use Rattle.trick_blocks.proofs.path.follow.Goals as goal
-use Rattle.trick_blocks.specs.Places.{followed}
-use Rattle.trick_blocks.specs.Room.{Fits}
+use Rattle.trick_check_blocks.proofs.Build.{followed_splits}
+use Rattle.trick_check_blocks.proofs.Fitting.{step_fits}
+use Rattle.trick_check_blocks.proofs.path.follow.Goals as goal
+use Rattle.trick_check_blocks.specs.Places.{followed}
+use Rattle.trick_check_blocks.specs.Room.{Fits}
 
 pub loop-part-preserved : goal.loop-part-preserved
 loop-part-preserved c =

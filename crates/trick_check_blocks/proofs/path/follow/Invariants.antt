@@ -1,8 +1,8 @@
 use Rattle.std.proofs.Common.{◌≡◌, drop, Some}
 use Rattle.trick_lang.specs.Syntax.{parts_of_list}
-use Rattle.trick_blocks.proofs.path.follow.Given as goal
-use Rattle.trick_blocks.specs.Places.{followed}
-use Rattle.trick_blocks.specs.Room.{Fits}
+use Rattle.trick_check_blocks.proofs.path.follow.Given as goal
+use Rattle.trick_check_blocks.specs.Places.{followed}
+use Rattle.trick_check_blocks.specs.Room.{Fits}
 
 -- what is left leads from here where all lead from the start
 abbrev pub invariant-loop-part : goal.invariant-loop-part

@@ -2,8 +2,8 @@ use Rattle.std.proofs.Common.{ap, ◌∙◌}
 use Rattle.trick_lang.proofs.TreeLists.{place_is}
 use Rattle.trick_lang.specs.Tree.{spot}
 use Rattle.trick_lang.specs.TreeOf.{steps_of_list}
-use Rattle.trick_blocks.specs.Terms.{span_of}
-use Rattle.trick_blocks.proofs.path.place_at.Goals as goal
+use Rattle.trick_check_blocks.specs.Terms.{span_of}
+use Rattle.trick_check_blocks.proofs.path.place_at.Goals as goal
 
 pub returns : goal.returns
 returns c =

@@ -1,6 +1,6 @@
 use Rattle.std.proofs.Common.{◌≡◌, drop}
-use Rattle.trick_blocks.proofs.slots.slots_of_all.Given as goal
-use Rattle.trick_blocks.specs.Methods.{all_slots}
+use Rattle.trick_check_blocks.proofs.slots.slots_of_all.Given as goal
+use Rattle.trick_check_blocks.specs.Methods.{all_slots}
 use Rattle.trick_lang.specs.TreeOf.{code_list}
 
 -- the slots so far, and then those of what is left, are those of all

@@ -1,6 +1,6 @@
 use Rattle.std.proofs.Common.{◌≡◌, drop}
-use Rattle.trick_blocks.proofs.slots.slots_of_blocks.Given as goal
-use Rattle.trick_blocks.specs.Methods.{block_slots}
+use Rattle.trick_check_blocks.proofs.slots.slots_of_blocks.Given as goal
+use Rattle.trick_check_blocks.specs.Methods.{block_slots}
 use Rattle.trick_lang.specs.TreeOf.{codes_of}
 
 -- the slots so far, and then those of what is left, are those of all

@@ -2,13 +2,13 @@ use Rattle.std.proofs.Common.{◌≡◌, ◌+◌, [], ◌∷◌, ◌++◌, lengt
 use Rattle.trick_base.proofs.ListLemmas.{next_item}
 use Rattle.trick_lang.proofs.SyntaxLists.{block_is, if_is}
 use Rattle.trick_lang.specs.Syntax as text
-use Rattle.trick_blocks.proofs.Grow.{branches_after, branches_grown, codes_grown, next_bodies, bodies_both, left_again, all_begins, known_begins}
-use Rattle.trick_blocks.proofs.Weights.{weight, branch_weight, all_weight}
-use Rattle.trick_blocks.proofs.statement.+walk.Goals as goal
-use Rattle.trick_blocks.specs.Bodies.{with_bodies, with_body}
-use Rattle.trick_blocks.specs.Codes.{after, after_all, loop_in, all_codes, all_count, all_inner, branch_codes, branch_count, branch_inner, code, count, inner}
-use Rattle.trick_blocks.specs.Held.{bodies_of}
-use Rattle.trick_blocks.specs.Terms.{term}
+use Rattle.trick_check_blocks.proofs.Grow.{branches_after, branches_grown, codes_grown, next_bodies, bodies_both, left_again, all_begins, known_begins}
+use Rattle.trick_check_blocks.proofs.Weights.{weight, branch_weight, all_weight}
+use Rattle.trick_check_blocks.proofs.statement.+walk.Goals as goal
+use Rattle.trick_check_blocks.specs.Bodies.{with_bodies, with_body}
+use Rattle.trick_check_blocks.specs.Codes.{after, after_all, loop_in, all_codes, all_count, all_inner, branch_codes, branch_count, branch_inner, code, count, inner}
+use Rattle.trick_check_blocks.specs.Held.{bodies_of}
+use Rattle.trick_check_blocks.specs.Terms.{term}
 use Rattle.trick_lang.specs.Tree as codes
 use Rattle.trick_lang.specs.TreeOf.{code_list}
 

@@ -1,11 +1,11 @@
 use Rattle.std.proofs.Common.{◌≡◌, ◌+◌, ◌++◌, ◌≤◌, drop, length}
 use Rattle.trick_lang.specs.Syntax as text
-use Rattle.trick_blocks.proofs.Weights.{weight, branch_weight, all_weight}
-use Rattle.trick_blocks.proofs.Grow.{branches_after}
-use Rattle.trick_blocks.proofs.statement.+walk.Given as goal
-use Rattle.trick_blocks.specs.Bodies.{with_bodies}
-use Rattle.trick_blocks.specs.Codes.{after_all, all_codes, all_count, all_inner, branch_codes, branch_count, branch_inner}
-use Rattle.trick_blocks.specs.Held.{bodies_of}
+use Rattle.trick_check_blocks.proofs.Weights.{weight, branch_weight, all_weight}
+use Rattle.trick_check_blocks.proofs.Grow.{branches_after}
+use Rattle.trick_check_blocks.proofs.statement.+walk.Given as goal
+use Rattle.trick_check_blocks.specs.Bodies.{with_bodies}
+use Rattle.trick_check_blocks.specs.Codes.{after_all, all_codes, all_count, all_inner, branch_codes, branch_count, branch_inner}
+use Rattle.trick_check_blocks.specs.Held.{bodies_of}
 use Rattle.trick_lang.specs.TreeOf.{code_list}
 
 abbrev pub decreases-resolve_statement : goal.decreases-resolve_statement

@@ -5,14 +5,14 @@ use Rattle.trick_lang.specs.Syntax as text
 use Rattle.trick_lang.specs.Tree as Tree
 use Rattle.trick_lang.specs.Tree.{NoStep, Step}
 use Rattle.trick_lang.specs.TreeOf as tree
-use Rattle.trick_blocks.proofs.Build.{links_after, links_grown, links_done, choices_after, choices_grown, choices_done, choices_weight, choices_heavy, added_none, added_added, added_one, steps_split, part_weighs, some_part}
-use Rattle.trick_blocks.proofs.Fitting.{step_fits}
-use Rattle.trick_blocks.proofs.Lists.{drop_all}
-use Rattle.trick_blocks.proofs.Weights.{expression_weight, link_weight, part_weight}
-use Rattle.trick_blocks.proofs.term.+terms.Goals as goal
-use Rattle.trick_blocks.specs.Places.{element_at}
-use Rattle.trick_blocks.specs.Terms.{added_steps, choice_terms, computed, goal_term, link_terms, stepped, steps, term}
-use Rattle.trick_blocks.specs.Room.{Fits}
+use Rattle.trick_check_blocks.proofs.Build.{links_after, links_grown, links_done, choices_after, choices_grown, choices_done, choices_weight, choices_heavy, added_none, added_added, added_one, steps_split, part_weighs, some_part}
+use Rattle.trick_check_blocks.proofs.Fitting.{step_fits}
+use Rattle.trick_check_blocks.proofs.Lists.{drop_all}
+use Rattle.trick_check_blocks.proofs.Weights.{expression_weight, link_weight, part_weight}
+use Rattle.trick_check_blocks.proofs.term.+terms.Goals as goal
+use Rattle.trick_check_blocks.specs.Places.{element_at}
+use Rattle.trick_check_blocks.specs.Terms.{added_steps, choice_terms, computed, goal_term, link_terms, stepped, steps, term}
+use Rattle.trick_check_blocks.specs.Room.{Fits}
 
 pub resolve_expression-resolve_path-requires : goal.resolve_expression-resolve_path-requires
 resolve_expression-resolve_path-requires t c =

@@ -2,11 +2,11 @@ use Rattle.std.proofs.Common.{◌≡◌, ◌+◌, ◌≤◌, drop, Some, ◌∷�
 use Rattle.trick_lang.specs.Syntax as text
 use Rattle.trick_lang.specs.TreeOf as tree
 use Rattle.trick_lang.specs.SyntaxTree.{Expression}
-use Rattle.trick_blocks.proofs.Build.{links_after, choices_after, choices_weight}
-use Rattle.trick_blocks.proofs.Weights.{expression_weight, link_weight, path_weight, part_weight}
-use Rattle.trick_blocks.proofs.term.+terms.Given as goal
-use Rattle.trick_blocks.specs.Terms.{added_steps, choice_terms, link_terms, steps}
-use Rattle.trick_blocks.specs.Room.{Fits}
+use Rattle.trick_check_blocks.proofs.Build.{links_after, choices_after, choices_weight}
+use Rattle.trick_check_blocks.proofs.Weights.{expression_weight, link_weight, path_weight, part_weight}
+use Rattle.trick_check_blocks.proofs.term.+terms.Given as goal
+use Rattle.trick_check_blocks.specs.Terms.{added_steps, choice_terms, link_terms, steps}
+use Rattle.trick_check_blocks.specs.Room.{Fits}
 
 abbrev pub decreases-resolve_expression : goal.decreases-resolve_expression
 decreases-resolve_expression l = expression_weight (text.expression_of l.e.now)

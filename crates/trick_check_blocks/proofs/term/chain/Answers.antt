@@ -1,5 +1,5 @@
 use Rattle.std.proofs.Common.{rules, ◌≡◌, ◌∙◌, ap}
-use Rattle.trick_blocks.proofs.term.chain.Goals as goal
+use Rattle.trick_check_blocks.proofs.term.chain.Goals as goal
 use Rattle.trick_lang.proofs.TreeLists as built
 use Rattle.trick_lang.specs.Tree as Tree
 use Rattle.trick_lang.specs.TreeOf as tree

@@ -1,11 +1,11 @@
 use Rattle.std.proofs.Common.{◌≡◌, ◌<◌, ◌++◌, ◌∷◌, [], List, length, ap, sym, ◌∙◌, subst}
-use Rattle.trick_blocks.specs.Held.{bodies_of}
-use Rattle.trick_blocks.specs.Kept.{is_one_of}
-use Rattle.trick_blocks.specs.Methods.{Progress, progress, with_parts}
-use Rattle.trick_bodies.proofs.Wholes.{class_whole, made_of, parts_many}
-use Rattle.trick_bodies.proofs.class.add_class.Goals as goal
-use Rattle.trick_bodies.specs.Classes.{AreWhole, class_progress, made, with_class}
-use Rattle.trick_jobs.specs.Methods.{class_methods, with_numbers}
+use Rattle.trick_check_blocks.specs.Held.{bodies_of}
+use Rattle.trick_check_blocks.specs.Kept.{is_one_of}
+use Rattle.trick_check_blocks.specs.Methods.{Progress, progress, with_parts}
+use Rattle.trick_check_bodies.proofs.Wholes.{class_whole, made_of, parts_many}
+use Rattle.trick_check_bodies.proofs.class.add_class.Goals as goal
+use Rattle.trick_check_bodies.specs.Classes.{AreWhole, class_progress, made, with_class}
+use Rattle.trick_check_bodies.specs.Methods.{class_methods, with_numbers}
 use Rattle.trick_lang.specs.Syntax.{class_parts_of}
 
 pub returns-clause-made : goal.returns-clause-made

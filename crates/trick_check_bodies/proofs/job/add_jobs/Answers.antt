@@ -1,10 +1,10 @@
 use Rattle.std.proofs.Common.{◌≡◌, ◌+◌, ◌++◌, ◌∷◌, [], ap, drop, take, sym, ◌∙◌, arith}
 use Rattle.std.proofs.Math.ListN.{drop_of_length-le}
 use Rattle.std.proofs.lemmas.List.{append-nil, append_assoc}
-use Rattle.trick_jobs.proofs.Rows.{object_next}
-use Rattle.trick_jobs.specs.Jobs.{object_jobs}
+use Rattle.trick_check_bodies.proofs.Rows.{object_next}
+use Rattle.trick_check_bodies.specs.Jobs.{object_jobs}
 use Rattle.trick_lang.specs.Syntax.{jobs_of}
-use Rattle.trick_jobs.proofs.job.add_jobs.Goals as goal
+use Rattle.trick_check_bodies.proofs.job.add_jobs.Goals as goal
 
 pub loop-place-preserved : goal.loop-place-preserved
 loop-place-preserved c =

@@ -1,6 +1,6 @@
 use Rattle.std.proofs.Common.{◌≡◌, ◌++◌, [], drop, take}
-use Rattle.trick_jobs.proofs.job.add_jobs.Given as goal
-use Rattle.trick_jobs.specs.Jobs.{object_jobs}
+use Rattle.trick_check_bodies.proofs.job.add_jobs.Given as goal
+use Rattle.trick_check_bodies.specs.Jobs.{object_jobs}
 use Rattle.trick_lang.specs.Syntax.{jobs_of}
 
 -- what is made and what is left are all

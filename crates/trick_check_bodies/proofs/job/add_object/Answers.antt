@@ -1,8 +1,8 @@
 use Rattle.std.proofs.Common.{◌≡◌, ◌++◌, [], ap, sym, ◌∙◌}
-use Rattle.trick_jobs.proofs.Rows.{numbers_in, numbers_past, on_ok}
-use Rattle.trick_jobs.specs.Jobs.{numbers_at, object_jobs}
+use Rattle.trick_check_bodies.proofs.Rows.{numbers_in, numbers_past, on_ok}
+use Rattle.trick_check_bodies.specs.Jobs.{numbers_at, object_jobs}
 use Rattle.trick_lang.specs.Syntax.{jobs_of}
-use Rattle.trick_jobs.proofs.job.add_object.Goals as goal
+use Rattle.trick_check_bodies.proofs.job.add_object.Goals as goal
 
 pub returns-then-place-numbers : goal.returns-then-place-numbers
 returns-then-place-numbers c =

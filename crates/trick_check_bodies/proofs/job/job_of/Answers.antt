@@ -1,8 +1,8 @@
 use Rattle.std.proofs.Common.{◌≡◌, ◌+◌, ap, sym, ◌∙◌, arith, length, unwrap_or}
-use Rattle.trick_jobs.proofs.Rows.{job_is, jobs_length}
-use Rattle.trick_jobs.specs.Jobs.{calls_in, method_number}
+use Rattle.trick_check_bodies.proofs.Rows.{job_is, jobs_length}
+use Rattle.trick_check_bodies.specs.Jobs.{calls_in, method_number}
 use Rattle.trick_lang.specs.Syntax.{jobs_of}
-use Rattle.trick_jobs.proofs.job.job_of.Goals as goal
+use Rattle.trick_check_bodies.proofs.job.job_of.Goals as goal
 
 pub returns : goal.returns
 returns c =

@@ -1,9 +1,9 @@
 use Rattle.std.proofs.Common.{◌≡◌, ◌++◌, [], ap, drop, sym, ◌∙◌, arith}
 use Rattle.std.proofs.Math.ListN.{drop_of_length-le}
 use Rattle.std.proofs.lemmas.List.{append-nil}
-use Rattle.trick_jobs.specs.Jobs.{jobs_from}
+use Rattle.trick_check_bodies.specs.Jobs.{jobs_from}
 use Rattle.trick_lang.specs.Syntax.{definitions_of}
-use Rattle.trick_jobs.proofs.job.jobs.Goals as goal
+use Rattle.trick_check_bodies.proofs.job.jobs.Goals as goal
 
 pub returns : goal.returns
 returns c =

@@ -1,6 +1,6 @@
 use Rattle.std.proofs.Common.{◌≡◌, ◌++◌, drop}
-use Rattle.trick_jobs.proofs.job.jobs.Given as goal
-use Rattle.trick_jobs.specs.Jobs.{jobs_from}
+use Rattle.trick_check_bodies.proofs.job.jobs.Given as goal
+use Rattle.trick_check_bodies.specs.Jobs.{jobs_from}
 use Rattle.trick_lang.specs.Syntax.{definitions_of}
 
 -- what is made and what is left are all

@@ -1,8 +1,8 @@
 use Rattle.std.proofs.Common.{◌≡◌, ◌+◌, ap, drop, subst, arith}
 use Rattle.std.proofs.Math.ListN.{drop_of_length-le}
 use Rattle.trick_base.proofs.ListLemmas.{next_item}
-use Rattle.trick_jobs.proofs.line.calls_in.Goals as goal
-use Rattle.trick_jobs.specs.Jobs.{calls_in}
+use Rattle.trick_check_bodies.proofs.line.calls_in.Goals as goal
+use Rattle.trick_check_bodies.specs.Jobs.{calls_in}
 use Rattle.trick_lang.specs.Syntax.{jobs_of}
 
 pub loop-line-preserved : goal.loop-line-preserved

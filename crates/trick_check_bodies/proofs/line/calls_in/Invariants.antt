@@ -1,6 +1,6 @@
 use Rattle.std.proofs.Common.{◌≡◌, ◌≤◌, ◌+◌, drop}
-use Rattle.trick_jobs.proofs.line.calls_in.Given as goal
-use Rattle.trick_jobs.specs.Jobs.{calls_in}
+use Rattle.trick_check_bodies.proofs.line.calls_in.Given as goal
+use Rattle.trick_check_bodies.specs.Jobs.{calls_in}
 use Rattle.trick_lang.specs.Syntax.{jobs_of}
 
 -- what is counted and what is left are all

@@ -1,6 +1,6 @@
 use Rattle.std.proofs.Common.{◌≡◌, drop}
-use Rattle.trick_jobs.proofs.line.class_lines.Given as goal
-use Rattle.trick_jobs.specs.Jobs.{class_lines}
+use Rattle.trick_check_bodies.proofs.line.class_lines.Given as goal
+use Rattle.trick_check_bodies.specs.Jobs.{class_lines}
 use Rattle.trick_lang.specs.Syntax.{class_parts_of}
 
 -- none so far is a constructor

@@ -1,9 +1,9 @@
 use Rattle.std.proofs.Common.{◌≡◌, ◌+◌, ap, drop, length, sym, ◌∙◌, arith}
 use Rattle.std.proofs.Math.ListN.{drop_of_length-le}
 use Rattle.trick_base.proofs.ListLemmas.{next_item}
-use Rattle.trick_jobs.proofs.Rows.{jobs_length}
-use Rattle.trick_jobs.proofs.line.job_count.Goals as goal
-use Rattle.trick_jobs.specs.Jobs.{job_count, lines_at}
+use Rattle.trick_check_bodies.proofs.Rows.{jobs_length}
+use Rattle.trick_check_bodies.proofs.line.job_count.Goals as goal
+use Rattle.trick_check_bodies.specs.Jobs.{job_count, lines_at}
 use Rattle.trick_lang.specs.Syntax.{definitions_of}
 
 pub loop-object-preserved : goal.loop-object-preserved

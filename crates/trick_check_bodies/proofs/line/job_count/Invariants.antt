@@ -1,6 +1,6 @@
 use Rattle.std.proofs.Common.{◌≡◌, ◌+◌, ◌-◌, ◌<◌, ◌^◌, drop, min}
-use Rattle.trick_jobs.proofs.line.job_count.Given as goal
-use Rattle.trick_jobs.specs.Jobs.{job_count}
+use Rattle.trick_check_bodies.proofs.line.job_count.Given as goal
+use Rattle.trick_check_bodies.specs.Jobs.{job_count}
 use Rattle.trick_lang.specs.Syntax.{definitions_of}
 
 -- what is counted and what is left are all

@@ -1,7 +1,7 @@
 use Rattle.std.proofs.Common.{◌≡◌, ◌+◌, ◌++◌, drop, subst}
-use Rattle.trick_jobs.proofs.Rows.{appended, parts_next}
-use Rattle.trick_jobs.proofs.method.add_methods.Goals as goal
-use Rattle.trick_jobs.specs.Methods.{class_methods, part_methods}
+use Rattle.trick_check_bodies.proofs.Rows.{appended, parts_next}
+use Rattle.trick_check_bodies.proofs.method.add_methods.Goals as goal
+use Rattle.trick_check_bodies.specs.Methods.{class_methods, part_methods}
 use Rattle.trick_lang.specs.Syntax.{class_part_of, class_parts_of}
 
 pub loop-part-preserved : goal.loop-part-preserved

@@ -1,6 +1,6 @@
 use Rattle.std.proofs.Common.{◌≡◌, ◌++◌, drop}
-use Rattle.trick_jobs.proofs.method.add_methods.Given as goal
-use Rattle.trick_jobs.specs.Methods.{class_methods}
+use Rattle.trick_check_bodies.proofs.method.add_methods.Given as goal
+use Rattle.trick_check_bodies.specs.Methods.{class_methods}
 use Rattle.trick_lang.specs.Syntax.{class_parts_of}
 
 -- what is left adds to what is there what all add

@@ -1,7 +1,7 @@
 use Rattle.std.proofs.Common.{◌≡◌, ◌+◌, [], drop, subst, sym, ◌∙◌}
-use Rattle.trick_jobs.proofs.Rows.{parts_next}
-use Rattle.trick_jobs.proofs.method.numbers.Goals as goal
-use Rattle.trick_jobs.specs.Methods.{with_numbers}
+use Rattle.trick_check_bodies.proofs.Rows.{parts_next}
+use Rattle.trick_check_bodies.proofs.method.numbers.Goals as goal
+use Rattle.trick_check_bodies.specs.Methods.{with_numbers}
 use Rattle.trick_lang.specs.Syntax.{class_parts_of}
 
 pub loop-part-preserved : goal.loop-part-preserved

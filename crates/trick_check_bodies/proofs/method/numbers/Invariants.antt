@@ -1,6 +1,6 @@
 use Rattle.std.proofs.Common.{◌≡◌, [], drop}
-use Rattle.trick_jobs.proofs.method.numbers.Given as goal
-use Rattle.trick_jobs.specs.Methods.{with_numbers}
+use Rattle.trick_check_bodies.proofs.method.numbers.Given as goal
+use Rattle.trick_check_bodies.specs.Methods.{with_numbers}
 use Rattle.trick_lang.specs.Syntax.{class_parts_of}
 
 -- the rest brings what is made to all

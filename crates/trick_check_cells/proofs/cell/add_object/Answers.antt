@@ -1,8 +1,8 @@
 use Rattle.std.proofs.Common.{◌≡◌, [], ◌∷◌, ◌++◌, ap, sym, ◌∙◌, rules}
 use Rattle.std.proofs.lemmas.List.{append-nil}
-use Rattle.trick_cells.proofs.Waits.{stack_push}
-use Rattle.trick_cells.specs.Waits.{stack_cells}
-use Rattle.trick_cells.proofs.cell.add_object.Goals as goal
+use Rattle.trick_check_cells.proofs.Waits.{stack_push}
+use Rattle.trick_check_cells.specs.Waits.{stack_cells}
+use Rattle.trick_check_cells.proofs.cell.add_object.Goals as goal
 
 pub loop-turn-preserved : goal.loop-turn-preserved
 loop-turn-preserved c = λ done are.

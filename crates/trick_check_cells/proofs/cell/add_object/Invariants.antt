@@ -1,7 +1,7 @@
 use Rattle.std.proofs.Common.{◌≡◌, ◌++◌, List}
-use Rattle.trick_cells.proofs.cell.add_object.Given as goal
-use Rattle.trick_cells.specs.Cells.{cells_at, under}
-use Rattle.trick_cells.specs.Waits.{IsDone, stack_cells}
+use Rattle.trick_check_cells.proofs.cell.add_object.Given as goal
+use Rattle.trick_check_cells.specs.Cells.{cells_at, under}
+use Rattle.trick_check_cells.specs.Waits.{IsDone, stack_cells}
 use Rattle.trick_lang.specs.declared.variable.Variable.{Variable}
 
 -- what is written and what waits are all

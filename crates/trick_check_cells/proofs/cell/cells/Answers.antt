@@ -1,11 +1,11 @@
 use Rattle.std.proofs.Common.{◌+◌, ◌++◌, ap, drop, subst, sym, ◌∙◌, arith}
 use Rattle.std.proofs.Math.ListN.{drop_of_length-le}
 use Rattle.std.proofs.lemmas.List.{append-nil, append_assoc}
-use Rattle.trick_cells.proofs.Lists.{from_entry}
-use Rattle.trick_cells.specs.Cells.{global_cells, objects_cells, under}
-use Rattle.trick_cells.specs.Unfolding.{Unfolds}
-use Rattle.trick_cells.specs.Waits.{IsDone}
-use Rattle.trick_cells.proofs.cell.cells.Goals as goal
+use Rattle.trick_check_cells.proofs.Lists.{from_entry}
+use Rattle.trick_check_cells.specs.Cells.{global_cells, objects_cells, under}
+use Rattle.trick_check_cells.specs.Unfolding.{Unfolds}
+use Rattle.trick_check_cells.specs.Waits.{IsDone}
+use Rattle.trick_check_cells.proofs.cell.cells.Goals as goal
 
 pub loop-place-preserved : goal.loop-place-preserved
 loop-place-preserved c = λ done are.

@@ -1,7 +1,7 @@
 use Rattle.std.proofs.Common.{◌≡◌, ◌++◌, List, drop}
-use Rattle.trick_cells.proofs.cell.cells.Given as goal
-use Rattle.trick_cells.specs.Cells.{objects_cells}
-use Rattle.trick_cells.specs.Waits.{IsDone}
+use Rattle.trick_check_cells.proofs.cell.cells.Given as goal
+use Rattle.trick_check_cells.specs.Cells.{objects_cells}
+use Rattle.trick_check_cells.specs.Waits.{IsDone}
 use Rattle.trick_lang.specs.declared.variable.Variable.{Variable}
 
 -- what is written and what is left are all

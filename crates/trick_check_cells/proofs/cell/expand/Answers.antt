@@ -1,9 +1,9 @@
 use Rattle.std.proofs.Common.{◌≡◌, ◌++◌, ap, sym, ◌∙◌}
-use Rattle.trick_cells.proofs.Waits.{no_cells, on_ok}
-use Rattle.trick_cells.specs.Cells.{under}
-use Rattle.trick_cells.specs.Counts.{base_count, counts}
-use Rattle.trick_cells.specs.Waits.{stack_cells, waiting_cells}
-use Rattle.trick_cells.proofs.cell.expand.Goals as goal
+use Rattle.trick_check_cells.proofs.Waits.{no_cells, on_ok}
+use Rattle.trick_check_cells.specs.Cells.{under}
+use Rattle.trick_check_cells.specs.Counts.{base_count, counts}
+use Rattle.trick_check_cells.specs.Waits.{stack_cells, waiting_cells}
+use Rattle.trick_check_cells.proofs.cell.expand.Goals as goal
 
 pub returns-then-base_size-eq0 : goal.returns-then-base_size-eq0
 returns-then-base_size-eq0 c = λ done are.

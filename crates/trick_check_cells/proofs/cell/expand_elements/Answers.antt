@@ -1,8 +1,8 @@
 use Rattle.std.proofs.Common.{[], ◌∷◌, ◌++◌, ap, ◌∙◌, arith}
-use Rattle.trick_cells.proofs.Waits.{stack_two, elements_next}
-use Rattle.trick_cells.specs.Waits.{stack_cells}
-use Rattle.trick_cells.specs.declared.cell.Waiting.TheVariants.{Place}
-use Rattle.trick_cells.proofs.cell.expand_elements.Goals as goal
+use Rattle.trick_check_cells.proofs.Waits.{stack_two, elements_next}
+use Rattle.trick_check_cells.specs.Waits.{stack_cells}
+use Rattle.trick_check_cells.specs.declared.cell.Waiting.TheVariants.{Place}
+use Rattle.trick_check_cells.proofs.cell.expand_elements.Goals as goal
 
 pub returns : goal.returns
 returns c = λ groups done.

@@ -1,12 +1,12 @@
 use Rattle.std.proofs.Common.{◌≡◌, ◌+◌, ◌≤◌, [], ◌∷◌, ◌++◌, length, slice_get, Some, ap, sym, subst, ◌∙◌, arith}
-use Rattle.trick_cells.proofs.Waits.{group_in, group_past, members_next, members_past, stack_push, stack_two}
-use Rattle.trick_cells.specs.Cells.{member_cells, under}
-use Rattle.trick_cells.specs.Unfolding.{members_at}
-use Rattle.trick_cells.specs.Waits.{stack_cells, waiting_cells}
-use Rattle.trick_cells.specs.declared.cell.Waiting.TheVariants.{Place, Members}
-use Rattle.trick_names.specs.Names.{Names}
-use Rattle.trick_names.specs.declared.tables.Member.{Member}
-use Rattle.trick_cells.proofs.cell.expand_members.Goals as goal
+use Rattle.trick_check_cells.proofs.Waits.{group_in, group_past, members_next, members_past, stack_push, stack_two}
+use Rattle.trick_check_cells.specs.Cells.{member_cells, under}
+use Rattle.trick_check_cells.specs.Unfolding.{members_at}
+use Rattle.trick_check_cells.specs.Waits.{stack_cells, waiting_cells}
+use Rattle.trick_check_cells.specs.declared.cell.Waiting.TheVariants.{Place, Members}
+use Rattle.trick_check_names.specs.Names.{Names}
+use Rattle.trick_check_names.specs.declared.tables.Member.{Member}
+use Rattle.trick_check_cells.proofs.cell.expand_members.Goals as goal
 
 pub returns-then-group-groups : goal.returns-then-group-groups
 returns-then-group-groups c = λ done.

@@ -1,11 +1,11 @@
 use Rattle.std.proofs.Common.{◌≡◌, ◌++◌, ap, sym, ◌∙◌}
-use Rattle.trick_cells.proofs.Waits.{stack_push, whole_array}
-use Rattle.trick_cells.specs.Cells.{place_cells, under}
-use Rattle.trick_cells.specs.Waits.{stack_cells}
-use Rattle.trick_cells.specs.declared.cell.Waiting.TheVariants.{Elements, Members}
-use Rattle.trick_names.specs.declared.tables.Base.TheVariants.{Group}
-use Rattle.trick_names.specs.declared.tables.Lengths.TheVariants.{Plain, One}
-use Rattle.trick_cells.proofs.cell.expand_place.Goals as goal
+use Rattle.trick_check_cells.proofs.Waits.{stack_push, whole_array}
+use Rattle.trick_check_cells.specs.Cells.{place_cells, under}
+use Rattle.trick_check_cells.specs.Waits.{stack_cells}
+use Rattle.trick_check_cells.specs.declared.cell.Waiting.TheVariants.{Elements, Members}
+use Rattle.trick_check_names.specs.declared.tables.Base.TheVariants.{Group}
+use Rattle.trick_check_names.specs.declared.tables.Lengths.TheVariants.{Plain, One}
+use Rattle.trick_check_cells.proofs.cell.expand_place.Goals as goal
 
 pub returns-in_ok-push-in-Group : goal.returns-in_ok-push-in-Group
 returns-in_ok-push-in-Group c = λ groups done un.

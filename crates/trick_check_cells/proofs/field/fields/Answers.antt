@@ -1,9 +1,9 @@
 use Rattle.std.proofs.Common.{◌≡◌, ◌+◌, ap, drop, sym, ◌∙◌, arith}
 use Rattle.std.proofs.Math.ListN.{drop_of_length-le}
-use Rattle.trick_cells.proofs.Lists.{from_entry}
-use Rattle.trick_cells.specs.Counts.{member_count}
-use Rattle.trick_cells.specs.Tables.{narrow, with_field, with_fields}
-use Rattle.trick_cells.proofs.field.fields.Goals as goal
+use Rattle.trick_check_cells.proofs.Lists.{from_entry}
+use Rattle.trick_check_cells.specs.Counts.{member_count}
+use Rattle.trick_check_cells.specs.Tables.{narrow, with_field, with_fields}
+use Rattle.trick_check_cells.proofs.field.fields.Goals as goal
 
 pub loop-place-preserved : goal.loop-place-preserved
 loop-place-preserved c =

@@ -1,6 +1,6 @@
 use Rattle.std.proofs.Common.{◌≡◌, [], drop}
-use Rattle.trick_cells.proofs.field.fields.Given as goal
-use Rattle.trick_cells.specs.Tables.{with_fields}
+use Rattle.trick_check_cells.proofs.field.fields.Given as goal
+use Rattle.trick_check_cells.specs.Tables.{with_fields}
 
 -- the rest brings what is made to all
 abbrev pub invariant-loop-place : goal.invariant-loop-place

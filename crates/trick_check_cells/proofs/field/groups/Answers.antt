@@ -2,8 +2,8 @@ use Rattle.std.proofs.Common.{◌+◌, ◌∷◌, ◌++◌, [], ap, drop, sym, �
 use Rattle.std.proofs.Math.ListN.{drop_of_length-le}
 use Rattle.std.proofs.lemmas.List.{append-nil, append_assoc}
 use Rattle.trick_base.proofs.ListLemmas.{next_item}
-use Rattle.trick_cells.specs.Tables.{groups_from}
-use Rattle.trick_cells.proofs.field.groups.Goals as goal
+use Rattle.trick_check_cells.specs.Tables.{groups_from}
+use Rattle.trick_check_cells.proofs.field.groups.Goals as goal
 
 pub loop-number-preserved : goal.loop-number-preserved
 loop-number-preserved c =

@@ -1,6 +1,6 @@
 use Rattle.std.proofs.Common.{◌≡◌, ◌++◌, drop}
-use Rattle.trick_cells.proofs.field.groups.Given as goal
-use Rattle.trick_cells.specs.Tables.{groups_from}
+use Rattle.trick_check_cells.proofs.field.groups.Given as goal
+use Rattle.trick_check_cells.specs.Tables.{groups_from}
 
 -- what is made and what is left are all
 abbrev pub invariant-loop-number : goal.invariant-loop-number

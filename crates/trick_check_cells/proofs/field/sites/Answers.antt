@@ -1,9 +1,9 @@
 use Rattle.std.proofs.Common.{◌≡◌, ◌+◌, ap, drop, sym, ◌∙◌, arith}
 use Rattle.std.proofs.Math.ListN.{drop_of_length-le}
-use Rattle.trick_cells.proofs.Lists.{from_entry}
-use Rattle.trick_cells.specs.Counts.{global_count}
-use Rattle.trick_cells.specs.Tables.{narrow, with_site, with_sites}
-use Rattle.trick_cells.proofs.field.sites.Goals as goal
+use Rattle.trick_check_cells.proofs.Lists.{from_entry}
+use Rattle.trick_check_cells.specs.Counts.{global_count}
+use Rattle.trick_check_cells.specs.Tables.{narrow, with_site, with_sites}
+use Rattle.trick_check_cells.proofs.field.sites.Goals as goal
 
 pub loop-place-preserved : goal.loop-place-preserved
 loop-place-preserved c =

@@ -1,6 +1,6 @@
 use Rattle.std.proofs.Common.{◌≡◌, ◌++◌, drop}
-use Rattle.trick_cells.proofs.field.taken.Given as goal
-use Rattle.trick_cells.specs.Tables.{taken}
+use Rattle.trick_check_cells.proofs.field.taken.Given as goal
+use Rattle.trick_check_cells.specs.Tables.{taken}
 
 -- what is made and what is left are all
 abbrev pub invariant-loop-size : goal.invariant-loop-size

@@ -1,10 +1,10 @@
 use Rattle.std.proofs.Common.{◌≡◌, ◌+◌, ◌++◌, ap, drop, sym, ◌∙◌, arith}
 use Rattle.std.proofs.Math.ListN.{drop_of_length-le}
 use Rattle.std.proofs.lemmas.List.{append-nil, append_assoc}
-use Rattle.trick_cells.proofs.Lists.{from_entry}
-use Rattle.trick_cells.specs.Counts.{global_count}
-use Rattle.trick_cells.specs.Tables.{narrow, object_row, object_rows}
-use Rattle.trick_cells.proofs.object.objects.Goals as goal
+use Rattle.trick_check_cells.proofs.Lists.{from_entry}
+use Rattle.trick_check_cells.specs.Counts.{global_count}
+use Rattle.trick_check_cells.specs.Tables.{narrow, object_row, object_rows}
+use Rattle.trick_check_cells.proofs.object.objects.Goals as goal
 
 pub loop-place-preserved : goal.loop-place-preserved
 loop-place-preserved c =

@@ -1,6 +1,6 @@
 use Rattle.std.proofs.Common.{◌≡◌, ◌++◌, drop}
-use Rattle.trick_cells.proofs.object.objects.Given as goal
-use Rattle.trick_cells.specs.Tables.{object_rows}
+use Rattle.trick_check_cells.proofs.object.objects.Given as goal
+use Rattle.trick_check_cells.specs.Tables.{object_rows}
 
 -- what is made and what is left are all
 abbrev pub invariant-loop-place : goal.invariant-loop-place

@@ -1,7 +1,7 @@
 use Rattle.std.proofs.Common.{◌≡◌, ◌+◌, ◌<◌, ◌^◌, drop}
 use Rattle.trick_base.specs.Capped.{capped}
-use Rattle.trick_cells.proofs.size.cell_count.Given as goal
-use Rattle.trick_cells.specs.Counts.{names_count}
+use Rattle.trick_check_cells.proofs.size.cell_count.Given as goal
+use Rattle.trick_check_cells.specs.Counts.{names_count}
 
 -- what is counted and what is left are all
 abbrev pub invariant-loop-place : goal.invariant-loop-place

@@ -1,8 +1,8 @@
 use Rattle.std.proofs.Common.{◌≡◌, drop, ap, arith}
 use Rattle.std.proofs.Math.ListN.{drop_of_length-le}
-use Rattle.trick_cells.proofs.Lists.{from_entry}
-use Rattle.trick_cells.specs.Counts.{members_count}
-use Rattle.trick_cells.proofs.size.members_size.Goals as goal
+use Rattle.trick_check_cells.proofs.Lists.{from_entry}
+use Rattle.trick_check_cells.specs.Counts.{members_count}
+use Rattle.trick_check_cells.proofs.size.members_size.Goals as goal
 
 pub loop-place-preserved : goal.loop-place-preserved
 loop-place-preserved c =

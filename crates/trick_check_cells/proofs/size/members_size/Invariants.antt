@@ -1,7 +1,7 @@
 use Rattle.std.proofs.Common.{◌≡◌, ◌+◌, ◌<◌, ◌^◌, drop}
 use Rattle.trick_base.specs.Capped.{capped}
-use Rattle.trick_cells.proofs.size.members_size.Given as goal
-use Rattle.trick_cells.specs.Counts.{members_count}
+use Rattle.trick_check_cells.proofs.size.members_size.Given as goal
+use Rattle.trick_check_cells.specs.Counts.{members_count}
 
 -- what is counted and what is left are all
 abbrev pub invariant-loop-place : goal.invariant-loop-place

@@ -1,8 +1,8 @@
 use Rattle.std.proofs.Common.{◌≡◌, ◌*◌, ap, sym, ◌∙◌}
 use Rattle.trick_base.proofs.Capped.{cap_mul}
 use Rattle.trick_base.specs.Capped.{capped}
-use Rattle.trick_cells.specs.Counts.{place_count}
-use Rattle.trick_cells.proofs.size.place_size.Goals as goal
+use Rattle.trick_check_cells.specs.Counts.{place_count}
+use Rattle.trick_check_cells.proofs.size.place_size.Goals as goal
 
 pub returns-in-Two : goal.returns-in-Two
 returns-in-Two c =

@@ -1,10 +1,10 @@
 use Rattle.std.proofs.Common.{◌≡◌, ◌+◌, [], ◌∷◌, ◌++◌, take, length, ap, sym, ◌∙◌}
 use Rattle.std.proofs.lemmas.List.{take_more}
 use Rattle.trick_base.specs.Capped.{capped}
-use Rattle.trick_cells.proofs.Counted.{members_counted, counts_append, groups_append}
-use Rattle.trick_cells.specs.Cells.{group_cells, members_cells}
-use Rattle.trick_cells.specs.Counts.{counts, members_count}
-use Rattle.trick_cells.proofs.size.sizes.Goals as goal
+use Rattle.trick_check_cells.proofs.Counted.{members_counted, counts_append, groups_append}
+use Rattle.trick_check_cells.specs.Cells.{group_cells, members_cells}
+use Rattle.trick_check_cells.specs.Counts.{counts, members_count}
+use Rattle.trick_check_cells.proofs.size.sizes.Goals as goal
 
 pub loop-group-preserved : goal.loop-group-preserved
 loop-group-preserved c =

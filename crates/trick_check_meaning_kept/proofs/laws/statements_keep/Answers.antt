@@ -1,5 +1,5 @@
-use Rattle.trick_meaning_kept.proofs.Statements.{all_end}
-use Rattle.trick_meaning_kept.proofs.laws.statements_keep.Goals as goal
+use Rattle.trick_check_meaning_kept.proofs.Statements.{all_end}
+use Rattle.trick_check_meaning_kept.proofs.laws.statements_keep.Goals as goal
 
 pub returns : goal.returns
 returns c = λ w done memory size top x y blocks place runs all n slots declared a b none can has below all_below alike.

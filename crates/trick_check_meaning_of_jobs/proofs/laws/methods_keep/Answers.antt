@@ -1,5 +1,5 @@
-use Rattle.trick_meaning_of_jobs.proofs.Effects.{Laws, methods_keep}
-use Rattle.trick_meaning_of_jobs.proofs.laws.methods_keep.Goals as goal
+use Rattle.trick_check_meaning_of_jobs.proofs.Effects.{Laws, methods_keep}
+use Rattle.trick_check_meaning_of_jobs.proofs.laws.methods_keep.Goals as goal
 
 pub returns : goal.returns
 returns c =

@@ -2,13 +2,13 @@ use Rattle.std.proofs.Common.{◌≡◌, ◌+◌, [], ◌∷◌, ◌++◌, drop,
 use Rattle.trick_base.proofs.ListLemmas.{next_item}
 use Rattle.trick_lang.proofs.SyntaxLists.{chain_is, choose_is, named_is}
 use Rattle.trick_lang.specs.Syntax.{choices_of_list, expression_of, links_of_list, parts_of_list}
-use Rattle.trick_names.proofs.Noted.{noted_both, noted_next}
-use Rattle.trick_names.proofs.Trees.{links_next, choices_next, part_splits, part_weighs, some_part}
-use Rattle.trick_names.proofs.Weights.{expression_weight, link_weight, choice_weight, part_weight}
-use Rattle.trick_names.proofs.body.+look.Goals as goal
-use Rattle.trick_names.specs.BodyMistakes.{choice_mistakes, expression_mistakes, link_mistakes, part_mistakes}
-use Rattle.trick_names.specs.Mistakes.{noted}
-use Rattle.trick_names.specs.Places.{followed}
+use Rattle.trick_check_names.proofs.Noted.{noted_both, noted_next}
+use Rattle.trick_check_names.proofs.Trees.{links_next, choices_next, part_splits, part_weighs, some_part}
+use Rattle.trick_check_names.proofs.Weights.{expression_weight, link_weight, choice_weight, part_weight}
+use Rattle.trick_check_names.proofs.body.+look.Goals as goal
+use Rattle.trick_check_names.specs.BodyMistakes.{choice_mistakes, expression_mistakes, link_mistakes, part_mistakes}
+use Rattle.trick_check_names.specs.Mistakes.{noted}
+use Rattle.trick_check_names.specs.Places.{followed}
 
 pub look_expression-look_path-requires : goal.look_expression-look_path-requires
 look_expression-look_path-requires t c =

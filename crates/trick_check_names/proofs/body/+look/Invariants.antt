@@ -1,9 +1,9 @@
 use Rattle.std.proofs.Common.{◌≡◌, ◌+◌, ◌≤◌, drop, ◌∷◌, []}
 use Rattle.trick_lang.specs.Syntax.{choices_of_list, expression_of, links_of_list, parts_of_list, path_of}
-use Rattle.trick_names.proofs.Weights.{expression_weight, link_weight, choice_weight, path_weight, part_weight}
-use Rattle.trick_names.proofs.body.+look.Given as goal
-use Rattle.trick_names.specs.BodyMistakes.{choice_mistakes, link_mistakes, part_mistakes}
-use Rattle.trick_names.specs.Mistakes.{noted}
+use Rattle.trick_check_names.proofs.Weights.{expression_weight, link_weight, choice_weight, path_weight, part_weight}
+use Rattle.trick_check_names.proofs.body.+look.Given as goal
+use Rattle.trick_check_names.specs.BodyMistakes.{choice_mistakes, link_mistakes, part_mistakes}
+use Rattle.trick_check_names.specs.Mistakes.{noted}
 
 abbrev pub decreases-look_expression : goal.decreases-look_expression
 decreases-look_expression l = expression_weight (expression_of l.e.now)

@@ -1,12 +1,12 @@
 use Rattle.std.proofs.Common.{◌≡◌, true, ◌+◌, ◌++◌, drop, take, length, ap, sym, ◌∙◌, subst, arith}
 use Rattle.trick_lang.proofs.SyntaxLists.{block_is, if_is}
 use Rattle.trick_lang.specs.Syntax.{branches_of_list, change_of, else_of_option, expression_of, path_of, statement_of, statements_of_list}
-use Rattle.trick_names.proofs.Noted.{noted_both, noted_next}
-use Rattle.trick_names.proofs.Trees.{statements_next, branches_next, all_begins, left_again}
-use Rattle.trick_names.proofs.Weights.{weight, branch_weight, all_weight}
-use Rattle.trick_names.proofs.body.+walk.Goals as goal
-use Rattle.trick_names.specs.BodyMistakes.{after, after_all, all_mistakes, branch_mistakes, change_mistakes, expression_mistakes, path_mistakes, statement_mistakes}
-use Rattle.trick_names.specs.Mistakes.{noted}
+use Rattle.trick_check_names.proofs.Noted.{noted_both, noted_next}
+use Rattle.trick_check_names.proofs.Trees.{statements_next, branches_next, all_begins, left_again}
+use Rattle.trick_check_names.proofs.Weights.{weight, branch_weight, all_weight}
+use Rattle.trick_check_names.proofs.body.+walk.Goals as goal
+use Rattle.trick_check_names.specs.BodyMistakes.{after, after_all, all_mistakes, branch_mistakes, change_mistakes, expression_mistakes, path_mistakes, statement_mistakes}
+use Rattle.trick_check_names.specs.Mistakes.{noted}
 
 pub look_all-loop-s-preserved : goal.look_all-loop-s-preserved
 look_all-loop-s-preserved t c =

@@ -1,9 +1,9 @@
 use Rattle.std.proofs.Common.{◌≡◌, ◌+◌, ◌≤◌, drop}
 use Rattle.trick_lang.specs.Syntax.{branches_of_list, else_of_option, statement_of, statements_of_list}
-use Rattle.trick_names.proofs.Weights.{weight, branch_weight, all_weight}
-use Rattle.trick_names.proofs.body.+walk.Given as goal
-use Rattle.trick_names.specs.BodyMistakes.{after_all, all_mistakes, branch_mistakes}
-use Rattle.trick_names.specs.Mistakes.{noted}
+use Rattle.trick_check_names.proofs.Weights.{weight, branch_weight, all_weight}
+use Rattle.trick_check_names.proofs.body.+walk.Given as goal
+use Rattle.trick_check_names.specs.BodyMistakes.{after_all, all_mistakes, branch_mistakes}
+use Rattle.trick_check_names.specs.Mistakes.{noted}
 
 abbrev pub decreases-look_statement : goal.decreases-look_statement
 decreases-look_statement l = weight (statement_of l.s.now)

@@ -2,10 +2,10 @@ use Rattle.std.proofs.Common.{◌≡◌, ◌+◌, ◌++◌, drop, ap, sym, ◌�
 use Rattle.std.proofs.lemmas.List.{append_assoc}
 use Rattle.trick_lang.proofs.SyntaxLists.{block_is, if_is}
 use Rattle.trick_lang.specs.Syntax.{branches_of_list, else_of_option, statement_of, statements_of_list}
-use Rattle.trick_names.proofs.Trees.{statements_next, branches_next}
-use Rattle.trick_names.proofs.Weights.{weight, branch_weight, all_weight}
-use Rattle.trick_names.proofs.calls.+calls.Goals as goal
-use Rattle.trick_names.specs.Calls.{all_calls, branch_calls, statement_calls}
+use Rattle.trick_check_names.proofs.Trees.{statements_next, branches_next}
+use Rattle.trick_check_names.proofs.Weights.{weight, branch_weight, all_weight}
+use Rattle.trick_check_names.proofs.calls.+calls.Goals as goal
+use Rattle.trick_check_names.specs.Calls.{all_calls, branch_calls, statement_calls}
 
 pub add_all-loop-s-preserved : goal.add_all-loop-s-preserved
 add_all-loop-s-preserved t c =

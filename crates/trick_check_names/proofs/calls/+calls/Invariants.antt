@@ -1,8 +1,8 @@
 use Rattle.std.proofs.Common.{◌≡◌, ◌+◌, ◌≤◌, ◌++◌, drop}
 use Rattle.trick_lang.specs.Syntax.{branches_of_list, else_of_option, statement_of, statements_of_list}
-use Rattle.trick_names.proofs.Weights.{weight, branch_weight, all_weight}
-use Rattle.trick_names.proofs.calls.+calls.Given as goal
-use Rattle.trick_names.specs.Calls.{all_calls, branch_calls}
+use Rattle.trick_check_names.proofs.Weights.{weight, branch_weight, all_weight}
+use Rattle.trick_check_names.proofs.calls.+calls.Given as goal
+use Rattle.trick_check_names.specs.Calls.{all_calls, branch_calls}
 
 abbrev pub decreases-add_statement : goal.decreases-add_statement
 decreases-add_statement l = weight (statement_of l.s.now)

@@ -1,9 +1,9 @@
 use Rattle.std.proofs.Common.{◌≡◌, ◌+◌, ◌++◌, ◌∷◌, [], List, ℕ, drop, ap, ◌∙◌, subst}
 use Rattle.std.proofs.lemmas.List.{append_assoc}
 use Rattle.trick_lang.specs.Syntax.{class_parts_of}
-use Rattle.trick_names.proofs.Definitions.{parts_next}
-use Rattle.trick_names.proofs.calls.calls_of_class.Goals as goal
-use Rattle.trick_names.specs.Calls.{class_calls}
+use Rattle.trick_check_names.proofs.Definitions.{parts_next}
+use Rattle.trick_check_names.proofs.calls.calls_of_class.Goals as goal
+use Rattle.trick_check_names.specs.Calls.{class_calls}
 
 pub loop-part-preserved : goal.loop-part-preserved
 loop-part-preserved c =

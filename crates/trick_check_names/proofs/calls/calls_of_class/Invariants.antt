@@ -1,7 +1,7 @@
 use Rattle.std.proofs.Common.{◌≡◌, ◌++◌, drop}
 use Rattle.trick_lang.specs.Syntax.{class_parts_of}
-use Rattle.trick_names.proofs.calls.calls_of_class.Given as goal
-use Rattle.trick_names.specs.Calls.{class_calls}
+use Rattle.trick_check_names.proofs.calls.calls_of_class.Given as goal
+use Rattle.trick_check_names.specs.Calls.{class_calls}
 
 -- what is left adds to what is there what all add
 abbrev pub invariant-loop-part : goal.invariant-loop-part

@@ -1,12 +1,12 @@
 use Rattle.std.proofs.Common.{◌≡◌, ◌+◌, drop, subst}
 use Rattle.trick_lang.specs.Syntax.{jobs_of}
-use Rattle.trick_names.proofs.Definitions.{jobs_next}
-use Rattle.trick_names.proofs.Noted.{noted_next}
-use Rattle.trick_names.proofs.class.look_jobs.Goals as goal
-use Rattle.trick_names.specs.BodyMistakes.{call_mistakes}
-use Rattle.trick_names.specs.FileMistakes.{job_mistakes}
-use Rattle.trick_names.specs.Mistakes.{noted}
-use Rattle.trick_names.specs.Places.{own_member}
+use Rattle.trick_check_names.proofs.Definitions.{jobs_next}
+use Rattle.trick_check_names.proofs.Noted.{noted_next}
+use Rattle.trick_check_names.proofs.class.look_jobs.Goals as goal
+use Rattle.trick_check_names.specs.BodyMistakes.{call_mistakes}
+use Rattle.trick_check_names.specs.FileMistakes.{job_mistakes}
+use Rattle.trick_check_names.specs.Mistakes.{noted}
+use Rattle.trick_check_names.specs.Places.{own_member}
 
 pub loop-job-preserved : goal.loop-job-preserved
 loop-job-preserved c =

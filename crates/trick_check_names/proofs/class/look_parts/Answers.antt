@@ -1,11 +1,11 @@
 use Rattle.std.proofs.Common.{◌≡◌, ◌+◌, ◌++◌, ◌∙◌, drop, subst, ap}
 use Rattle.trick_lang.specs.Syntax.{class_part_of, class_parts_of}
-use Rattle.trick_names.proofs.Definitions.{parts_next}
-use Rattle.trick_names.proofs.Noted.{noted_next}
-use Rattle.trick_names.proofs.class.look_parts.Goals as goal
-use Rattle.trick_names.specs.FileMistakes.{class_mistakes, declared_mistakes, done_mistakes}
-use Rattle.trick_names.specs.Mistakes.{noted}
-use Rattle.trick_names.specs.Tables.{behind_part}
+use Rattle.trick_check_names.proofs.Definitions.{parts_next}
+use Rattle.trick_check_names.proofs.Noted.{noted_next}
+use Rattle.trick_check_names.proofs.class.look_parts.Goals as goal
+use Rattle.trick_check_names.specs.FileMistakes.{class_mistakes, declared_mistakes, done_mistakes}
+use Rattle.trick_check_names.specs.Mistakes.{noted}
+use Rattle.trick_check_names.specs.Tables.{behind_part}
 
 pub loop-number-preserved : goal.loop-number-preserved
 loop-number-preserved c =

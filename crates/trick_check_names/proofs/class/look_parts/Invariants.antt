@@ -1,8 +1,8 @@
 use Rattle.std.proofs.Common.{◌≡◌, drop}
 use Rattle.trick_lang.specs.Syntax.{class_parts_of}
-use Rattle.trick_names.proofs.class.look_parts.Given as goal
-use Rattle.trick_names.specs.FileMistakes.{class_mistakes}
-use Rattle.trick_names.specs.Mistakes.{noted}
+use Rattle.trick_check_names.proofs.class.look_parts.Given as goal
+use Rattle.trick_check_names.specs.FileMistakes.{class_mistakes}
+use Rattle.trick_check_names.specs.Mistakes.{noted}
 
 -- what is left finds from here what all find from the start
 abbrev pub invariant-loop-number : goal.invariant-loop-number

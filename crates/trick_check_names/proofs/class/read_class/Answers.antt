@@ -1,8 +1,8 @@
 use Rattle.std.proofs.Common.{◌≡◌, ◌+◌, ◌∙◌, drop, subst, ap}
 use Rattle.trick_lang.specs.Syntax.{class_parts_of}
-use Rattle.trick_names.proofs.Definitions.{parts_next}
-use Rattle.trick_names.proofs.class.read_class.Goals as goal
-use Rattle.trick_names.specs.Tables.{behind_parts, nothing_inside}
+use Rattle.trick_check_names.proofs.Definitions.{parts_next}
+use Rattle.trick_check_names.proofs.class.read_class.Goals as goal
+use Rattle.trick_check_names.specs.Tables.{behind_parts, nothing_inside}
 
 pub loop-number-preserved : goal.loop-number-preserved
 loop-number-preserved c =

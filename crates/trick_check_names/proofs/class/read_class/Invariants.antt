@@ -1,7 +1,7 @@
 use Rattle.std.proofs.Common.{◌≡◌, drop}
 use Rattle.trick_lang.specs.Syntax.{class_parts_of}
-use Rattle.trick_names.proofs.class.read_class.Given as goal
-use Rattle.trick_names.specs.Tables.{behind_parts, nothing_inside}
+use Rattle.trick_check_names.proofs.class.read_class.Given as goal
+use Rattle.trick_check_names.specs.Tables.{behind_parts, nothing_inside}
 
 -- what is left declares from here what all declare from the start
 abbrev pub invariant-loop-number : goal.invariant-loop-number

@@ -1,10 +1,10 @@
 use Rattle.std.proofs.Common.{◌≡◌, ◌∙◌, List, ap, sym}
 use Rattle.trick_lang.specs.Syntax.{definitions_of}
-use Rattle.trick_names.proofs.Noted.{decided}
-use Rattle.trick_names.proofs.file.look.Goals as goal
-use Rattle.trick_names.specs.FileMistakes.{definitions_mistakes}
-use Rattle.trick_names.specs.Mistakes.{Mistake, fault_of, fault_of_found, noted, nothing_found}
-use Rattle.trick_names.specs.declared.found.Found.{Found}
+use Rattle.trick_check_names.proofs.Noted.{decided}
+use Rattle.trick_check_names.proofs.file.look.Goals as goal
+use Rattle.trick_check_names.specs.FileMistakes.{definitions_mistakes}
+use Rattle.trick_check_names.specs.Mistakes.{Mistake, fault_of, fault_of_found, noted, nothing_found}
+use Rattle.trick_check_names.specs.declared.found.Found.{Found}
 
 -- what was found of all mistakes decides as they do
 found_all : (ms : List Mistake) (start f : Found) → start ≡ nothing_found → f ≡ noted ms start → fault_of_found f ≡ fault_of ms

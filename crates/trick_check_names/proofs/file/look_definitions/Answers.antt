@@ -1,11 +1,11 @@
 use Rattle.std.proofs.Common.{◌≡◌, ◌+◌, ◌∙◌, drop, subst, ap}
 use Rattle.trick_lang.specs.Syntax.{definition_of, definitions_of}
-use Rattle.trick_names.proofs.Definitions.{definitions_next}
-use Rattle.trick_names.proofs.Noted.{noted_next}
-use Rattle.trick_names.proofs.file.look_definitions.Goals as goal
-use Rattle.trick_names.specs.FileMistakes.{definition_mistakes, definitions_mistakes, past}
-use Rattle.trick_names.specs.Mistakes.{noted}
-use Rattle.trick_names.specs.declared.scope.FileScope.{FileScope}
+use Rattle.trick_check_names.proofs.Definitions.{definitions_next}
+use Rattle.trick_check_names.proofs.Noted.{noted_next}
+use Rattle.trick_check_names.proofs.file.look_definitions.Goals as goal
+use Rattle.trick_check_names.specs.FileMistakes.{definition_mistakes, definitions_mistakes, past}
+use Rattle.trick_check_names.specs.Mistakes.{noted}
+use Rattle.trick_check_names.specs.declared.scope.FileScope.{FileScope}
 
 pub loop-definition-preserved : goal.loop-definition-preserved
 loop-definition-preserved c =

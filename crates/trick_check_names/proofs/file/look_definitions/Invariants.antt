@@ -1,8 +1,8 @@
 use Rattle.std.proofs.Common.{◌≡◌, drop}
 use Rattle.trick_lang.specs.Syntax.{definitions_of}
-use Rattle.trick_names.proofs.file.look_definitions.Given as goal
-use Rattle.trick_names.specs.FileMistakes.{definitions_mistakes}
-use Rattle.trick_names.specs.Mistakes.{noted}
+use Rattle.trick_check_names.proofs.file.look_definitions.Given as goal
+use Rattle.trick_check_names.specs.FileMistakes.{definitions_mistakes}
+use Rattle.trick_check_names.specs.Mistakes.{noted}
 
 -- what is left finds from here what all find from the start
 abbrev pub invariant-loop-definition : goal.invariant-loop-definition

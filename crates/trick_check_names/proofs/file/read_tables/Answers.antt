@@ -1,8 +1,8 @@
 use Rattle.std.proofs.Common.{◌≡◌, ◌+◌, ◌∙◌, drop, subst, ap}
 use Rattle.trick_lang.specs.Syntax.{definitions_of}
-use Rattle.trick_names.proofs.Definitions.{definitions_next}
-use Rattle.trick_names.proofs.file.read_tables.Goals as goal
-use Rattle.trick_names.specs.Tables.{behind_definitions, tables_of}
+use Rattle.trick_check_names.proofs.Definitions.{definitions_next}
+use Rattle.trick_check_names.proofs.file.read_tables.Goals as goal
+use Rattle.trick_check_names.specs.Tables.{behind_definitions, tables_of}
 
 pub loop-definition-preserved : goal.loop-definition-preserved
 loop-definition-preserved c =

@@ -1,7 +1,7 @@
 use Rattle.std.proofs.Common.{◌≡◌, drop}
 use Rattle.trick_lang.specs.Syntax.{parts_of_list}
-use Rattle.trick_names.proofs.follow.follow.Given as goal
-use Rattle.trick_names.specs.Places.{followed}
+use Rattle.trick_check_names.proofs.follow.follow.Given as goal
+use Rattle.trick_check_names.specs.Places.{followed}
 
 -- what is left leads from here where all lead from the start
 abbrev pub invariant-loop-part : goal.invariant-loop-part

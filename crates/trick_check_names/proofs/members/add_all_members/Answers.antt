@@ -1,11 +1,11 @@
 use Rattle.std.proofs.Common.{◌≡◌, ◌+◌, ◌∙◌, drop, subst, ap}
 use Rattle.trick_lang.specs.Syntax.{all_members_of, members_of}
-use Rattle.trick_names.proofs.Definitions.{members_next}
-use Rattle.trick_names.proofs.Noted.{noted_next}
-use Rattle.trick_names.proofs.members.add_all_members.Goals as goal
-use Rattle.trick_names.specs.FileMistakes.{all_members_mistakes, members_mistakes}
-use Rattle.trick_names.specs.Mistakes.{noted}
-use Rattle.trick_names.specs.Tables.{with_all_members, with_members}
+use Rattle.trick_check_names.proofs.Definitions.{members_next}
+use Rattle.trick_check_names.proofs.Noted.{noted_next}
+use Rattle.trick_check_names.proofs.members.add_all_members.Goals as goal
+use Rattle.trick_check_names.specs.FileMistakes.{all_members_mistakes, members_mistakes}
+use Rattle.trick_check_names.specs.Mistakes.{noted}
+use Rattle.trick_check_names.specs.Tables.{with_all_members, with_members}
 
 pub loop-written-preserved : goal.loop-written-preserved
 loop-written-preserved c =

@@ -1,9 +1,9 @@
 use Rattle.std.proofs.Common.{◌≡◌, drop}
 use Rattle.trick_lang.specs.Syntax.{all_members_of}
-use Rattle.trick_names.proofs.members.add_all_members.Given as goal
-use Rattle.trick_names.specs.FileMistakes.{all_members_mistakes}
-use Rattle.trick_names.specs.Mistakes.{noted}
-use Rattle.trick_names.specs.Tables.{with_all_members}
+use Rattle.trick_check_names.proofs.members.add_all_members.Given as goal
+use Rattle.trick_check_names.specs.FileMistakes.{all_members_mistakes}
+use Rattle.trick_check_names.specs.Mistakes.{noted}
+use Rattle.trick_check_names.specs.Tables.{with_all_members}
 
 -- what is left adds and finds from here what all add and find from the start
 abbrev pub invariant-loop-written : goal.invariant-loop-written

@@ -1,14 +1,14 @@
 use Rattle.std.proofs.Common.{◌≡◌, ◌+◌, ◌∙◌, drop, subst, ap}
 use Rattle.trick_lang.specs.Syntax.{declarators_of}
-use Rattle.trick_names.proofs.Definitions.{declarators_next}
-use Rattle.trick_names.proofs.Noted.{noted_next}
-use Rattle.trick_names.proofs.members.add_declarators.Goals as goal
-use Rattle.trick_names.specs.FileMistakes.{declarator_mistakes}
-use Rattle.trick_names.specs.Mistakes.{noted, twice}
-use Rattle.trick_names.specs.Names.{with_name}
-use Rattle.trick_names.specs.Tables.{with_declarators, lengths_of}
-use Rattle.trick_names.specs.declared.tables.Member.{Member}
-use Rattle.trick_names.specs.declared.tables.Member.TheVariants.{Variable}
+use Rattle.trick_check_names.proofs.Definitions.{declarators_next}
+use Rattle.trick_check_names.proofs.Noted.{noted_next}
+use Rattle.trick_check_names.proofs.members.add_declarators.Goals as goal
+use Rattle.trick_check_names.specs.FileMistakes.{declarator_mistakes}
+use Rattle.trick_check_names.specs.Mistakes.{noted, twice}
+use Rattle.trick_check_names.specs.Names.{with_name}
+use Rattle.trick_check_names.specs.Tables.{with_declarators, lengths_of}
+use Rattle.trick_check_names.specs.declared.tables.Member.{Member}
+use Rattle.trick_check_names.specs.declared.tables.Member.TheVariants.{Variable}
 
 pub loop-declarator-preserved : goal.loop-declarator-preserved
 loop-declarator-preserved c =

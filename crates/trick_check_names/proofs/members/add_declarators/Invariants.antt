@@ -1,9 +1,9 @@
 use Rattle.std.proofs.Common.{◌≡◌, drop}
 use Rattle.trick_lang.specs.Syntax.{declarators_of}
-use Rattle.trick_names.proofs.members.add_declarators.Given as goal
-use Rattle.trick_names.specs.FileMistakes.{declarator_mistakes}
-use Rattle.trick_names.specs.Mistakes.{noted}
-use Rattle.trick_names.specs.Tables.{with_declarators}
+use Rattle.trick_check_names.proofs.members.add_declarators.Given as goal
+use Rattle.trick_check_names.specs.FileMistakes.{declarator_mistakes}
+use Rattle.trick_check_names.specs.Mistakes.{noted}
+use Rattle.trick_check_names.specs.Tables.{with_declarators}
 
 -- what is left adds and finds from here what all add and find from the start
 abbrev pub invariant-loop-declarator : goal.invariant-loop-declarator

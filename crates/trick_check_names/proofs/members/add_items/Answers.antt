@@ -3,14 +3,14 @@ use Rattle.std.specs.Int.{w128, w32}
 use Rattle.std.proofs.lemmas.Int.{to_z-of_z}
 use mir.Val.{to_z}
 use Rattle.trick_lang.specs.Syntax.{items_of}
-use Rattle.trick_names.proofs.Definitions.{items_next}
-use Rattle.trick_names.proofs.Noted.{noted_next}
-use Rattle.trick_names.proofs.members.add_items.Goals as goal
-use Rattle.trick_names.specs.FileMistakes.{item_mistakes, value_mistakes}
-use Rattle.trick_names.specs.Mistakes.{noted, twice}
-use Rattle.trick_names.specs.Names.{with_name}
-use Rattle.trick_names.specs.Tables.{with_items, item_value, taken_value, int_or_zero}
-use Rattle.trick_names.specs.declared.tables.Global.TheVariants.{Item}
+use Rattle.trick_check_names.proofs.Definitions.{items_next}
+use Rattle.trick_check_names.proofs.Noted.{noted_next}
+use Rattle.trick_check_names.proofs.members.add_items.Goals as goal
+use Rattle.trick_check_names.specs.FileMistakes.{item_mistakes, value_mistakes}
+use Rattle.trick_check_names.specs.Mistakes.{noted, twice}
+use Rattle.trick_check_names.specs.Names.{with_name}
+use Rattle.trick_check_names.specs.Tables.{with_items, item_value, taken_value, int_or_zero}
+use Rattle.trick_check_names.specs.declared.tables.Global.TheVariants.{Item}
 
 pub loop-item-preserved : goal.loop-item-preserved
 loop-item-preserved c =

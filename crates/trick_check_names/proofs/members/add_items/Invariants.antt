@@ -1,9 +1,9 @@
 use Rattle.std.proofs.Common.{◌≡◌, drop, pos}
 use Rattle.trick_lang.specs.Syntax.{items_of}
-use Rattle.trick_names.proofs.members.add_items.Given as goal
-use Rattle.trick_names.specs.FileMistakes.{item_mistakes}
-use Rattle.trick_names.specs.Mistakes.{noted}
-use Rattle.trick_names.specs.Tables.{with_items}
+use Rattle.trick_check_names.proofs.members.add_items.Given as goal
+use Rattle.trick_check_names.specs.FileMistakes.{item_mistakes}
+use Rattle.trick_check_names.specs.Mistakes.{noted}
+use Rattle.trick_check_names.specs.Tables.{with_items}
 
 -- what is left adds and finds from here what all add and find from the start
 abbrev pub invariant-loop-item : goal.invariant-loop-item

@@ -1,6 +1,6 @@
 use Rattle.std.proofs.Common.{◌≡◌, drop}
-use Rattle.trick_order.proofs.callees.are_below.Given as goal
-use Rattle.trick_order.specs.Calls.{all_below}
+use Rattle.trick_check_order.proofs.callees.are_below.Given as goal
+use Rattle.trick_check_order.specs.Calls.{all_below}
 
 -- what is left is below where all is
 abbrev pub invariant-loop-number : goal.invariant-loop-number

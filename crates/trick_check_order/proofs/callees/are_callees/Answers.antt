@@ -1,7 +1,7 @@
 use Rattle.std.proofs.Common.{◌≡◌, ◌∙◌, sym, length}
-use Rattle.trick_order.proofs.There.{below_callees, callees_below}
-use Rattle.trick_order.proofs.callees.are_callees.Goals as goal
-use Rattle.trick_order.specs.Calls.{each_below}
+use Rattle.trick_check_order.proofs.There.{below_callees, callees_below}
+use Rattle.trick_check_order.proofs.callees.are_callees.Goals as goal
+use Rattle.trick_check_order.specs.Calls.{each_below}
 
 pub returns : goal.returns
 returns c =

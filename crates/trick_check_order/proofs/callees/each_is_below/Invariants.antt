@@ -1,6 +1,6 @@
 use Rattle.std.proofs.Common.{◌≡◌, drop}
-use Rattle.trick_order.proofs.callees.each_is_below.Given as goal
-use Rattle.trick_order.specs.Calls.{each_below}
+use Rattle.trick_check_order.proofs.callees.each_is_below.Given as goal
+use Rattle.trick_check_order.specs.Calls.{each_below}
 
 -- what is left is below where all is
 abbrev pub invariant-loop-callees : goal.invariant-loop-callees

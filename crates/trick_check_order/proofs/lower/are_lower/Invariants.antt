@@ -1,6 +1,6 @@
 use Rattle.std.proofs.Common.{◌≡◌, drop}
-use Rattle.trick_order.proofs.lower.are_lower.Given as goal
-use Rattle.trick_order.specs.Ranked.{are_lower}
+use Rattle.trick_check_order.proofs.lower.are_lower.Given as goal
+use Rattle.trick_check_order.specs.Ranked.{are_lower}
 
 -- what is left is lower where all is
 abbrev pub invariant-loop-method : goal.invariant-loop-method

@@ -1,7 +1,7 @@
 use Rattle.std.proofs.Common.{◌≡◌, ◌∷◌, [], set, true, false, sym, subst, slice_index_or, List, ℕ, rules}
-use Rattle.trick_order.proofs.Queue.{adds_new}
-use Rattle.trick_order.proofs.reach.add.Goals as goal
-use Rattle.trick_order.specs.Reached.{Adds}
+use Rattle.trick_check_order.proofs.Queue.{adds_new}
+use Rattle.trick_check_order.proofs.reach.add.Goals as goal
+use Rattle.trick_check_order.specs.Reached.{Adds}
 
 pub returns-in_ok-push : goal.returns-in_ok-push
 returns-in_ok-push c =

@@ -1,9 +1,9 @@
 use Rattle.std.proofs.Common.{List, ℕ, take, get_or, subst, sym, arith}
 use Rattle.std.proofs.lemmas.List.{take_more}
-use Rattle.trick_order.proofs.Has.{has_at}
-use Rattle.trick_order.proofs.Queue.{adds_then}
-use Rattle.trick_order.proofs.reach.add_all.Goals as goal
-use Rattle.trick_order.specs.Reached.{Adds}
+use Rattle.trick_check_order.proofs.Has.{has_at}
+use Rattle.trick_check_order.proofs.Queue.{adds_then}
+use Rattle.trick_check_order.proofs.reach.add_all.Goals as goal
+use Rattle.trick_check_order.specs.Reached.{Adds}
 
 pub add-requires-clause-below : goal.add-requires-clause-below
 add-requires-clause-below c =

@@ -1,6 +1,6 @@
 use Rattle.std.proofs.Common.{take}
-use Rattle.trick_order.proofs.reach.add_all.Given as goal
-use Rattle.trick_order.specs.Reached.{Adds}
+use Rattle.trick_check_order.proofs.reach.add_all.Given as goal
+use Rattle.trick_check_order.specs.Reached.{Adds}
 
 -- those so far are added
 abbrev pub invariant-loop-callee : goal.invariant-loop-callee

@@ -1,6 +1,6 @@
 use Rattle.std.proofs.Common.{arith, ◌≡◌, true}
-use Rattle.trick_order.proofs.Falling.{none_before}
-use Rattle.trick_order.proofs.reach.first_by_ranks.Goals as goal
+use Rattle.trick_check_order.proofs.Falling.{none_before}
+use Rattle.trick_check_order.proofs.reach.first_by_ranks.Goals as goal
 
 pub returns-then-told : goal.returns-then-told
 returns-then-told c =

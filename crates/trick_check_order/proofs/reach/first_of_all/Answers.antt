@@ -1,5 +1,5 @@
 use Rattle.std.proofs.Common.{arith, below_more}
-use Rattle.trick_order.proofs.reach.first_of_all.Goals as goal
+use Rattle.trick_check_order.proofs.reach.first_of_all.Goals as goal
 
 pub returns-then-branch : goal.returns-then-branch
 returns-then-branch c = (c.loop-method-test.true, c.in_ok-reaches_itself.ensures.yes c.if-branch.true, c.loop-method.invariant)

@@ -1,10 +1,10 @@
 use Rattle.std.proofs.Common.{◌≡◌, ◌<◌, ◌≤◌, List, ℕ, true, false, get_or, length, subst, sym, ◌∙◌, ap, arith}
 use Rattle.std.proofs.lemmas.List.{get_or_read}
-use Rattle.trick_order.proofs.Has.{has_at}
-use Rattle.trick_order.proofs.Queue.{reached_start, reached_next, reached_end, reaches_below}
-use Rattle.trick_order.proofs.reach.reaches_itself.Goals as goal
-use Rattle.trick_order.specs.Calls.{AreCallees, callees, has}
-use Rattle.trick_order.specs.Reached.{Adds, Reached}
+use Rattle.trick_check_order.proofs.Has.{has_at}
+use Rattle.trick_check_order.proofs.Queue.{reached_start, reached_next, reached_end, reaches_below}
+use Rattle.trick_check_order.proofs.reach.reaches_itself.Goals as goal
+use Rattle.trick_check_order.specs.Calls.{AreCallees, callees, has}
+use Rattle.trick_check_order.specs.Reached.{Adds, Reached}
 
 -- what is in the queue is a method
 there : (g : List (List ℕ)) (method head : ℕ) (seen : _) (queue : List ℕ) → AreCallees g → Reached g method seen queue head → head < length queue → get_or queue head 0 < length g

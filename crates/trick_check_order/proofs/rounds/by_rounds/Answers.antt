@@ -1,7 +1,7 @@
 use Rattle.std.proofs.Common.{◌≡◌, [], get_or, length, ap, sym, ◌∙◌, subst, arith}
-use Rattle.trick_order.proofs.ByRound.{next_found, rounds_order}
-use Rattle.trick_order.proofs.rounds.by_rounds.Goals as goal
-use Rattle.trick_order.specs.Calls.{IsOrderOf, first_rounds}
+use Rattle.trick_check_order.proofs.ByRound.{next_found, rounds_order}
+use Rattle.trick_check_order.proofs.rounds.by_rounds.Goals as goal
+use Rattle.trick_check_order.specs.Calls.{IsOrderOf, first_rounds}
 
 pub loop-round-preserved : goal.loop-round-preserved
 loop-round-preserved c =

@@ -1,7 +1,7 @@
 use Rattle.std.proofs.Common.{[], get_or, length, ap, ◌∙◌, arith}
 use Rattle.std.proofs.Math.ListN.{length-replicate, length-set}
-use Rattle.trick_order.proofs.ByRound.{empty_at, put_one}
-use Rattle.trick_order.proofs.rounds.methods_of.Goals as goal
+use Rattle.trick_check_order.proofs.ByRound.{empty_at, put_one}
+use Rattle.trick_check_order.proofs.rounds.methods_of.Goals as goal
 
 pub loop-method-preserved : goal.loop-method-preserved
 loop-method-preserved c =

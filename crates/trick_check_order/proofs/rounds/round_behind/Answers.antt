@@ -1,6 +1,6 @@
 use Rattle.std.proofs.Common.{arith}
-use Rattle.trick_order.proofs.ByRound.{behind_all, behind_more}
-use Rattle.trick_order.proofs.rounds.round_behind.Goals as goal
+use Rattle.trick_check_order.proofs.ByRound.{behind_all, behind_more}
+use Rattle.trick_check_order.proofs.rounds.round_behind.Goals as goal
 
 pub loop-method-preserved : goal.loop-method-preserved
 loop-method-preserved c =

@@ -1,7 +1,7 @@
 use Rattle.std.proofs.Common.{◌+◌, get_or, set, take, refl, ap, sym, ◌∙◌, subst, arith}
-use Rattle.trick_order.proofs.ByRound.{all_placed, callees_low, callees_there, next_placed, next_stands, none_placed}
-use Rattle.trick_order.proofs.rounds.rounds_of.Goals as goal
-use Rattle.trick_order.specs.Rounds.{AreRoundsOf, round_behind}
+use Rattle.trick_check_order.proofs.ByRound.{all_placed, callees_low, callees_there, next_placed, next_stands, none_placed}
+use Rattle.trick_check_order.proofs.rounds.rounds_of.Goals as goal
+use Rattle.trick_check_order.specs.Rounds.{AreRoundsOf, round_behind}
 
 pub loop-method-init : goal.loop-method-init
 loop-method-init c = none_placed c.args.calls.now c.in_ok-rounds.rounds.items (omega (arith, c.in_ok-rounds.ensures.len, c.in_ok-rounds.rounds.ok.0))

@@ -1,8 +1,8 @@
 use Rattle.std.proofs.Common.{◌≡◌, ℕ, ◌+◌, ◌<◌, length, get_or, set, sym, subst, arith}
 use Rattle.std.proofs.lemmas.List.{get_or_read}
-use Rattle.trick_order.proofs.Steps.{advanced}
-use Rattle.trick_order.proofs.search.advance.Goals as goal
-use Rattle.trick_order.specs.Searching.{Searching, left, left_in}
+use Rattle.trick_check_order.proofs.Steps.{advanced}
+use Rattle.trick_check_order.proofs.search.advance.Goals as goal
+use Rattle.trick_check_order.specs.Searching.{Searching, left, left_in}
 
 pub returns-clause-keeps : goal.returns-clause-keeps
 returns-clause-keeps c =

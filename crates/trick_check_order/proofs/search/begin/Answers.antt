@@ -1,7 +1,7 @@
 use Rattle.std.proofs.Common.{ℕ, List, true, set, sym, subst}
-use Rattle.trick_order.proofs.Steps.{begun_one}
-use Rattle.trick_order.proofs.search.begin.Goals as goal
-use Rattle.trick_order.specs.Searching.{Searching}
+use Rattle.trick_check_order.proofs.Steps.{begun_one}
+use Rattle.trick_check_order.proofs.search.begin.Goals as goal
+use Rattle.trick_check_order.specs.Searching.{Searching}
 
 pub returns-clause-keeps : goal.returns-clause-keeps
 returns-clause-keeps c =

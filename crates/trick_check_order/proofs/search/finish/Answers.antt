@@ -1,7 +1,7 @@
 use Rattle.std.proofs.Common.{◌≡◌, ℕ, ◌∷◌, ◌++◌, [], List, true, false, set, sym, subst, arith, rules}
-use Rattle.trick_order.proofs.Steps.{finished, last_has}
-use Rattle.trick_order.proofs.search.finish.Goals as goal
-use Rattle.trick_order.specs.Searching.{Searching}
+use Rattle.trick_check_order.proofs.Steps.{finished, last_has}
+use Rattle.trick_check_order.proofs.search.finish.Goals as goal
+use Rattle.trick_check_order.specs.Searching.{Searching}
 
 pub index_mut-requires : goal.index_mut-requires
 index_mut-requires c =

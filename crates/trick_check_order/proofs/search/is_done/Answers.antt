@@ -1,6 +1,6 @@
 use Rattle.std.proofs.Common.{◌<◌, false, length, ◌∙◌, arith}
 use Rattle.std.proofs.lemmas.List.{get_or_read}
-use Rattle.trick_order.proofs.search.is_done.Goals as goal
+use Rattle.trick_check_order.proofs.search.is_done.Goals as goal
 
 pub index-requires : goal.index-requires
 index-requires c = omega (arith, c.requires.here, c.requires.keeps.done_size, c.args.search.now.done.ok.0)

@@ -1,6 +1,6 @@
 use Rattle.std.proofs.Common.{arith}
-use Rattle.trick_order.proofs.Steps.{last_read}
-use Rattle.trick_order.proofs.search.last.Goals as goal
+use Rattle.trick_check_order.proofs.Steps.{last_read}
+use Rattle.trick_check_order.proofs.search.last.Goals as goal
 
 pub returns : goal.returns
 returns c =

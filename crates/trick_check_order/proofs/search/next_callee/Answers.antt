@@ -1,7 +1,7 @@
 use Rattle.std.proofs.Common.{◌≡◌, ℕ, List, ◌<◌, length, get_or, ap, ◌∙◌, arith}
 use Rattle.std.proofs.lemmas.List.{get_or_read}
-use Rattle.trick_order.proofs.search.next_callee.Goals as goal
-use Rattle.trick_order.specs.Calls.{callees}
+use Rattle.trick_check_order.proofs.search.next_callee.Goals as goal
+use Rattle.trick_check_order.specs.Calls.{callees}
 
 pub callees-callees-requires : goal.callees-callees-requires
 callees-callees-requires c = record { here = c.requires.keeps.stack_below c.args.method c.requires.open }

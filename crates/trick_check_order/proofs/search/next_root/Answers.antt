@@ -1,7 +1,7 @@
 use Rattle.std.proofs.Common.{◌≡◌, true, sym, ◌∙◌}
-use Rattle.trick_order.proofs.Steps.{rooted}
-use Rattle.trick_order.proofs.search.next_root.Goals as goal
-use Rattle.trick_order.specs.Calls.{has}
+use Rattle.trick_check_order.proofs.Steps.{rooted}
+use Rattle.trick_check_order.proofs.search.next_root.Goals as goal
+use Rattle.trick_check_order.specs.Calls.{has}
 
 pub returns-clause-keeps : goal.returns-clause-keeps
 returns-clause-keeps c =

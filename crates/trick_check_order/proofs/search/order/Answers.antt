@@ -1,7 +1,7 @@
 use Rattle.std.proofs.Common.{◌≡◌, ◌<◌, ℕ, Option, Some, length, subst}
 use Rattle.std.specs.Option.{MatchOption}
-use Rattle.trick_order.proofs.search.order.Goals as goal
-use Rattle.trick_order.specs.Calls.{IsFirst, ReachesItself}
+use Rattle.trick_check_order.proofs.search.order.Goals as goal
+use Rattle.trick_check_order.specs.Calls.{IsFirst, ReachesItself}
 
 pub returns-in-Ok-Some-first_recursive-clause-recursive : goal.returns-in-Ok-Some-first_recursive-clause-recursive
 returns-in-Ok-Some-first_recursive-clause-recursive c = λ k e.

@@ -1,7 +1,7 @@
 use Rattle.std.proofs.Common.{◌≡◌, ℕ, [], List, length, arith, refl, ◌∷◌}
 use Rattle.std.proofs.lemmas.Bool.Decides.{nat_tests}
-use Rattle.trick_order.proofs.Steps.{ended}
-use Rattle.trick_order.proofs.search.searched.Goals as goal
+use Rattle.trick_check_order.proofs.Steps.{ended}
+use Rattle.trick_check_order.proofs.search.searched.Goals as goal
 
 none : (xs : List ℕ) → length xs ≡ 0 → xs ≡ []
 none [] h = refl

@@ -1,5 +1,5 @@
-use Rattle.trick_order.proofs.search.searched.Given as goal
-use Rattle.trick_order.specs.Searching.{Keeps, left}
+use Rattle.trick_check_order.proofs.search.searched.Given as goal
+use Rattle.trick_check_order.specs.Searching.{Keeps, left}
 
 abbrev pub invariant-loop-search : goal.invariant-loop-search
 invariant-loop-search l = Keeps l.calls l.search

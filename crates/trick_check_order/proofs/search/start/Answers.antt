@@ -1,6 +1,6 @@
 use Rattle.std.proofs.Common.{◌≡◌, ℕ, false, length, replicate, refl, arith, rules}
-use Rattle.trick_order.proofs.Steps.{started}
-use Rattle.trick_order.proofs.search.start.Goals as goal
+use Rattle.trick_check_order.proofs.Steps.{started}
+use Rattle.trick_check_order.proofs.search.start.Goals as goal
 
 pub returns : goal.returns
 returns c =

@@ -1,8 +1,8 @@
 use Rattle.std.proofs.Common.{◌≡◌, ℕ, ◌<◌, ◌∷◌, ◌++◌, [], List, true, length, get_or, subst, sym, ◌∙◌}
-use Rattle.trick_order.proofs.Has.{has_at}
-use Rattle.trick_order.proofs.Steps.{last_has, linked_push, linked_reaches}
-use Rattle.trick_order.proofs.search.step.Goals as goal
-use Rattle.trick_order.specs.Calls.{EndsWith, callees, has, is_linked}
+use Rattle.trick_check_order.proofs.Has.{has_at}
+use Rattle.trick_check_order.proofs.Steps.{last_has, linked_push, linked_reaches}
+use Rattle.trick_check_order.proofs.search.step.Goals as goal
+use Rattle.trick_check_order.specs.Calls.{EndsWith, callees, has, is_linked}
 
 -- the next callee is one of those that the method calls
 called : (g : List (List ℕ)) (m callee i : ℕ) → i < length (callees g m) → callee ≡ get_or (callees g m) i 0 → has (callees g m) callee ≡ true

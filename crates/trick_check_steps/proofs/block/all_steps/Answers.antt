@@ -3,8 +3,8 @@ use Rattle.std.proofs.Math.ListN.{drop_of_length-le}
 use Rattle.trick_base.proofs.ListLemmas.{next_item}
 use Rattle.trick_lang.specs.Count.{all_steps}
 use Rattle.trick_lang.specs.TreeOf.{code_list}
-use Rattle.trick_steps.proofs.block.all_steps.Goals as goal
-use Rattle.trick_steps.specs.Steps.{count_at}
+use Rattle.trick_check_steps.proofs.block.all_steps.Goals as goal
+use Rattle.trick_check_steps.specs.Steps.{count_at}
 
 pub loop-statement-preserved : goal.loop-statement-preserved
 loop-statement-preserved c =

@@ -3,9 +3,9 @@ use Rattle.trick_base.proofs.ListLemmas.{next_item}
 use Rattle.trick_base.specs.Capped.{capped}
 use Rattle.trick_lang.specs.Count.{branch_steps, term_steps}
 use Rattle.trick_lang.specs.TreeOf.{branches_of, else_of, term_of}
-use Rattle.trick_steps.proofs.Capped.{branch_next}
-use Rattle.trick_steps.proofs.block.branch_steps.Goals as goal
-use Rattle.trick_steps.specs.Steps.{count_at}
+use Rattle.trick_check_steps.proofs.Capped.{branch_next}
+use Rattle.trick_check_steps.proofs.block.branch_steps.Goals as goal
+use Rattle.trick_check_steps.specs.Steps.{count_at}
 
 pub loop-branch-preserved : goal.loop-branch-preserved
 loop-branch-preserved c =

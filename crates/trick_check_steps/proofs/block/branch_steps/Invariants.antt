@@ -2,8 +2,8 @@ use Rattle.std.proofs.Common.{◌≡◌, ◌+◌, ◌<◌, ◌^◌, drop, max}
 use Rattle.trick_base.specs.Capped.{capped}
 use Rattle.trick_lang.specs.Count.{branch_steps}
 use Rattle.trick_lang.specs.TreeOf.{branches_of, else_of}
-use Rattle.trick_steps.proofs.block.branch_steps.Given as goal
-use Rattle.trick_steps.specs.Steps.{count_at}
+use Rattle.trick_check_steps.proofs.block.branch_steps.Given as goal
+use Rattle.trick_check_steps.specs.Steps.{count_at}
 
 -- the most so far, or what is left after the conditions so far
 abbrev pub invariant-loop-branch : goal.invariant-loop-branch

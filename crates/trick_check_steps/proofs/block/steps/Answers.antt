@@ -3,9 +3,9 @@ use Rattle.std.proofs.lemmas.List.{take_more}
 use Rattle.trick_base.specs.Capped.{capped}
 use Rattle.trick_lang.specs.Count.{all_steps}
 use Rattle.trick_lang.specs.TreeOf.{code_list, codes_of}
-use Rattle.trick_steps.proofs.Blocks.{steps_append}
-use Rattle.trick_steps.proofs.block.steps.Goals as goal
-use Rattle.trick_steps.specs.Steps.{blocks_steps, count_at}
+use Rattle.trick_check_steps.proofs.Blocks.{steps_append}
+use Rattle.trick_check_steps.proofs.block.steps.Goals as goal
+use Rattle.trick_check_steps.specs.Steps.{blocks_steps, count_at}
 
 pub loop-block-preserved : goal.loop-block-preserved
 loop-block-preserved c =

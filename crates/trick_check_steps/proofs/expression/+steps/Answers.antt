@@ -6,7 +6,7 @@ use Rattle.trick_base.proofs.ListLemmas.{next_item}
 use Rattle.trick_lang.proofs.TreeLists.{chain_is, choose_is, spot_is}
 use Rattle.trick_lang.specs.Count.{choice_steps, computed_steps, index_steps, link_steps, term_steps}
 use Rattle.trick_lang.specs.TreeOf.{choices_of_list, links_of_list, spot_of, steps_of_list, term_of}
-use Rattle.trick_steps.proofs.expression.+steps.Goals as goal
+use Rattle.trick_check_steps.proofs.expression.+steps.Goals as goal
 
 pub link_steps-loop-link-preserved : goal.link_steps-loop-link-preserved
 link_steps-loop-link-preserved t c =

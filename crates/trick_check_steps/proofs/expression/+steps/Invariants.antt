@@ -3,7 +3,7 @@ use Rattle.trick_access.proofs.Weights.{term_weight, link_weight, choice_weight,
 use Rattle.trick_base.specs.Capped.{capped}
 use Rattle.trick_lang.specs.Count.{choice_steps, computed_steps, index_steps, link_steps}
 use Rattle.trick_lang.specs.TreeOf.{choices_of_list, links_of_list, spot_of, steps_of_list, term_of}
-use Rattle.trick_steps.proofs.expression.+steps.Given as goal
+use Rattle.trick_check_steps.proofs.expression.+steps.Given as goal
 
 abbrev pub decreases-expression_steps : goal.decreases-expression_steps
 decreases-expression_steps l = term_weight (term_of l.expression.now)

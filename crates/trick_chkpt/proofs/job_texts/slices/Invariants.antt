@@ -1,5 +1,5 @@
 use Rattle.std.proofs.Common.{◌≡◌, take}
-use Rattle.trick_load.proofs.job_texts.slices.Given as goal
+use Rattle.trick_chkpt.proofs.job_texts.slices.Given as goal
 use Rattle.trick_codes.specs.Gives.{bytes_of}
 
 abbrev pub invariant-loop-word : goal.invariant-loop-word

@@ -1,6 +1,6 @@
 use Rattle.std.proofs.Common.{Ok, ap, ◌∙◌}
-use Rattle.trick_load.proofs.Reading.{state_is, state_read}
-use Rattle.trick_load.proofs.loader.read_state.Goals as goal
+use Rattle.trick_chkpt.proofs.Reading.{state_is, state_read}
+use Rattle.trick_chkpt.proofs.loader.read_state.Goals as goal
 
 pub returns-clause-told : goal.returns-clause-told
 returns-clause-told g c =

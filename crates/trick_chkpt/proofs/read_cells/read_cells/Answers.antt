@@ -1,8 +1,8 @@
 use Rattle.std.proofs.Common.{◌≡◌, ◌++◌, ◌∷◌, [], ap, rules, ◌∙◌, w64, to_z, of_z}
 use Rattle.std.specs.Prelude.{pos, ℤ}
-use Rattle.trick_load.proofs.read_cells.read_cells.Goals as goal
-use Rattle.trick_load.specs.CheckpointLines.{cells_of}
-use Rattle.trick_load.specs.Ranges.{full_name, range_at}
+use Rattle.trick_chkpt.proofs.read_cells.read_cells.Goals as goal
+use Rattle.trick_chkpt.specs.CheckpointLines.{cells_of}
+use Rattle.trick_chkpt.specs.Ranges.{full_name, range_at}
 use Rattle.trick_codes.proofs.Each.{lines_go_on}
 use Rattle.trick_codes.specs.Named.{integer_line}
 use Rattle.trick_lang.specs.declared.cells.Cell.{Cell}

@@ -1,8 +1,8 @@
 use Rattle.std.proofs.Common.{◌≡◌, ◌++◌, drop}
 use Rattle.std.specs.Prelude.{pos}
-use Rattle.trick_load.proofs.read_cells.read_cells.Given as goal
-use Rattle.trick_load.specs.CheckpointLines.{cells_of}
-use Rattle.trick_load.specs.Ranges.{full_name, range_at}
+use Rattle.trick_chkpt.proofs.read_cells.read_cells.Given as goal
+use Rattle.trick_chkpt.specs.CheckpointLines.{cells_of}
+use Rattle.trick_chkpt.specs.Ranges.{full_name, range_at}
 use Rattle.trick_codes.proofs.Each.{lines_left}
 use Rattle.trick_codes.specs.Lines.{read_lines}
 use Rattle.trick_codes.specs.Named.{integer_line}

@@ -1,6 +1,6 @@
 use Rattle.std.proofs.Common.{◌≡◌, ◌-◌, false}
-use Rattle.trick_load.proofs.read_cells.read_flags.Given as goal
-use Rattle.trick_load.specs.CheckpointLines.{flag_line, flags_of}
+use Rattle.trick_chkpt.proofs.read_cells.read_flags.Given as goal
+use Rattle.trick_chkpt.specs.CheckpointLines.{flag_line, flags_of}
 use Rattle.trick_codes.proofs.Each.{numbered_left}
 use Rattle.trick_codes.specs.Lines.{read_lines}
 use Rattle.trick_codes.specs.Named.{indexed}

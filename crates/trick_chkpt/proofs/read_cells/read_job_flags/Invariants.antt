@@ -1,6 +1,6 @@
 use Rattle.std.proofs.Common.{◌≡◌, drop, false}
-use Rattle.trick_load.proofs.read_cells.read_job_flags.Given as goal
-use Rattle.trick_load.specs.CheckpointLines.{flag_line, job_flags_of}
+use Rattle.trick_chkpt.proofs.read_cells.read_job_flags.Given as goal
+use Rattle.trick_chkpt.specs.CheckpointLines.{flag_line, job_flags_of}
 use Rattle.trick_codes.proofs.Each.{lines_left}
 use Rattle.trick_codes.specs.Lines.{read_lines}
 use Rattle.trick_codes.specs.Named.{indexed}

@@ -1,10 +1,10 @@
 use Rattle.std.proofs.Common.{◌≡◌, ◌+◌, ◌++◌, ◌∷◌, [], ◌<◌, length, take, rules, arith, refl, subst, sym, ap, ◌∙◌, w64, to_z, of_z}
 use Rattle.std.proofs.lemmas.List.{take_more_set}
 use Rattle.std.specs.Prelude.{pos, ℤ}
-use Rattle.trick_load.proofs.Within.{in_range_at, length-scalars}
-use Rattle.trick_load.proofs.read_cells.read_memory.Goals as goal
-use Rattle.trick_load.specs.CheckpointLines.{memory_of}
-use Rattle.trick_load.specs.Ranges.{range_of}
+use Rattle.trick_chkpt.proofs.Within.{in_range_at, length-scalars}
+use Rattle.trick_chkpt.proofs.read_cells.read_memory.Goals as goal
+use Rattle.trick_chkpt.specs.CheckpointLines.{memory_of}
+use Rattle.trick_chkpt.specs.Ranges.{range_of}
 use Rattle.trick_codes.proofs.Each.{lines_go_on, lines_start}
 use Rattle.trick_codes.specs.Named.{integer_line}
 use Rattle.trick_lang.specs.Effect.{scalars_of}

@@ -1,8 +1,8 @@
 use Rattle.std.proofs.Common.{◌≡◌, ◌+◌, ◌++◌, ◌∷◌, [], ℕ, ap, arith, length, rules, sym, ◌∙◌}
 use Rattle.std.proofs.lemmas.List.{length-append}
 use Rattle.std.specs.List.{zip}
-use Rattle.trick_load.proofs.Reading.{groups_go_on, zip_more}
-use Rattle.trick_load.proofs.read_groups.read_groups_of.Goals as goal
+use Rattle.trick_chkpt.proofs.Reading.{groups_go_on, zip_more}
+use Rattle.trick_chkpt.proofs.read_groups.read_groups_of.Goals as goal
 
 pub loop-k-preserved : goal.loop-k-preserved
 loop-k-preserved c =

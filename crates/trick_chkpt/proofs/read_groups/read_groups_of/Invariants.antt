@@ -1,8 +1,8 @@
 use Rattle.std.proofs.Common.{◌≡◌, drop, length}
 use Rattle.std.specs.List.{enumerate_from, zip}
-use Rattle.trick_load.proofs.Reading.{groups_left}
-use Rattle.trick_load.proofs.read_groups.read_groups_of.Given as goal
-use Rattle.trick_load.specs.CheckpointLines.{group_of}
+use Rattle.trick_chkpt.proofs.Reading.{groups_left}
+use Rattle.trick_chkpt.proofs.read_groups.read_groups_of.Given as goal
+use Rattle.trick_chkpt.specs.CheckpointLines.{group_of}
 use Rattle.trick_codes.specs.Lines.{each, read_lines}
 use Rattle.std.specs.Prelude.{None, false}
 

@@ -1,7 +1,7 @@
 use Rattle.std.proofs.Common.{◌∙◌, ap, subst}
-use Rattle.trick_load.proofs.Reading.{last_line_is}
-use Rattle.trick_load.proofs.read_groups.read_last_line.Goals as goal
-use Rattle.trick_load.specs.Ranges.{ranges_at}
+use Rattle.trick_chkpt.proofs.Reading.{last_line_is}
+use Rattle.trick_chkpt.proofs.read_groups.read_last_line.Goals as goal
+use Rattle.trick_chkpt.specs.Ranges.{ranges_at}
 use Rattle.trick_codes.specs.Gives.{Gives, beside}
 
 pub returns : goal.returns

@@ -1,6 +1,6 @@
 use Rattle.std.proofs.Common.{arith}
-use Rattle.trick_chkpt.proofs.Cut.{cells_end}
-use Rattle.trick_chkpt.proofs.cells.push_cells.Goals as goal
+use Rattle.trick_chkpt_printer.proofs.Cut.{cells_end}
+use Rattle.trick_chkpt_printer.proofs.cells.push_cells.Goals as goal
 use Rattle.trick_lang.specs.declared.cells.Cell.{Cell}
 use Rattle.trick_model.specs.NameAt.{cell_name}
 

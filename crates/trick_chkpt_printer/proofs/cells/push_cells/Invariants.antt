@@ -1,5 +1,5 @@
 use Rattle.std.proofs.Common.{◌≡◌, ◌++◌, drop, map}
-use Rattle.trick_chkpt.proofs.cells.push_cells.Given as goal
+use Rattle.trick_chkpt_printer.proofs.cells.push_cells.Given as goal
 use Rattle.trick_lang.specs.declared.cells.Cell.{Cell}
 use Rattle.trick_model.specs.Checkpoint.{cell_lines}
 use Rattle.trick_model.specs.NameAt.{cell_name}

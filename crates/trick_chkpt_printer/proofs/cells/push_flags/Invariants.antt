@@ -1,5 +1,5 @@
 use Rattle.std.proofs.Common.{◌≡◌, ◌++◌, drop}
-use Rattle.trick_chkpt.proofs.cells.push_flags.Given as goal
+use Rattle.trick_chkpt_printer.proofs.cells.push_flags.Given as goal
 use Rattle.trick_model.specs.Checkpoint.{flag_lines}
 use Rattle.trick_model.specs.Plan.{numbers_from}
 

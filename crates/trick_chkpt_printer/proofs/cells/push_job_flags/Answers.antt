@@ -1,6 +1,6 @@
 use Rattle.std.proofs.Common.{arith}
-use Rattle.trick_chkpt.proofs.Cut.{flags_end}
-use Rattle.trick_chkpt.proofs.cells.push_job_flags.Goals as goal
+use Rattle.trick_chkpt_printer.proofs.Cut.{flags_end}
+use Rattle.trick_chkpt_printer.proofs.cells.push_job_flags.Goals as goal
 use Rattle.trick_lang.specs.declared.job.JobId.{JobId}
 
 pub returns : goal.returns

@@ -1,5 +1,5 @@
 use Rattle.std.proofs.Common.{◌≡◌, ◌++◌, drop, map}
-use Rattle.trick_chkpt.proofs.cells.push_job_flags.Given as goal
+use Rattle.trick_chkpt_printer.proofs.cells.push_job_flags.Given as goal
 use Rattle.trick_lang.specs.declared.job.JobId.{JobId}
 use Rattle.trick_model.specs.Checkpoint.{flag_lines}
 

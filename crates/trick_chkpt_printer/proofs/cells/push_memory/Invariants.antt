@@ -1,5 +1,5 @@
 use Rattle.std.proofs.Common.{◌≡◌, ◌++◌, [], drop}
-use Rattle.trick_chkpt.proofs.cells.push_memory.Given as goal
+use Rattle.trick_chkpt_printer.proofs.cells.push_memory.Given as goal
 use Rattle.trick_model.specs.Checkpoint.{cell_lines}
 use Rattle.trick_model.specs.Valid.{cell_names}
 

@@ -1,5 +1,5 @@
 use Rattle.std.proofs.Common.{◌≡◌, ◌++◌, drop}
-use Rattle.trick_chkpt.proofs.faults.push_faults.Given as goal
+use Rattle.trick_chkpt_printer.proofs.faults.push_faults.Given as goal
 use Rattle.trick_model.specs.Checkpoint.{fault_lines}
 use Rattle.trick_model.specs.PlanOf.{plan_of}
 

@@ -1,8 +1,8 @@
 use Rattle.std.proofs.Common.{arith, ap, ◌<◌, length}
 use Rattle.std.proofs.lemmas.Grind.{common_steps}
-use Rattle.trick_chkpt.proofs.Threads.{next_job}
-use Rattle.trick_chkpt.proofs.plan_jobs.jobs_of.Goals as goal
-use Rattle.trick_chkpt.proofs.plan_jobs.jobs_of.Goals.{then-job-thread+in_ok-push, else-job-thread}
+use Rattle.trick_chkpt_printer.proofs.Threads.{next_job}
+use Rattle.trick_chkpt_printer.proofs.plan_jobs.jobs_of.Goals as goal
+use Rattle.trick_chkpt_printer.proofs.plan_jobs.jobs_of.Goals.{then-job-thread+in_ok-push, else-job-thread}
 use Rattle.trick_model.specs.Plan.{no_job}
 
 pub loop-k-preserved : goal.loop-k-preserved

@@ -1,6 +1,6 @@
 use Rattle.std.proofs.Common.{◌≡◌, ℕ, ◌<◌, ◌++◌, drop, length, map}
 use Rattle.std.specs.Prelude.{All, filter, ◌==◌}
-use Rattle.trick_chkpt.proofs.plan_jobs.jobs_of.Given as goal
+use Rattle.trick_chkpt_printer.proofs.plan_jobs.jobs_of.Given as goal
 use Rattle.trick_lang.specs.declared.job.JobId.{JobId}
 use Rattle.trick_model.specs.Plan.{job_numbers, numbers_from, thread_of}
 

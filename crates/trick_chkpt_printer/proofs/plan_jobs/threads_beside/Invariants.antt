@@ -1,6 +1,6 @@
 use Rattle.std.proofs.Common.{◌≡◌, take}
 use Rattle.std.specs.Prelude.{filter}
-use Rattle.trick_chkpt.proofs.plan_jobs.threads_beside.Given as goal
+use Rattle.trick_chkpt_printer.proofs.plan_jobs.threads_beside.Given as goal
 use Rattle.trick_model.specs.Plan.{is_beside}
 use Rattle.trick_model.specs.declared.thread.Thread.{Thread}
 

@@ -1,6 +1,6 @@
 use Rattle.std.proofs.Common.{arith}
-use Rattle.trick_chkpt.proofs.Cut.{groups_end}
-use Rattle.trick_chkpt.proofs.records.push_groups.Goals as goal
+use Rattle.trick_chkpt_printer.proofs.Cut.{groups_end}
+use Rattle.trick_chkpt_printer.proofs.records.push_groups.Goals as goal
 
 pub returns : goal.returns
 returns c =

@@ -1,5 +1,5 @@
 use Rattle.std.proofs.Common.{◌≡◌, ◌++◌, drop}
-use Rattle.trick_chkpt.proofs.records.push_groups.Given as goal
+use Rattle.trick_chkpt_printer.proofs.records.push_groups.Given as goal
 use Rattle.trick_model.specs.Checkpoint.{group_lines}
 
 abbrev pub invariant-loop-k : goal.invariant-loop-k

@@ -1,9 +1,9 @@
 use Rattle.std.proofs.Common.{ℕ, List, ◌++◌, map, ap, ◌∙◌}
 use Rattle.std.proofs.lemmas.Result.{on_ok_weaker}
 use Rattle.std.specs.Prelude.{codes}
-use Rattle.trick_chkpt.proofs.Threads.{held_by}
-use Rattle.trick_chkpt.proofs.records.push_held.Goals as goal
-use Rattle.trick_chkpt.specs.Parts.{held_of}
+use Rattle.trick_chkpt_printer.proofs.Threads.{held_by}
+use Rattle.trick_chkpt_printer.proofs.records.push_held.Goals as goal
+use Rattle.trick_chkpt_printer.specs.Parts.{held_of}
 use Rattle.trick_lang.specs.declared.cells.Cell.{Cell}
 use Rattle.trick_lang.specs.declared.job.JobId.{JobId}
 use Rattle.trick_model.specs.Checkpoint.{at}

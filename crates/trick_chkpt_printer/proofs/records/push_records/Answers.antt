@@ -1,6 +1,6 @@
 use Rattle.std.proofs.Common.{arith}
-use Rattle.trick_chkpt.proofs.Cut.{records_end}
-use Rattle.trick_chkpt.proofs.records.push_records.Goals as goal
+use Rattle.trick_chkpt_printer.proofs.Cut.{records_end}
+use Rattle.trick_chkpt_printer.proofs.records.push_records.Goals as goal
 use Rattle.trick_model.specs.PlanOf.{plan_of}
 
 pub returns : goal.returns

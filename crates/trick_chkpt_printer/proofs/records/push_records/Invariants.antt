@@ -1,5 +1,5 @@
 use Rattle.std.proofs.Common.{◌≡◌, ◌++◌, drop}
-use Rattle.trick_chkpt.proofs.records.push_records.Given as goal
+use Rattle.trick_chkpt_printer.proofs.records.push_records.Given as goal
 use Rattle.trick_model.specs.Checkpoint.{all_taken_lines}
 use Rattle.trick_model.specs.Plan.{threads_beside}
 use Rattle.trick_model.specs.PlanOf.{plan_of}

@@ -1,7 +1,7 @@
 use Rattle.std.proofs.Common.{◌≡◌, ◌++◌, drop, map}
 use Rattle.std.specs.Prelude.{filter}
-use Rattle.trick_chkpt.proofs.thread_scope.cells_of.Given as goal
-use Rattle.trick_chkpt.specs.Marks.{is_marked, marked_cells}
+use Rattle.trick_chkpt_printer.proofs.thread_scope.cells_of.Given as goal
+use Rattle.trick_chkpt_printer.specs.Marks.{is_marked, marked_cells}
 use Rattle.trick_lang.specs.declared.cells.Cell.{Cell}
 use Rattle.trick_model.specs.Plan.{numbers_from}
 

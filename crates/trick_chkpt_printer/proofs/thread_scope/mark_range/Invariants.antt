@@ -1,7 +1,7 @@
 use Rattle.std.proofs.Common.{◌≡◌, ℕ, ◌<◌, length}
 use Rattle.std.specs.Prelude.{◌&&◌, ◌||◌, nat_le, nat_lt}
-use Rattle.trick_chkpt.proofs.thread_scope.mark_range.Given as goal
-use Rattle.trick_chkpt.specs.Marks.{is_marked}
+use Rattle.trick_chkpt_printer.proofs.thread_scope.mark_range.Given as goal
+use Rattle.trick_chkpt_printer.specs.Marks.{is_marked}
 
 abbrev pub invariant-loop-cell : goal.invariant-loop-cell
 invariant-loop-cell l =

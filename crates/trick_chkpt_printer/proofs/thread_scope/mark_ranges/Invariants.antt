@@ -1,7 +1,7 @@
 use Rattle.std.proofs.Common.{◌≡◌, ℕ, ◌<◌, length, drop}
 use Rattle.std.specs.Prelude.{◌||◌}
-use Rattle.trick_chkpt.proofs.thread_scope.mark_ranges.Given as goal
-use Rattle.trick_chkpt.specs.Marks.{is_marked}
+use Rattle.trick_chkpt_printer.proofs.thread_scope.mark_ranges.Given as goal
+use Rattle.trick_chkpt_printer.specs.Marks.{is_marked}
 use Rattle.trick_lang.specs.Access.{is_in}
 
 abbrev pub invariant-loop-range : goal.invariant-loop-range

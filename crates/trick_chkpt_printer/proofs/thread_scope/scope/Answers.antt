@@ -1,8 +1,8 @@
 use Rattle.std.proofs.Common.{ap, arith, ◌∙◌}
 use Rattle.std.proofs.lemmas.Result.{IfOk-weaker}
-use Rattle.trick_chkpt.proofs.Scopes.{in_scope}
-use Rattle.trick_chkpt.proofs.thread_scope.scope.Goals as goal
-use Rattle.trick_chkpt.specs.Marks.{marked_cells, numbers_of}
+use Rattle.trick_chkpt_printer.proofs.Scopes.{in_scope}
+use Rattle.trick_chkpt_printer.proofs.thread_scope.scope.Goals as goal
+use Rattle.trick_chkpt_printer.specs.Marks.{marked_cells, numbers_of}
 
 pub returns : goal.returns
 returns c =

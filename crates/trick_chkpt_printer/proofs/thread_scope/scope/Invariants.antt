@@ -1,7 +1,7 @@
 use Rattle.std.proofs.Common.{◌≡◌, ℕ, ◌<◌, length, drop}
 use Rattle.std.specs.Prelude.{◌||◌}
-use Rattle.trick_chkpt.proofs.thread_scope.scope.Given as goal
-use Rattle.trick_chkpt.specs.Marks.{is_marked, touched_by}
+use Rattle.trick_chkpt_printer.proofs.thread_scope.scope.Given as goal
+use Rattle.trick_chkpt_printer.specs.Marks.{is_marked, touched_by}
 use Rattle.trick_model.specs.PlanOf.{plan_of}
 
 abbrev pub invariant-loop-job : goal.invariant-loop-job

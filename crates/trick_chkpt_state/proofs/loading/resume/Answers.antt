@@ -1,9 +1,9 @@
 use Rattle.std.proofs.Common.{◌∙◌, List, ℕ, subst, sym}
-use Rattle.trick_load.specs.CheckpointLines.{checkpoint}
+use Rattle.trick_chkpt.specs.CheckpointLines.{checkpoint}
 use Rattle.trick_codes.specs.Loads.{Loads}
 use Rattle.trick_model.specs.State.{seen}
-use Rattle.trick_resume.proofs.Again.{checkpoint_if, loaded_as, memory_if}
-use Rattle.trick_resume.proofs.loading.resume.Goals as goal
+use Rattle.trick_chkpt_state.proofs.Again.{checkpoint_if, loaded_as, memory_if}
+use Rattle.trick_chkpt_state.proofs.loading.resume.Goals as goal
 
 pub returns-clause-checkpoint : goal.returns-clause-checkpoint
 returns-clause-checkpoint c =

@@ -1,7 +1,7 @@
 use Rattle.std.proofs.Common.{◌++◌, ◌∷◌, [], ap, sym, ◌∙◌}
-use Rattle.trick_feed.proofs.Pieces.{dropped, kept_unless}
+use Rattle.trick_command.proofs.FedPieces.{dropped, kept_unless}
 use Rattle.trick_model.specs.Commands.{without_return}
-use Rattle.trick_feed.proofs.feed.without_return.Goals as goal
+use Rattle.trick_command.proofs.feed.without_return.Goals as goal
 
 pub returns-then-last-eq13 : goal.returns-then-last-eq13
 returns-then-last-eq13 c =

@@ -1,6 +1,6 @@
 use Rattle.std.proofs.Common.{length}
 use Rattle.trick_session.specs.Kept.{AreThere}
-use Rattle.trick_line_cases.proofs.sessions.are_there.Given as goal
+use Rattle.trick_command_cases.proofs.sessions.are_there.Given as goal
 
 abbrev pub invariant-loop-rest : goal.invariant-loop-rest
 invariant-loop-rest l = AreThere l.cells l.rest → AreThere l.cells l.fn.variables

@@ -1,5 +1,5 @@
-use Rattle.trick_crew_yard.proofs.Parts.{parts}
-use Rattle.trick_crew_yard.proofs.ending.clerk_of.Goals as goal
+use Rattle.trick_crew_clerks.proofs.Parts.{parts}
+use Rattle.trick_crew_clerks.proofs.ending.clerk_of.Goals as goal
 
 pub finish-requires-send-W : goal.finish-requires-send-W
 finish-requires-send-W g c κs within = search parts depth 30

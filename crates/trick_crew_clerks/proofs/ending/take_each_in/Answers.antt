@@ -1,9 +1,9 @@
 use Rattle.std.proofs.Common.{◌≡◌, ◌∙◌, [], refl, rules, subst, sym}
 use Rattle.std.specs.Arc.{arc_value}
-use Rattle.trick_crew_yard.proofs.Lists.{prefix_of_prefix}
-use Rattle.trick_crew_yard.proofs.Taking.{last_here, others_of, still_in, taken_in, taking_all, taking_more, taking_none}
-use Rattle.trick_crew_yard.proofs.ending.take_each_in.Goals as goal
-use Rattle.trick_crew_yard.specs.Staffs.{AreOfPost, IsTakenIn}
+use Rattle.trick_crew_clerks.proofs.Lists.{prefix_of_prefix}
+use Rattle.trick_crew_clerks.proofs.Taking.{last_here, others_of, still_in, taken_in, taking_all, taking_more, taking_none}
+use Rattle.trick_crew_clerks.proofs.ending.take_each_in.Goals as goal
+use Rattle.trick_crew_clerks.specs.Staffs.{AreOfPost, IsTakenIn}
 use Rattle.trick_turn.proofs.Lists.{prefix_self}
 use Rattle.trick_turn.specs.Passes.{seen}
 

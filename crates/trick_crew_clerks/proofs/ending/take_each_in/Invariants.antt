@@ -1,8 +1,8 @@
 use Rattle.std.proofs.Common.{◌≡◌, vec_len}
 use Rattle.std.specs.Arc.{arc_value}
-use Rattle.trick_crew_yard.proofs.Taking.{IsTaking}
-use Rattle.trick_crew_yard.proofs.ending.take_each_in.Given as goal
-use Rattle.trick_crew_yard.specs.Staffs.{AreOfPost, IsTakenIn}
+use Rattle.trick_crew_clerks.proofs.Taking.{IsTaking}
+use Rattle.trick_crew_clerks.proofs.ending.take_each_in.Given as goal
+use Rattle.trick_crew_clerks.specs.Staffs.{AreOfPost, IsTakenIn}
 use Rattle.trick_turn.specs.Passes.{own, seen}
 use mathlib.Core.List.{IsPrefix}
 

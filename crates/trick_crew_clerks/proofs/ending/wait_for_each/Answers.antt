@@ -1,10 +1,10 @@
 use Rattle.std.proofs.Common.{◌≡◌, ◌∙◌, [], refl, rules, subst, sym}
 use Rattle.std.specs.Arc.{arc_value}
 use Rattle.std.specs.Prelude.{All}
-use Rattle.trick_crew_yard.proofs.Lists.{prefix_of_prefix}
-use Rattle.trick_crew_yard.proofs.Taking.{has_ended, last_away, others_of, still_ended, taking_all, taking_more, taking_none}
-use Rattle.trick_crew_yard.proofs.ending.wait_for_each.Goals as goal
-use Rattle.trick_crew_yard.specs.Staffs.{HasEnded, RunsAtPost}
+use Rattle.trick_crew_clerks.proofs.Lists.{prefix_of_prefix}
+use Rattle.trick_crew_clerks.proofs.Taking.{has_ended, last_away, others_of, still_ended, taking_all, taking_more, taking_none}
+use Rattle.trick_crew_clerks.proofs.ending.wait_for_each.Goals as goal
+use Rattle.trick_crew_clerks.specs.Staffs.{HasEnded, RunsAtPost}
 use Rattle.trick_turn.proofs.Lists.{prefix_self}
 use Rattle.trick_turn.specs.Passes.{seen}
 

@@ -1,9 +1,9 @@
 use Rattle.std.proofs.Common.{◌≡◌, vec_len}
 use Rattle.std.specs.Arc.{arc_value}
 use Rattle.std.specs.Prelude.{All}
-use Rattle.trick_crew_yard.proofs.Taking.{IsTaking}
-use Rattle.trick_crew_yard.proofs.ending.wait_for_each.Given as goal
-use Rattle.trick_crew_yard.specs.Staffs.{HasEnded, RunsAtPost}
+use Rattle.trick_crew_clerks.proofs.Taking.{IsTaking}
+use Rattle.trick_crew_clerks.proofs.ending.wait_for_each.Given as goal
+use Rattle.trick_crew_clerks.specs.Staffs.{HasEnded, RunsAtPost}
 use Rattle.trick_turn.specs.Passes.{own, seen}
 use mathlib.Core.List.{IsPrefix}
 

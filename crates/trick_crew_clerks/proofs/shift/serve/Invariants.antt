@@ -1,6 +1,6 @@
 use Rattle.std.proofs.Common.{◌≡◌, ◌++◌, ℕ}
-use Rattle.trick_crew_yard.proofs.shift.serve.Given as goal
-use Rattle.trick_crew_yard.specs.Serving.{errands}
+use Rattle.trick_crew_clerks.proofs.shift.serve.Given as goal
+use Rattle.trick_crew_clerks.specs.Serving.{errands}
 use Rattle.trick_turn.specs.Passes.{own}
 
 abbrev pub invariant-loop : goal.invariant-loop

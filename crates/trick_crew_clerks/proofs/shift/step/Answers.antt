@@ -1,6 +1,6 @@
 use Rattle.std.proofs.Common.{◌∙◌, append-nil, inl, inr, sym}
-use Rattle.trick_crew_yard.proofs.Serving.{ready_waits_not, waits_not, errand_got}
-use Rattle.trick_crew_yard.proofs.shift.step.Goals as goal
+use Rattle.trick_crew_clerks.proofs.Serving.{ready_waits_not, waits_not, errand_got}
+use Rattle.trick_crew_clerks.proofs.shift.step.Goals as goal
 use Rattle.trick_turn.specs.Passes.{number_of, own, seen}
 
 pub returns-in-Got-clause-work : goal.returns-in-Got-clause-work

@@ -1,7 +1,7 @@
 use Rattle.std.proofs.Common.{◌≡◌, [], arith, rules}
-use Rattle.trick_crew_yard.proofs.Sharing.{cause_more, cause_none, sharing_all, sharing_more, sharing_none}
-use Rattle.trick_crew_yard.proofs.staff.start_each.Goals as goal
-use Rattle.trick_crew_yard.specs.Serving.{HasServed}
+use Rattle.trick_crew_clerks.proofs.Sharing.{cause_more, cause_none, sharing_all, sharing_more, sharing_none}
+use Rattle.trick_crew_clerks.proofs.staff.start_each.Goals as goal
+use Rattle.trick_crew_clerks.specs.Serving.{HasServed}
 
 pub loop-shift-init : goal.loop-shift-init
 loop-shift-init g c = record {

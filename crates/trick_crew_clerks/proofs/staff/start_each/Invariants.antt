@@ -1,8 +1,8 @@
 use Rattle.std.proofs.Common.{◌+◌, ◌≤◌, vec_capacity, vec_len}
-use Rattle.trick_crew_yard.proofs.Sharing.{IsSharing}
-use Rattle.trick_crew_yard.proofs.staff.start_each.Given as goal
-use Rattle.trick_crew_yard.specs.Serving.{HasServed}
-use Rattle.trick_crew_yard.specs.Staffs.{StayedAny}
+use Rattle.trick_crew_clerks.proofs.Sharing.{IsSharing}
+use Rattle.trick_crew_clerks.proofs.staff.start_each.Given as goal
+use Rattle.trick_crew_clerks.specs.Serving.{HasServed}
+use Rattle.trick_crew_clerks.specs.Staffs.{StayedAny}
 use Rattle.trick_outside.specs.Causes.{HasCause}
 
 abbrev pub invariant-loop-shift : goal.invariant-loop-shift

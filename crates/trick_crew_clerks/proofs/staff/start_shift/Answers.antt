@@ -1,5 +1,5 @@
-use Rattle.trick_crew_yard.proofs.Parts.{parts}
-use Rattle.trick_crew_yard.proofs.staff.start_shift.Goals as goal
+use Rattle.trick_crew_clerks.proofs.Parts.{parts}
+use Rattle.trick_crew_clerks.proofs.staff.start_shift.Goals as goal
 
 pub start-requires-send-W : goal.start-requires-send-W
 start-requires-send-W g c κs within = search parts depth 30

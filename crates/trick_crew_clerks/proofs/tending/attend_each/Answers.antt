@@ -1,8 +1,8 @@
 use Rattle.std.proofs.Common.{rules, ◌≡◌, ◌∙◌, ℕ, ◌<◌, ◌≤◌, length, refl, sym}
 use Rattle.std.proofs.lemmas.List.{length-set}
-use Rattle.trick_crew_yard.proofs.Tended.{up_all, up_more}
-use Rattle.trick_crew_yard.proofs.tending.attend_each.Goals as goal
-use Rattle.trick_crew_yard.specs.Tending.{IsTended}
+use Rattle.trick_crew_clerks.proofs.Tended.{up_all, up_more}
+use Rattle.trick_crew_clerks.proofs.tending.attend_each.Goals as goal
+use Rattle.trick_crew_clerks.specs.Tending.{IsTended}
 
 pub loop-index-init : goal.loop-index-init
 loop-index-init g c = record { many = refl; tended = refl }

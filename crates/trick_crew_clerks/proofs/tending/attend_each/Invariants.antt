@@ -1,7 +1,7 @@
 use Rattle.std.proofs.Common.{◌≡◌, ℕ, length}
-use Rattle.trick_crew_yard.proofs.Tended.{UpTo}
-use Rattle.trick_crew_yard.proofs.tending.attend_each.Given as goal
-use Rattle.trick_crew_yard.specs.Tending.{IsTended}
+use Rattle.trick_crew_clerks.proofs.Tended.{UpTo}
+use Rattle.trick_crew_clerks.proofs.tending.attend_each.Given as goal
+use Rattle.trick_crew_clerks.specs.Tending.{IsTended}
 
 abbrev pub invariant-loop-index : goal.invariant-loop-index
 invariant-loop-index g l = record {

@@ -1,5 +1,5 @@
 use Rattle.std.proofs.Common.{◌≡◌, ◌+◌, ◌++◌, map, reverse, take, vec_len}
-use Rattle.trick_crew.proofs.crew.workers_for.Given as goal
+use Rattle.trick_crew_team.proofs.crew.workers_for.Given as goal
 
 abbrev pub invariant-loop-thread : goal.invariant-loop-thread
 invariant-loop-thread g l = record {

@@ -1,5 +1,5 @@
-use Rattle.trick_crew.proofs.Served.{due_threads_are_served}
-use Rattle.trick_crew.proofs.laws.due_threads_are_served.Goals as goal
+use Rattle.trick_crew_team.proofs.Served.{due_threads_are_served}
+use Rattle.trick_crew_team.proofs.laws.due_threads_are_served.Goals as goal
 
 pub returns : goal.returns
 returns c = due_threads_are_served

@@ -1,7 +1,7 @@
 use Rattle.std.proofs.Common.{◌∙◌, ◌∷◌, ◌+◌, ap, arith, drop, sym}
 use Rattle.std.proofs.lemmas.List.{drop_more}
-use Rattle.trick_crew.proofs.Starting.{refused_more}
-use Rattle.trick_crew.proofs.members.add_refused.Goals as goal
+use Rattle.trick_crew_team.proofs.Starting.{refused_more}
+use Rattle.trick_crew_team.proofs.members.add_refused.Goals as goal
 
 pub loop-member-preserved : goal.loop-member-preserved
 loop-member-preserved g c =

@@ -1,6 +1,6 @@
 use Rattle.std.proofs.Common.{◌≡◌, ◌≤◌, ◌+◌, ◌++◌, drop, vec_capacity, vec_len}
-use Rattle.trick_crew.proofs.members.add_refused.Given as goal
-use Rattle.trick_crew.specs.Members.{refused}
+use Rattle.trick_crew_team.proofs.members.add_refused.Given as goal
+use Rattle.trick_crew_team.specs.Members.{refused}
 
 abbrev pub invariant-loop-member : goal.invariant-loop-member
 invariant-loop-member g l = record {

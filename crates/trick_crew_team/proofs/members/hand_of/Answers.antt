@@ -1,7 +1,7 @@
 use Rattle.std.proofs.Common.{sym, subst}
-use Rattle.trick_crew.proofs.Parts.{parts}
-use Rattle.trick_crew.proofs.members.hand_of.Goals as goal
-use Rattle.trick_crew.specs.Hands.{IsLeftBy}
+use Rattle.trick_crew_team.proofs.Parts.{parts}
+use Rattle.trick_crew_team.proofs.members.hand_of.Goals as goal
+use Rattle.trick_crew_team.specs.Hands.{IsLeftBy}
 
 pub finish-requires-send-W : goal.finish-requires-send-W
 finish-requires-send-W g c κs within = search parts depth 30

@@ -1,9 +1,9 @@
 use Rattle.std.proofs.Common.{◌∙◌, refl, subst, sym, vec_len}
-use Rattle.trick_crew.proofs.Parts.{parts}
-use Rattle.trick_crew.proofs.Starting.{IsStarting, cause_more, cause_none, none_done, one_more, starting_more, starting_none}
-use Rattle.trick_crew.proofs.members.start_each.Goals as goal
-use Rattle.trick_crew.specs.Members.{IsRefusedAny}
-use Rattle.trick_crew.specs.Working.{HasWorked}
+use Rattle.trick_crew_team.proofs.Parts.{parts}
+use Rattle.trick_crew_team.proofs.Starting.{IsStarting, cause_more, cause_none, none_done, one_more, starting_more, starting_none}
+use Rattle.trick_crew_team.proofs.members.start_each.Goals as goal
+use Rattle.trick_crew_team.specs.Members.{IsRefusedAny}
+use Rattle.trick_crew_team.specs.Working.{HasWorked}
 use Rattle.trick_outside.specs.Causes.{HasCause}
 
 pub start-member-requires-send-W : goal.start-member-requires-send-W

@@ -1,8 +1,8 @@
 use Rattle.std.proofs.Common.{◌≡◌, ◌+◌, vec_capacity, vec_len}
-use Rattle.trick_crew.proofs.Starting.{IsStarting}
-use Rattle.trick_crew.proofs.members.start_each.Given as goal
-use Rattle.trick_crew.specs.Members.{IsRefusedAny}
-use Rattle.trick_crew.specs.Working.{HasWorked}
+use Rattle.trick_crew_team.proofs.Starting.{IsStarting}
+use Rattle.trick_crew_team.proofs.members.start_each.Given as goal
+use Rattle.trick_crew_team.specs.Members.{IsRefusedAny}
+use Rattle.trick_crew_team.specs.Working.{HasWorked}
 use Rattle.trick_outside.specs.Causes.{HasCause}
 
 abbrev pub invariant-loop-worker : goal.invariant-loop-worker

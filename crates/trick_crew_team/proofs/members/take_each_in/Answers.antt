@@ -1,8 +1,8 @@
 use Rattle.std.proofs.Common.{◌∙◌, ap, refl}
 use Rattle.std.specs.Arc.{arc_value}
-use Rattle.trick_crew.proofs.Lists.{prefix_of_prefix}
-use Rattle.trick_crew.proofs.TakingIn.{last_is_of, others_of_hall, same_hall, taking_more, taking_none}
-use Rattle.trick_crew.proofs.members.take_each_in.Goals as goal
+use Rattle.trick_crew_team.proofs.Lists.{prefix_of_prefix}
+use Rattle.trick_crew_team.proofs.TakingIn.{last_is_of, others_of_hall, same_hall, taking_more, taking_none}
+use Rattle.trick_crew_team.proofs.members.take_each_in.Goals as goal
 use Rattle.trick_turn.proofs.Lists.{prefix_self}
 use Rattle.trick_turn.specs.Passes.{seen}
 

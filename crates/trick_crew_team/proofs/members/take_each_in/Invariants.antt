@@ -1,7 +1,7 @@
 use Rattle.std.proofs.Common.{◌≡◌, vec_len}
-use Rattle.trick_crew.proofs.TakingIn.{IsTaking}
-use Rattle.trick_crew.proofs.members.take_each_in.Given as goal
-use Rattle.trick_crew.specs.Hands.{AreOfHall}
+use Rattle.trick_crew_team.proofs.TakingIn.{IsTaking}
+use Rattle.trick_crew_team.proofs.members.take_each_in.Given as goal
+use Rattle.trick_crew_team.specs.Hands.{AreOfHall}
 use Rattle.trick_turn.specs.Passes.{own, seen}
 use mathlib.Core.List.{IsPrefix}
 

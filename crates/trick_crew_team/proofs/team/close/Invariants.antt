@@ -1,5 +1,5 @@
 use Rattle.std.proofs.Common.{◌≡◌}
-use Rattle.trick_crew.proofs.team.close.Given as goal
+use Rattle.trick_crew_team.proofs.team.close.Given as goal
 use Rattle.trick_turn.specs.Passes.{own}
 
 abbrev pub invariant-loop : goal.invariant-loop

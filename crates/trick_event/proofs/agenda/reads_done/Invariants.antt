@@ -2,7 +2,7 @@ use Rattle.std.proofs.Common.{◌≡◌, ◌-◌, ◌≤◌, ℕ, drop, length}
 use Rattle.trick_event.proofs.Left.{IsPassing}
 use Rattle.trick_event.proofs.agenda.reads_done.Given as goal
 use Rattle.trick_event.specs.Asking.{asking}
-use Rattle.trick_job.specs.Belongs.{IsMemoryOf}
+use Rattle.trick_phase_jobs.specs.Belongs.{IsMemoryOf}
 use Rattle.trick_model.specs.Events.{reads_done}
 
 -- what is left of the reads makes of what is there what all make of the beginning

@@ -1,7 +1,7 @@
 use Rattle.std.proofs.Common.{◌≡◌, drop}
 use Rattle.trick_event.proofs.due.events_done.Given as goal
 use Rattle.trick_event.specs.Asking.{asking}
-use Rattle.trick_job.specs.Belongs.{IsMemoryOf}
+use Rattle.trick_phase_jobs.specs.Belongs.{IsMemoryOf}
 use Rattle.trick_model.specs.Events.{events_done}
 use Rattle.trick_model.specs.PlanOf.{plan_of}
 

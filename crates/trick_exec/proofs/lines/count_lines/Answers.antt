@@ -1,7 +1,7 @@
 use Rattle.std.proofs.Common.{ℕ, ◌∙◌, drop, subst, sym, take}
 use Rattle.trick_exec.proofs.LineLemmas.{apart_all, apart_at}
 use Rattle.trick_exec.proofs.lines.count_lines.Goals as goal
-use Rattle.trick_runs.specs.Parts.{AreApart}
+use Rattle.trick_exec_meaning.specs.Parts.{AreApart}
 
 pub returns-then-not-is_of_session-clause-apart : goal.returns-then-not-is_of_session-clause-apart
 returns-then-not-is_of_session-clause-apart c = λ s may.

@@ -1,12 +1,12 @@
 use Rattle.std.proofs.Common.{◌≡◌, ◌∙◌, ℕ, ◌+◌, ◌≤◌, ap, subst, sym}
 use Rattle.trick_exec.proofs.ChosenLemmas.{made_of}
 use Rattle.trick_exec.proofs.lines.hear_lines.Goals as goal
-use Rattle.trick_hear.specs.Hearing.{hearing_of}
+use Rattle.trick_exec_entries.specs.Hearing.{hearing_of}
 use Rattle.trick_model.specs.PlanOf.{plan_of}
 use Rattle.trick_model.specs.State.{seen}
 use Rattle.trick_base.specs.Time.{tic_limit}
 use Rattle.trick_model.specs.Turn.{Hearing}
-use Rattle.trick_runs.proofs.Times.{heard_time}
+use Rattle.trick_exec_meaning.proofs.Times.{heard_time}
 
 pub look_again-requires-clause-made : goal.look_again-requires-clause-made
 look_again-requires-clause-made g c =

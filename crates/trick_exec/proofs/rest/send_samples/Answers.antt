@@ -5,11 +5,11 @@ use Rattle.std.specs.Prelude.{◌==◌, All, IsTrue}
 use Rattle.trick_exec.proofs.SendLemmas.{not_ok}
 use Rattle.trick_exec.proofs.SessionLemmas.{samples_reach}
 use Rattle.trick_exec.proofs.rest.send_samples.Goals as goal
-use Rattle.trick_hear.specs.Hearing.{said_of}
+use Rattle.trick_exec_entries.specs.Hearing.{said_of}
 use Rattle.trick_model.specs.Session.{Message as MessageOf, samples}
 use Rattle.trick_model.specs.State.{State, seen}
-use Rattle.trick_runs.proofs.SayLemmas.{says_as, says_none}
-use Rattle.trick_turns.specs.Turns.{is_among}
+use Rattle.trick_exec_meaning.proofs.SayLemmas.{says_as, says_none}
+use Rattle.trick_exec_sources.specs.Turns.{is_among}
 
 pub send_all-requires : goal.send_all-requires
 send_all-requires g c =

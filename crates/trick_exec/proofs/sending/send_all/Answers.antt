@@ -4,10 +4,10 @@ use Rattle.std.proofs.lemmas.Result.{err_from_is_err_and}
 use Rattle.std.specs.Prelude.{IsTrue}
 use Rattle.trick_exec.proofs.SendLemmas.{next_message, not_ok, of_message}
 use Rattle.trick_exec.proofs.sending.send_all.Goals as goal
-use Rattle.trick_hear.specs.Hearing.{message_of, said_of}
+use Rattle.trick_exec_entries.specs.Hearing.{message_of, said_of}
 use Rattle.trick_model.specs.Session.{Message as MessageOf}
-use Rattle.trick_runs.proofs.SayLemmas.{saying_ends, saying_more, saying_starts, saying_stops}
-use Rattle.trick_turns.specs.Turns.{Sessions, is_among}
+use Rattle.trick_exec_meaning.proofs.SayLemmas.{saying_ends, saying_more, saying_starts, saying_stops}
+use Rattle.trick_exec_sources.specs.Turns.{Sessions, is_among}
 
 pub loop-message-init : goal.loop-message-init
 loop-message-init g c = saying_starts g.T.Turns c.args.turns.now (said_of c.args.messages.now) (g.met.T.Turns.went_none c.args.turns.now)

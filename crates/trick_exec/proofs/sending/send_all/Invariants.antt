@@ -1,7 +1,7 @@
 use Rattle.std.proofs.Common.{drop}
 use Rattle.trick_exec.proofs.sending.send_all.Given as goal
-use Rattle.trick_hear.specs.Hearing.{said_of}
-use Rattle.trick_runs.proofs.SayLemmas.{Saying}
+use Rattle.trick_exec_entries.specs.Hearing.{said_of}
+use Rattle.trick_exec_meaning.proofs.SayLemmas.{Saying}
 
 -- the messages so far were handed over, and these are left
 abbrev pub invariant-loop-message : goal.invariant-loop-message

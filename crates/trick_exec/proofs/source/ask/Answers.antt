@@ -1,7 +1,7 @@
 use Rattle.std.proofs.Common.{ℕ, refl, subst}
 use Rattle.trick_exec.proofs.source.ask.Goals as goal
 use Rattle.trick_model.specs.State.{State, seen}
-use Rattle.trick_turns.specs.Gap.{Gap, GivesNone, IfGap}
+use Rattle.trick_exec_sources.specs.Gap.{Gap, GivesNone, IfGap}
 
 pub returns-clause-gap : goal.returns-clause-gap
 returns-clause-gap g c =

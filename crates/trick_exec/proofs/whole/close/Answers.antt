@@ -6,7 +6,7 @@ use Rattle.trick_model.specs.PlanOf.{plan_of}
 use Rattle.trick_model.specs.State.{State}
 use Rattle.trick_outside.proofs.DoesLemmas.{does_fail}
 use Rattle.trick_outside.specs.Does.{Does}
-use Rattle.trick_tic.specs.Steps.{steps_of}
+use Rattle.trick_exec_tic.specs.Steps.{steps_of}
 
 pub returns-in_err-end_files-clause-does : goal.returns-in_err-end_files-clause-does
 returns-in_err-end_files-clause-does g c =

@@ -1,5 +1,5 @@
 use Rattle.std.proofs.Common.{◌≡◌, map, take}
-use Rattle.trick_beside.specs.declared.station.Station.{Station}
+use Rattle.trick_exec_posts.specs.declared.station.Station.{Station}
 use Rattle.trick_exec.proofs.whole.no_wait.Given as goal
 
 -- none for each of the first threads

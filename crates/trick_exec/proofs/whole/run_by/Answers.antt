@@ -1,6 +1,6 @@
 use Rattle.std.proofs.Common.{◌≡◌, ◌∙◌, [], Err, ap, subst, sym}
 use Rattle.std.specs.Prelude.{Result}
-use Rattle.trick_beside.specs.Flight.{IsFree}
+use Rattle.trick_exec_posts.specs.Flight.{IsFree}
 use Rattle.trick_eval.specs.Bench.{IsFor}
 use Rattle.trick_exec.proofs.whole.run_by.Goals as goal
 use Rattle.trick_exec.specs.Ended.{IsRun}
@@ -10,10 +10,10 @@ use Rattle.trick_model.specs.PlanOf.{plan_of}
 use Rattle.trick_model.specs.State.{State, seen}
 use Rattle.trick_outside.specs.declared.stop.Stop.TheVariants.{Memory}
 use Rattle.trick_outside.specs.declared.stop.Stop.{Stop}
-use Rattle.trick_runs.proofs.Going.{Laws}
-use Rattle.trick_runs.proofs.Whole.{stopped_at_once}
-use Rattle.trick_runs.specs.Hosts.{Place, at, hosts}
-use Rattle.trick_tic.specs.Course.{IsCourseOf}
+use Rattle.trick_exec_meaning.proofs.Going.{Laws}
+use Rattle.trick_exec_meaning.proofs.Whole.{stopped_at_once}
+use Rattle.trick_exec_meaning.specs.Hosts.{Place, at, hosts}
+use Rattle.trick_exec_tic.specs.Course.{IsCourseOf}
 
 pub returns-in_default : goal.returns-in_default
 returns-in_default g c =

@@ -1,6 +1,6 @@
 use Rattle.std.proofs.Common.{rules, ◌≤◌, ◌<◌, ◌^◌, arith, length, FitsSigned, w64}
-use Rattle.trick_serial.proofs.SumLemmas.{sum_all, sum_more, sum_none}
-use Rattle.trick_serial.proofs.sum.sum_of.Goals as goal
+use Rattle.trick_exec_alone.proofs.SumLemmas.{sum_all, sum_more, sum_none}
+use Rattle.trick_exec_alone.proofs.sum.sum_of.Goals as goal
 
 pub loop-cell-init : goal.loop-cell-init
 loop-cell-init g c = sum_none

@@ -3,8 +3,8 @@ use Rattle.std.specs.Arc.{arc_value}
 use Rattle.trick_model.specs.PlanOf.{plan_of}
 use Rattle.trick_model.specs.Run.{start}
 use Rattle.trick_model.specs.ValidState.{IsStateOf}
-use Rattle.trick_replay.proofs.ReplayLemmas.{none_kept}
-use Rattle.trick_replay.proofs.run.replay.Goals as goal
+use Rattle.trick_exec_alone.proofs.ReplayLemmas.{none_kept}
+use Rattle.trick_exec_alone.proofs.under_journal.replay.Goals as goal
 
 pub replay_from-requires-clause-valid : goal.replay_from-requires-clause-valid
 replay_from-requires-clause-valid g c =

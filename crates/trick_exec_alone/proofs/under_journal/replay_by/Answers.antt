@@ -3,11 +3,11 @@ use Rattle.std.proofs.lemmas.Result.{err_from_is_err_and}
 use Rattle.trick_exec.specs.declared.ended.Ended.{Ended as EndedValue}
 use Rattle.trick_model.specs.PlanOf.{plan_of}
 use Rattle.trick_model.specs.State.{State, World, seen}
-use Rattle.trick_replay.proofs.ReplayLemmas.{misfit, none_kept, stopped, whole}
-use Rattle.trick_replay.proofs.run.replay_by.Goals as goal
-use Rattle.trick_serial.specs.Serial.{summary_of}
-use Rattle.trick_turns.specs.Joins.{joins_of}
-use Rattle.trick_turns.specs.Turns.{Told}
+use Rattle.trick_exec_alone.proofs.ReplayLemmas.{misfit, none_kept, stopped, whole}
+use Rattle.trick_exec_alone.proofs.under_journal.replay_by.Goals as goal
+use Rattle.trick_exec_alone.specs.Serial.{summary_of}
+use Rattle.trick_exec_sources.specs.Joins.{joins_of}
+use Rattle.trick_exec_sources.specs.Turns.{Told}
 
 pub returns-in_default : goal.returns-in_default
 returns-in_default g c =

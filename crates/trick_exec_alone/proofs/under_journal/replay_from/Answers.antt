@@ -1,8 +1,8 @@
 use Rattle.std.specs.Arc.{arc_value}
 use Rattle.trick_model.specs.PlanOf.{plan_of}
 use Rattle.trick_model.specs.State.{seen}
-use Rattle.trick_replay.proofs.ReplayLemmas.{none_kept}
-use Rattle.trick_replay.proofs.run.replay_from.Goals as goal
+use Rattle.trick_exec_alone.proofs.ReplayLemmas.{none_kept}
+use Rattle.trick_exec_alone.proofs.under_journal.replay_from.Goals as goal
 
 pub returns-in_default : goal.returns-in_default
 returns-in_default g c =

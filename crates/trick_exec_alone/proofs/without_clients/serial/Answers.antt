@@ -3,8 +3,8 @@ use Rattle.std.specs.Arc.{arc_value}
 use Rattle.trick_model.specs.PlanOf.{plan_of}
 use Rattle.trick_model.specs.Run.{start}
 use Rattle.trick_model.specs.ValidState.{IsStateOf}
-use Rattle.trick_serial.proofs.SerialLemmas.{none_kept}
-use Rattle.trick_serial.proofs.run.serial.Goals as goal
+use Rattle.trick_exec_alone.proofs.SerialLemmas.{none_kept}
+use Rattle.trick_exec_alone.proofs.without_clients.serial.Goals as goal
 
 pub serial_from-requires-clause-valid : goal.serial_from-requires-clause-valid
 serial_from-requires-clause-valid g c =

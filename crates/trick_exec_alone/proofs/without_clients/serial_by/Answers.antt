@@ -6,10 +6,10 @@ use Rattle.trick_exec.specs.declared.ended.Ended.{Ended as EndedValue}
 use Rattle.trick_model.specs.PlanOf.{plan_of}
 use Rattle.trick_model.specs.State.{State, World, seen}
 use Rattle.trick_outside.specs.declared.stop.Stop.{Stop}
-use Rattle.trick_runs.specs.Hosts.{at}
-use Rattle.trick_serial.proofs.SerialLemmas.{came, stopped}
-use Rattle.trick_serial.proofs.run.serial_by.Goals as goal
-use Rattle.trick_serial.specs.Serial.{summary_of}
+use Rattle.trick_exec_meaning.specs.Hosts.{at}
+use Rattle.trick_exec_alone.proofs.SerialLemmas.{came, stopped}
+use Rattle.trick_exec_alone.proofs.without_clients.serial_by.Goals as goal
+use Rattle.trick_exec_alone.specs.Serial.{summary_of}
 
 pub run-requires-clause-free : goal.run-requires-clause-free
 run-requires-clause-free g c = λ place within. c.requires.free _

@@ -2,8 +2,8 @@ use Rattle.std.proofs.Common.{rules, ◌≡◌, ◌∙◌, ◌+◌, ℤ, pos, Li
 use Rattle.std.specs.Prelude.{slice_set}
 use Rattle.trick_lang.specs.declared.cells.Cell.{Cell}
 use Rattle.trick_model.specs.Run.{assigned}
-use Rattle.trick_moments.proofs.CellLists.{assigned_next}
-use Rattle.trick_moments.proofs.begin.assign.Goals as goal
+use Rattle.trick_exec_classes.proofs.CellLists.{assigned_next}
+use Rattle.trick_exec_classes.proofs.begin.assign.Goals as goal
 
 pub loop-cell-preserved : goal.loop-cell-preserved
 loop-cell-preserved g c =

@@ -1,7 +1,7 @@
 use Rattle.std.proofs.Common.{◌≡◌, drop}
-use Rattle.trick_job.specs.Belongs.{IsMemoryOf}
+use Rattle.trick_phase_jobs.specs.Belongs.{IsMemoryOf}
 use Rattle.trick_model.specs.Run.{assigned}
-use Rattle.trick_moments.proofs.begin.assign.Given as goal
+use Rattle.trick_exec_classes.proofs.begin.assign.Given as goal
 
 -- what is left of the assignments makes of what is there what all make of the beginning
 abbrev pub invariant-loop-cell : goal.invariant-loop-cell

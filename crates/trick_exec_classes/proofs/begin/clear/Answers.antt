@@ -2,8 +2,8 @@ use Rattle.std.proofs.Common.{◌≡◌, ◌∙◌, ℕ, ap, arith, length, pos,
 use Rattle.std.proofs.lemmas.List.{length-map}
 use Rattle.std.specs.Prelude.{replicate}
 use Rattle.trick_lang.specs.declared.variable.Variable.{Variable}
-use Rattle.trick_moments.proofs.CellLists.{all_zero}
-use Rattle.trick_moments.proofs.begin.clear.Goals as goal
+use Rattle.trick_exec_classes.proofs.CellLists.{all_zero}
+use Rattle.trick_exec_classes.proofs.begin.clear.Goals as goal
 
 pub returns-clause-zeros : goal.returns-clause-zeros
 returns-clause-zeros g c =

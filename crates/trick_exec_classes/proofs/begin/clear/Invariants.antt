@@ -1,6 +1,6 @@
 use Rattle.std.proofs.Common.{◌≡◌, ℕ, ◌<◌, pos, slice_index_or}
-use Rattle.trick_job.specs.Belongs.{IsMemoryOf}
-use Rattle.trick_moments.proofs.begin.clear.Given as goal
+use Rattle.trick_phase_jobs.specs.Belongs.{IsMemoryOf}
+use Rattle.trick_exec_classes.proofs.begin.clear.Given as goal
 
 -- the first cells are 0
 abbrev pub invariant-loop-cell : goal.invariant-loop-cell

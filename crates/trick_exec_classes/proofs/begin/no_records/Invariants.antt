@@ -3,7 +3,7 @@ use Rattle.std.specs.Prelude.{filter}
 use Rattle.trick_model.specs.Plan.{is_beside}
 use Rattle.trick_model.specs.State.{nothing_taken}
 use Rattle.trick_model.specs.declared.thread.Thread.{Thread}
-use Rattle.trick_moments.proofs.begin.no_records.Given as goal
+use Rattle.trick_exec_classes.proofs.begin.no_records.Given as goal
 
 -- nothing for each of the first threads beside the tics
 abbrev pub invariant-loop-thread : goal.invariant-loop-thread

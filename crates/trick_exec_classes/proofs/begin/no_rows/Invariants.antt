@@ -1,6 +1,6 @@
 use Rattle.std.proofs.Common.{◌≡◌, None, map, take}
 use Rattle.trick_model.specs.declared.group.Group.{Group}
-use Rattle.trick_moments.proofs.begin.no_rows.Given as goal
+use Rattle.trick_exec_classes.proofs.begin.no_rows.Given as goal
 
 -- none for each of the first groups
 abbrev pub invariant-loop-group : goal.invariant-loop-group

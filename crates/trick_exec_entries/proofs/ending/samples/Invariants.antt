@@ -1,6 +1,6 @@
 use Rattle.std.proofs.Common.{◌≡◌, ◌++◌, drop}
-use Rattle.trick_hear.proofs.ending.samples.Given as goal
-use Rattle.trick_hear.specs.Hearing.{said_of}
+use Rattle.trick_exec_entries.proofs.ending.samples.Given as goal
+use Rattle.trick_exec_entries.specs.Hearing.{said_of}
 use Rattle.trick_model.specs.Session.{samples}
 use Rattle.trick_model.specs.State.{State, seen}
 

@@ -1,8 +1,8 @@
 use Rattle.std.proofs.Common.{◌∙◌, ap, not, of_calls, sym}
 use Rattle.std.proofs.RetainMut.{retains_is_retain_mut}
-use Rattle.trick_hear.proofs.SampleLemmas.{staying_is}
-use Rattle.trick_hear.proofs.ending.stay.Goals as goal
-use Rattle.trick_hear.specs.Samples.{awake}
+use Rattle.trick_exec_entries.proofs.SampleLemmas.{staying_is}
+use Rattle.trick_exec_entries.proofs.ending.stay.Goals as goal
+use Rattle.trick_exec_entries.specs.Samples.{awake}
 use Rattle.trick_model.specs.declared.session.Session.{Session}
 
 pub retain_mut-requires : goal.retain_mut-requires

@@ -1,11 +1,11 @@
 use Rattle.std.proofs.Common.{◌≡◌, ◌∙◌, ◌+◌, ◌++◌, [], ap, append-nil, drop, subst, sym}
 use Rattle.std.proofs.lemmas.List.{drop_all}
 use Rattle.trick_base.proofs.ListLemmas.{next_item}
-use Rattle.trick_hear.proofs.Kept.{hear_keeps, rising_now}
-use Rattle.trick_hear.proofs.ReplyLemmas.{heard_more, said_more}
-use Rattle.trick_hear.proofs.entries.hear.Goals as goal
-use Rattle.trick_hear.specs.Hearing.{hearing_of, messages_in, said_of}
-use Rattle.trick_hear.specs.Sessions.{AreHeard, joining}
+use Rattle.trick_exec_entries.proofs.Kept.{hear_keeps, rising_now}
+use Rattle.trick_exec_entries.proofs.ReplyLemmas.{heard_more, said_more}
+use Rattle.trick_exec_entries.proofs.entries.hear.Goals as goal
+use Rattle.trick_exec_entries.specs.Hearing.{hearing_of, messages_in, said_of}
+use Rattle.trick_exec_entries.specs.Sessions.{AreHeard, joining}
 use Rattle.trick_model.specs.PlanOf.{plan_of}
 use Rattle.trick_model.specs.Turn.{Hearing, heard, replies}
 

@@ -1,8 +1,8 @@
 use Rattle.std.proofs.Common.{◌≡◌, ◌++◌, drop}
-use Rattle.trick_hear.proofs.entries.hear.Given as goal
-use Rattle.trick_hear.specs.Hearing.{hearing_of, said_of}
-use Rattle.trick_hear.specs.Sessions.{AreHeard}
-use Rattle.trick_job.specs.Belongs.{IsMemoryOf}
+use Rattle.trick_exec_entries.proofs.entries.hear.Given as goal
+use Rattle.trick_exec_entries.specs.Hearing.{hearing_of, said_of}
+use Rattle.trick_exec_entries.specs.Sessions.{AreHeard}
+use Rattle.trick_phase_jobs.specs.Belongs.{IsMemoryOf}
 use Rattle.trick_model.specs.PlanOf.{plan_of}
 use Rattle.trick_model.specs.Turn.{heard, replies}
 

@@ -1,13 +1,13 @@
 use Rattle.std.proofs.Common.{◌≡◌, ◌∙◌, List, ap, arith, length, rules}
 use Rattle.std.proofs.lemmas.List.{with_items_is}
-use Rattle.trick_hear.proofs.ReplyLemmas.{said_heard, said_reply}
-use Rattle.trick_hear.proofs.entries.hear_entry.Goals as goal
-use Rattle.trick_hear.specs.Hearing.{hearing_of, messages_in}
+use Rattle.trick_exec_entries.proofs.ReplyLemmas.{said_heard, said_reply}
+use Rattle.trick_exec_entries.proofs.entries.hear_entry.Goals as goal
+use Rattle.trick_exec_entries.specs.Hearing.{hearing_of, messages_in}
 use Rattle.trick_model.specs.Events.{Asking}
 use Rattle.trick_model.specs.PlanOf.{plan_of}
 use Rattle.trick_model.specs.Turn.{Hearing}
 use Rattle.trick_model.specs.declared.session.Session.{Session}
-use Rattle.trick_tic.specs.Current.{asking_of}
+use Rattle.trick_exec_tic.specs.Current.{asking_of}
 
 pub returns-in-Said-clause-heard : goal.returns-in-Said-clause-heard
 returns-in-Said-clause-heard g c =

@@ -1,6 +1,6 @@
 use Rattle.std.proofs.Common.{◌≡◌, ◌≤◌, length, Result, Ok, Err, arith, sym}
 use Rattle.std.specs.Prelude.{IfOk}
-use Rattle.trick_hear.proofs.lines.answer.Goals as goal
+use Rattle.trick_exec_entries.proofs.lines.answer.Goals as goal
 use Rattle.trick_model.specs.declared.session.Session.{Session}
 
 if_ok : {A E : Type 0} {P Q : A → Type 0} (r : Result A E) → ((a : A) → P a → Q a) → IfOk r P → IfOk r Q

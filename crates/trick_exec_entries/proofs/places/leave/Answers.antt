@@ -1,5 +1,5 @@
 use Rattle.std.proofs.Common.{sym, true}
-use Rattle.trick_hear.proofs.places.leave.Goals as goal
+use Rattle.trick_exec_entries.proofs.places.leave.Goals as goal
 use Rattle.trick_model.specs.declared.session.Session.{Session}
 
 pub returns-in-Some : goal.returns-in-Some

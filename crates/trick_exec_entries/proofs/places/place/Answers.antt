@@ -1,7 +1,7 @@
 use Rattle.std.proofs.Common.{rules}
 use Rattle.std.proofs.lemmas.List.Sorted.{answers_always}
-use Rattle.trick_hear.proofs.PlaceLemmas.{at_place, no_place}
-use Rattle.trick_hear.proofs.places.place.Goals as goal
+use Rattle.trick_exec_entries.proofs.PlaceLemmas.{at_place, no_place}
+use Rattle.trick_exec_entries.proofs.places.place.Goals as goal
 use Rattle.trick_model.specs.declared.session.Session.{Session}
 
 pub returns-in-Ok : goal.returns-in-Ok

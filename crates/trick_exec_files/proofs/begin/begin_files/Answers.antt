@@ -1,13 +1,13 @@
 use Rattle.std.proofs.Common.{refl}
 use Rattle.std.proofs.lemmas.Result.{err_from_is_err_and}
 use Rattle.std.specs.Prelude.{flat_map}
-use Rattle.trick_files.proofs.begin.begin_files.Goals as goal
+use Rattle.trick_exec_files.proofs.begin.begin_files.Goals as goal
 use Rattle.trick_model.specs.PlanOf.{plan_of}
 use Rattle.trick_model.specs.Records.{header, log_name}
 use Rattle.trick_model.specs.Turn.{file_writes}
 use Rattle.trick_model.specs.declared.group.Group.{Group}
 use Rattle.trick_outside.proofs.DoesLemmas.{does_err, does_then}
-use Rattle.trick_tic.specs.Steps.{steps_of}
+use Rattle.trick_exec_tic.specs.Steps.{steps_of}
 
 pub returns-in_err-begin_journal : goal.returns-in_err-begin_journal
 returns-in_err-begin_journal g c =

@@ -2,14 +2,14 @@ use Rattle.std.proofs.Common.{◌+◌, ◌<◌, List, arith, drop, length, refl}
 use Rattle.std.proofs.lemmas.Result.{err_from_is_err_and}
 use Rattle.std.specs.Prelude.{flat_map}
 use Rattle.trick_base.specs.Files.{Write}
-use Rattle.trick_files.proofs.LogLemmas.{one_log}
-use Rattle.trick_files.proofs.begin.begin_logs.Goals as goal
+use Rattle.trick_exec_files.proofs.LogLemmas.{one_log}
+use Rattle.trick_exec_files.proofs.begin.begin_logs.Goals as goal
 use Rattle.trick_model.specs.PlanOf.{plan_of}
 use Rattle.trick_model.specs.Records.{header, log_name}
 use Rattle.trick_model.specs.Turn.{file_writes}
 use Rattle.trick_model.specs.declared.group.Group.{Group}
 use Rattle.trick_record.specs.Added.{group_at}
-use Rattle.trick_tic.proofs.Doing.{doing_more, doing_starts, doing_stops}
+use Rattle.trick_exec_tic.proofs.Doing.{doing_more, doing_starts, doing_stops}
 
 pub loop-k-init : goal.loop-k-init
 loop-k-init g c = doing_starts _ _ _ (g.met.F.Shelf.called_none _) refl

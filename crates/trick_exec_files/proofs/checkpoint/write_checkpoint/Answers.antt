@@ -1,10 +1,10 @@
 use Rattle.std.proofs.Common.{Bool, ap}
-use Rattle.trick_files.proofs.checkpoint.write_checkpoint.Goals as goal
+use Rattle.trick_exec_files.proofs.checkpoint.write_checkpoint.Goals as goal
 use Rattle.trick_model.specs.PlanOf.{plan_of}
 use Rattle.trick_model.specs.State.{seen}
 use Rattle.trick_model.specs.Turn.{checkpoint_writes}
 use Rattle.trick_outside.proofs.DoesLemmas.{does_idle, does_none}
-use Rattle.trick_tic.specs.Steps.{steps_of}
+use Rattle.trick_exec_tic.specs.Steps.{steps_of}
 
 pub returns-then-not-asked : goal.returns-then-not-asked
 returns-then-not-asked g c =

@@ -2,14 +2,14 @@ use Rattle.std.proofs.Common.{[], ◌∷◌, ◌++◌, refl}
 use Rattle.std.proofs.lemmas.Result.{err_from_is_err_and}
 use Rattle.std.specs.Prelude.{codes}
 use Rattle.trick_base.specs.Files.{Append}
-use Rattle.trick_files.proofs.end.end_files.Goals as goal
+use Rattle.trick_exec_files.proofs.end.end_files.Goals as goal
 use Rattle.trick_model.specs.Checkpoint.{faults_text}
 use Rattle.trick_model.specs.Files.{journal_name}
 use Rattle.trick_model.specs.Journal.{last_line}
 use Rattle.trick_model.specs.PlanOf.{plan_of}
 use Rattle.trick_model.specs.Turn.{file_writes}
 use Rattle.trick_outside.proofs.DoesLemmas.{does_err, does_then}
-use Rattle.trick_tic.specs.Steps.{steps_of}
+use Rattle.trick_exec_tic.specs.Steps.{steps_of}
 
 pub returns-in_err-write_final : goal.returns-in_err-write_final
 returns-in_err-write_final g c =

@@ -1,5 +1,5 @@
 use Rattle.std.proofs.Common.{◌≡◌, ◌++◌, drop}
-use Rattle.trick_files.proofs.end.push_faults.Given as goal
+use Rattle.trick_exec_files.proofs.end.push_faults.Given as goal
 use Rattle.trick_model.specs.Checkpoint.{fault_list}
 use Rattle.trick_model.specs.PlanOf.{plan_of}
 

@@ -1,10 +1,10 @@
 use Rattle.std.proofs.Common.{◌≡◌, ◌∙◌, List, [], ap, sym}
-use Rattle.trick_files.proofs.notes.note.Goals as goal
+use Rattle.trick_exec_files.proofs.notes.note.Goals as goal
 use Rattle.trick_model.specs.Files.{note}
 use Rattle.trick_model.specs.declared.entry.Entry.{Entry}
 use Rattle.trick_outside.proofs.DoesLemmas.{does_idle, does_none}
-use Rattle.trick_tic.proofs.NoneBefore.{none_of}
-use Rattle.trick_tic.specs.Steps.{steps_of}
+use Rattle.trick_exec_tic.proofs.NoneBefore.{none_of}
+use Rattle.trick_exec_tic.specs.Steps.{steps_of}
 
 pub returns-then-is_empty : goal.returns-then-is_empty
 returns-then-is_empty g c =

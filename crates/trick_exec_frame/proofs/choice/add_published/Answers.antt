@@ -1,10 +1,10 @@
 use Rattle.std.proofs.Common.{◌∙◌, Bool, List, refl, subst, sym}
-use Rattle.trick_choice.proofs.ChoiceLemmas.{adds_idle, adds_not, adds_one, as_is}
-use Rattle.trick_choice.proofs.choice.add_published.Goals as goal
-use Rattle.trick_choice.specs.Adds.{Adds, polls_for}
+use Rattle.trick_exec_frame.proofs.ChoiceLemmas.{adds_idle, adds_not, adds_one, as_is}
+use Rattle.trick_exec_frame.proofs.choice.add_published.Goals as goal
+use Rattle.trick_exec_frame.specs.Adds.{Adds, polls_for}
 use Rattle.trick_model.specs.State.{State, seen}
 use Rattle.trick_model.specs.declared.entry.Entry.{Entry}
-use Rattle.trick_runs.specs.Rounds.{wait_at}
+use Rattle.trick_exec_meaning.specs.Rounds.{wait_at}
 
 pub returns-then-not-has_round-clause-adds : goal.returns-then-not-has_round-clause-adds
 returns-then-not-has_round-clause-adds g c =

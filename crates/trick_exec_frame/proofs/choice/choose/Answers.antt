@@ -1,16 +1,16 @@
 use Rattle.std.proofs.Common.{◌≡◌, ◌<◌, ◌≤◌, ℕ, List, [], length, refl, subst, sym, take}
 use Rattle.std.proofs.lemmas.List.{take_all}
-use Rattle.trick_beside.proofs.Seats.{seat_of, stations_many}
-use Rattle.trick_beside.specs.Stations.{IsSeat}
-use Rattle.trick_choice.proofs.ChoiceLemmas.{as_is, as_is_then, chooses_more, goes_as_is, thread_here}
-use Rattle.trick_choice.proofs.choice.choose.Goals as goal
+use Rattle.trick_exec_posts.proofs.Seats.{seat_of, stations_many}
+use Rattle.trick_exec_posts.specs.Stations.{IsSeat}
+use Rattle.trick_exec_frame.proofs.ChoiceLemmas.{as_is, as_is_then, chooses_more, goes_as_is, thread_here}
+use Rattle.trick_exec_frame.proofs.choice.choose.Goals as goal
 use Rattle.trick_model.specs.Plan.{threads_beside}
 use Rattle.trick_model.specs.PlanOf.{plan_of}
 use Rattle.trick_model.specs.State.{State, seen}
 use Rattle.trick_model.specs.declared.entry.Entry.{Entry}
 use Rattle.trick_model.specs.declared.plan.Plan.{Plan as PlanValue}
 use Rattle.trick_model.specs.declared.thread.Thread.{Thread}
-use Rattle.trick_runs.specs.Rounds.{Chooses, none}
+use Rattle.trick_exec_meaning.specs.Rounds.{Chooses, none}
 
 pub loop-place-init : goal.loop-place-init
 loop-place-init g c = record {

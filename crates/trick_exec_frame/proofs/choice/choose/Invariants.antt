@@ -1,11 +1,11 @@
 use Rattle.std.proofs.Common.{List, take}
-use Rattle.trick_choice.proofs.choice.choose.Given as goal
-use Rattle.trick_choice.specs.Adds.{AreAsIs}
+use Rattle.trick_exec_frame.proofs.choice.choose.Given as goal
+use Rattle.trick_exec_frame.specs.Adds.{AreAsIs}
 use Rattle.trick_model.specs.Plan.{threads_beside}
 use Rattle.trick_model.specs.PlanOf.{plan_of}
 use Rattle.trick_model.specs.State.{seen}
-use Rattle.trick_post.specs.Polls.{Poll}
-use Rattle.trick_runs.specs.Rounds.{Chooses}
+use Rattle.trick_post_work.specs.Polls.{Poll}
+use Rattle.trick_exec_meaning.specs.Rounds.{Chooses}
 
 -- the choice for the threads so far
 abbrev pub invariant-loop-place : goal.invariant-loop-place

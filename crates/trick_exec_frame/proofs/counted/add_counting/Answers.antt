@@ -1,6 +1,6 @@
 use Rattle.std.proofs.Common.{◌≡◌, ◌∙◌, ◌&&◌, ◌++◌, ◌∷◌, [], Bool, List, ℕ, ap, append-nil, false, refl, sym, true}
-use Rattle.trick_choice.proofs.counted.add_counting.Goals as goal
-use Rattle.trick_choice.specs.Adds.{counted_of}
+use Rattle.trick_exec_frame.proofs.counted.add_counting.Goals as goal
+use Rattle.trick_exec_frame.specs.Adds.{counted_of}
 use Rattle.trick_model.specs.Beside.{is_in_flight}
 use Rattle.trick_model.specs.Plan.{Plan}
 use Rattle.trick_model.specs.PlanOf.{plan_of}

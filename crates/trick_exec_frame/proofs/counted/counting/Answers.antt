@@ -1,10 +1,10 @@
 use Rattle.std.proofs.Common.{◌∙◌, ◌++◌, ap, append-nil, sym}
 use Rattle.std.proofs.lemmas.List.{drop_all}
-use Rattle.trick_choice.proofs.ChoiceLemmas.{counting_more}
-use Rattle.trick_choice.proofs.counted.counting.Goals as goal
+use Rattle.trick_exec_frame.proofs.ChoiceLemmas.{counting_more}
+use Rattle.trick_exec_frame.proofs.counted.counting.Goals as goal
 use Rattle.trick_model.specs.PlanOf.{plan_of}
 use Rattle.trick_model.specs.State.{State, seen}
-use Rattle.trick_runs.specs.Parts.{counting}
+use Rattle.trick_exec_meaning.specs.Parts.{counting}
 
 pub loop-entry-preserved : goal.loop-entry-preserved
 loop-entry-preserved g c = λ plan are.

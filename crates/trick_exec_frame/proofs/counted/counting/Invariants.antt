@@ -1,10 +1,10 @@
 use Rattle.std.proofs.Common.{◌≡◌, ◌++◌, drop}
-use Rattle.trick_beside.specs.Stations.{AreStations}
-use Rattle.trick_choice.proofs.counted.counting.Given as goal
+use Rattle.trick_exec_posts.specs.Stations.{AreStations}
+use Rattle.trick_exec_frame.proofs.counted.counting.Given as goal
 use Rattle.trick_model.specs.PlanOf.{plan_of}
 use Rattle.trick_model.specs.State.{seen}
 use Rattle.trick_model.specs.declared.plan.Plan.{Plan}
-use Rattle.trick_runs.specs.Parts.{counting}
+use Rattle.trick_exec_meaning.specs.Parts.{counting}
 
 -- those that count so far, and those of the entries that are left
 abbrev pub invariant-loop-entry : goal.invariant-loop-entry

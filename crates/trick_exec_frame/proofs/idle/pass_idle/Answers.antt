@@ -1,8 +1,8 @@
 use Rattle.std.proofs.Common.{◌≡◌, ◌∙◌, ◌==◌, [], Bool, List, ap, length, refl, subst, sym, true}
 use Rattle.trick_base.specs.Files.{Write}
-use Rattle.trick_beside.specs.declared.station.Station.{Station}
+use Rattle.trick_exec_posts.specs.declared.station.Station.{Station}
 use Rattle.trick_eval.specs.Bench.{IsFor, Parts}
-use Rattle.trick_job.specs.Belongs.{IsMemoryOf}
+use Rattle.trick_phase_jobs.specs.Belongs.{IsMemoryOf}
 use Rattle.trick_lang.specs.declared.class.Class.TheVariants as class
 use Rattle.trick_model.specs.Order.{jobs_in}
 use Rattle.trick_model.specs.Plan.{threads_beside}
@@ -11,10 +11,10 @@ use Rattle.trick_model.specs.Running.{run_class}
 use Rattle.trick_model.specs.State.{State, seen}
 use Rattle.trick_model.specs.Tic.{frame}
 use Rattle.trick_model.specs.declared.plan.Plan.{Plan}
-use Rattle.trick_pass.proofs.CourseLemmas.{class_goes, counted_goes}
-use Rattle.trick_pass.proofs.IdleLemmas.{idle_frame, idle_turn, no_threads}
-use Rattle.trick_pass.proofs.idle.pass_idle.Goals as goal
-use Rattle.trick_pass.specs.Pass.{Passed, passed, unasked}
+use Rattle.trick_exec_frame.proofs.CourseLemmas.{class_goes, counted_goes}
+use Rattle.trick_exec_frame.proofs.IdleLemmas.{idle_frame, idle_turn, no_threads}
+use Rattle.trick_exec_frame.proofs.idle.pass_idle.Goals as goal
+use Rattle.trick_exec_frame.specs.Pass.{Passed, passed, unasked}
 
 -- what the turn comes to
 turned : (g : _) (c : goal.After-count g) → (let s : State = seen g.M.Cells.numbers c.args.state.now in

@@ -5,10 +5,10 @@ use Rattle.trick_model.specs.PlanOf.{plan_of}
 use Rattle.trick_model.specs.Turn.{framed, runs}
 use Rattle.trick_outside.proofs.DoesLemmas.{does_idle}
 use Rattle.trick_outside.specs.Does.{Does}
-use Rattle.trick_pass.proofs.rest.framed.Goals as goal
-use Rattle.trick_tic.specs.Current.{asking_of}
-use Rattle.trick_tic.specs.Steps.{steps_of}
-use Rattle.trick_tic.specs.declared.current.Current.{Current as CurrentValue}
+use Rattle.trick_exec_frame.proofs.rest.framed.Goals as goal
+use Rattle.trick_exec_tic.specs.Current.{asking_of}
+use Rattle.trick_exec_tic.specs.Steps.{steps_of}
+use Rattle.trick_exec_tic.specs.declared.current.Current.{Current as CurrentValue}
 
 pub returns-then-not-runs-clause-does : goal.returns-then-not-runs-clause-does
 returns-then-not-runs-clause-does g c =

@@ -1,9 +1,9 @@
 use Rattle.std.proofs.Common.{◌∙◌, Bool, List, ap, refl, subst, sym}
 use Rattle.std.proofs.lemmas.Result.{err_from_is_err_and}
-use Rattle.trick_beside.proofs.Loops.{asks_then}
-use Rattle.trick_beside.specs.Flight.{GoesWith}
+use Rattle.trick_exec_posts.proofs.Loops.{asks_then}
+use Rattle.trick_exec_posts.specs.Flight.{GoesWith}
 use Rattle.trick_eval.specs.Bench.{IsFor, Parts}
-use Rattle.trick_job.specs.Belongs.{IsMemoryOf}
+use Rattle.trick_phase_jobs.specs.Belongs.{IsMemoryOf}
 use Rattle.trick_model.specs.Events.{Asking}
 use Rattle.trick_model.specs.PlanOf.{plan_of}
 use Rattle.trick_model.specs.State.{State, seen}
@@ -12,11 +12,11 @@ use Rattle.trick_model.specs.declared.plan.Plan.{Plan}
 use Rattle.trick_outside.proofs.DoesLemmas.{does_fail, does_then}
 use Rattle.trick_outside.specs.Calls.{Call}
 use Rattle.trick_outside.specs.Does.{Does}
-use Rattle.trick_pass.proofs.CourseLemmas.{checkpoint_goes, counted_goes, rounds_go}
-use Rattle.trick_pass.proofs.PassLemmas.{pass_steps, pass_stops, pass_wants, with_steps}
-use Rattle.trick_pass.proofs.rest.pass.Goals as goal
-use Rattle.trick_tic.specs.Course.{IsUnderWay}
-use Rattle.trick_tic.specs.Current.{asking_of}
+use Rattle.trick_exec_frame.proofs.CourseLemmas.{checkpoint_goes, counted_goes, rounds_go}
+use Rattle.trick_exec_frame.proofs.PassLemmas.{pass_steps, pass_stops, pass_wants, with_steps}
+use Rattle.trick_exec_frame.proofs.rest.pass.Goals as goal
+use Rattle.trick_exec_tic.specs.Course.{IsUnderWay}
+use Rattle.trick_exec_tic.specs.Current.{asking_of}
 
 pub returns-in_err-current-clause-does : goal.returns-in_err-current-clause-does
 returns-in_err-current-clause-does g c =

@@ -1,15 +1,15 @@
 use Rattle.std.proofs.Common.{◌∙◌, ap, subst, sym}
-use Rattle.trick_beside.proofs.Loops.{asks_then}
+use Rattle.trick_exec_posts.proofs.Loops.{asks_then}
 use Rattle.trick_eval.specs.Bench.{IsFor, Parts}
-use Rattle.trick_job.specs.Belongs.{IsMemoryOf}
+use Rattle.trick_phase_jobs.specs.Belongs.{IsMemoryOf}
 use Rattle.trick_lang.specs.declared.class.Class.TheVariants as class
 use Rattle.trick_model.specs.PlanOf.{plan_of}
 use Rattle.trick_model.specs.Running.{run_class}
 use Rattle.trick_model.specs.State.{seen}
 use Rattle.trick_model.specs.Turn.{frozen}
 use Rattle.trick_model.specs.declared.plan.Plan.{Plan}
-use Rattle.trick_pass.proofs.CourseLemmas.{class_goes, frozen_goes, published_goes}
-use Rattle.trick_pass.proofs.rest.run_frame.Goals as goal
+use Rattle.trick_exec_frame.proofs.CourseLemmas.{class_goes, frozen_goes, published_goes}
+use Rattle.trick_exec_frame.proofs.rest.run_frame.Goals as goal
 
 pub frame-requires-clause-under_way : goal.frame-requires-clause-under_way
 frame-requires-clause-under_way g c =

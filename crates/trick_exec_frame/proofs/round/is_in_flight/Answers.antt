@@ -1,6 +1,6 @@
 use Rattle.std.proofs.Common.{◌∙◌, sym}
-use Rattle.trick_choice.proofs.ChoiceLemmas.{flight_none, flight_some}
-use Rattle.trick_choice.proofs.round.is_in_flight.Goals as goal
+use Rattle.trick_exec_frame.proofs.ChoiceLemmas.{flight_none, flight_some}
+use Rattle.trick_exec_frame.proofs.round.is_in_flight.Goals as goal
 use Rattle.trick_model.specs.State.{seen}
 
 pub returns-in-Some : goal.returns-in-Some

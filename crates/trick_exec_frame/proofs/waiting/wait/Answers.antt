@@ -1,8 +1,8 @@
 use Rattle.std.proofs.Common.{◌≡◌, ◌∙◌, ◌<◌, ◌≤◌, ℕ, length, length-set, refl, subst}
 use Rattle.std.specs.List.{slice_index_or}
-use Rattle.trick_beside.proofs.Seats.{stations_many}
-use Rattle.trick_choice.proofs.ChoiceLemmas.{threads_here, waits_all, waits_more, waits_start}
-use Rattle.trick_choice.proofs.waiting.wait.Goals as goal
+use Rattle.trick_exec_posts.proofs.Seats.{stations_many}
+use Rattle.trick_exec_frame.proofs.ChoiceLemmas.{threads_here, waits_all, waits_more, waits_start}
+use Rattle.trick_exec_frame.proofs.waiting.wait.Goals as goal
 use Rattle.trick_model.specs.Plan.{threads_beside}
 use Rattle.trick_model.specs.PlanOf.{plan_of}
 use Rattle.trick_model.specs.State.{seen}

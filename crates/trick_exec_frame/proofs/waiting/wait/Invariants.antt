@@ -1,7 +1,7 @@
 use Rattle.std.proofs.Common.{◌≡◌, length}
-use Rattle.trick_beside.specs.Stations.{AreStations}
-use Rattle.trick_choice.proofs.ChoiceLemmas.{Waiting}
-use Rattle.trick_choice.proofs.waiting.wait.Given as goal
+use Rattle.trick_exec_posts.specs.Stations.{AreStations}
+use Rattle.trick_exec_frame.proofs.ChoiceLemmas.{Waiting}
+use Rattle.trick_exec_frame.proofs.waiting.wait.Given as goal
 use Rattle.trick_model.specs.Plan.{threads_beside}
 use Rattle.trick_model.specs.PlanOf.{plan_of}
 use Rattle.trick_model.specs.State.{seen}

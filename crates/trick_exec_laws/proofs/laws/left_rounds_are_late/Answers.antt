@@ -1,5 +1,5 @@
-use Rattle.trick_run_facts.proofs.Late.{left_late}
-use Rattle.trick_run_facts.proofs.laws.left_rounds_are_late.Goals as goal
+use Rattle.trick_exec_laws.proofs.Late.{left_late}
+use Rattle.trick_exec_laws.proofs.laws.left_rounds_are_late.Goals as goal
 
 pub returns : goal.returns
 returns g c = λ plan s lists last old new done undecided.

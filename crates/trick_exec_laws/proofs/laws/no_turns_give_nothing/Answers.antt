@@ -1,5 +1,5 @@
 use Rattle.std.proofs.Common.{refl}
-use Rattle.trick_run_facts.proofs.laws.no_turns_give_nothing.Goals as goal
+use Rattle.trick_exec_laws.proofs.laws.no_turns_give_nothing.Goals as goal
 
 pub returns : goal.returns
 returns g c = record {

@@ -1,6 +1,6 @@
-use Rattle.trick_run_facts.proofs.Rounds.{alone_without_rounds}
-use Rattle.trick_run_facts.proofs.laws.runs_without_rounds_are_alone.Goals as goal
-use Rattle.trick_runs.specs.Hosts.{hosts}
+use Rattle.trick_exec_laws.proofs.Rounds.{alone_without_rounds}
+use Rattle.trick_exec_laws.proofs.laws.runs_without_rounds_are_alone.Goals as goal
+use Rattle.trick_exec_meaning.specs.Hosts.{hosts}
 
 pub returns : goal.returns
 returns g c = λ plan s old new result lacks source run.

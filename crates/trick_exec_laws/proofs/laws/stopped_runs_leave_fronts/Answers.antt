@@ -1,7 +1,7 @@
 use Rattle.trick_model.specs.Run.{opened}
-use Rattle.trick_run_facts.proofs.Lasting.{all_on}
-use Rattle.trick_run_facts.proofs.Leaves.{left_of_calls}
-use Rattle.trick_run_facts.proofs.laws.stopped_runs_leave_fronts.Goals as goal
+use Rattle.trick_exec_laws.proofs.Lasting.{all_on}
+use Rattle.trick_exec_laws.proofs.Leaves.{left_of_calls}
+use Rattle.trick_exec_laws.proofs.laws.stopped_runs_leave_fronts.Goals as goal
 
 pub returns : goal.returns
 returns g c = λ p s old new e before lists stopped told. (

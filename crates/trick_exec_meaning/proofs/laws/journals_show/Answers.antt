@@ -1,5 +1,5 @@
-use Rattle.trick_runs.proofs.Fitting.{journal_fits, journal_misfits}
-use Rattle.trick_runs.proofs.laws.journals_show.Goals as goal
+use Rattle.trick_exec_meaning.proofs.Fitting.{journal_fits, journal_misfits}
+use Rattle.trick_exec_meaning.proofs.laws.journals_show.Goals as goal
 
 pub returns : goal.returns
 returns c = record {

@@ -1,5 +1,5 @@
-use Rattle.trick_journal_written.proofs.Reading.{runs_again}
-use Rattle.trick_journal_written.proofs.laws.replays_run_again.Goals as goal
+use Rattle.trick_exec_own_journal.proofs.Reading.{runs_again}
+use Rattle.trick_exec_own_journal.proofs.laws.replays_run_again.Goals as goal
 
 pub returns : goal.returns
 returns g c = λ p s lists journal old new replayed wrote is did.

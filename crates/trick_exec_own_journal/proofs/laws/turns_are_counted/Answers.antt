@@ -1,5 +1,5 @@
-use Rattle.trick_journal_written.proofs.Turns.{final_turn, turn_of_state, turns_below, turns_count}
-use Rattle.trick_journal_written.proofs.laws.turns_are_counted.Goals as goal
+use Rattle.trick_exec_own_journal.proofs.Turns.{final_turn, turn_of_state, turns_below, turns_count}
+use Rattle.trick_exec_own_journal.proofs.laws.turns_are_counted.Goals as goal
 use Rattle.trick_model.specs.Run.{opened}
 
 pub returns : goal.returns

@@ -1,8 +1,8 @@
 use Rattle.std.proofs.Common.{◌≡◌, ◌∙◌, ap, length, subst, sym}
-use Rattle.trick_beside.proofs.Loops.{asks_then}
-use Rattle.trick_beside.proofs.ended.must_finish.Goals as goal
-use Rattle.trick_beside.specs.Flight.{HoldNothing, ended_taken}
-use Rattle.trick_beside.specs.Stations.{AreStations}
+use Rattle.trick_exec_posts.proofs.Loops.{asks_then}
+use Rattle.trick_exec_posts.proofs.ended.must_finish.Goals as goal
+use Rattle.trick_exec_posts.specs.Flight.{HoldNothing, ended_taken}
+use Rattle.trick_exec_posts.specs.Stations.{AreStations}
 use Rattle.trick_model.specs.Plan.{threads_beside}
 use Rattle.trick_model.specs.PlanOf.{plan_of}
 use Rattle.trick_model.specs.State.{State, seen}

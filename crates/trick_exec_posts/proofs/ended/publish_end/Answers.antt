@@ -1,8 +1,8 @@
 use Rattle.std.proofs.Common.{◌∙◌, sym}
-use Rattle.trick_beside.proofs.Loops.{asks_none}
-use Rattle.trick_beside.proofs.Seats.{ends_over}
-use Rattle.trick_beside.proofs.Steps.{step_ends, step_goes}
-use Rattle.trick_beside.proofs.ended.publish_end.Goals as goal
+use Rattle.trick_exec_posts.proofs.Loops.{asks_none}
+use Rattle.trick_exec_posts.proofs.Seats.{ends_over}
+use Rattle.trick_exec_posts.proofs.Steps.{step_ends, step_goes}
+use Rattle.trick_exec_posts.proofs.ended.publish_end.Goals as goal
 use Rattle.trick_model.specs.Beside.{publish}
 use Rattle.trick_model.specs.PlanOf.{plan_of}
 use Rattle.trick_model.specs.State.{seen}

@@ -1,11 +1,11 @@
 use Rattle.std.proofs.Common.{◌≡◌, ◌<◌, ◌≤◌, length, refl, subst, sym, ℕ}
-use Rattle.trick_beside.proofs.Flights.{as_many, goes_later}
-use Rattle.trick_beside.proofs.Loops.{asks_none, asks_then, hold_all, hold_more, hold_none}
-use Rattle.trick_beside.proofs.Seats.{seat_of, stations_many}
-use Rattle.trick_beside.proofs.Steps.{none_left, one_more}
-use Rattle.trick_beside.proofs.ended.publish_ended.Goals as goal
-use Rattle.trick_beside.specs.Flight.{HoldNothing, ended_published, thread_in}
-use Rattle.trick_beside.specs.Stations.{IsSeat}
+use Rattle.trick_exec_posts.proofs.Flights.{as_many, goes_later}
+use Rattle.trick_exec_posts.proofs.Loops.{asks_none, asks_then, hold_all, hold_more, hold_none}
+use Rattle.trick_exec_posts.proofs.Seats.{seat_of, stations_many}
+use Rattle.trick_exec_posts.proofs.Steps.{none_left, one_more}
+use Rattle.trick_exec_posts.proofs.ended.publish_ended.Goals as goal
+use Rattle.trick_exec_posts.specs.Flight.{HoldNothing, ended_published, thread_in}
+use Rattle.trick_exec_posts.specs.Stations.{IsSeat}
 use Rattle.trick_model.specs.Beside.{publish, where_ends}
 use Rattle.trick_model.specs.Plan.{threads_beside}
 use Rattle.trick_model.specs.PlanOf.{plan_of}
@@ -13,7 +13,7 @@ use Rattle.trick_model.specs.State.{State, seen}
 use Rattle.trick_model.specs.ValidState.{IsStateOf}
 use Rattle.trick_model.specs.declared.plan.Plan.{Plan as PlanValue}
 use Rattle.trick_model.specs.declared.thread.Thread.{Thread}
-use Rattle.trick_post.specs.Work.{no_thread}
+use Rattle.trick_post_work.specs.Work.{no_thread}
 
 pub loop-place-init : goal.loop-place-init
 loop-place-init g c = record {

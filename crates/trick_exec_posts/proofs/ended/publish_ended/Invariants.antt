@@ -1,6 +1,6 @@
 use Rattle.std.proofs.Common.{◌≡◌, drop}
-use Rattle.trick_beside.proofs.ended.publish_ended.Given as goal
-use Rattle.trick_beside.specs.Flight.{AsksNothing, GoesWith, HoldNothing, ended_published}
+use Rattle.trick_exec_posts.proofs.ended.publish_ended.Given as goal
+use Rattle.trick_exec_posts.specs.Flight.{AsksNothing, GoesWith, HoldNothing, ended_published}
 use Rattle.trick_model.specs.Beside.{each_thread, publish, where_ends}
 use Rattle.trick_model.specs.Plan.{threads_beside}
 use Rattle.trick_model.specs.PlanOf.{plan_of}

@@ -1,7 +1,7 @@
 use Rattle.std.proofs.Common.{◌∙◌, sym}
-use Rattle.trick_beside.proofs.Loops.{asks_none}
-use Rattle.trick_beside.proofs.Steps.{step_ends, step_goes}
-use Rattle.trick_beside.proofs.ended.take_end.Goals as goal
+use Rattle.trick_exec_posts.proofs.Loops.{asks_none}
+use Rattle.trick_exec_posts.proofs.Steps.{step_ends, step_goes}
+use Rattle.trick_exec_posts.proofs.ended.take_end.Goals as goal
 use Rattle.trick_model.specs.Beside.{take}
 use Rattle.trick_model.specs.PlanOf.{plan_of}
 use Rattle.trick_model.specs.State.{seen}

@@ -1,7 +1,7 @@
 use Rattle.std.proofs.Common.{◌≡◌, drop, length}
 use Rattle.std.specs.Prelude.{◌+◌}
-use Rattle.trick_beside.proofs.ended.take_ended.Given as goal
-use Rattle.trick_beside.specs.Flight.{AsksNothing, GoesWith, HoldNothing, ended_taken}
+use Rattle.trick_exec_posts.proofs.ended.take_ended.Given as goal
+use Rattle.trick_exec_posts.specs.Flight.{AsksNothing, GoesWith, HoldNothing, ended_taken}
 use Rattle.trick_model.specs.Beside.{each_thread, take, where_ends}
 use Rattle.trick_model.specs.Plan.{threads_beside}
 use Rattle.trick_model.specs.PlanOf.{plan_of}

@@ -1,10 +1,10 @@
 use Rattle.std.proofs.Common.{◌≡◌, ◌++◌, ◌<◌, length, subst}
-use Rattle.trick_beside.proofs.PublicationLemmas.{published_more}
-use Rattle.trick_beside.proofs.Seats.{seat_of}
-use Rattle.trick_beside.proofs.Threads.{beside_found}
-use Rattle.trick_beside.proofs.entries.publications.Goals as goal
-use Rattle.trick_beside.specs.Rounds.{publication_of}
-use Rattle.trick_beside.specs.Stations.{IsSeat}
+use Rattle.trick_exec_posts.proofs.PublicationLemmas.{published_more}
+use Rattle.trick_exec_posts.proofs.Seats.{seat_of}
+use Rattle.trick_exec_posts.proofs.Threads.{beside_found}
+use Rattle.trick_exec_posts.proofs.entries.publications.Goals as goal
+use Rattle.trick_exec_posts.specs.Rounds.{publication_of}
+use Rattle.trick_exec_posts.specs.Stations.{IsSeat}
 use Rattle.trick_model.specs.Plan.{threads_beside}
 use Rattle.trick_model.specs.PlanOf.{plan_of}
 use Rattle.trick_model.specs.Run.{all_published}

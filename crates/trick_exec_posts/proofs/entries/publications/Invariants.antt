@@ -1,6 +1,6 @@
 use Rattle.std.proofs.Common.{◌≡◌, ◌++◌, drop}
-use Rattle.trick_beside.proofs.entries.publications.Given as goal
-use Rattle.trick_beside.specs.Stations.{AreStations}
+use Rattle.trick_exec_posts.proofs.entries.publications.Given as goal
+use Rattle.trick_exec_posts.specs.Stations.{AreStations}
 use Rattle.trick_model.specs.Plan.{threads_beside}
 use Rattle.trick_model.specs.PlanOf.{plan_of}
 use Rattle.trick_model.specs.Run.{all_published}

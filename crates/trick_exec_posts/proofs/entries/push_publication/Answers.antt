@@ -1,7 +1,7 @@
 use Rattle.std.proofs.Common.{◌∙◌, sym}
 use Rattle.std.proofs.lemmas.Result.{err_from_is_err_and}
-use Rattle.trick_beside.proofs.PublicationLemmas.{no_round, one_round, other_kind}
-use Rattle.trick_beside.proofs.entries.push_publication.Goals as goal
+use Rattle.trick_exec_posts.proofs.PublicationLemmas.{no_round, one_round, other_kind}
+use Rattle.trick_exec_posts.proofs.entries.push_publication.Goals as goal
 use Rattle.trick_model.specs.State.{seen}
 
 pub returns-then-not-is_async : goal.returns-then-not-is_async

@@ -1,10 +1,10 @@
 use Rattle.std.proofs.Common.{◌≡◌, ◌<◌, ◌≤◌, None, arith, length, subst, sym, ℕ}
-use Rattle.trick_beside.proofs.HeldLemmas.{starts_more}
-use Rattle.trick_beside.proofs.Loops.{asks_then}
-use Rattle.trick_beside.proofs.Seats.{seat_of}
-use Rattle.trick_beside.proofs.Threads.{beside_found}
-use Rattle.trick_beside.proofs.held.start_held.Goals as goal
-use Rattle.trick_beside.specs.Stations.{IsSeat}
+use Rattle.trick_exec_posts.proofs.HeldLemmas.{starts_more}
+use Rattle.trick_exec_posts.proofs.Loops.{asks_then}
+use Rattle.trick_exec_posts.proofs.Seats.{seat_of}
+use Rattle.trick_exec_posts.proofs.Threads.{beside_found}
+use Rattle.trick_exec_posts.proofs.held.start_held.Goals as goal
+use Rattle.trick_exec_posts.specs.Stations.{IsSeat}
 use Rattle.trick_model.specs.PlanOf.{plan_of}
 use Rattle.trick_model.specs.declared.thread.Thread.{Thread}
 

@@ -1,6 +1,6 @@
-use Rattle.trick_beside.proofs.HeldLemmas.{AreStarted}
-use Rattle.trick_beside.proofs.held.start_held.Given as goal
-use Rattle.trick_beside.specs.Flight.{AsksNothing}
+use Rattle.trick_exec_posts.proofs.HeldLemmas.{AreStarted}
+use Rattle.trick_exec_posts.proofs.held.start_held.Given as goal
+use Rattle.trick_exec_posts.specs.Flight.{AsksNothing}
 use Rattle.trick_model.specs.PlanOf.{plan_of}
 
 -- so many threads are started

@@ -1,14 +1,14 @@
 use Rattle.std.proofs.Common.{◌≡◌, ◌∙◌, ◌<◌, List, ap, length, subst, sym, true, ℕ}
 use Rattle.std.proofs.lemmas.List.{get_or_default}
 use Rattle.std.specs.List.{slice_index_or}
-use Rattle.trick_beside.proofs.Flights.{as_many}
-use Rattle.trick_beside.proofs.Seats.{held_right}
-use Rattle.trick_beside.proofs.held.start_seat.Goals as goal
+use Rattle.trick_exec_posts.proofs.Flights.{as_many}
+use Rattle.trick_exec_posts.proofs.Seats.{held_right}
+use Rattle.trick_exec_posts.proofs.held.start_seat.Goals as goal
 use Rattle.trick_model.specs.PlanOf.{plan_of}
 use Rattle.trick_model.specs.State.{State, nothing_taken, seen, taken_at}
 use Rattle.trick_model.specs.declared.taken.Taken.{Taken}
-use Rattle.trick_post.specs.Work.{CanStart}
-use Rattle.trick_post.specs.declared.posts.Job1.{Job1}
+use Rattle.trick_post_work.specs.Work.{CanStart}
+use Rattle.trick_post_work.specs.declared.posts.Job1.{Job1}
 
 pub start-requires-clause-right : goal.start-requires-clause-right
 start-requires-clause-right g c =

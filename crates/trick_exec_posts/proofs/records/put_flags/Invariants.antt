@@ -1,5 +1,5 @@
 use Rattle.std.proofs.Common.{◌≡◌, ◌++◌, drop, map}
-use Rattle.trick_beside.proofs.records.put_flags.Given as goal
+use Rattle.trick_exec_posts.proofs.records.put_flags.Given as goal
 use Rattle.trick_lang.specs.declared.job.JobId.{JobId}
 use Rattle.trick_model.specs.Plan.{is_on}
 

@@ -1,9 +1,9 @@
 use Rattle.std.proofs.Common.{◌≡◌, ◌∷◌, [], refl, subst, sym}
 use Rattle.std.specs.List.{slice_index_or}
-use Rattle.trick_beside.proofs.Loops.{asks_none, asks_then}
-use Rattle.trick_beside.proofs.RoundLemmas.{one_entry}
-use Rattle.trick_beside.proofs.rounds.publish_all.Goals as goal
-use Rattle.trick_beside.specs.Stations.{AreStations}
+use Rattle.trick_exec_posts.proofs.Loops.{asks_none, asks_then}
+use Rattle.trick_exec_posts.proofs.RoundLemmas.{one_entry}
+use Rattle.trick_exec_posts.proofs.rounds.publish_all.Goals as goal
+use Rattle.trick_exec_posts.specs.Stations.{AreStations}
 use Rattle.trick_model.specs.PlanOf.{plan_of}
 use Rattle.trick_model.specs.State.{State, seen}
 use Rattle.trick_model.specs.Turn.{publish_all}

@@ -1,6 +1,6 @@
 use Rattle.std.proofs.Common.{◌≡◌, drop}
-use Rattle.trick_beside.proofs.rounds.publish_all.Given as goal
-use Rattle.trick_beside.specs.Flight.{AsksNothing, GoesWith}
+use Rattle.trick_exec_posts.proofs.rounds.publish_all.Given as goal
+use Rattle.trick_exec_posts.specs.Flight.{AsksNothing, GoesWith}
 use Rattle.trick_model.specs.PlanOf.{plan_of}
 use Rattle.trick_model.specs.State.{seen}
 use Rattle.trick_model.specs.Turn.{publish_all}

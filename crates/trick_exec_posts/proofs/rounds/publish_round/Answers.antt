@@ -1,8 +1,8 @@
 use Rattle.std.proofs.Common.{◌∙◌, sym}
-use Rattle.trick_beside.proofs.Loops.{asks_none}
-use Rattle.trick_beside.proofs.RoundLemmas.{place_none, round_at, round_none, round_not}
-use Rattle.trick_beside.proofs.Threads.{beside_found}
-use Rattle.trick_beside.proofs.rounds.publish_round.Goals as goal
+use Rattle.trick_exec_posts.proofs.Loops.{asks_none}
+use Rattle.trick_exec_posts.proofs.RoundLemmas.{place_none, round_at, round_none, round_not}
+use Rattle.trick_exec_posts.proofs.Threads.{beside_found}
+use Rattle.trick_exec_posts.proofs.rounds.publish_round.Goals as goal
 use Rattle.trick_model.specs.PlanOf.{plan_of}
 use Rattle.trick_model.specs.State.{seen}
 

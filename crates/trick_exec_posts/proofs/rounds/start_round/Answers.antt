@@ -1,8 +1,8 @@
 use Rattle.std.proofs.Common.{◌≡◌, ◌∙◌, ap, subst, sym, ℕ}
-use Rattle.trick_beside.proofs.Loops.{asks_none}
-use Rattle.trick_beside.proofs.RoundLemmas.{start_held, start_other, start_takes}
-use Rattle.trick_beside.proofs.rounds.start_round.Goals as goal
-use Rattle.trick_beside.specs.Flight.{GoesWith}
+use Rattle.trick_exec_posts.proofs.Loops.{asks_none}
+use Rattle.trick_exec_posts.proofs.RoundLemmas.{start_held, start_other, start_takes}
+use Rattle.trick_exec_posts.proofs.rounds.start_round.Goals as goal
+use Rattle.trick_exec_posts.specs.Flight.{GoesWith}
 use Rattle.trick_model.specs.PlanOf.{plan_of}
 use Rattle.trick_model.specs.State.{State, seen}
 

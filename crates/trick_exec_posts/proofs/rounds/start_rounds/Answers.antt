@@ -1,17 +1,17 @@
 use Rattle.std.proofs.Common.{◌≡◌, ◌<◌, ◌≤◌, length, refl, subst, sym, ℕ}
-use Rattle.trick_beside.proofs.Loops.{asks_none, asks_then}
-use Rattle.trick_beside.proofs.Seats.{seat_of, stations_many}
-use Rattle.trick_beside.proofs.Steps.{none_left, one_more}
-use Rattle.trick_beside.proofs.rounds.start_rounds.Goals as goal
-use Rattle.trick_beside.specs.Flight.{thread_in}
-use Rattle.trick_beside.specs.Stations.{IsSeat}
+use Rattle.trick_exec_posts.proofs.Loops.{asks_none, asks_then}
+use Rattle.trick_exec_posts.proofs.Seats.{seat_of, stations_many}
+use Rattle.trick_exec_posts.proofs.Steps.{none_left, one_more}
+use Rattle.trick_exec_posts.proofs.rounds.start_rounds.Goals as goal
+use Rattle.trick_exec_posts.specs.Flight.{thread_in}
+use Rattle.trick_exec_posts.specs.Stations.{IsSeat}
 use Rattle.trick_model.specs.Beside.{start_round, start_rounds}
 use Rattle.trick_model.specs.Plan.{threads_beside}
 use Rattle.trick_model.specs.PlanOf.{plan_of}
 use Rattle.trick_model.specs.State.{State, seen}
 use Rattle.trick_model.specs.declared.plan.Plan.{Plan as PlanValue}
 use Rattle.trick_model.specs.declared.thread.Thread.{Thread}
-use Rattle.trick_post.specs.Work.{no_thread}
+use Rattle.trick_post_work.specs.Work.{no_thread}
 
 pub loop-place-init : goal.loop-place-init
 loop-place-init g c = record {

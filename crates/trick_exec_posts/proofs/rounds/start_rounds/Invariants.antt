@@ -1,6 +1,6 @@
 use Rattle.std.proofs.Common.{◌≡◌, drop}
-use Rattle.trick_beside.proofs.rounds.start_rounds.Given as goal
-use Rattle.trick_beside.specs.Flight.{AsksNothing, GoesWith}
+use Rattle.trick_exec_posts.proofs.rounds.start_rounds.Given as goal
+use Rattle.trick_exec_posts.specs.Flight.{AsksNothing, GoesWith}
 use Rattle.trick_model.specs.Beside.{each_thread, start_round, start_rounds}
 use Rattle.trick_model.specs.Plan.{threads_beside}
 use Rattle.trick_model.specs.PlanOf.{plan_of}

@@ -1,16 +1,16 @@
 use Rattle.std.proofs.Common.{◌≡◌, ◌∙◌, ◌<◌, subst, sym, true, ℕ}
-use Rattle.trick_beside.proofs.Flights.{as_many, finished_is, is_started}
-use Rattle.trick_beside.proofs.Loops.{asks_none}
-use Rattle.trick_beside.proofs.Seats.{publish_goes}
-use Rattle.trick_beside.proofs.Steps.{publish_held, publish_none}
-use Rattle.trick_beside.proofs.Threads.{beside_found}
-use Rattle.trick_beside.proofs.seat.publish.Goals as goal
-use Rattle.trick_beside.specs.Flight.{GoesWith}
+use Rattle.trick_exec_posts.proofs.Flights.{as_many, finished_is, is_started}
+use Rattle.trick_exec_posts.proofs.Loops.{asks_none}
+use Rattle.trick_exec_posts.proofs.Seats.{publish_goes}
+use Rattle.trick_exec_posts.proofs.Steps.{publish_held, publish_none}
+use Rattle.trick_exec_posts.proofs.Threads.{beside_found}
+use Rattle.trick_exec_posts.proofs.seat.publish.Goals as goal
+use Rattle.trick_exec_posts.specs.Flight.{GoesWith}
 use Rattle.trick_model.specs.Beside.{publish}
 use Rattle.trick_model.specs.PlanOf.{plan_of}
 use Rattle.trick_model.specs.State.{State, seen, taken_at}
 use Rattle.trick_model.specs.declared.plan.Plan.{Plan as PlanValue}
-use Rattle.trick_post.specs.Work.{finished}
+use Rattle.trick_post_work.specs.Work.{finished}
 
 pub finish-requires-clause-started : goal.finish-requires-clause-started
 finish-requires-clause-started g c =

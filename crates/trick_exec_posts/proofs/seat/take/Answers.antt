@@ -2,19 +2,19 @@ use Rattle.std.proofs.Common.{◌≡◌, ◌∙◌, ◌<◌, ap, length, subst, 
 use Rattle.std.proofs.lemmas.List.{get_or-set_same}
 use Rattle.std.specs.List.{slice_index_or}
 use Rattle.std.specs.Prelude.{slice_set}
-use Rattle.trick_beside.proofs.Flights.{as_many, is_free}
-use Rattle.trick_beside.proofs.Loops.{asks_none}
-use Rattle.trick_beside.proofs.Seats.{record_is, start_right, take_goes}
-use Rattle.trick_beside.proofs.seat.take.Goals as goal
-use Rattle.trick_beside.specs.Flight.{GoesWith}
-use Rattle.trick_beside.specs.Stations.{record_of}
+use Rattle.trick_exec_posts.proofs.Flights.{as_many, is_free}
+use Rattle.trick_exec_posts.proofs.Loops.{asks_none}
+use Rattle.trick_exec_posts.proofs.Seats.{record_is, start_right, take_goes}
+use Rattle.trick_exec_posts.proofs.seat.take.Goals as goal
+use Rattle.trick_exec_posts.specs.Flight.{GoesWith}
+use Rattle.trick_exec_posts.specs.Stations.{record_of}
 use Rattle.trick_model.specs.Beside.{take, taken_from}
 use Rattle.trick_model.specs.PlanOf.{plan_of}
 use Rattle.trick_model.specs.State.{State, seen}
 use Rattle.trick_model.specs.declared.plan.Plan.{Plan as PlanValue}
 use Rattle.trick_model.specs.declared.taken.Taken.{Taken}
-use Rattle.trick_post.specs.Work.{CanStart, Started}
-use Rattle.trick_post.specs.declared.posts.Job1.{Job1}
+use Rattle.trick_post_work.specs.Work.{CanStart, Started}
+use Rattle.trick_post_work.specs.declared.posts.Job1.{Job1}
 
 pub fill-requires : goal.fill-requires
 fill-requires g c =

@@ -1,16 +1,16 @@
 use Rattle.std.proofs.Common.{◌≡◌, ◌∙◌, ◌<◌, ◌∷◌, ◌++◌, [], List, length, subst, sym, ℕ}
 use Rattle.std.proofs.lemmas.List.Elements.{All-push}
 use Rattle.std.specs.List.{slice_index_or}
-use Rattle.trick_beside.proofs.Seats.{stations_more}
-use Rattle.trick_beside.proofs.Threads.{cycle_here}
-use Rattle.trick_beside.proofs.station.stations.Goals as goal
-use Rattle.trick_beside.specs.Stations.{IsStation}
-use Rattle.trick_beside.specs.declared.station.Station.{Station}
+use Rattle.trick_exec_posts.proofs.Seats.{stations_more}
+use Rattle.trick_exec_posts.proofs.Threads.{cycle_here}
+use Rattle.trick_exec_posts.proofs.station.stations.Goals as goal
+use Rattle.trick_exec_posts.specs.Stations.{IsStation}
+use Rattle.trick_exec_posts.specs.declared.station.Station.{Station}
 use Rattle.trick_model.specs.Plan.{threads_beside}
 use Rattle.trick_model.specs.PlanOf.{plan_of}
 use Rattle.trick_model.specs.Valid.{IsCycle}
 use Rattle.trick_model.specs.declared.thread.Thread.{Thread}
-use Rattle.trick_post.specs.Work.{no_thread}
+use Rattle.trick_post_work.specs.Work.{no_thread}
 
 pub station_of-requires : goal.station_of-requires
 station_of-requires c =

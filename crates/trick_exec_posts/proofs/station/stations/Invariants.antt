@@ -1,7 +1,7 @@
 use Rattle.std.proofs.Common.{◌≡◌, All, map, take}
-use Rattle.trick_beside.proofs.station.stations.Given as goal
-use Rattle.trick_beside.specs.Stations.{IsStation}
-use Rattle.trick_beside.specs.declared.station.Station.{Station}
+use Rattle.trick_exec_posts.proofs.station.stations.Given as goal
+use Rattle.trick_exec_posts.specs.Stations.{IsStation}
+use Rattle.trick_exec_posts.specs.declared.station.Station.{Station}
 use Rattle.trick_model.specs.PlanOf.{plan_of}
 
 -- the stations of the first threads

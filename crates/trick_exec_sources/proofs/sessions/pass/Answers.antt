@@ -1,9 +1,9 @@
 use Rattle.std.proofs.Common.{BTreeSet, ℕ, sym, ap, subst, ◌∙◌}
-use Rattle.trick_journal_turns.proofs.Joining.{insert_last, quiet, remove_one}
-use Rattle.trick_journal_turns.specs.Due.{MayCome, live_with}
+use Rattle.trick_exec_sources.proofs.Joining.{insert_last, quiet, remove_one}
+use Rattle.trick_exec_sources.specs.Due.{MayCome, live_with}
 use Rattle.trick_model.specs.declared.entry.Entry.{Entry}
-use Rattle.trick_journal_turns.proofs.sessions.pass.Goals as goal
-use Rattle.trick_journal_turns.proofs.sessions.pass.Goals.{in-Join+in_ok-insert-in-Join, in-Leave, in-Said}
+use Rattle.trick_exec_sources.proofs.sessions.pass.Goals as goal
+use Rattle.trick_exec_sources.proofs.sessions.pass.Goals.{in-Join+in_ok-insert-in-Join, in-Leave, in-Said}
 
 pub returns : goal.returns
 returns c =

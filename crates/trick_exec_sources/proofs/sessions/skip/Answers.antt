@@ -1,6 +1,6 @@
 use Rattle.std.proofs.Common.{◌∙◌}
-use Rattle.trick_journal_turns.proofs.Joining.{skips_comes, skips_first, skips_last, skips_more}
-use Rattle.trick_journal_turns.proofs.sessions.skip.Goals as goal
+use Rattle.trick_exec_sources.proofs.Joining.{skips_comes, skips_first, skips_last, skips_more}
+use Rattle.trick_exec_sources.proofs.sessions.skip.Goals as goal
 
 pub loop-entry-init : goal.loop-entry-init
 loop-entry-init c = skips_first c.args.start c.args.due.now _ c.new-live.ensures.empty c.requires.rising c.requires.joined

@@ -1,6 +1,6 @@
 use Rattle.std.proofs.Common.{◌≡◌, ◌∙◌, ℕ, ◌+◌, ◌*◌, ◌/◌, ◌≤◌, ap, arith, refl, sym}
 use Rattle.std.proofs.lemmas.Nat.{div-mul-add}
-use Rattle.trick_tic.proofs.frame_tics.frame_end.Goals as goal
+use Rattle.trick_exec_tic.proofs.frame_tics.frame_end.Goals as goal
 
 -- the frame of a tic that is a multiple of a frame's length
 one_more : (n f t : ℕ) → 1 ≤ f → n * f ≡ t → t + f ≡ (t / f + 1) * f

@@ -1,9 +1,9 @@
 use Rattle.trick_model.specs.PlanOf.{plan_of}
 use Rattle.trick_model.specs.Run.{lists_of}
-use Rattle.trick_publications.proofs.Journals.{lists_many, lists_same}
-use Rattle.trick_publications.proofs.Runs.{fit_kept, whole_runs}
-use Rattle.trick_publications.proofs.Steady.{steady}
-use Rattle.trick_publications.proofs.laws.publications_stay_in_reach.Goals as goal
+use Rattle.trick_model_publications.proofs.Journals.{lists_many, lists_same}
+use Rattle.trick_model_publications.proofs.Runs.{fit_kept, whole_runs}
+use Rattle.trick_model_publications.proofs.Steady.{steady}
+use Rattle.trick_model_publications.proofs.laws.publications_stay_in_reach.Goals as goal
 
 pub returns-clause-ends : goal.returns-clause-ends
 returns-clause-ends c plan s one other accepted differ fits also =

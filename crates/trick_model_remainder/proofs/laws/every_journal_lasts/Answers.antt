@@ -1,5 +1,5 @@
-use Rattle.trick_lasting.proofs.Going.{every_journal_lasts}
-use Rattle.trick_lasting.proofs.laws.every_journal_lasts.Goals as goal
+use Rattle.trick_model_remainder.proofs.Going.{every_journal_lasts}
+use Rattle.trick_model_remainder.proofs.laws.every_journal_lasts.Goals as goal
 
 pub returns : goal.returns
 returns c = λ plan s left good.

@@ -2,9 +2,9 @@ use Rattle.std.proofs.Common.{◌≡◌, ◌∙◌, ◌+◌, ◌<◌, ◌∷◌,
 use Rattle.std.proofs.lemmas.List.{length-append}
 use Rattle.trick_eval.specs.Bench.{BenchView, IsFor}
 use Rattle.trick_model.specs.declared.plan.Plan.{Plan as PlanValue}
-use Rattle.trick_play.proofs.Plays.{bench_more}
-use Rattle.trick_play.specs.Steps.{bench_at}
-use Rattle.trick_play.proofs.player.all_benches.Goals as goal
+use Rattle.trick_phase.proofs.Plays.{bench_more}
+use Rattle.trick_phase.specs.Steps.{bench_at}
+use Rattle.trick_phase.proofs.player.all_benches.Goals as goal
 
 pub loop-thread-preserved : goal.loop-thread-preserved
 loop-thread-preserved c =

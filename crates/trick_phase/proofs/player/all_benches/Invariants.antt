@@ -1,7 +1,7 @@
 use Rattle.std.proofs.Common.{◌≡◌, ℕ, ◌<◌, None, length}
 use Rattle.trick_eval.specs.Bench.{IsFor}
-use Rattle.trick_play.specs.Steps.{bench_at}
-use Rattle.trick_play.proofs.player.all_benches.Given as goal
+use Rattle.trick_phase.specs.Steps.{bench_at}
+use Rattle.trick_phase.proofs.player.all_benches.Given as goal
 
 -- the benches so far are empty, and those of the plan
 abbrev pub invariant-loop-thread : goal.invariant-loop-thread

@@ -2,8 +2,8 @@ use Rattle.std.proofs.Common.{◌∙◌, ◌++◌, ◌<◌, List, ap, sym}
 use Rattle.trick_lang.specs.declared.job.JobId.{JobId}
 use Rattle.trick_base.specs.Time.{tic_limit}
 use Rattle.trick_model.specs.Valid.{ids}
-use Rattle.trick_play.proofs.Late.{none_due}
-use Rattle.trick_play.proofs.player.due_jobs.Goals as goal
+use Rattle.trick_phase.proofs.Late.{none_due}
+use Rattle.trick_phase.proofs.player.due_jobs.Goals as goal
 
 pub returns-then-tic-gt-TIC_LIMIT : goal.returns-then-tic-gt-TIC_LIMIT
 returns-then-tic-gt-TIC_LIMIT c = λ on.

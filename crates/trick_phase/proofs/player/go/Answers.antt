@@ -1,9 +1,9 @@
 use Rattle.std.proofs.Common.{◌≤◌, false, length, subst, sym}
 use Rattle.trick_model.specs.declared.plan.Plan.{Plan as PlanValue}
-use Rattle.trick_play.proofs.Turns.{take_past}
-use Rattle.trick_play.specs.Steps.{Goes}
-use Rattle.trick_schedule.specs.declared.step.Step.{Step}
-use Rattle.trick_play.proofs.player.go.Goals as goal
+use Rattle.trick_phase.proofs.Turns.{take_past}
+use Rattle.trick_phase.specs.Steps.{Goes}
+use Rattle.trick_phase_schedules.specs.declared.step.Step.{Step}
+use Rattle.trick_phase.proofs.player.go.Goals as goal
 
 pub returns-then-not-is_there-clause-goes : goal.returns-then-not-is_there-clause-goes
 returns-then-not-is_there-clause-goes g c =

@@ -5,11 +5,11 @@ use Rattle.trick_model.specs.Order.{jobs_at}
 use Rattle.trick_model.specs.PlanOf.{plan_of}
 use Rattle.trick_model.specs.Valid.{ids}
 use Rattle.trick_model.specs.declared.plan.Plan.{Plan as PlanValue}
-use Rattle.trick_play.proofs.Follows.{Laws}
-use Rattle.trick_play.proofs.Plays.{GoesOn, done_is, goes_start, left_is, step_at_self, step_done, wrong_here}
-use Rattle.trick_schedule.specs.declared.step.Step.{Step}
-use Rattle.trick_schedule.specs.declared.step.Step.TheVariants.{Take}
-use Rattle.trick_play.proofs.player.play.Goals as goal
+use Rattle.trick_phase.proofs.Follows.{Laws}
+use Rattle.trick_phase.proofs.Plays.{GoesOn, done_is, goes_start, left_is, step_at_self, step_done, wrong_here}
+use Rattle.trick_phase_schedules.specs.declared.step.Step.{Step}
+use Rattle.trick_phase_schedules.specs.declared.step.Step.TheVariants.{Take}
+use Rattle.trick_phase.proofs.player.play.Goals as goal
 
 abbrev no_step : Step
 no_step = Take (record { 0 = 0 })

@@ -1,7 +1,7 @@
 use Rattle.std.proofs.Common.{take}
-use Rattle.trick_board.specs.Board.{IsBoardOf}
-use Rattle.trick_play.proofs.Plays.{GoesOn}
-use Rattle.trick_play.proofs.player.play.Given as goal
+use Rattle.trick_phase_board.specs.Board.{IsBoardOf}
+use Rattle.trick_phase.proofs.Plays.{GoesOn}
+use Rattle.trick_phase.proofs.player.play.Given as goal
 
 -- the first steps begin a schedule
 abbrev pub invariant-loop-at : goal.invariant-loop-at

@@ -1,7 +1,7 @@
 use Rattle.std.proofs.Common.{rules, ◌≡◌, true}
-use Rattle.trick_play.proofs.Turns.{flown, flown_filled}
-use Rattle.trick_play.specs.Steps.{has_job}
-use Rattle.trick_play.proofs.steps.commit_job.Goals as goal
+use Rattle.trick_phase.proofs.Turns.{flown, flown_filled}
+use Rattle.trick_phase.specs.Steps.{has_job}
+use Rattle.trick_phase.proofs.steps.commit_job.Goals as goal
 
 pub commit-requires-clause-filled : goal.commit-requires-clause-filled
 commit-requires-clause-filled g c =

@@ -1,14 +1,14 @@
 use Rattle.std.proofs.Common.{◌≡◌, ◌∙◌, ap, subst}
 use Rattle.std.specs.Option.{IfSome}
-use Rattle.trick_board.specs.Answers.{IfDone, Runs as RunsTo}
-use Rattle.trick_board.specs.Board.{tic_at, with_run}
-use Rattle.trick_board.specs.declared.answers.Ran.{Ran}
-use Rattle.trick_board.specs.declared.answers.Ran.TheVariants.{Done}
+use Rattle.trick_phase_board.specs.Answers.{IfDone, Runs as RunsTo}
+use Rattle.trick_phase_board.specs.Board.{tic_at, with_run}
+use Rattle.trick_phase_board.specs.declared.answers.Ran.{Ran}
+use Rattle.trick_phase_board.specs.declared.answers.Ran.TheVariants.{Done}
 use Rattle.trick_lang.specs.declared.job.JobId.{JobId}
 use Rattle.trick_model.specs.Plan.{thread_of}
 use Rattle.trick_model.specs.declared.plan.Plan.{Plan as PlanValue}
-use Rattle.trick_play.proofs.Turns.{has_run, not_run, run_parts}
-use Rattle.trick_play.proofs.steps.run_job.Goals as goal
+use Rattle.trick_phase.proofs.Turns.{has_run, not_run, run_parts}
+use Rattle.trick_phase.proofs.steps.run_job.Goals as goal
 
 pub returns-in-Done : goal.returns-in-Done
 returns-in-Done g c =

@@ -1,16 +1,16 @@
 use Rattle.std.proofs.Common.{◌≡◌, ◌∙◌, Some, ap, subst, sym}
 use Rattle.std.specs.Option.{IfSome}
-use Rattle.trick_board.specs.Answers.{Takes as TakesTo}
-use Rattle.trick_board.specs.Board.{tic_at}
-use Rattle.trick_board.specs.declared.answers.Took.{Took}
-use Rattle.trick_board.specs.declared.answers.Took.TheVariants.{Took as WasTaken}
+use Rattle.trick_phase_board.specs.Answers.{Takes as TakesTo}
+use Rattle.trick_phase_board.specs.Board.{tic_at}
+use Rattle.trick_phase_board.specs.declared.answers.Took.{Took}
+use Rattle.trick_phase_board.specs.declared.answers.Took.TheVariants.{Took as WasTaken}
 use Rattle.trick_eval.specs.Bench.{BenchView, IsFilled, the_job}
 use Rattle.trick_lang.specs.Effect.{effect}
 use Rattle.trick_model.specs.Plan.{thread_of}
 use Rattle.trick_model.specs.declared.plan.Plan.{Plan as PlanValue}
-use Rattle.trick_play.proofs.Turns.{not_taken, took, took_filled}
-use Rattle.trick_play.specs.Steps.{Takes}
-use Rattle.trick_play.proofs.steps.take_job.Goals as goal
+use Rattle.trick_phase.proofs.Turns.{not_taken, took, took_filled}
+use Rattle.trick_phase.specs.Steps.{Takes}
+use Rattle.trick_phase.proofs.steps.take_job.Goals as goal
 
 pub eval-requires-clause-filled : goal.eval-requires-clause-filled
 eval-requires-clause-filled g c =

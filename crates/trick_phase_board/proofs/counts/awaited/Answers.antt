@@ -1,8 +1,8 @@
 use Rattle.std.proofs.Common.{◌≡◌, [], arith, sym}
 use Rattle.std.specs.List.{slice_index_or}
-use Rattle.trick_board.proofs.Counting.{none_open}
-use Rattle.trick_board.specs.Counts.{open_among}
-use Rattle.trick_board.proofs.counts.awaited.Goals as goal
+use Rattle.trick_phase_board.proofs.Counting.{none_open}
+use Rattle.trick_phase_board.specs.Counts.{open_among}
+use Rattle.trick_phase_board.proofs.counts.awaited.Goals as goal
 
 pub returns-then-awaited-eq0 : goal.returns-then-awaited-eq0
 returns-then-awaited-eq0 c =

@@ -1,6 +1,6 @@
 use Rattle.std.proofs.Common.{◌≡◌, ◌+◌, ◌≤◌, drop}
-use Rattle.trick_board.specs.Counts.{open_among}
-use Rattle.trick_board.proofs.counts.count.Given as goal
+use Rattle.trick_phase_board.specs.Counts.{open_among}
+use Rattle.trick_phase_board.proofs.counts.count.Given as goal
 
 -- the count so far, and what is left
 abbrev pub invariant-loop-job : goal.invariant-loop-job

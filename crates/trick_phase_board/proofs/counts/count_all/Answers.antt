@@ -1,12 +1,12 @@
 use Rattle.std.proofs.Common.{◌≡◌, ◌<◌, ℕ, [], ◌+◌, List, ap, drop, inl, length, refl, subst, sym, arith, ◌∙◌}
 use Rattle.std.proofs.lemmas.List.{drop_all, drop_more, length-set}
 use Rattle.std.specs.List.{slice_index_or}
-use Rattle.trick_board.proofs.Counting.{IsLeftOrCounted, among_at, none_left, one_counted}
-use Rattle.trick_board.specs.Counts.{count_anew, open_among}
+use Rattle.trick_phase_board.proofs.Counting.{IsLeftOrCounted, among_at, none_left, one_counted}
+use Rattle.trick_phase_board.specs.Counts.{count_anew, open_among}
 use Rattle.trick_lang.specs.declared.job.JobId.{JobId}
 use Rattle.trick_model.specs.Valid.{ids}
 use Rattle.trick_queue.specs.Line.{no_id}
-use Rattle.trick_board.proofs.counts.count_all.Goals as goal
+use Rattle.trick_phase_board.proofs.counts.count_all.Goals as goal
 
 pub loop-job-init : goal.loop-job-init
 loop-job-init c = record { length_is = refl; counted = λ k among. inl among }

@@ -1,8 +1,8 @@
 use Rattle.std.proofs.Common.{◌≡◌, ℕ, drop, length, IsTrue}
-use Rattle.trick_board.proofs.Counting.{IsLeftOrCounted}
+use Rattle.trick_phase_board.proofs.Counting.{IsLeftOrCounted}
 use Rattle.trick_model.specs.Laws.{is_among}
 use Rattle.trick_model.specs.Valid.{ids}
-use Rattle.trick_board.proofs.counts.count_all.Given as goal
+use Rattle.trick_phase_board.proofs.counts.count_all.Given as goal
 
 -- the jobs that are not left are counted
 abbrev pub invariant-loop-job : goal.invariant-loop-job

@@ -1,7 +1,7 @@
 use Rattle.std.proofs.Common.{◌≡◌, drop, length}
-use Rattle.trick_board.specs.Counts.{with_fewer}
+use Rattle.trick_phase_board.specs.Counts.{with_fewer}
 use Rattle.trick_model.specs.Valid.{ids}
-use Rattle.trick_board.proofs.counts.lower.Given as goal
+use Rattle.trick_phase_board.proofs.counts.lower.Given as goal
 
 -- the jobs that are left still have to be lowered
 abbrev pub invariant-loop-job : goal.invariant-loop-job

@@ -1,17 +1,17 @@
 use Rattle.std.proofs.Common.{rules, ◌≡◌, ◌<◌, ◌≤◌, ℕ, [], ◌∷◌, ◌+◌, ◌-◌, List, IsTrue, ap, drop, length, refl, subst, sym, arith, ◌∙◌}
 use Rattle.std.proofs.lemmas.List.{drop_all, drop_more, length-set}
 use Rattle.std.specs.List.{slice_index_or}
-use Rattle.trick_board.proofs.Counting.{among_at}
-use Rattle.trick_board.proofs.Passed.{all_zero}
-use Rattle.trick_board.proofs.Ranks.{few_more, first_rank, left_more, rank_more}
-use Rattle.trick_board.specs.Counts.{count_at, many_on, rank_in}
-use Rattle.trick_board.specs.Tables.{thread_in}
+use Rattle.trick_phase_board.proofs.Counting.{among_at}
+use Rattle.trick_phase_board.proofs.Passed.{all_zero}
+use Rattle.trick_phase_board.proofs.Ranks.{few_more, first_rank, left_more, rank_more}
+use Rattle.trick_phase_board.specs.Counts.{count_at, many_on, rank_in}
+use Rattle.trick_phase_board.specs.Tables.{thread_in}
 use Rattle.trick_lang.specs.declared.job.JobId.{JobId}
 use Rattle.trick_model.specs.Laws.{is_among}
 use Rattle.trick_model.specs.Valid.{ids}
 use Rattle.trick_queue.specs.Line.{no_id}
-use Rattle.trick_schedule.proofs.Keys.{none_among}
-use Rattle.trick_board.proofs.counts.rank_all.Goals as goal
+use Rattle.trick_phase_schedules.proofs.Keys.{none_among}
+use Rattle.trick_phase_board.proofs.counts.rank_all.Goals as goal
 
 pub loop-passed-init : goal.loop-passed-init
 loop-passed-init c =

@@ -1,9 +1,9 @@
 use Rattle.std.proofs.Common.{◌≡◌, ◌≤◌, ◌-◌, ℕ, drop, length, IsTrue}
-use Rattle.trick_board.specs.Counts.{count_at, many_on, rank_in}
-use Rattle.trick_board.specs.Tables.{thread_in}
+use Rattle.trick_phase_board.specs.Counts.{count_at, many_on, rank_in}
+use Rattle.trick_phase_board.specs.Tables.{thread_in}
 use Rattle.trick_model.specs.Laws.{is_among}
 use Rattle.trick_model.specs.Valid.{ids}
-use Rattle.trick_board.proofs.counts.rank_all.Given as goal
+use Rattle.trick_phase_board.proofs.counts.rank_all.Given as goal
 
 -- the last jobs are ranked and counted
 abbrev pub invariant-loop-passed : goal.invariant-loop-passed

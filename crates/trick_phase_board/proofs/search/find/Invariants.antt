@@ -1,6 +1,6 @@
 use Rattle.std.proofs.Common.{◌≡◌, drop}
-use Rattle.trick_board.specs.Search.{find_wanted}
-use Rattle.trick_board.proofs.search.find.Given as goal
+use Rattle.trick_phase_board.specs.Search.{find_wanted}
+use Rattle.trick_phase_board.proofs.search.find.Given as goal
 
 -- the jobs that are left decide
 abbrev pub invariant-loop-job : goal.invariant-loop-job

@@ -1,9 +1,9 @@
 use Rattle.std.proofs.Common.{◌∙◌, List, ap}
 use Rattle.std.proofs.lemmas.List.{take_rest}
-use Rattle.trick_board.proofs.Passed.{behind, none_behind}
-use Rattle.trick_board.specs.Search.{find_wanted}
+use Rattle.trick_phase_board.proofs.Passed.{behind, none_behind}
+use Rattle.trick_phase_board.specs.Search.{find_wanted}
 use Rattle.trick_lang.specs.declared.job.JobId.{JobId}
-use Rattle.trick_board.proofs.search.find_behind.Goals as goal
+use Rattle.trick_phase_board.proofs.search.find_behind.Goals as goal
 
 pub returns-then-passed-jobs : goal.returns-then-passed-jobs
 returns-then-passed-jobs c =

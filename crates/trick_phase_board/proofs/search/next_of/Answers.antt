@@ -2,15 +2,15 @@ use Rattle.std.proofs.Common.{◌≡◌, ◌<◌, ◌==◌, ℕ, [], List, ◌�
 use Rattle.std.proofs.lemmas.Bool.{and_parts, eqb-true}
 use Rattle.std.specs.List.{slice_index_or}
 use Rattle.std.specs.Option.{IfSome}
-use Rattle.trick_board.proofs.Counting.{none_open, waiting_is_due}
-use Rattle.trick_board.proofs.Found.{in_depended, in_line, other_below}
-use Rattle.trick_board.proofs.Nexts.{ready_found}
-use Rattle.trick_board.specs.Counts.{IsCounted, count_at}
-use Rattle.trick_board.specs.Search.{find_wanted}
-use Rattle.trick_board.specs.declared.search.Wanted.TheVariants.{Open, Waiting}
+use Rattle.trick_phase_board.proofs.Counting.{none_open, waiting_is_due}
+use Rattle.trick_phase_board.proofs.Found.{in_depended, in_line, other_below}
+use Rattle.trick_phase_board.proofs.Nexts.{ready_found}
+use Rattle.trick_phase_board.specs.Counts.{IsCounted, count_at}
+use Rattle.trick_phase_board.specs.Search.{find_wanted}
+use Rattle.trick_phase_board.specs.declared.search.Wanted.TheVariants.{Open, Waiting}
 use Rattle.trick_lang.specs.declared.job.JobId.{JobId}
 use Rattle.trick_model.specs.PlanOf.{plan_of}
-use Rattle.trick_board.proofs.search.next_of.Goals as goal
+use Rattle.trick_phase_board.proofs.search.next_of.Goals as goal
 
 pub has_none_left-requires : goal.has_none_left-requires
 has_none_left-requires c =

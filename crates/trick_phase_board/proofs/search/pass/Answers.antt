@@ -1,10 +1,10 @@
 use Rattle.std.proofs.Common.{rules, ◌≡◌, ℕ, ◌+◌, ◌<◌, ap, arith, false, length}
 use Rattle.std.specs.List.{slice_index_or}
-use Rattle.trick_board.proofs.Passed.{one_more}
-use Rattle.trick_board.specs.Search.{is_open}
+use Rattle.trick_phase_board.proofs.Passed.{one_more}
+use Rattle.trick_phase_board.specs.Search.{is_open}
 use Rattle.trick_queue.specs.Line.{no_id}
-use Rattle.trick_schedule.specs.Play.{stage_at}
-use Rattle.trick_board.proofs.search.pass.Goals as goal
+use Rattle.trick_phase_schedules.specs.Play.{stage_at}
+use Rattle.trick_phase_board.proofs.search.pass.Goals as goal
 
 pub loop-job-preserved : goal.loop-job-preserved
 loop-job-preserved c =

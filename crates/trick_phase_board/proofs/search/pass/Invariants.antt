@@ -1,6 +1,6 @@
 use Rattle.std.proofs.Common.{◌≡◌}
-use Rattle.trick_board.specs.Search.{IsPassed}
-use Rattle.trick_board.proofs.search.pass.Given as goal
+use Rattle.trick_phase_board.specs.Search.{IsPassed}
+use Rattle.trick_phase_board.proofs.search.pass.Given as goal
 
 -- those before the place are passed
 abbrev pub invariant-loop-job : goal.invariant-loop-job

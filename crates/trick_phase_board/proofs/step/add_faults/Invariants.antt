@@ -1,8 +1,8 @@
 use Rattle.std.proofs.Common.{◌≡◌, drop}
 use Rattle.trick_model.specs.FaultList.{with_faults}
 use Rattle.trick_model.specs.Valid.{ids}
-use Rattle.trick_schedule.specs.Play.{faults_in}
-use Rattle.trick_board.proofs.step.add_faults.Given as goal
+use Rattle.trick_phase_schedules.specs.Play.{faults_in}
+use Rattle.trick_phase_board.proofs.step.add_faults.Given as goal
 
 -- the faults of the jobs that are left make all of them
 abbrev pub invariant-loop-job : goal.invariant-loop-job

@@ -1,13 +1,13 @@
 use Rattle.std.proofs.Common.{List, ap, drop, length, subst, sym, ◌+◌, ◌∙◌}
 use Rattle.std.proofs.lemmas.List.{drop_all, drop_more, length-set}
-use Rattle.trick_board.proofs.Among.{all_cleared, one_cleared}
-use Rattle.trick_board.specs.Board.{AreDueAmong}
+use Rattle.trick_phase_board.proofs.Among.{all_cleared, one_cleared}
+use Rattle.trick_phase_board.specs.Board.{AreDueAmong}
 use Rattle.trick_lang.specs.declared.job.JobId.{JobId}
 use Rattle.trick_model.specs.Valid.{ids}
 use Rattle.trick_queue.specs.Line.{no_id}
-use Rattle.trick_schedule.specs.declared.stage.Stage.TheVariants.{Idle}
+use Rattle.trick_phase_schedules.specs.declared.stage.Stage.TheVariants.{Idle}
 use Rattle.std.specs.List.{slice_index_or}
-use Rattle.trick_board.proofs.step.clear_stages.Goals as goal
+use Rattle.trick_phase_board.proofs.step.clear_stages.Goals as goal
 
 pub loop-job-preserved : goal.loop-job-preserved
 loop-job-preserved c =

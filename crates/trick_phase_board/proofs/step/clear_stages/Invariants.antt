@@ -1,7 +1,7 @@
 use Rattle.std.proofs.Common.{◌≡◌, drop, length}
-use Rattle.trick_board.specs.Board.{AreDueAmong}
+use Rattle.trick_phase_board.specs.Board.{AreDueAmong}
 use Rattle.trick_model.specs.Valid.{ids}
-use Rattle.trick_board.proofs.step.clear_stages.Given as goal
+use Rattle.trick_phase_board.proofs.step.clear_stages.Given as goal
 
 -- only the jobs that are left are due
 abbrev pub invariant-loop-job : goal.invariant-loop-job

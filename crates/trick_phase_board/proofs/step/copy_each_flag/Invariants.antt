@@ -1,7 +1,7 @@
 use Rattle.std.proofs.Common.{◌≡◌, ℕ, ◌<◌, false, length}
 use Rattle.std.specs.List.{slice_index_or}
 use Rattle.trick_model.specs.Plan.{is_on}
-use Rattle.trick_board.proofs.step.copy_each_flag.Given as goal
+use Rattle.trick_phase_board.proofs.step.copy_each_flag.Given as goal
 
 -- the flags so far
 abbrev pub invariant-loop-job : goal.invariant-loop-job

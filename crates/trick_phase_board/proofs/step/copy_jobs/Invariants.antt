@@ -1,6 +1,6 @@
 use Rattle.std.proofs.Common.{◌≡◌, take}
 use Rattle.std.specs.Prelude.{vec_capacity}
-use Rattle.trick_board.proofs.step.copy_jobs.Given as goal
+use Rattle.trick_phase_board.proofs.step.copy_jobs.Given as goal
 
 -- the jobs so far
 abbrev pub invariant-loop-job : goal.invariant-loop-job

@@ -1,7 +1,7 @@
 use Rattle.std.proofs.Common.{◌≡◌, ◌+◌, ◌≤◌, drop}
-use Rattle.trick_board.specs.Answers.{open_count}
+use Rattle.trick_phase_board.specs.Answers.{open_count}
 use Rattle.trick_model.specs.Valid.{ids}
-use Rattle.trick_board.proofs.step.count_open.Given as goal
+use Rattle.trick_phase_board.proofs.step.count_open.Given as goal
 
 -- the count so far, and what is left
 abbrev pub invariant-loop-job : goal.invariant-loop-job

@@ -1,7 +1,7 @@
 use Rattle.std.proofs.Common.{◌≡◌, ℕ, ◌<◌, length}
-use Rattle.trick_board.specs.Tables.{depended_of, ids_at}
+use Rattle.trick_phase_board.specs.Tables.{depended_of, ids_at}
 use Rattle.trick_model.specs.PlanOf.{plan_of}
-use Rattle.trick_board.proofs.tables.all_depended.Given as goal
+use Rattle.trick_phase_board.proofs.tables.all_depended.Given as goal
 
 -- the jobs so far have those that they depend on
 abbrev pub invariant-loop-number : goal.invariant-loop-number

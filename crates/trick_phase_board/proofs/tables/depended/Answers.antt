@@ -1,13 +1,13 @@
 use Rattle.std.proofs.Common.{rules, ◌≡◌, ◌++◌, ◌∷◌, [], ◌∙◌, ap, get_or, refl, sym}
 use Rattle.std.specs.Prelude.{cond, filter, ◌==◌}
-use Rattle.trick_board.proofs.Lines.{no_depended, own_awaits}
-use Rattle.trick_board.specs.Tables.{awaits}
+use Rattle.trick_phase_board.proofs.Lines.{no_depended, own_awaits}
+use Rattle.trick_phase_board.specs.Tables.{awaits}
 use Rattle.trick_model.specs.PlanOf.{plan_of}
 use Rattle.trick_model.specs.Valid.{ids}
 use Rattle.trick_model.specs.declared.depends.Depends.{Depends as Pair}
 use Rattle.trick_queue.proofs.Queued.{queue_more}
 use Rattle.trick_queue.specs.Line.{no_id}
-use Rattle.trick_board.proofs.tables.depended.Goals as goal
+use Rattle.trick_phase_board.proofs.tables.depended.Goals as goal
 
 pub returns-then-is_empty : goal.returns-then-is_empty
 returns-then-is_empty c =

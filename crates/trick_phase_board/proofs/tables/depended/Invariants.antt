@@ -1,8 +1,8 @@
 use Rattle.std.proofs.Common.{◌≡◌, take}
 use Rattle.std.specs.Prelude.{filter}
 use Rattle.trick_model.specs.Valid.{ids}
-use Rattle.trick_board.specs.Tables.{awaits}
-use Rattle.trick_board.proofs.tables.depended.Given as goal
+use Rattle.trick_phase_board.specs.Tables.{awaits}
+use Rattle.trick_phase_board.proofs.tables.depended.Given as goal
 
 -- those of the first jobs that the job waits for
 abbrev pub invariant-loop-job : goal.invariant-loop-job

@@ -1,12 +1,12 @@
 use Rattle.std.proofs.Common.{◌++◌, ◌∷◌, [], ◌∙◌, ap, get_or, refl}
 use Rattle.std.specs.Prelude.{cond}
-use Rattle.trick_board.specs.Tables.{depended_of}
+use Rattle.trick_phase_board.specs.Tables.{depended_of}
 use Rattle.trick_model.specs.Laws.{is_among}
 use Rattle.trick_model.specs.PlanOf.{plan_of}
 use Rattle.trick_model.specs.Valid.{ids}
 use Rattle.trick_queue.proofs.Queued.{queue_more}
 use Rattle.trick_queue.specs.Line.{no_id}
-use Rattle.trick_board.proofs.tables.followers.Goals as goal
+use Rattle.trick_phase_board.proofs.tables.followers.Goals as goal
 
 pub loop-other-preserved : goal.loop-other-preserved
 loop-other-preserved c =

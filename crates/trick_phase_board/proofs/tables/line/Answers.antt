@@ -5,7 +5,7 @@ use Rattle.trick_model.specs.Plan.{thread_of}
 use Rattle.trick_model.specs.Valid.{ids}
 use Rattle.trick_queue.proofs.Queued.{queue_more}
 use Rattle.trick_queue.specs.Line.{no_id}
-use Rattle.trick_tray.proofs.lines.line.Goals as goal
+use Rattle.trick_phase_board.proofs.tables.line.Goals as goal
 
 pub loop-job-preserved : goal.loop-job-preserved
 loop-job-preserved c =

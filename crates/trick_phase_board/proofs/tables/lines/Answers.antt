@@ -1,10 +1,10 @@
 use Rattle.std.proofs.Common.{◌≤◌, [], ap, sym, ◌∙◌, inl, inr, length, arith}
 use Rattle.std.proofs.lemmas.Bool.{cases_lt}
 use Rattle.std.proofs.lemmas.List.{get_or_past}
-use Rattle.trick_board.proofs.Lines.{no_line}
+use Rattle.trick_phase_board.proofs.Lines.{no_line}
 use Rattle.trick_model.specs.PlanOf.{plan_of}
 use Rattle.trick_model.specs.Valid.{ids}
-use Rattle.trick_board.proofs.tables.lines.Goals as goal
+use Rattle.trick_phase_board.proofs.tables.lines.Goals as goal
 
 pub returns : goal.returns
 returns c thread = elim (cases_lt thread c.loop-thread.thread) [

@@ -1,7 +1,7 @@
 use Rattle.std.proofs.Common.{◌≡◌, ℕ, ◌<◌, length}
-use Rattle.trick_board.specs.Tables.{ids_at, line_of}
+use Rattle.trick_phase_board.specs.Tables.{ids_at, line_of}
 use Rattle.trick_model.specs.PlanOf.{plan_of}
-use Rattle.trick_board.proofs.tables.lines.Given as goal
+use Rattle.trick_phase_board.proofs.tables.lines.Given as goal
 
 -- the threads so far have their jobs
 abbrev pub invariant-loop-thread : goal.invariant-loop-thread

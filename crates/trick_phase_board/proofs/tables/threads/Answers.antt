@@ -3,7 +3,7 @@ use Rattle.std.proofs.lemmas.Bool.{cases_lt}
 use Rattle.std.proofs.lemmas.List.{get_or_past}
 use Rattle.trick_lang.specs.declared.job.Job.{Job}
 use Rattle.trick_model.specs.Plan.{no_job}
-use Rattle.trick_board.proofs.tables.threads.Goals as goal
+use Rattle.trick_phase_board.proofs.tables.threads.Goals as goal
 
 pub returns-clause-right : goal.returns-clause-right
 returns-clause-right c k = elim (cases_lt k c.loop-number.number) [

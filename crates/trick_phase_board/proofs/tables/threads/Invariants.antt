@@ -1,7 +1,7 @@
 use Rattle.std.proofs.Common.{◌≡◌, ℕ, ◌<◌, length}
 use Rattle.std.specs.List.{slice_index_or}
 use Rattle.trick_model.specs.Plan.{thread_of}
-use Rattle.trick_board.proofs.tables.threads.Given as goal
+use Rattle.trick_phase_board.proofs.tables.threads.Given as goal
 
 -- the jobs so far have their threads
 abbrev pub invariant-loop-number : goal.invariant-loop-number

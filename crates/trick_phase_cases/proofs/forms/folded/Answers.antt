@@ -1,8 +1,8 @@
 use Rattle.std.proofs.Common.{subst}
 use Rattle.trick_model.specs.declared.plan.Plan.{Plan}
 use Rattle.trick_queue.specs.Queue.{IsFor}
-use Rattle.trick_schedule_cases.proofs.Trials.{zeros_memory}
-use Rattle.trick_schedule_cases.proofs.forms.folded.Goals as goal
+use Rattle.trick_phase_cases.proofs.Trials.{zeros_memory}
+use Rattle.trick_phase_cases.proofs.forms.folded.Goals as goal
 
 pub tic-after-requires-clause-given : goal.tic-after-requires-clause-given
 tic-after-requires-clause-given g c =

@@ -1,11 +1,11 @@
 use Rattle.std.proofs.Common.{◌≡◌, drop}
-use Rattle.trick_job.specs.Belongs.{IsMemoryOf}
+use Rattle.trick_phase_jobs.specs.Belongs.{IsMemoryOf}
 use Rattle.trick_model.specs.FaultList.{with_faults}
 use Rattle.trick_model.specs.Plan.{is_on}
 use Rattle.trick_model.specs.PlanOf.{plan_of}
 use Rattle.trick_model.specs.Running.{after_jobs}
 use Rattle.trick_model.specs.Valid.{ids}
-use Rattle.trick_job.proofs.run.run_jobs.Given as goal
+use Rattle.trick_phase_jobs.proofs.run.run_jobs.Given as goal
 
 -- what is left of the jobs makes of what is there what all jobs make of the beginning
 abbrev pub invariant-loop-job : goal.invariant-loop-job

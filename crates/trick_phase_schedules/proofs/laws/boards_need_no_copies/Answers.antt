@@ -1,7 +1,7 @@
-use Rattle.trick_schedule.proofs.Due.{right}
-use Rattle.trick_schedule.proofs.Moves.{board_goes_with, copy_stays}
-use Rattle.trick_schedule.specs.Tics.{tic_of}
-use Rattle.trick_schedule.proofs.laws.boards_need_no_copies.Goals as goal
+use Rattle.trick_phase_schedules.proofs.Due.{right}
+use Rattle.trick_phase_schedules.proofs.Moves.{board_goes_with, copy_stays}
+use Rattle.trick_phase_schedules.specs.Tics.{tic_of}
+use Rattle.trick_phase_schedules.proofs.laws.boards_need_no_copies.Goals as goal
 
 pub returns-clause-board : goal.returns-clause-board
 returns-clause-board c = λ plan on number accepted first steps may.

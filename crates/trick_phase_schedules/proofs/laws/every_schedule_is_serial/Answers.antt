@@ -1,7 +1,7 @@
-use Rattle.trick_schedule.proofs.Due.{right}
-use Rattle.trick_schedule.proofs.History.{serial, sound}
-use Rattle.trick_schedule.specs.Tics.{tic_of}
-use Rattle.trick_schedule.proofs.laws.every_schedule_is_serial.Goals as goal
+use Rattle.trick_phase_schedules.proofs.Due.{right}
+use Rattle.trick_phase_schedules.proofs.History.{serial, sound}
+use Rattle.trick_phase_schedules.specs.Tics.{tic_of}
+use Rattle.trick_phase_schedules.proofs.laws.every_schedule_is_serial.Goals as goal
 
 pub returns-clause-whole : goal.returns-clause-whole
 returns-clause-whole c = λ plan on number accepted first steps schedule.

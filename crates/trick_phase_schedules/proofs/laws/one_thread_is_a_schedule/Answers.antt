@@ -1,7 +1,7 @@
-use Rattle.trick_schedule.proofs.Alone.{one_by_one_schedule}
-use Rattle.trick_schedule.proofs.Due.{right}
-use Rattle.trick_schedule.specs.Tics.{tic_of}
-use Rattle.trick_schedule.proofs.laws.one_thread_is_a_schedule.Goals as goal
+use Rattle.trick_phase_schedules.proofs.Alone.{one_by_one_schedule}
+use Rattle.trick_phase_schedules.proofs.Due.{right}
+use Rattle.trick_phase_schedules.specs.Tics.{tic_of}
+use Rattle.trick_phase_schedules.proofs.laws.one_thread_is_a_schedule.Goals as goal
 
 pub returns : goal.returns
 returns c = λ plan on number accepted.

@@ -1,8 +1,8 @@
-use Rattle.trick_schedule.proofs.Due.{right}
+use Rattle.trick_phase_schedules.proofs.Due.{right}
 use Rattle.std.proofs.Common.{[]}
-use Rattle.trick_schedule.proofs.Extend.{all_follow, begun_before, each_follows, goes_on_to_schedule, ready}
-use Rattle.trick_schedule.specs.Tics.{tic_of}
-use Rattle.trick_schedule.proofs.laws.schedules_go_on.Goals as goal
+use Rattle.trick_phase_schedules.proofs.Extend.{all_follow, begun_before, each_follows, goes_on_to_schedule, ready}
+use Rattle.trick_phase_schedules.specs.Tics.{tic_of}
+use Rattle.trick_phase_schedules.proofs.laws.schedules_go_on.Goals as goal
 
 pub returns : goal.returns
 returns c = λ plan on number accepted.

@@ -1,9 +1,9 @@
 use Rattle.std.proofs.Common.{◌≡◌, ◌∙◌, ap, sym, subst}
-use Rattle.trick_draft.specs.Drafts.{names_of}
-use Rattle.trick_draft.specs.Jobs.{jobs_of}
-use Rattle.trick_ending.proofs.Facts.{names_kept, right}
-use Rattle.trick_ending.proofs.ending.end.Goals as goal
-use Rattle.trick_ending.specs.Ending.{AreParts, parts_of}
+use Rattle.trick_plan_draft.specs.Drafts.{names_of}
+use Rattle.trick_plan_draft.specs.Jobs.{jobs_of}
+use Rattle.trick_plan.proofs.Facts.{names_kept, right}
+use Rattle.trick_plan.proofs.ending.end.Goals as goal
+use Rattle.trick_plan.specs.Ending.{AreParts, parts_of}
 use Rattle.trick_lang.specs.declared.program.Program.{Program}
 use Rattle.trick_model.specs.Valid.{names_in}
 

@@ -1,10 +1,10 @@
 use Rattle.std.proofs.Common.{◌∙◌, List, length, ap, sym, subst}
 use Rattle.std.proofs.lemmas.List.{length-map}
-use Rattle.trick_ending.proofs.Taking.{are_places}
-use Rattle.trick_ending.proofs.events.events.Goals as goal
-use Rattle.trick_ending.specs.Added.{ArePlaces}
-use Rattle.trick_draft.specs.Kept.{names_of_events}
-use Rattle.trick_draft.specs.declared.event.EventDraft.{EventDraft}
+use Rattle.trick_plan.proofs.Taking.{are_places}
+use Rattle.trick_plan.proofs.events.events.Goals as goal
+use Rattle.trick_plan.specs.Added.{ArePlaces}
+use Rattle.trick_plan_draft.specs.Kept.{names_of_events}
+use Rattle.trick_plan_draft.specs.declared.event.EventDraft.{EventDraft}
 
 pub flags_at-requires : goal.flags_at-requires
 flags_at-requires c =

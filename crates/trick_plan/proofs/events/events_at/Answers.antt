@@ -1,10 +1,10 @@
 use Rattle.std.proofs.Common.{◌∙◌, ◌+◌, ◌<◌, ◌++◌, ℕ, List, length, drop, map, slice_index_or, slice_set, ap, refl, sym, subst}
 use Rattle.std.proofs.lemmas.List.{length-set}
 use Rattle.std.proofs.lemmas.Option.{slice_get-get_or}
-use Rattle.trick_ending.proofs.Taking.{map_pushed, taken}
-use Rattle.trick_ending.proofs.events.events_at.Goals as goal
-use Rattle.trick_ending.specs.Added.{at_places}
-use Rattle.trick_ending.specs.Ending.{EventTree, draft_tree, event_tree}
+use Rattle.trick_plan.proofs.Taking.{map_pushed, taken}
+use Rattle.trick_plan.proofs.events.events_at.Goals as goal
+use Rattle.trick_plan.specs.Added.{at_places}
+use Rattle.trick_plan.specs.Ending.{EventTree, draft_tree, event_tree}
 use Rattle.trick_model.specs.declared.event.Event.{Event}
 
 pub loop-place-preserved : goal.loop-place-preserved

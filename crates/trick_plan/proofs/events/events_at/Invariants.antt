@@ -1,7 +1,7 @@
 use Rattle.std.proofs.Common.{◌≡◌, ◌++◌, drop, length, map}
-use Rattle.trick_ending.proofs.events.events_at.Given as goal
-use Rattle.trick_ending.specs.Added.{at_places}
-use Rattle.trick_ending.specs.Ending.{draft_tree, event_tree}
+use Rattle.trick_plan.proofs.events.events_at.Given as goal
+use Rattle.trick_plan.specs.Added.{at_places}
+use Rattle.trick_plan.specs.Ending.{draft_tree, event_tree}
 
 -- the events so far and those that are left
 abbrev pub invariant-loop-place : goal.invariant-loop-place

@@ -1,7 +1,7 @@
 use Rattle.std.proofs.Common.{◌≡◌, ◌++◌, drop, map}
-use Rattle.trick_ending.proofs.events.flags_at.Given as goal
-use Rattle.trick_ending.specs.Added.{at_places}
-use Rattle.trick_draft.specs.declared.event.EventDraft.{EventDraft}
+use Rattle.trick_plan.proofs.events.flags_at.Given as goal
+use Rattle.trick_plan.specs.Added.{at_places}
+use Rattle.trick_plan_draft.specs.declared.event.EventDraft.{EventDraft}
 
 -- the flags so far and those that are left
 abbrev pub invariant-loop-place : goal.invariant-loop-place

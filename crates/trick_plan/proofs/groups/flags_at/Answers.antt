@@ -1,9 +1,9 @@
 use Rattle.std.proofs.Common.{◌∙◌, ◌+◌, ◌++◌, Bool, List, drop, map, ap, refl}
 use Rattle.std.proofs.lemmas.Option.{slice_get-get_or}
-use Rattle.trick_ending.proofs.Taking.{read}
-use Rattle.trick_ending.proofs.groups.flags_at.Goals as goal
-use Rattle.trick_ending.specs.Added.{at_places}
-use Rattle.trick_draft.specs.declared.group.GroupDraft.{GroupDraft}
+use Rattle.trick_plan.proofs.Taking.{read}
+use Rattle.trick_plan.proofs.groups.flags_at.Goals as goal
+use Rattle.trick_plan.specs.Added.{at_places}
+use Rattle.trick_plan_draft.specs.declared.group.GroupDraft.{GroupDraft}
 
 pub loop-place-preserved : goal.loop-place-preserved
 loop-place-preserved c =

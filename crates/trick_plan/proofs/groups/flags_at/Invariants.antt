@@ -1,7 +1,7 @@
 use Rattle.std.proofs.Common.{◌≡◌, ◌++◌, drop, map}
-use Rattle.trick_ending.proofs.groups.flags_at.Given as goal
-use Rattle.trick_ending.specs.Added.{at_places}
-use Rattle.trick_draft.specs.declared.group.GroupDraft.{GroupDraft}
+use Rattle.trick_plan.proofs.groups.flags_at.Given as goal
+use Rattle.trick_plan.specs.Added.{at_places}
+use Rattle.trick_plan_draft.specs.declared.group.GroupDraft.{GroupDraft}
 
 -- the flags so far and those that are left
 abbrev pub invariant-loop-place : goal.invariant-loop-place

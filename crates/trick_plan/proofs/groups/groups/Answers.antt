@@ -1,10 +1,10 @@
 use Rattle.std.proofs.Common.{◌∙◌, List, length, ap, sym, subst}
 use Rattle.std.proofs.lemmas.List.{length-map}
-use Rattle.trick_ending.proofs.Taking.{are_places}
-use Rattle.trick_ending.proofs.groups.groups.Goals as goal
-use Rattle.trick_ending.specs.Added.{ArePlaces}
-use Rattle.trick_draft.specs.Kept.{names_of_groups}
-use Rattle.trick_draft.specs.declared.group.GroupDraft.{GroupDraft}
+use Rattle.trick_plan.proofs.Taking.{are_places}
+use Rattle.trick_plan.proofs.groups.groups.Goals as goal
+use Rattle.trick_plan.specs.Added.{ArePlaces}
+use Rattle.trick_plan_draft.specs.Kept.{names_of_groups}
+use Rattle.trick_plan_draft.specs.declared.group.GroupDraft.{GroupDraft}
 
 pub flags_at-requires : goal.flags_at-requires
 flags_at-requires c =

@@ -1,10 +1,10 @@
 use Rattle.std.proofs.Common.{◌∙◌, ◌+◌, ◌<◌, ◌++◌, ◌∷◌, [], ℕ, List, length, drop, map, slice_index_or, slice_set, ap, refl, sym, subst}
 use Rattle.std.proofs.lemmas.List.{length-set}
 use Rattle.std.proofs.lemmas.Option.{slice_get-get_or}
-use Rattle.trick_ending.proofs.Taking.{taken}
-use Rattle.trick_ending.proofs.groups.groups_at.Goals as goal
-use Rattle.trick_ending.specs.Added.{at_places}
-use Rattle.trick_ending.specs.Ending.{plan_group}
+use Rattle.trick_plan.proofs.Taking.{taken}
+use Rattle.trick_plan.proofs.groups.groups_at.Goals as goal
+use Rattle.trick_plan.specs.Added.{at_places}
+use Rattle.trick_plan.specs.Ending.{plan_group}
 use Rattle.trick_model.specs.declared.group.Group.{Group}
 
 pub loop-place-preserved : goal.loop-place-preserved

@@ -1,7 +1,7 @@
 use Rattle.std.proofs.Common.{◌≡◌, ◌++◌, drop, length, map}
-use Rattle.trick_ending.proofs.groups.groups_at.Given as goal
-use Rattle.trick_ending.specs.Added.{at_places}
-use Rattle.trick_ending.specs.Ending.{plan_group}
+use Rattle.trick_plan.proofs.groups.groups_at.Given as goal
+use Rattle.trick_plan.specs.Added.{at_places}
+use Rattle.trick_plan.specs.Ending.{plan_group}
 
 -- the groups so far and those that are left
 abbrev pub invariant-loop-place : goal.invariant-loop-place

@@ -1,18 +1,18 @@
 use Rattle.std.proofs.Common.{List, Ok, sym, subst}
 use Rattle.std.proofs.lemmas.Result.{err_from_is_err_and}
-use Rattle.trick_declare.specs.Cells.{KeepsRest}
-use Rattle.trick_draft.specs.Drafts.{begun}
-use Rattle.trick_draft.specs.Jobs.{jobs_of}
-use Rattle.trick_draft.specs.Kept.{Mirrors}
-use Rattle.trick_ending.specs.Ending.{AreParts, parts_of}
+use Rattle.trick_plan_variables.specs.Cells.{KeepsRest}
+use Rattle.trick_plan_draft.specs.Drafts.{begun}
+use Rattle.trick_plan_draft.specs.Jobs.{jobs_of}
+use Rattle.trick_plan_draft.specs.Kept.{Mirrors}
+use Rattle.trick_plan.specs.Ending.{AreParts, parts_of}
 use Rattle.trick_lang.specs.declared.job.Job.{Job}
 use Rattle.trick_lang.specs.declared.program.Program.{Program}
-use Rattle.trick_lines.specs.Deeds.{DeedsStay}
-use Rattle.trick_lines.specs.Drafted.{Drafted}
+use Rattle.trick_plan_lines.specs.Deeds.{DeedsStay}
+use Rattle.trick_plan_lines.specs.Drafted.{Drafted}
 use Rattle.trick_plan.proofs.Names.{names_stay}
 use Rattle.trick_plan.proofs.joined.plan.Goals as goal
-use Rattle.trick_settings.specs.declared.settings.Settings.{Settings}
-use Rattle.trick_threads.specs.Threads.{AreThreads}
+use Rattle.trick_plan_settings.specs.declared.settings.Settings.{Settings}
+use Rattle.trick_plan_settings.specs.Threads.{AreThreads}
 
 pub end-requires : goal.end-requires
 end-requires c =

@@ -1,7 +1,7 @@
 use Rattle.std.proofs.Common.{◌∙◌, ◌+◌, ◌++◌, ℕ, List, drop, ap}
-use Rattle.trick_ending.proofs.Taking.{place_told}
-use Rattle.trick_ending.proofs.places.places.Goals as goal
-use Rattle.trick_ending.specs.Added.{places_of}
+use Rattle.trick_plan.proofs.Taking.{place_told}
+use Rattle.trick_plan.proofs.places.places.Goals as goal
+use Rattle.trick_plan.specs.Added.{places_of}
 
 pub loop-at-preserved : goal.loop-at-preserved
 loop-at-preserved c =

@@ -1,6 +1,6 @@
 use Rattle.std.proofs.Common.{◌≡◌, ◌++◌, drop}
-use Rattle.trick_ending.proofs.places.places.Given as goal
-use Rattle.trick_ending.specs.Added.{places_of}
+use Rattle.trick_plan.proofs.places.places.Given as goal
+use Rattle.trick_plan.specs.Added.{places_of}
 
 -- the places so far and those that are left
 abbrev pub invariant-loop-at : goal.invariant-loop-at

@@ -1,6 +1,6 @@
 use Rattle.std.proofs.Common.{◌≡◌, drop}
-use Rattle.trick_condition.proofs.place.full_name.Given as goal
-use Rattle.trick_condition.specs.Places.{full_name}
+use Rattle.trick_plan_conditions.proofs.place.full_name.Given as goal
+use Rattle.trick_plan_conditions.specs.Places.{full_name}
 use Rattle.trick_lang.specs.Syntax.{parts_of_list}
 
 -- what is left after the name so far is the whole place after its first name

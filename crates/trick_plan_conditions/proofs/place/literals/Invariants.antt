@@ -1,6 +1,6 @@
 use Rattle.std.proofs.Common.{◌≡◌, ◌+◌, ◌≤◌, drop}
-use Rattle.trick_blocks.specs.Places.{literal_count}
-use Rattle.trick_condition.proofs.place.literals.Given as goal
+use Rattle.trick_check_blocks.specs.Places.{literal_count}
+use Rattle.trick_plan_conditions.proofs.place.literals.Given as goal
 use Rattle.trick_lang.specs.Syntax.{parts_of_list}
 
 -- what was counted, and what is left

@@ -1,9 +1,9 @@
 use Rattle.std.proofs.Common.{rules, ◌≡◌, ◌&&◌, not, true, false, ap, sym, ◌∙◌, arith, List}
-use Rattle.trick_blocks.proofs.Build.{choices_heavy}
-use Rattle.trick_blocks.proofs.Weights.{expression_weight}
-use Rattle.trick_condition.proofs.plain.+plain.Goals as goal
-use Rattle.trick_condition.specs.Conditions.{are_plain_choices, are_plain_links, is_plain}
-use Rattle.trick_condition.specs.Places.{has_computed}
+use Rattle.trick_check_blocks.proofs.Build.{choices_heavy}
+use Rattle.trick_check_blocks.proofs.Weights.{expression_weight}
+use Rattle.trick_plan_conditions.proofs.plain.+plain.Goals as goal
+use Rattle.trick_plan_conditions.specs.Conditions.{are_plain_choices, are_plain_links, is_plain}
+use Rattle.trick_plan_conditions.specs.Places.{has_computed}
 use Rattle.trick_lang.proofs.SyntaxLists.{chain_is, choose_is, named_is}
 use Rattle.trick_lang.specs.Syntax.{choices_of_list, expression_of, links_of_list, parts_of_list}
 use Rattle.trick_lang.specs.declared.syntax.expression.Choice.{Choice}

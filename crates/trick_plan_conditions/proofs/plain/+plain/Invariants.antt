@@ -1,8 +1,8 @@
 use Rattle.std.proofs.Common.{◌≡◌, ◌+◌, ◌≤◌, drop}
-use Rattle.trick_blocks.proofs.Build.{choices_weight}
-use Rattle.trick_blocks.proofs.Weights.{expression_weight, link_weight}
-use Rattle.trick_condition.proofs.plain.+plain.Given as goal
-use Rattle.trick_condition.specs.Conditions.{are_plain_choices, are_plain_links}
+use Rattle.trick_check_blocks.proofs.Build.{choices_weight}
+use Rattle.trick_check_blocks.proofs.Weights.{expression_weight, link_weight}
+use Rattle.trick_plan_conditions.proofs.plain.+plain.Given as goal
+use Rattle.trick_plan_conditions.specs.Conditions.{are_plain_choices, are_plain_links}
 use Rattle.trick_lang.specs.Syntax.{choices_of_list, expression_of, links_of_list}
 use Rattle.trick_lang.specs.SyntaxTree.{Expression}
 

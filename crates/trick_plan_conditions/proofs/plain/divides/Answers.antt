@@ -1,5 +1,5 @@
 use Rattle.std.proofs.Common.{rules}
-use Rattle.trick_condition.proofs.plain.divides.Goals as goal
+use Rattle.trick_plan_conditions.proofs.plain.divides.Goals as goal
 
 pub returns-in_default : goal.returns-in_default
 returns-in_default c = search rules

@@ -3,12 +3,12 @@ use Rattle.std.proofs.lemmas.Bool.{or_from}
 use Rattle.std.proofs.lemmas.List.{drop_all, drop_more}
 use Rattle.std.proofs.lemmas.Result.{err_from_is_err_and}
 use Rattle.trick_base.proofs.ListLemmas.{next_item}
-use Rattle.trick_blocks.proofs.Build.{choices_after, choices_done, choices_grown, choices_heavy, choices_weight, links_after, links_done, links_grown}
-use Rattle.trick_condition.proofs.Resolved.{choices_fail, last_fails, links_fail, parts_fail, place_resolves, test_fails, value_fails}
-use Rattle.trick_blocks.proofs.Weights.{expression_weight, link_weight}
-use Rattle.trick_condition.proofs.term.+terms.Goals as goal
-use Rattle.trick_condition.specs.Conditions.{choice_terms, choices_unknown, has_unknown, link_terms, links_unknown, term}
-use Rattle.trick_condition.specs.Held.{AreResolved, ChecksParts, Resolves, ResolvesChoices, ResolvesLinks, known_by}
+use Rattle.trick_check_blocks.proofs.Build.{choices_after, choices_done, choices_grown, choices_heavy, choices_weight, links_after, links_done, links_grown}
+use Rattle.trick_plan_conditions.proofs.Resolved.{choices_fail, last_fails, links_fail, parts_fail, place_resolves, test_fails, value_fails}
+use Rattle.trick_check_blocks.proofs.Weights.{expression_weight, link_weight}
+use Rattle.trick_plan_conditions.proofs.term.+terms.Goals as goal
+use Rattle.trick_plan_conditions.specs.Conditions.{choice_terms, choices_unknown, has_unknown, link_terms, links_unknown, term}
+use Rattle.trick_plan_conditions.specs.Held.{AreResolved, ChecksParts, Resolves, ResolvesChoices, ResolvesLinks, known_by}
 use Rattle.trick_lang.proofs.SyntaxLists.{chain_is, choose_is, named_is}
 use Rattle.trick_lang.proofs.TreeLists as built
 use Rattle.trick_lang.specs.Syntax as text

@@ -1,9 +1,9 @@
 use Rattle.std.proofs.Common.{◌≡◌, ◌+◌, ◌≤◌, drop}
-use Rattle.trick_blocks.proofs.Build.{choices_after, choices_weight, links_after}
-use Rattle.trick_blocks.proofs.Weights.{expression_weight, link_weight, part_weight}
-use Rattle.trick_condition.proofs.term.+terms.Given as goal
-use Rattle.trick_condition.specs.Conditions.{choice_terms, choices_unknown, link_terms, links_unknown, parts_unknown}
-use Rattle.trick_condition.specs.Held.{known_by}
+use Rattle.trick_check_blocks.proofs.Build.{choices_after, choices_weight, links_after}
+use Rattle.trick_check_blocks.proofs.Weights.{expression_weight, link_weight, part_weight}
+use Rattle.trick_plan_conditions.proofs.term.+terms.Given as goal
+use Rattle.trick_plan_conditions.specs.Conditions.{choice_terms, choices_unknown, link_terms, links_unknown, parts_unknown}
+use Rattle.trick_plan_conditions.specs.Held.{known_by}
 use Rattle.trick_lang.specs.Syntax as text
 use Rattle.trick_lang.specs.SyntaxTree.{Expression}
 

@@ -1,10 +1,10 @@
 use Rattle.std.proofs.Common.{◌≡◌, ◌∙◌, false, [], List, ap, refl, sym}
-use Rattle.trick_blocks.specs.Places.{literal_count}
-use Rattle.trick_condition.proofs.term.resolve_place.Goals as goal
-use Rattle.trick_condition.specs.Conditions.{is_nothing, referent_term}
-use Rattle.trick_condition.specs.Held.{known_by}
-use Rattle.trick_condition.specs.Places.{referent_of}
-use Rattle.trick_condition.specs.declared.place.Referent.TheVariants as stands_for
+use Rattle.trick_check_blocks.specs.Places.{literal_count}
+use Rattle.trick_plan_conditions.proofs.term.resolve_place.Goals as goal
+use Rattle.trick_plan_conditions.specs.Conditions.{is_nothing, referent_term}
+use Rattle.trick_plan_conditions.specs.Held.{known_by}
+use Rattle.trick_plan_conditions.specs.Places.{referent_of}
+use Rattle.trick_plan_conditions.specs.declared.place.Referent.TheVariants as stands_for
 use Rattle.trick_lang.proofs.TreeLists.{place_is}
 use Rattle.trick_lang.specs.Syntax.{parts_of_list}
 use Rattle.trick_lang.specs.Tree as Tree

@@ -3,7 +3,7 @@ use Rattle.std.specs.Prelude.{IfSome}
 use Rattle.trick_model.proofs.PlanNames.{same_names}
 use Rattle.trick_model.specs.Names.{Names, deed_of}
 use Rattle.trick_model.specs.Valid.{IsDeedAmong}
-use Rattle.trick_deed.proofs.ask.deed_in_plan.Goals as goal
+use Rattle.trick_plan_deeds.proofs.ask.deed_in_plan.Goals as goal
 
 pub returns-clause-deed : goal.returns-clause-deed
 returns-clause-deed c =

@@ -1,9 +1,9 @@
 use Rattle.std.proofs.Common.{◌≡◌, List, drop, map}
-use Rattle.trick_deed.proofs.Finding.{later}
+use Rattle.trick_plan_deeds.proofs.Finding.{later}
 use Rattle.trick_lang.specs.Names.{job_name}
 use Rattle.trick_lang.specs.declared.job.Job.{Job}
 use Rattle.trick_model.specs.Names.{find_job}
-use Rattle.trick_deed.proofs.find.find_job.Given as goal
+use Rattle.trick_plan_deeds.proofs.find.find_job.Given as goal
 
 abbrev pub invariant-loop-place : goal.invariant-loop-place
 invariant-loop-place l =

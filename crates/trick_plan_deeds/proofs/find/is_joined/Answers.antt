@@ -2,8 +2,8 @@ use Rattle.std.proofs.Common.{◌≡◌, Bool, true, false, Some, None, sym, ◌
 use Rattle.std.proofs.lemmas.Bool.Decides.{Decides-eqb}
 use Rattle.std.proofs.lemmas.Slice.Eq.{strip_prefix_is}
 use Rattle.std.specs.Bool.{Decides}
-use Rattle.trick_deed.proofs.Joined.{dot_behind, other_behind, other_front}
-use Rattle.trick_deed.proofs.find.is_joined.Goals as goal
+use Rattle.trick_plan_deeds.proofs.Joined.{dot_behind, other_behind, other_front}
+use Rattle.trick_plan_deeds.proofs.find.is_joined.Goals as goal
 
 not_so : (b : Bool) (P : Type 0) → Decides b P → (P → ⊥) → b ≡ false
 not_so true P decides apart = absurd (apart (decides.0 cc))

@@ -1,7 +1,7 @@
 use Rattle.std.proofs.Common.{◌≡◌, ◌∙◌, true, false, ap, sym}
 use Rattle.std.specs.Str.{bytes_eq}
-use Rattle.trick_draft.proofs.Known.{next_place, this_place}
-use Rattle.trick_draft.proofs.deeds.place_of.Goals as goal
+use Rattle.trick_plan_draft.proofs.Known.{next_place, this_place}
+use Rattle.trick_plan_draft.proofs.deeds.place_of.Goals as goal
 use Rattle.trick_lang.specs.SyntaxTree.{Name}
 
 pub returns-then-eq : goal.returns-then-eq

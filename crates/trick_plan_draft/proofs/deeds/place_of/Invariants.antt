@@ -1,7 +1,7 @@
 use Rattle.std.proofs.Common.{◌≡◌, drop}
-use Rattle.trick_draft.proofs.Known.{from}
-use Rattle.trick_draft.proofs.deeds.place_of.Given as goal
-use Rattle.trick_draft.specs.Cells.{only_names}
+use Rattle.trick_plan_draft.proofs.Known.{from}
+use Rattle.trick_plan_draft.proofs.deeds.place_of.Given as goal
+use Rattle.trick_plan_draft.specs.Cells.{only_names}
 use Rattle.trick_model.specs.Names.{find_name}
 
 -- the place is after the names so far

@@ -1,6 +1,6 @@
 use Rattle.std.proofs.Common.{◌≡◌, [], drop}
-use Rattle.trick_draft.specs.Drafts.{with_items}
-use Rattle.trick_draft.proofs.draft.items_of.Given as goal
+use Rattle.trick_plan_draft.specs.Drafts.{with_items}
+use Rattle.trick_plan_draft.proofs.draft.items_of.Given as goal
 
 -- the items that are left are still to be known
 abbrev pub invariant-loop-item : goal.invariant-loop-item

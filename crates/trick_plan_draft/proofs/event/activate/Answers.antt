@@ -1,7 +1,7 @@
 use Rattle.std.proofs.Common.{◌∙◌, true, refl}
-use Rattle.trick_draft.proofs.Lists.{is_changed}
-use Rattle.trick_draft.specs.declared.event.EventDraft.{EventDraft}
-use Rattle.trick_draft.proofs.event.activate.Goals as goal
+use Rattle.trick_plan_draft.proofs.Lists.{is_changed}
+use Rattle.trick_plan_draft.specs.declared.event.EventDraft.{EventDraft}
+use Rattle.trick_plan_draft.proofs.event.activate.Goals as goal
 
 pub returns : goal.returns
 returns c =

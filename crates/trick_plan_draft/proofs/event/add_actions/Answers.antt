@@ -1,8 +1,8 @@
 use Rattle.std.proofs.Common.{◌∙◌}
-use Rattle.trick_draft.proofs.Lists.{is_changed}
-use Rattle.trick_draft.specs.Lines.{with_numbered}
-use Rattle.trick_draft.specs.declared.event.EventDraft.{EventDraft}
-use Rattle.trick_draft.proofs.event.add_actions.Goals as goal
+use Rattle.trick_plan_draft.proofs.Lists.{is_changed}
+use Rattle.trick_plan_draft.specs.Lines.{with_numbered}
+use Rattle.trick_plan_draft.specs.declared.event.EventDraft.{EventDraft}
+use Rattle.trick_plan_draft.proofs.event.add_actions.Goals as goal
 
 pub returns : goal.returns
 returns c =

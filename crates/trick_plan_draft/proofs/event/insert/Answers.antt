@@ -1,9 +1,9 @@
 use Rattle.std.proofs.Common.{◌∙◌, ℕ, ap}
 use Rattle.std.specs.List.{insert}
-use Rattle.trick_draft.proofs.Inserted.{inserted}
-use Rattle.trick_draft.specs.Lines.{Numbered, with_numbered}
-use Rattle.trick_draft.specs.Places.{place_for}
-use Rattle.trick_draft.proofs.event.insert.Goals as goal
+use Rattle.trick_plan_draft.proofs.Inserted.{inserted}
+use Rattle.trick_plan_draft.specs.Lines.{Numbered, with_numbered}
+use Rattle.trick_plan_draft.specs.Places.{place_for}
+use Rattle.trick_plan_draft.proofs.event.insert.Goals as goal
 
 pub returns : goal.returns
 returns c =

@@ -1,8 +1,8 @@
 use Rattle.std.proofs.Common.{◌∙◌, Option, Some, ap}
-use Rattle.trick_draft.proofs.Lists.{is_changed}
-use Rattle.trick_draft.specs.declared.event.EventDraft.{EventDraft}
+use Rattle.trick_plan_draft.proofs.Lists.{is_changed}
+use Rattle.trick_plan_draft.specs.declared.event.EventDraft.{EventDraft}
 use Rattle.trick_lang.specs.Tree.{Term}
-use Rattle.trick_draft.proofs.event.set_condition.Goals as goal
+use Rattle.trick_plan_draft.proofs.event.set_condition.Goals as goal
 
 pub returns : goal.returns
 returns c =

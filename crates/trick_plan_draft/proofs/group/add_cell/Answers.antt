@@ -1,8 +1,8 @@
 use Rattle.std.proofs.Common.{◌∙◌, ◌∷◌, ◌++◌, [], List, ap}
-use Rattle.trick_draft.proofs.Lists.{is_changed}
-use Rattle.trick_draft.specs.declared.group.GroupDraft.{GroupDraft}
+use Rattle.trick_plan_draft.proofs.Lists.{is_changed}
+use Rattle.trick_plan_draft.specs.declared.group.GroupDraft.{GroupDraft}
 use Rattle.trick_lang.specs.declared.cells.Cell.{Cell}
-use Rattle.trick_draft.proofs.group.add_cell.Goals as goal
+use Rattle.trick_plan_draft.proofs.group.add_cell.Goals as goal
 
 pub returns : goal.returns
 returns c =

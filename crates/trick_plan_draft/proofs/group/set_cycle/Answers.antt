@@ -1,7 +1,7 @@
 use Rattle.std.proofs.Common.{◌∙◌, refl}
-use Rattle.trick_draft.proofs.Lists.{is_changed}
-use Rattle.trick_draft.specs.declared.group.GroupDraft.{GroupDraft}
-use Rattle.trick_draft.proofs.group.set_cycle.Goals as goal
+use Rattle.trick_plan_draft.proofs.Lists.{is_changed}
+use Rattle.trick_plan_draft.specs.declared.group.GroupDraft.{GroupDraft}
+use Rattle.trick_plan_draft.proofs.group.set_cycle.Goals as goal
 
 pub returns : goal.returns
 returns c =

@@ -1,7 +1,7 @@
-use Rattle.trick_draft.proofs.Keeping.{add_read, assign, depend, set_job}
-use Rattle.trick_draft.proofs.KeepingEvents.{activate, add_event, new_event_keeps, set_action, set_condition, set_cycle, this_own}
-use Rattle.trick_draft.proofs.KeepingGroups.{add_group, add_variable, new_group_keeps, set_changes, set_group}
-use Rattle.trick_draft.proofs.laws.lines_keep.Goals as goal
+use Rattle.trick_plan_draft.proofs.Keeping.{add_read, assign, depend, set_job}
+use Rattle.trick_plan_draft.proofs.KeepingEvents.{activate, add_event, new_event_keeps, set_action, set_condition, set_cycle, this_own}
+use Rattle.trick_plan_draft.proofs.KeepingGroups.{add_group, add_variable, new_group_keeps, set_changes, set_group}
+use Rattle.trick_plan_draft.proofs.laws.lines_keep.Goals as goal
 
 pub returns : goal.returns
 returns c = λ jobs threads. record {

@@ -1,7 +1,7 @@
 use Rattle.std.proofs.Common.{refl}
 use Rattle.std.specs.Fmt.{digits}
 use Rattle.std.specs.Int.{int_wrap}
-use Rattle.trick_draft.proofs.laws.worked_lines_are_answered.Goals as goal
+use Rattle.trick_plan_draft.proofs.laws.worked_lines_are_answered.Goals as goal
 
 pub returns : goal.returns
 unfolding int_wrap digits

@@ -1,6 +1,6 @@
 use Rattle.std.proofs.Common.{refl}
 use Rattle.std.specs.Int.{int_wrap}
-use Rattle.trick_draft.proofs.laws.worked_lines_of_events_are_answered.Goals as goal
+use Rattle.trick_plan_draft.proofs.laws.worked_lines_of_events_are_answered.Goals as goal
 
 pub returns : goal.returns
 unfolding int_wrap

@@ -1,5 +1,5 @@
 use Rattle.std.proofs.Common.{refl}
-use Rattle.trick_draft.proofs.laws.worked_lines_of_groups_are_answered.Goals as goal
+use Rattle.trick_plan_draft.proofs.laws.worked_lines_of_groups_are_answered.Goals as goal
 
 pub returns : goal.returns
 returns c = record {

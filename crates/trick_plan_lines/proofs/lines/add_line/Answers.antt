@@ -1,10 +1,10 @@
 use Rattle.std.proofs.Common.{◌∙◌, subst, sym}
-use Rattle.trick_draft.specs.Jobs.{Jobs, jobs_of}
-use Rattle.trick_draft.specs.Kept.{IsDraftOf}
-use Rattle.trick_lines.proofs.Going.{late}
-use Rattle.trick_lines.proofs.Keeping.{deeds_after, mirrors_after, right_after, same_jobs}
-use Rattle.trick_lines.proofs.lines.add_line.Goals as goal
-use Rattle.trick_lines.specs.Texts.{texts_in}
+use Rattle.trick_plan_draft.specs.Jobs.{Jobs, jobs_of}
+use Rattle.trick_plan_draft.specs.Kept.{IsDraftOf}
+use Rattle.trick_plan_lines.proofs.Going.{late}
+use Rattle.trick_plan_lines.proofs.Keeping.{deeds_after, mirrors_after, right_after, same_jobs}
+use Rattle.trick_plan_lines.proofs.lines.add_line.Goals as goal
+use Rattle.trick_plan_lines.specs.Texts.{texts_in}
 
 pub returns-in-Some-clause-line : goal.returns-in-Some-clause-line
 returns-in-Some-clause-line c =

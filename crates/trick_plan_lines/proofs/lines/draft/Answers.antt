@@ -2,19 +2,19 @@ use Rattle.std.proofs.Common.{◌≡◌, ◌+◌, ◌++◌, ◌∷◌, [], List,
 use Rattle.std.proofs.lemmas.List.{take_all}
 use Rattle.std.proofs.lemmas.Result.{err_from_is_err_and}
 use Rattle.trick_base.proofs.ListLemmas.{next_item}
-use Rattle.trick_draft.specs.Drafts.{begun}
-use Rattle.trick_draft.specs.Jobs.{Jobs, jobs_of}
-use Rattle.trick_draft.specs.Kept.{IsDraftOf}
-use Rattle.trick_draft.specs.Laws.{KeepsDeeds}
-use Rattle.trick_draft.specs.declared.draft.Draft.{Draft}
-use Rattle.trick_lines.proofs.Going.{ends, left_at_first, left_behind, left_with}
-use Rattle.trick_lines.proofs.Keeping.{same_jobs}
-use Rattle.trick_lines.proofs.Rest.{rest_then, same_rest, up_to_here}
-use Rattle.trick_lines.proofs.Staying.{one_more, stay_at_first, stay_with}
-use Rattle.trick_lines.proofs.lines.draft.Goals as goal
+use Rattle.trick_plan_draft.specs.Drafts.{begun}
+use Rattle.trick_plan_draft.specs.Jobs.{Jobs, jobs_of}
+use Rattle.trick_plan_draft.specs.Kept.{IsDraftOf}
+use Rattle.trick_plan_draft.specs.Laws.{KeepsDeeds}
+use Rattle.trick_plan_draft.specs.declared.draft.Draft.{Draft}
+use Rattle.trick_plan_lines.proofs.Going.{ends, left_at_first, left_behind, left_with}
+use Rattle.trick_plan_lines.proofs.Keeping.{same_jobs}
+use Rattle.trick_plan_lines.proofs.Rest.{rest_then, same_rest, up_to_here}
+use Rattle.trick_plan_lines.proofs.Staying.{one_more, stay_at_first, stay_with}
+use Rattle.trick_plan_lines.proofs.lines.draft.Goals as goal
 use Rattle.trick_input.specs.declared.call.Call.{Call}
-use Rattle.trick_lines.specs.Deeds.{DeedsStay}
-use Rattle.trick_lines.specs.Drafted.{Answers, Drafted}
+use Rattle.trick_plan_lines.specs.Deeds.{DeedsStay}
+use Rattle.trick_plan_lines.specs.Drafted.{Answers, Drafted}
 
 pub loop-call-init : goal.loop-call-init
 loop-call-init c =

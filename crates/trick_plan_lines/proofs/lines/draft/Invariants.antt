@@ -1,13 +1,13 @@
 use Rattle.std.proofs.Common.{Result, Ok, drop, take}
-use Rattle.trick_declare.specs.Cells.{KeepsRest}
-use Rattle.trick_draft.specs.Drafts.{begun}
-use Rattle.trick_draft.specs.Jobs.{jobs_of}
-use Rattle.trick_draft.specs.Kept.{IsDraftOf, Mirrors}
-use Rattle.trick_draft.specs.declared.draft.Draft.{Draft}
-use Rattle.trick_lines.proofs.lines.draft.Given as goal
-use Rattle.trick_lines.specs.Deeds.{DeedsStay}
-use Rattle.trick_lines.specs.Drafted.{Drafted}
-use Rattle.trick_lines.specs.declared.fault.JoinFault.{JoinFault}
+use Rattle.trick_plan_variables.specs.Cells.{KeepsRest}
+use Rattle.trick_plan_draft.specs.Drafts.{begun}
+use Rattle.trick_plan_draft.specs.Jobs.{jobs_of}
+use Rattle.trick_plan_draft.specs.Kept.{IsDraftOf, Mirrors}
+use Rattle.trick_plan_draft.specs.declared.draft.Draft.{Draft}
+use Rattle.trick_plan_lines.proofs.lines.draft.Given as goal
+use Rattle.trick_plan_lines.specs.Deeds.{DeedsStay}
+use Rattle.trick_plan_lines.specs.Drafted.{Drafted}
+use Rattle.trick_plan_lines.specs.declared.fault.JoinFault.{JoinFault}
 
 -- the lines that are left decide
 abbrev pub invariant-loop-call : goal.invariant-loop-call

@@ -2,8 +2,8 @@ use Rattle.std.proofs.Common.{◌≡◌, ◌<◌, ◌++◌, ℕ, drop, filter, m
 use Rattle.trick_lang.specs.declared.job.Job.{Job}
 use Rattle.trick_model.specs.Order.{is_of_class}
 use Rattle.trick_model.specs.Plan.{numbers_from}
-use Rattle.trick_threads.proofs.queue.entries.Given as goal
-use Rattle.trick_threads.specs.Keys.{HasSmallKey, entry_of, numbers_of}
+use Rattle.trick_plan_settings.proofs.queue.entries.Given as goal
+use Rattle.trick_plan_settings.specs.Keys.{HasSmallKey, entry_of, numbers_of}
 
 abbrev pub invariant-loop-place : goal.invariant-loop-place
 invariant-loop-place l = record {

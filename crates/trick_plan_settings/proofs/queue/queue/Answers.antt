@@ -4,9 +4,9 @@ use Rattle.trick_lang.specs.declared.job.Job.{Job}
 use Rattle.trick_lang.specs.declared.job.JobId.{JobId}
 use Rattle.trick_model.specs.Order.{jobs_in}
 use Rattle.trick_model.specs.Valid.{ids}
-use Rattle.trick_threads.proofs.Queued.{in_order}
-use Rattle.trick_threads.proofs.queue.queue.Goals as goal
-use Rattle.trick_threads.specs.Keys.{HasSmallKey, entry_of, jobs_of, numbers_of}
+use Rattle.trick_plan_settings.proofs.Queued.{in_order}
+use Rattle.trick_plan_settings.proofs.queue.queue.Goals as goal
+use Rattle.trick_plan_settings.specs.Keys.{HasSmallKey, entry_of, jobs_of, numbers_of}
 
 pub returns : goal.returns
 returns c =

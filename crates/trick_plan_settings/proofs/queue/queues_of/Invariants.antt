@@ -1,7 +1,7 @@
 use Rattle.std.proofs.Common.{◌≡◌, ◌++◌, drop, map}
 use Rattle.trick_model.specs.Order.{jobs_in}
 use Rattle.trick_model.specs.Valid.{ids}
-use Rattle.trick_threads.proofs.queue.queues_of.Given as goal
+use Rattle.trick_plan_settings.proofs.queue.queues_of.Given as goal
 
 abbrev pub invariant-loop-class : goal.invariant-loop-class
 invariant-loop-class l =

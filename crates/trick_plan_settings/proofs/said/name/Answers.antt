@@ -1,7 +1,7 @@
 use Rattle.std.proofs.Common.{arith}
-use Rattle.trick_settings.proofs.Gathering.{changed_past, is_changed}
-use Rattle.trick_settings.proofs.said.name.Goals as goal
-use Rattle.trick_settings.specs.Settings.{over}
+use Rattle.trick_plan_settings.proofs.Gathering.{changed_past, is_changed}
+use Rattle.trick_plan_settings.proofs.said.name.Goals as goal
+use Rattle.trick_plan_settings.specs.Settings.{over}
 
 pub returns-then-place-len : goal.returns-then-place-len
 returns-then-place-len c =

@@ -1,9 +1,9 @@
 use Rattle.std.proofs.Common.{◌+◌, ◌∷◌, ◌∙◌, None, arith, ap, drop, sym}
 use Rattle.std.proofs.lemmas.List.{drop_all, drop_more}
 use Rattle.trick_input.specs.declared.call.Call.{Call}
-use Rattle.trick_settings.proofs.Gathering.{all_said, goes_on, threads_go_on}
-use Rattle.trick_settings.proofs.settings.said_in.Goals as goal
-use Rattle.trick_settings.specs.Settings.{frame_said, frozen_said, latest, limit_said, settings_by_number}
+use Rattle.trick_plan_settings.proofs.Gathering.{all_said, goes_on, threads_go_on}
+use Rattle.trick_plan_settings.proofs.settings.said_in.Goals as goal
+use Rattle.trick_plan_settings.specs.Settings.{frame_said, frozen_said, latest, limit_said, settings_by_number}
 
 pub loop-call-preserved : goal.loop-call-preserved
 loop-call-preserved c =

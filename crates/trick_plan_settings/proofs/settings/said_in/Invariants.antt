@@ -1,7 +1,7 @@
 use Rattle.std.proofs.Common.{◌≡◌, None, drop}
-use Rattle.trick_settings.proofs.Gathering.{each_latest}
-use Rattle.trick_settings.proofs.settings.said_in.Given as goal
-use Rattle.trick_settings.specs.Settings.{frame_said, frozen_said, latest, limit_said, settings_by_number}
+use Rattle.trick_plan_settings.proofs.Gathering.{each_latest}
+use Rattle.trick_plan_settings.proofs.settings.said_in.Given as goal
+use Rattle.trick_plan_settings.specs.Settings.{frame_said, frozen_said, latest, limit_said, settings_by_number}
 
 -- what the lines that are left say, over what those before them say, is what all say
 abbrev pub invariant-loop-call : goal.invariant-loop-call

@@ -2,13 +2,13 @@ use Rattle.std.proofs.Common.{◌≡◌, ◌∙◌, ◌+◌, ◌≤◌, ℕ, Boo
 use Rattle.trick_base.specs.Time.{tic_limit}
 use Rattle.trick_model.specs.Valid.{IsFrame}
 use Rattle.trick_model.specs.declared.thread.Thread.{Thread}
-use Rattle.trick_settings.proofs.Ranges.{cycles_right, frame_right, limit_right}
-use Rattle.trick_settings.proofs.settings.settings_in.Goals as goal
-use Rattle.trick_settings.specs.Settings.{frame_of, frozen_of, limit_of, settings_by_number}
-use Rattle.trick_settings.specs.declared.said.Said.{Said}
-use Rattle.trick_settings.specs.declared.settings.Settings.{Settings}
-use Rattle.trick_threads.specs.Threads.{HasCycle, threads_of}
-use Rattle.trick_threads.specs.declared.setting.Setting.{Setting}
+use Rattle.trick_plan_settings.proofs.Ranges.{cycles_right, frame_right, limit_right}
+use Rattle.trick_plan_settings.proofs.settings.settings_in.Goals as goal
+use Rattle.trick_plan_settings.specs.Settings.{frame_of, frozen_of, limit_of, settings_by_number}
+use Rattle.trick_plan_settings.specs.declared.said.Said.{Said}
+use Rattle.trick_plan_settings.specs.declared.settings.Settings.{Settings}
+use Rattle.trick_plan_settings.specs.Threads.{HasCycle, threads_of}
+use Rattle.trick_plan_settings.specs.declared.setting.Setting.{Setting}
 
 pub threads-requires-clause-frame : goal.threads-requires-clause-frame
 threads-requires-clause-frame c =

@@ -1,7 +1,7 @@
 use Rattle.std.proofs.Common.{◌≡◌, ◌++◌, drop, filter}
 use Rattle.trick_model.specs.Valid.{is_there}
-use Rattle.trick_threads.proofs.thread_list.needed.Given as goal
-use Rattle.trick_threads.specs.Threads.{threads_from, threads_of}
+use Rattle.trick_plan_settings.proofs.thread_list.needed.Given as goal
+use Rattle.trick_plan_settings.specs.Threads.{threads_from, threads_of}
 
 abbrev pub invariant-loop-setting : goal.invariant-loop-setting
 invariant-loop-setting l = record {

@@ -2,9 +2,9 @@ use Rattle.std.proofs.Common.{◌≡◌, ◌∙◌, List, ap, sym, subst}
 use Rattle.std.proofs.lemmas.Result.{IfOk-weaker}
 use Rattle.trick_lang.specs.declared.job.Job.{Job}
 use Rattle.trick_model.specs.declared.thread.Thread.{Thread}
-use Rattle.trick_threads.proofs.Facts.{facts}
-use Rattle.trick_threads.proofs.thread_list.threads.Goals as goal
-use Rattle.trick_threads.specs.Threads.{AreThreads, threads_of}
+use Rattle.trick_plan_settings.proofs.Facts.{facts}
+use Rattle.trick_plan_settings.proofs.thread_list.threads.Goals as goal
+use Rattle.trick_plan_settings.specs.Threads.{AreThreads, threads_of}
 
 pub returns-clause-facts : goal.returns-clause-facts
 returns-clause-facts c =

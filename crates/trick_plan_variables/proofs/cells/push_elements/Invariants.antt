@@ -1,6 +1,6 @@
 use Rattle.std.proofs.Common.{◌≡◌, ◌++◌}
-use Rattle.trick_declare.proofs.cells.push_elements.Given as goal
-use Rattle.trick_declare.specs.Cells.{cells_named, elements}
+use Rattle.trick_plan_variables.proofs.cells.push_elements.Given as goal
+use Rattle.trick_plan_variables.specs.Cells.{cells_named, elements}
 
 abbrev pub invariant-loop-index : goal.invariant-loop-index
 invariant-loop-index l = l.cells.items ≡ l.initial.cells.items ++ cells_named l.scalar (elements l.name l.index)

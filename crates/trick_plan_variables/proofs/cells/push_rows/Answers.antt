@@ -1,7 +1,7 @@
 use Rattle.std.proofs.Common.{◌≡◌, ◌∙◌, ◌++◌, [], ℕ, List, ap, append-nil, sym}
-use Rattle.trick_declare.proofs.Names.{no_columns}
-use Rattle.trick_declare.proofs.cells.push_rows.Goals as goal
-use Rattle.trick_declare.specs.Cells.{cells_named, row_elements}
+use Rattle.trick_plan_variables.proofs.Names.{no_columns}
+use Rattle.trick_plan_variables.proofs.cells.push_rows.Goals as goal
+use Rattle.trick_plan_variables.specs.Cells.{cells_named, row_elements}
 
 pub returns-then-columns-eq0 : goal.returns-then-columns-eq0
 returns-then-columns-eq0 c =

@@ -1,8 +1,8 @@
 use Rattle.std.proofs.Common.{◌≡◌, ◌∙◌, List, Some, ap, sym}
 use Rattle.trick_body.specs.Symbols.{Token, number_of}
-use Rattle.trick_declare.proofs.Declared.{declared_spelled}
-use Rattle.trick_declare.proofs.declaration.declaration_of.Goals as goal
-use Rattle.trick_declare.specs.Grammar.{declaration, declaration_of, read_or_none}
+use Rattle.trick_plan_variables.proofs.Declared.{declared_spelled}
+use Rattle.trick_plan_variables.proofs.declaration.declaration_of.Goals as goal
+use Rattle.trick_plan_variables.specs.Grammar.{declaration, declaration_of, read_or_none}
 use Rattle.trick_grammar.specs.Gives.{class_of}
 use Rattle.trick_grammar.specs.Text.{read_all}
 use Rattle.trick_text.specs.declared.token.Style.TheVariants.{Command}

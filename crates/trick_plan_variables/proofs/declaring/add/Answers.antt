@@ -1,7 +1,7 @@
 use Rattle.std.proofs.Common.{rules, ◌≡◌, ◌≤◌, ◌++◌, List, is_ok, subst, sym}
-use Rattle.trick_declare.proofs.Kept.{HasCells, either_way, kept}
-use Rattle.trick_declare.proofs.declaring.add.Goals as goal
-use Rattle.trick_declare.specs.Cells.{cells_of, total}
+use Rattle.trick_plan_variables.proofs.Kept.{HasCells, either_way, kept}
+use Rattle.trick_plan_variables.proofs.declaring.add.Goals as goal
+use Rattle.trick_plan_variables.specs.Cells.{cells_of, total}
 use Rattle.trick_lang.specs.declared.variable.Variable.{Variable}
 
 pub invariant_of-program : goal.invariant_of-program

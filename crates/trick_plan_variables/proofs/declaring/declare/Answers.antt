@@ -1,7 +1,7 @@
 use Rattle.std.proofs.Common.{◌≡◌, List, Some, All, IsTrue, length, map, refl, subst, sym}
-use Rattle.trick_declare.proofs.Plans.{KeepsNames, names_kept, rest_of, some_more}
-use Rattle.trick_declare.proofs.declaring.declare.Goals as goal
-use Rattle.trick_declare.specs.Cells.{KeepsRest, added}
+use Rattle.trick_plan_variables.proofs.Plans.{KeepsNames, names_kept, rest_of, some_more}
+use Rattle.trick_plan_variables.proofs.declaring.declare.Goals as goal
+use Rattle.trick_plan_variables.specs.Cells.{KeepsRest, added}
 use Rattle.trick_lang.specs.declared.job.Job.{Job}
 use Rattle.trick_model.specs.Plan.{has_thread}
 use Rattle.trick_model.specs.Valid.{IsPair, ids, is_there, queues_of}

@@ -1,8 +1,8 @@
 use Rattle.std.proofs.Common.{refl}
 use Rattle.trick_body.specs.Symbols.{number_of, spelled}
-use Rattle.trick_declare.proofs.Declared.{predictive}
-use Rattle.trick_declare.proofs.laws.declarations_are_exact.Goals as goal
-use Rattle.trick_declare.specs.Grammar.{declaration}
+use Rattle.trick_plan_variables.proofs.Declared.{predictive}
+use Rattle.trick_plan_variables.proofs.laws.declarations_are_exact.Goals as goal
+use Rattle.trick_plan_variables.specs.Grammar.{declaration}
 use Rattle.trick_grammar.proofs.Exact.{exact}
 use Rattle.trick_grammar.specs.Gives.{class_of}
 

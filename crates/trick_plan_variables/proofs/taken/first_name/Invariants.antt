@@ -1,6 +1,6 @@
 use Rattle.std.proofs.Common.{◌≡◌, ◌++◌, drop, take}
-use Rattle.trick_declare.proofs.taken.first_name.Given as goal
-use Rattle.trick_declare.specs.Cells.{first_name}
+use Rattle.trick_plan_variables.proofs.taken.first_name.Given as goal
+use Rattle.trick_plan_variables.specs.Cells.{first_name}
 
 abbrev pub invariant-loop-byte : goal.invariant-loop-byte
 invariant-loop-byte l = record {

@@ -1,9 +1,9 @@
 use Rattle.std.proofs.Common.{◌≡◌, [], ◌∷◌, ◌++◌, map, refl, subst, sym}
 use Rattle.std.specs.Prelude.{All}
-use Rattle.trick_desk.proofs.Making.{place_more}
-use Rattle.trick_desk.specs.declared.places.Place.{Place}
-use Rattle.trick_desk.specs.declared.stage.Stage.TheVariants as stage
-use Rattle.trick_desk.proofs.places.idle_places.Goals as goal
+use Rattle.trick_post.proofs.Making.{place_more}
+use Rattle.trick_post.specs.declared.places.Place.{Place}
+use Rattle.trick_post.specs.declared.stage.Stage.TheVariants as stage
+use Rattle.trick_post.proofs.places.idle_places.Goals as goal
 
 pub loop-parcel-preserved : goal.loop-parcel-preserved
 loop-parcel-preserved c =

@@ -1,13 +1,13 @@
 use Rattle.std.proofs.Common.{rules, ◌≡◌, ◌∙◌, ◌+◌, ◌<◌, ap, drop, length, subst, sym}
 use Rattle.std.specs.Arc.{arc_value}
 use Rattle.std.specs.List.{slice_index_or}
-use Rattle.trick_desk.proofs.Clerks.{clerk_more, no_clerk, passes_left, some_pass}
-use Rattle.trick_desk.specs.Clerks.{AreClerkPasses, has_clerk}
-use Rattle.trick_desk.specs.declared.clerk.Clerk.{Clerk}
+use Rattle.trick_post.proofs.Clerks.{clerk_more, no_clerk, passes_left, some_pass}
+use Rattle.trick_post.specs.Clerks.{AreClerkPasses, has_clerk}
+use Rattle.trick_post.specs.declared.clerk.Clerk.{Clerk}
 use Rattle.trick_model.specs.declared.accepted.Accepted.{Accepted}
 use Rattle.trick_model.specs.declared.plan.Plan.{Plan as PlanValue}
-use Rattle.trick_desk.proofs.post.clerks_with.Goals as goal
-use Rattle.trick_desk.proofs.post.clerks_with.Goals.{then-has_clerk+in_ok-new+in_ok-push, else-has_clerk}
+use Rattle.trick_post.proofs.post.clerks_with.Goals as goal
+use Rattle.trick_post.proofs.post.clerks_with.Goals.{then-has_clerk+in_ok-new+in_ok-push, else-has_clerk}
 
 pub remove-pass-requires : goal.remove-pass-requires
 remove-pass-requires g c =

@@ -1,8 +1,8 @@
 use Rattle.std.proofs.Common.{◌≡◌, drop, map, take}
 use Rattle.std.specs.Arc.{arc_value}
 use Rattle.std.specs.Prelude.{All, filter}
-use Rattle.trick_desk.specs.Clerks.{AreClerkPasses, has_clerk}
-use Rattle.trick_desk.proofs.post.clerks_with.Given as goal
+use Rattle.trick_post.specs.Clerks.{AreClerkPasses, has_clerk}
+use Rattle.trick_post.proofs.post.clerks_with.Given as goal
 
 -- the first threads have their clerks, and the passes that are left are for the others
 abbrev pub invariant-loop-number : goal.invariant-loop-number

@@ -1,9 +1,9 @@
 use Rattle.std.proofs.Common.{◌++◌, Bool, None, cond, subst}
-use Rattle.trick_desk.specs.Places.{Stands}
+use Rattle.trick_post.specs.Places.{Stands}
 use Rattle.trick_turn.specs.Passes.{seen}
 use Rattle.trick_turn.specs.Turns.{pass_of, value_of}
 use Rattle.trick_turn.specs.Views.{entries_told}
-use Rattle.trick_desk.proofs.turns.end_turn.Goals as goal
+use Rattle.trick_post.proofs.turns.end_turn.Goals as goal
 
 pub release-requires-clause-stands : goal.release-requires-clause-stands
 release-requires-clause-stands g c =

@@ -5,8 +5,8 @@ use Rattle.trick_access.specs.Ranges.{AreCellsOf}
 use Rattle.trick_access.specs.declared.cells.Access.{Access}
 use Rattle.trick_lang.specs.Effect.{writes}
 use Rattle.trick_lang.specs.declared.range.CellRange.{CellRange}
-use Rattle.trick_tray.specs.Trays.{AreWrites}
-use Rattle.trick_tray.proofs.lines.all_writes.Goals as goal
+use Rattle.trick_post_trays.specs.Trays.{AreWrites}
+use Rattle.trick_post_trays.proofs.lines.all_writes.Goals as goal
 
 pub returns : goal.returns
 returns c =

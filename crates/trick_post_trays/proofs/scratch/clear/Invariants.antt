@@ -1,7 +1,7 @@
 use Rattle.std.proofs.Common.{◌≡◌, [], take}
 use Rattle.trick_model.specs.Laws.{is_among}
-use Rattle.trick_tray.specs.Scratch.{IsWritten, cell_ids}
-use Rattle.trick_tray.proofs.scratch.clear.Given as goal
+use Rattle.trick_post_trays.specs.Scratch.{IsWritten, cell_ids}
+use Rattle.trick_post_trays.proofs.scratch.clear.Given as goal
 
 -- the first cells are cleared
 abbrev pub invariant-loop-cell : goal.invariant-loop-cell

@@ -3,10 +3,10 @@ use Rattle.std.proofs.lemmas.List.{length-append}
 use Rattle.std.specs.Prelude.{ℤ}
 use Rattle.trick_lang.specs.declared.cells.Cell.{Cell}
 use Rattle.trick_model.specs.ValidState.{AreNumbersOf}
-use Rattle.trick_tray.proofs.Writes.{gathered, gathered_numbers}
-use Rattle.trick_tray.specs.Scratch.{cell_ids}
+use Rattle.trick_post_trays.proofs.Writes.{gathered, gathered_numbers}
+use Rattle.trick_post_trays.specs.Scratch.{cell_ids}
 use Rattle.std.proofs.Common.{take}
-use Rattle.trick_tray.proofs.scratch.gather.Goals as goal
+use Rattle.trick_post_trays.proofs.scratch.gather.Goals as goal
 
 abbrev no_cell : Cell
 no_cell = record { 0 = 0 }

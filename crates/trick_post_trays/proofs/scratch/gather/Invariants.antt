@@ -2,8 +2,8 @@ use Rattle.std.proofs.Common.{◌≡◌, length, take}
 use Rattle.std.specs.Prelude.{map, vec_capacity}
 use Rattle.trick_model.specs.State.{number_at}
 use Rattle.trick_model.specs.ValidState.{AreNumbersOf}
-use Rattle.trick_tray.specs.Scratch.{cell_ids}
-use Rattle.trick_tray.proofs.scratch.gather.Given as goal
+use Rattle.trick_post_trays.specs.Scratch.{cell_ids}
+use Rattle.trick_post_trays.proofs.scratch.gather.Given as goal
 
 -- the numbers of the first cells are read
 abbrev pub invariant-loop-cell : goal.invariant-loop-cell

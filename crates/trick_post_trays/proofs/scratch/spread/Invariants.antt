@@ -1,8 +1,8 @@
 use Rattle.std.proofs.Common.{◌≡◌, drop, length}
 use Rattle.trick_model.specs.Beside.{spread}
 use Rattle.trick_model.specs.ValidState.{AreNumbersOf}
-use Rattle.trick_tray.specs.Scratch.{cell_ids}
-use Rattle.trick_tray.proofs.scratch.spread.Given as goal
+use Rattle.trick_post_trays.specs.Scratch.{cell_ids}
+use Rattle.trick_post_trays.proofs.scratch.spread.Given as goal
 
 -- what is left of the cells makes of what is there what all make of the beginning
 abbrev pub invariant-loop-place : goal.invariant-loop-place

@@ -1,7 +1,7 @@
 use Rattle.std.proofs.Common.{◌≡◌, ◌≤◌, drop, length}
 use Rattle.trick_model.specs.Valid.{ids}
-use Rattle.trick_tray.specs.Trays.{AreSet}
-use Rattle.trick_tray.proofs.worker.set_flags.Given as goal
+use Rattle.trick_post_trays.specs.Trays.{AreSet}
+use Rattle.trick_post_trays.proofs.worker.set_flags.Given as goal
 
 -- the jobs from this place on have their flags
 abbrev pub invariant-loop-place : goal.invariant-loop-place

@@ -1,12 +1,12 @@
 use Rattle.std.proofs.Common.{◌≤◌, ◌∙◌, ap, subst, sym}
 use Rattle.trick_cycle.specs.declared.Due.{Due}
 use Rattle.trick_base.specs.Time.{tic_limit}
-use Rattle.trick_tray.proofs.Tics.{work_by_next}
-use Rattle.trick_tray.specs.Calendars.{EndsInTime, has_work}
-use Rattle.trick_post.specs.declared.posts.Job1.{Job1}
+use Rattle.trick_post_trays.proofs.Tics.{work_by_next}
+use Rattle.trick_post_trays.specs.Calendars.{EndsInTime, has_work}
+use Rattle.trick_post_work.specs.declared.posts.Job1.{Job1}
 use Rattle.trick_queue.specs.Calendar.{IsNext}
 use Rattle.trick_queue.specs.Line.{times_at}
-use Rattle.trick_tray.proofs.write.has_work.Goals as goal
+use Rattle.trick_post_trays.proofs.write.has_work.Goals as goal
 
 pub returns-in-Frame : goal.returns-in-Frame
 returns-in-Frame c =

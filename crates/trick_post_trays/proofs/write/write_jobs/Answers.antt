@@ -6,14 +6,14 @@ use Rattle.trick_lang.specs.Effect.{writes}
 use Rattle.trick_lang.specs.declared.job.JobId.{JobId}
 use Rattle.trick_lang.specs.declared.range.CellRange.{CellRange}
 use Rattle.trick_model.specs.Valid.{ids}
-use Rattle.trick_tray.proofs.Finish.{wanted_of}
-use Rattle.trick_tray.proofs.Writes.{wanted_more, written_join, written_same}
-use Rattle.trick_tray.proofs.Jobs.{scheduled_there}
-use Rattle.trick_tray.specs.Calendars.{has_work}
-use Rattle.trick_tray.specs.Scratch.{IsWritten}
+use Rattle.trick_post_trays.proofs.Finish.{wanted_of}
+use Rattle.trick_post_trays.proofs.Writes.{wanted_more, written_join, written_same}
+use Rattle.trick_post_trays.proofs.Jobs.{scheduled_there}
+use Rattle.trick_post_trays.specs.Calendars.{has_work}
+use Rattle.trick_post_trays.specs.Scratch.{IsWritten}
 use Rattle.trick_queue.specs.Line.{no_id}
 use Rattle.std.specs.List.{slice_index_or}
-use Rattle.trick_tray.proofs.write.write_jobs.Goals as goal
+use Rattle.trick_post_trays.proofs.write.write_jobs.Goals as goal
 
 pub loop-job-preserved : goal.loop-job-preserved
 loop-job-preserved g c =

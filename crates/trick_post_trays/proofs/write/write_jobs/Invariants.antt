@@ -1,9 +1,9 @@
 use Rattle.std.proofs.Common.{take}
-use Rattle.trick_job.specs.Belongs.{IsMemoryOf}
+use Rattle.trick_phase_jobs.specs.Belongs.{IsMemoryOf}
 use Rattle.trick_model.specs.Valid.{ids}
-use Rattle.trick_tray.proofs.Finish.{wanted_of}
-use Rattle.trick_tray.specs.Scratch.{IsWritten}
-use Rattle.trick_tray.proofs.write.write_jobs.Given as goal
+use Rattle.trick_post_trays.proofs.Finish.{wanted_of}
+use Rattle.trick_post_trays.specs.Scratch.{IsWritten}
+use Rattle.trick_post_trays.proofs.write.write_jobs.Given as goal
 
 -- what the first jobs may write is written
 abbrev pub invariant-loop-job : goal.invariant-loop-job

@@ -1,7 +1,7 @@
 use Rattle.std.proofs.Common.{ℕ, arith}
 use Rattle.trick_eval.specs.Bench.{covers}
-use Rattle.trick_tray.proofs.Writes.{below_all, covers_below, written_same}
-use Rattle.trick_tray.proofs.write.write_range.Goals as goal
+use Rattle.trick_post_trays.proofs.Writes.{below_all, covers_below, written_same}
+use Rattle.trick_post_trays.proofs.write.write_range.Goals as goal
 
 pub returns-clause-numbers : goal.returns-clause-numbers
 returns-clause-numbers g c =

@@ -1,7 +1,7 @@
 use Rattle.std.proofs.Common.{◌≡◌}
-use Rattle.trick_tray.proofs.Writes.{covers_below}
-use Rattle.trick_tray.specs.Scratch.{IsWritten}
-use Rattle.trick_tray.proofs.write.write_range.Given as goal
+use Rattle.trick_post_trays.proofs.Writes.{covers_below}
+use Rattle.trick_post_trays.specs.Scratch.{IsWritten}
+use Rattle.trick_post_trays.proofs.write.write_range.Given as goal
 
 -- the cells of the range below this one are written
 abbrev pub invariant-loop-cell : goal.invariant-loop-cell

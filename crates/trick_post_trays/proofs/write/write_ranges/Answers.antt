@@ -6,8 +6,8 @@ use Rattle.trick_eval.proofs.Ranges.{head_below, head_rises, tail_sorted}
 use Rattle.trick_eval.specs.Bench.{covers}
 use Rattle.trick_lang.specs.Access.{is_in}
 use Rattle.trick_lang.specs.declared.range.CellRange.{CellRange}
-use Rattle.trick_tray.proofs.Writes.{in_more, written_join}
-use Rattle.trick_tray.proofs.write.write_ranges.Goals as goal
+use Rattle.trick_post_trays.proofs.Writes.{in_more, written_join}
+use Rattle.trick_post_trays.proofs.write.write_ranges.Goals as goal
 
 abbrev none : CellRange
 none = record { first = record { 0 = 0 }; last = record { 0 = 0 } }

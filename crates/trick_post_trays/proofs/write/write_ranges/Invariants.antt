@@ -1,8 +1,8 @@
 use Rattle.std.proofs.Common.{◌≡◌, ℕ, IsTrue, drop, length, take}
 use Rattle.trick_access.specs.Ranges.{are_sorted}
 use Rattle.trick_lang.specs.Access.{is_in}
-use Rattle.trick_tray.specs.Scratch.{IsWritten}
-use Rattle.trick_tray.proofs.write.write_ranges.Given as goal
+use Rattle.trick_post_trays.specs.Scratch.{IsWritten}
+use Rattle.trick_post_trays.proofs.write.write_ranges.Given as goal
 
 -- the cells of the first ranges are written
 abbrev pub invariant-loop-range : goal.invariant-loop-range

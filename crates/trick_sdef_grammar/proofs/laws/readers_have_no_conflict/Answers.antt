@@ -2,8 +2,8 @@ use Rattle.trick_body.proofs.ExpressionTests.{expression_test}
 use Rattle.trick_body.proofs.MethodTests.{method_test}
 use Rattle.trick_body.specs.Methods.{condition, method}
 use Rattle.trick_body.specs.Symbols.{number_of}
-use Rattle.trick_conflicts.proofs.Conflicts.{no_conflict}
-use Rattle.trick_conflicts.proofs.laws.readers_have_no_conflict.Goals as goal
+use Rattle.trick_sdef_grammar.proofs.Conflicts.{no_conflict}
+use Rattle.trick_sdef_grammar.proofs.laws.readers_have_no_conflict.Goals as goal
 use Rattle.trick_sdef.proofs.Files.{file_test}
 use Rattle.trick_sdef.specs.Files.{file}
 

@@ -1,5 +1,5 @@
 use Rattle.std.proofs.Common.{refl}
-use Rattle.trick_sdef_facts.proofs.laws.worked_trees_are_told.Goals as goal
+use Rattle.trick_sdef_worked.proofs.laws.worked_trees_are_told.Goals as goal
 
 pub returns : goal.returns
 returns c = record {

@@ -2,8 +2,8 @@ use Rattle.std.specs.Arc.{arc_value}
 use Rattle.trick_model.specs.PlanOf.{plan_of}
 use Rattle.trick_model.specs.State.{State, seen}
 use Rattle.trick_serve_door.specs.Taking.{Hosts, hosts}
-use Rattle.trick_serve_run.proofs.Beginning.{not_begun}
-use Rattle.trick_serve_run.proofs.served.serve_alone.Goals as goal
+use Rattle.trick_serve.proofs.Beginning.{not_begun}
+use Rattle.trick_serve.proofs.served.serve_alone.Goals as goal
 
 pub returns-in_default : goal.returns-in_default
 returns-in_default g c =

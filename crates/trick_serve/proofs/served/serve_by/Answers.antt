@@ -1,17 +1,17 @@
 use Rattle.std.proofs.Common.{refl}
 use Rattle.trick_model.specs.PlanOf.{plan_of}
 use Rattle.trick_model.specs.State.{State, seen}
-use Rattle.trick_runs.specs.Hosts.{at}
-use Rattle.trick_serve.specs.Rolls.{view_of}
-use Rattle.trick_serve.specs.declared.here.ServedHere.{ServedHere}
-use Rattle.trick_serve.specs.declared.served.Served.{Served}
+use Rattle.trick_exec_meaning.specs.Hosts.{at}
+use Rattle.trick_serve_source.specs.Rolls.{view_of}
+use Rattle.trick_serve_source.specs.declared.here.ServedHere.{ServedHere}
+use Rattle.trick_serve_source.specs.declared.served.Served.{Served}
 use Rattle.trick_serve_door.specs.Taking.{Hosts, hosts}
-use Rattle.trick_serve_run.proofs.Beginning.{not_begun}
-use Rattle.trick_serve_run.proofs.Earlier.{served_from}
-use Rattle.trick_serve_run.proofs.Results.{served_by}
-use Rattle.trick_serve_run.proofs.Turning.{run_went, same_back, same_way}
-use Rattle.trick_serve_run.proofs.served.serve_by.Goals as goal
-use Rattle.trick_serve_run.specs.Serving.{moment, outside}
+use Rattle.trick_serve.proofs.Beginning.{not_begun}
+use Rattle.trick_serve.proofs.Earlier.{served_from}
+use Rattle.trick_serve.proofs.Results.{served_by}
+use Rattle.trick_serve.proofs.Turning.{run_went, same_back, same_way}
+use Rattle.trick_serve.proofs.served.serve_by.Goals as goal
+use Rattle.trick_serve.specs.Serving.{moment, outside}
 
 pub close_here-requires-clause-asking : goal.close_here-requires-clause-asking
 close_here-requires-clause-asking g c =

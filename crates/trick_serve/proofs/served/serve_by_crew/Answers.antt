@@ -2,10 +2,10 @@ use Rattle.std.specs.Arc.{arc_value}
 use Rattle.trick_model.specs.PlanOf.{plan_of}
 use Rattle.trick_model.specs.State.{State, seen}
 use Rattle.trick_serve_door.specs.Taking.{Hosts, hosts}
-use Rattle.trick_serve_run.proofs.Beginning.{not_begun}
-use Rattle.trick_serve_run.proofs.Earlier.{served_from}
-use Rattle.trick_serve_run.proofs.served.serve_by_crew.Goals as goal
-use Rattle.trick_serve_run.specs.Serving.{moment, outside}
+use Rattle.trick_serve.proofs.Beginning.{not_begun}
+use Rattle.trick_serve.proofs.Earlier.{served_from}
+use Rattle.trick_serve.proofs.served.serve_by_crew.Goals as goal
+use Rattle.trick_serve.specs.Serving.{moment, outside}
 
 pub returns-in_default : goal.returns-in_default
 returns-in_default g c =

@@ -1,4 +1,4 @@
-use Rattle.trick_serve.specs.Rolls.{view_of}
+use Rattle.trick_serve_source.specs.Rolls.{view_of}
 use Rattle.trick_serve_clients.proofs.Closings.{are_over}
 use Rattle.trick_serve_clients.proofs.closing.close_here.Goals as goal
 use Rattle.trick_serve_clients.specs.Opened.{start_with}

@@ -1,5 +1,5 @@
-use Rattle.trick_serve_start.proofs.Parts.{parts}
-use Rattle.trick_serve_start.proofs.starting.begin.Goals as goal
+use Rattle.trick_serve_door.proofs.Parts.{parts}
+use Rattle.trick_serve_door.proofs.starting.begin.Goals as goal
 
 pub spawn_with-requires-send-F : goal.spawn_with-requires-send-F
 spawn_with-requires-send-F g c κs within = search parts depth 30

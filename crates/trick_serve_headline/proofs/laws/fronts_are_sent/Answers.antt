@@ -1,5 +1,5 @@
-use Rattle.trick_headline.proofs.Sent.{fronts_sent}
-use Rattle.trick_headline.proofs.laws.fronts_are_sent.Goals as goal
+use Rattle.trick_serve_headline.proofs.Sent.{fronts_sent}
+use Rattle.trick_serve_headline.proofs.laws.fronts_are_sent.Goals as goal
 use Rattle.trick_serve_door.specs.Taking.{hosts}
 
 pub returns : goal.returns

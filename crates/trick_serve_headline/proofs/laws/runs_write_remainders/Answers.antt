@@ -1,5 +1,5 @@
-use Rattle.trick_headline.proofs.Remainders.{remainders}
-use Rattle.trick_headline.proofs.laws.runs_write_remainders.Goals as goal
+use Rattle.trick_serve_headline.proofs.Remainders.{remainders}
+use Rattle.trick_serve_headline.proofs.laws.runs_write_remainders.Goals as goal
 
 pub returns : goal.returns
 returns c = λ plan s entries end turn lists later within fits applies.

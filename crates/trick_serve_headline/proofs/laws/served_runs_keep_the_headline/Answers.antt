@@ -1,5 +1,5 @@
-use Rattle.trick_headline.proofs.Headline.{keep}
-use Rattle.trick_headline.proofs.laws.served_runs_keep_the_headline.Goals as goal
+use Rattle.trick_serve_headline.proofs.Headline.{keep}
+use Rattle.trick_serve_headline.proofs.laws.served_runs_keep_the_headline.Goals as goal
 use Rattle.trick_serve_door.specs.Taking.{hosts}
 
 pub returns : goal.returns

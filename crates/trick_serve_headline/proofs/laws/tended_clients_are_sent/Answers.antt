@@ -1,5 +1,5 @@
-use Rattle.trick_headline.proofs.Tended.{sent_all}
-use Rattle.trick_headline.proofs.laws.tended_clients_are_sent.Goals as goal
+use Rattle.trick_serve_headline.proofs.Tended.{sent_all}
+use Rattle.trick_serve_headline.proofs.laws.tended_clients_are_sent.Goals as goal
 use Rattle.trick_serve_door.specs.Taking.{hosts}
 
 pub returns : goal.returns

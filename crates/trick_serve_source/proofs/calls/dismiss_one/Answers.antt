@@ -1,5 +1,5 @@
-use Rattle.trick_serve.proofs.Leaving.{told_or_not}
-use Rattle.trick_serve.proofs.calls.dismiss_one.Goals as goal
+use Rattle.trick_serve_source.proofs.Leaving.{told_or_not}
+use Rattle.trick_serve_source.proofs.calls.dismiss_one.Goals as goal
 use Rattle.trick_wire.specs.Ends.{put_by}
 
 pub returns-then-seat-clause-left : goal.returns-then-seat-clause-left

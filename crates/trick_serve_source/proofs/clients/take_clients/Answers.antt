@@ -1,12 +1,12 @@
 use Rattle.std.proofs.Common.{rules, ◌≡◌, ◌≢◌, ◌∙◌, arith, Ok, true, false, Bool, Result, refl, subst, sym}
 use Rattle.std.specs.Prelude.{IfOk, OnOk, is_ok}
 use Rattle.std.specs.declared.alloc.AllocError.{AllocError}
-use Rattle.trick_serve.proofs.clients.take_clients.Goals as goal
-use Rattle.trick_serve.proofs.Seating.{none_before}
-use Rattle.trick_serve.specs.Clients.{IsSilent, has_lack}
-use Rattle.trick_serve.specs.Rolls.{IsGathered}
-use Rattle.trick_serve.specs.declared.clients.Took.{Took}
-use Rattle.trick_serve.specs.declared.clients.Took.TheVariants as kind
+use Rattle.trick_serve_source.proofs.clients.take_clients.Goals as goal
+use Rattle.trick_serve_source.proofs.Seating.{none_before}
+use Rattle.trick_serve_source.specs.Clients.{IsSilent, has_lack}
+use Rattle.trick_serve_source.specs.Rolls.{IsGathered}
+use Rattle.trick_serve_source.specs.declared.clients.Took.{Took}
+use Rattle.trick_serve_source.specs.declared.clients.Took.TheVariants as kind
 use Rattle.trick_wire.specs.Ends.{taken_by}
 
 ok_same : (a b : Took) → (let one : Result Took AllocError = Ok a in one) ≡ Ok b → a ≡ b

@@ -4,14 +4,14 @@ use Rattle.trick_model.specs.declared.entry.Entry.TheVariants.{Leave}
 use Rattle.trick_model.specs.declared.entry.Cause.TheVariants as cause
 use Rattle.std.specs.Arc.{arc_value}
 use Rattle.std.specs.Prelude.{IsTrue}
-use Rattle.trick_serve.proofs.Living.{leaves_if, listed_one}
-use Rattle.trick_serve.specs.Life.{Hears, Misses, entries_of, is_exit}
-use Rattle.trick_serve.specs.Sides.{queues_of, side_of}
+use Rattle.trick_serve_source.proofs.Living.{leaves_if, listed_one}
+use Rattle.trick_serve_source.specs.Life.{Hears, Misses, entries_of, is_exit}
+use Rattle.trick_serve_source.specs.Sides.{queues_of, side_of}
 use Rattle.trick_model.specs.Journal.{is_line}
 use Rattle.trick_wire.specs.Ends.{put_by, room_of, taken_by}
 use Rattle.trick_wire.specs.declared.heard.Heard.{Heard}
 use Rattle.trick_wire.specs.declared.heard.Heard.TheVariants as heard
-use Rattle.trick_serve.proofs.hear.hear_one.Goals as goal
+use Rattle.trick_serve_source.proofs.hear.hear_one.Goals as goal
 
 pub returns-in-Line : goal.returns-in-Line
 returns-in-Line g c =

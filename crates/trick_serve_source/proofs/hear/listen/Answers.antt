@@ -1,9 +1,9 @@
 use Rattle.std.proofs.Common.{rules, ◌≡◌, ◌∙◌, true, false, Bool, refl, subst, sym}
 use Rattle.std.specs.Prelude.{is_ok}
-use Rattle.trick_serve.proofs.hear.listen.Goals as goal
-use Rattle.trick_serve.proofs.Living.{listed_join, slow_stays}
-use Rattle.trick_serve.specs.Gathering.{HasListed}
-use Rattle.trick_serve.specs.Sides.{queues_of, side_of}
+use Rattle.trick_serve_source.proofs.hear.listen.Goals as goal
+use Rattle.trick_serve_source.proofs.Living.{listed_join, slow_stays}
+use Rattle.trick_serve_source.specs.Gathering.{HasListed}
+use Rattle.trick_serve_source.specs.Sides.{queues_of, side_of}
 
 pub returns-in_err-more-clause-listed : goal.returns-in_err-more-clause-listed
 returns-in_err-more-clause-listed g c =

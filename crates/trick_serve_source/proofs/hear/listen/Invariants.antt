@@ -1,7 +1,7 @@
 use Rattle.std.proofs.Common.{◌≡◌, true, false}
-use Rattle.trick_serve.proofs.hear.listen.Given as goal
-use Rattle.trick_serve.specs.Gathering.{HasListed}
-use Rattle.trick_serve.specs.Sides.{side_of}
+use Rattle.trick_serve_source.proofs.hear.listen.Given as goal
+use Rattle.trick_serve_source.specs.Gathering.{HasListed}
+use Rattle.trick_serve_source.specs.Sides.{side_of}
 
 abbrev pub invariant-loop : goal.invariant-loop
 invariant-loop g l = record {

@@ -1,15 +1,15 @@
 use Rattle.std.proofs.Common.{rules, ◌≡◌, ◌∙◌, ◌<◌, ◌≤◌, ℕ, length, true, false, ◌-◌, Bool, arith, refl, slice_index_or, slice_set, subst, sym}
 use Rattle.std.specs.Prelude.{is_ok}
-use Rattle.trick_serve.specs.declared.seat.Seat.{Seat}
-use Rattle.trick_serve.proofs.hear.listen_all.Goals as goal
-use Rattle.trick_serve.proofs.Gathering.{among_at, gathers_listed}
-use Rattle.trick_serve.proofs.Placing.{seated_more}
-use Rattle.trick_serve.proofs.Quick.{quick_all, quick_more}
-use Rattle.trick_serve.proofs.Seating.{listed_keeps, queues_set}
+use Rattle.trick_serve_source.specs.declared.seat.Seat.{Seat}
+use Rattle.trick_serve_source.proofs.hear.listen_all.Goals as goal
+use Rattle.trick_serve_source.proofs.Gathering.{among_at, gathers_listed}
+use Rattle.trick_serve_source.proofs.Placing.{seated_more}
+use Rattle.trick_serve_source.proofs.Quick.{quick_all, quick_more}
+use Rattle.trick_serve_source.proofs.Seating.{listed_keeps, queues_set}
 use Rattle.std.proofs.lemmas.List.{length-set}
-use Rattle.trick_serve.specs.Gathering.{Gathers, HasListed}
-use Rattle.trick_serve.specs.Rules.{AreSeated}
-use Rattle.trick_serve.specs.Sides.{side_of}
+use Rattle.trick_serve_source.specs.Gathering.{Gathers, HasListed}
+use Rattle.trick_serve_source.specs.Rules.{AreSeated}
+use Rattle.trick_serve_source.specs.Sides.{side_of}
 
 pub returns-in_err-listen-clause-gathers : goal.returns-in_err-listen-clause-gathers
 returns-in_err-listen-clause-gathers g c =

@@ -1,10 +1,10 @@
 use Rattle.std.proofs.Common.{◌≡◌, ℕ, List, length, true}
 use Rattle.trick_model.specs.declared.session.Session.{Session}
-use Rattle.trick_serve.proofs.hear.listen_all.Given as goal
-use Rattle.trick_serve.proofs.Quick.{AreQuickTo}
-use Rattle.trick_serve.specs.Clients.{KeepQueues}
-use Rattle.trick_serve.specs.Gathering.{Gathers}
-use Rattle.trick_serve.specs.declared.seat.Seat.{Seat}
+use Rattle.trick_serve_source.proofs.hear.listen_all.Given as goal
+use Rattle.trick_serve_source.proofs.Quick.{AreQuickTo}
+use Rattle.trick_serve_source.specs.Clients.{KeepQueues}
+use Rattle.trick_serve_source.specs.Gathering.{Gathers}
+use Rattle.trick_serve_source.specs.declared.seat.Seat.{Seat}
 
 abbrev pub invariant-loop-session : goal.invariant-loop-session
 invariant-loop-session g l = record {

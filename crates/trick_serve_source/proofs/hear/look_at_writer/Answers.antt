@@ -3,13 +3,13 @@ use Rattle.trick_model.specs.declared.entry.Entry.{Entry}
 use Rattle.trick_model.specs.declared.entry.Entry.TheVariants.{Leave}
 use Rattle.trick_model.specs.declared.entry.Cause.TheVariants as cause
 use Rattle.std.specs.Arc.{arc_value}
-use Rattle.trick_serve.proofs.Living.{listed_one}
-use Rattle.trick_serve.specs.Life.{IsSlow, IsTold}
-use Rattle.trick_serve.specs.Sides.{queues_of, side_of}
+use Rattle.trick_serve_source.proofs.Living.{listed_one}
+use Rattle.trick_serve_source.specs.Life.{IsSlow, IsTold}
+use Rattle.trick_serve_source.specs.Sides.{queues_of, side_of}
 use Rattle.trick_wire.specs.Ends.{put_by, room_of, taken_by}
 use Rattle.trick_wire.specs.declared.heard.WriteStop.{WriteStop}
 use Rattle.trick_wire.specs.declared.heard.WriteStop.TheVariants as stop
-use Rattle.trick_serve.proofs.hear.look_at_writer.Goals as goal
+use Rattle.trick_serve_source.proofs.hear.look_at_writer.Goals as goal
 
 pub returns-then-seat-2-clause-listed : goal.returns-then-seat-2-clause-listed
 returns-then-seat-2-clause-listed g c =

@@ -1,7 +1,7 @@
 use Rattle.std.proofs.Common.{rules, ◌≡◌, inl, inr, Some, true, refl}
 use Rattle.std.specs.Arc.{arc_value}
-use Rattle.trick_serve.proofs.send.hand.Goals as goal
-use Rattle.trick_serve.specs.Sides.{queues_of}
+use Rattle.trick_serve_source.proofs.send.hand.Goals as goal
+use Rattle.trick_serve_source.specs.Sides.{queues_of}
 use Rattle.trick_wire.specs.Ends.{HasWaiting, put_by, room_of, taken_by}
 
 pub returns-then-is_err : goal.returns-then-is_err

@@ -1,7 +1,7 @@
 use Rattle.std.proofs.Common.{subst, sym}
 use Rattle.trick_model.specs.PlanOf.{plan_of}
 use Rattle.trick_model.specs.ValidState.{IsStateOf}
-use Rattle.trick_message_tests.proofs.listener.starts_and_ends.Goals as goal
+use Rattle.trick_session_tests.proofs.listener.starts_and_ends.Goals as goal
 
 pub comes_to_end-requires-clause-valid : goal.comes_to_end-requires-clause-valid
 comes_to_end-requires-clause-valid g c =

@@ -1,5 +1,5 @@
 use Rattle.std.proofs.Common.{All, List, subst, sym}
-use Rattle.trick_reader_cases.proofs.bodies.end_of.Goals as goal
+use Rattle.trick_text_cases.proofs.bodies.end_of.Goals as goal
 use Rattle.trick_text.specs.Tokens.{ReadsAsToken}
 use Rattle.trick_text.specs.declared.token.Style.TheVariants.{SDefine}
 use Rattle.trick_text.specs.declared.token.Token.{Token}

@@ -1,6 +1,6 @@
-use Rattle.trick_top_serve.proofs.PortLemmas.{no_port, says_port}
-use Rattle.trick_top_serve.proofs.ports.port_wanted.Goals as goal
-use Rattle.trick_words.specs.Command.{AreRefused, Asks}
+use Rattle.trick_top.proofs.PortLemmas.{no_port, says_port}
+use Rattle.trick_top.proofs.ports.port_wanted.Goals as goal
+use Rattle.trick_top_words.specs.Command.{AreRefused, Asks}
 
 pub returns-in-Some : goal.returns-in-Some
 returns-in-Some c =

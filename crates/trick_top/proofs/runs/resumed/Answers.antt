@@ -1,7 +1,7 @@
 use Rattle.std.specs.Arc.{arc_value}
-use Rattle.trick_top.proofs.ActedLemmas.{loaded_from}
-use Rattle.trick_top_serve.proofs.ServeLemmas.{no_checkpoint}
-use Rattle.trick_top_serve.proofs.runs.resumed.Goals as goal
+use Rattle.trick_top_alone.proofs.ActedLemmas.{loaded_from}
+use Rattle.trick_top.proofs.ServeLemmas.{no_checkpoint}
+use Rattle.trick_top.proofs.runs.resumed.Goals as goal
 
 pub returns-in-Ok-clause-first : goal.returns-in-Ok-clause-first
 returns-in-Ok-clause-first c =

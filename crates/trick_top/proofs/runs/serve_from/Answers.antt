@@ -1,4 +1,4 @@
-use Rattle.trick_top_serve.proofs.runs.serve_from.Goals as goal
+use Rattle.trick_top.proofs.runs.serve_from.Goals as goal
 
 pub returns : goal.returns
 returns g c = record {

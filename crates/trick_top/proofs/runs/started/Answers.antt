@@ -3,7 +3,7 @@ use Rattle.trick_model.specs.PlanOf.{plan_of}
 use Rattle.trick_model.specs.Run.{start}
 use Rattle.trick_model.specs.ValidState.{IsStateOf}
 use Rattle.trick_model.specs.declared.accepted.Accepted.{Accepted}
-use Rattle.trick_top_serve.proofs.runs.started.Goals as goal
+use Rattle.trick_top.proofs.runs.started.Goals as goal
 
 pub returns-in-Ok-clause-first : goal.returns-in-Ok-clause-first
 returns-in-Ok-clause-first c =

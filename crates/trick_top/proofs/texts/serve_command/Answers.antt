@@ -1,5 +1,5 @@
-use Rattle.trick_top_serve.proofs.ServeLemmas.{not_read, went_on}
-use Rattle.trick_top_serve.proofs.texts.serve_command.Goals as goal
+use Rattle.trick_top.proofs.ServeLemmas.{not_read, went_on}
+use Rattle.trick_top.proofs.texts.serve_command.Goals as goal
 
 pub returns-in-Ok : goal.returns-in-Ok
 returns-in-Ok g c =

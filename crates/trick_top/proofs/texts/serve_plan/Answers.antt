@@ -1,7 +1,7 @@
-use Rattle.trick_top.specs.Sources.{sources_of}
-use Rattle.trick_top_serve.proofs.ServeLemmas.{no_first, not_started}
-use Rattle.trick_top_serve.proofs.texts.serve_plan.Goals as goal
-use Rattle.trick_top_serve.specs.Rows.{begun}
+use Rattle.trick_top_alone.specs.Sources.{sources_of}
+use Rattle.trick_top.proofs.ServeLemmas.{no_first, not_started}
+use Rattle.trick_top.proofs.texts.serve_plan.Goals as goal
+use Rattle.trick_top.specs.Rows.{begun}
 
 pub serve_from-requires-clause-valid : goal.serve_from-requires-clause-valid
 serve_from-requires-clause-valid g c κs within = c.in-Ok.ensures.first.valid

@@ -1,7 +1,7 @@
-use Rattle.trick_top.specs.Sources.{sources_of}
-use Rattle.trick_top_serve.proofs.ServeLemmas.{not_started}
-use Rattle.trick_top_serve.proofs.texts.serve_shared.Goals as goal
-use Rattle.trick_top_serve.specs.Rows.{no_memory}
+use Rattle.trick_top_alone.specs.Sources.{sources_of}
+use Rattle.trick_top.proofs.ServeLemmas.{not_started}
+use Rattle.trick_top.proofs.texts.serve_shared.Goals as goal
+use Rattle.trick_top.specs.Rows.{no_memory}
 
 pub returns-in-Ok : goal.returns-in-Ok
 returns-in-Ok g c = rw c.in-Ok.ensures.ok at c.serve_plan.ensures

@@ -1,7 +1,7 @@
 use Rattle.std.proofs.Common.{◌∙◌}
-use Rattle.trick_top.specs.Sources.{sources_of}
-use Rattle.trick_top_serve.proofs.ServeLemmas.{not_ready, not_started}
-use Rattle.trick_top_serve.proofs.texts.serve_texts.Goals as goal
+use Rattle.trick_top_alone.specs.Sources.{sources_of}
+use Rattle.trick_top.proofs.ServeLemmas.{not_ready, not_started}
+use Rattle.trick_top.proofs.texts.serve_texts.Goals as goal
 
 pub returns-in-Ok : goal.returns-in-Ok
 returns-in-Ok g c = c.serve_shared.ensures c.in-Ok.ensures.ready

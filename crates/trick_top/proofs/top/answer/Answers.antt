@@ -1,8 +1,8 @@
 use Rattle.std.proofs.Common.{refl}
-use Rattle.trick_top.specs.Verdict.{OutOfMemory}
-use Rattle.trick_top_serve.proofs.top.answer.Goals as goal
-use Rattle.trick_top_serve.specs.Answers.{alone, by_row}
-use Rattle.trick_top_serve.specs.Rows.{no_memory_to_serve}
+use Rattle.trick_top_alone.specs.Verdict.{OutOfMemory}
+use Rattle.trick_top.proofs.top.answer.Goals as goal
+use Rattle.trick_top.specs.Answers.{alone, by_row}
+use Rattle.trick_top.specs.Rows.{no_memory_to_serve}
 
 pub returns-in-Ok-Some : goal.returns-in-Ok-Some
 returns-in-Ok-Some g c = by_row (c.run.ensures c.args.words.now (rw c.in-Ok-Some.field-0-is at c.in-Ok-Some.ensures))

@@ -1,6 +1,6 @@
-use Rattle.trick_top_serve.proofs.top.run.Goals as goal
-use Rattle.trick_top_serve.specs.Rows.{asked}
-use Rattle.trick_top.specs.Verdict.{verdict_of}
+use Rattle.trick_top.proofs.top.run.Goals as goal
+use Rattle.trick_top.specs.Rows.{asked}
+use Rattle.trick_top_alone.specs.Verdict.{verdict_of}
 
 pub returns : goal.returns
 returns g c = λ words asks. record {

@@ -1,8 +1,8 @@
-use Rattle.trick_top.proofs.TopLemmas as alone
-use Rattle.trick_top_serve.proofs.HeadlineLemmas.{keeps}
-use Rattle.trick_top_serve.proofs.StandLemmas.{stands}
-use Rattle.trick_top_serve.proofs.TopLemmas as top
-use Rattle.trick_top_serve.proofs.top.tricks.Goals as goal
+use Rattle.trick_top_alone.proofs.TopLemmas as alone
+use Rattle.trick_top.proofs.HeadlineLemmas.{keeps}
+use Rattle.trick_top.proofs.StandLemmas.{stands}
+use Rattle.trick_top.proofs.TopLemmas as top
+use Rattle.trick_top.proofs.top.tricks.Goals as goal
 
 pub returns-clause-alone : goal.returns-clause-alone
 returns-clause-alone g c =

@@ -1,7 +1,7 @@
-use Rattle.trick_top.proofs.GoneLemmas.{gone_nowhere, gone_unknown}
-use Rattle.trick_top.proofs.alone.answer.Goals as goal
-use Rattle.trick_top.specs.Verdict.{OutOfMemory, Usage}
-use Rattle.trick_top.specs.Words.{Nothing, Unknown}
+use Rattle.trick_top_alone.proofs.GoneLemmas.{gone_nowhere, gone_unknown}
+use Rattle.trick_top_alone.proofs.alone.answer.Goals as goal
+use Rattle.trick_top_alone.specs.Verdict.{OutOfMemory, Usage}
+use Rattle.trick_top_alone.specs.Words.{Nothing, Unknown}
 
 pub returns-in-Ok-None : goal.returns-in-Ok-None
 returns-in-Ok-None g c = record {

@@ -1,6 +1,6 @@
 use Rattle.std.proofs.Common.{refl}
-use Rattle.trick_top.proofs.GoneLemmas.{gone_further, gone_unread}
-use Rattle.trick_top.proofs.alone.perform.Goals as goal
+use Rattle.trick_top_alone.proofs.GoneLemmas.{gone_further, gone_unread}
+use Rattle.trick_top_alone.proofs.alone.perform.Goals as goal
 
 pub returns-in-Ok : goal.returns-in-Ok
 returns-in-Ok g c =

@@ -1,6 +1,6 @@
-use Rattle.trick_top.proofs.alone.print_line.Goals as goal
-use Rattle.trick_top.specs.Printed.{cut_off, not_printed, printed}
-use Rattle.trick_top.specs.Verdict.{verdict_of}
+use Rattle.trick_top_alone.proofs.alone.print_line.Goals as goal
+use Rattle.trick_top_alone.specs.Printed.{cut_off, not_printed, printed}
+use Rattle.trick_top_alone.specs.Verdict.{verdict_of}
 
 pub returns-in-Done : goal.returns-in-Done
 returns-in-Done g c = rw c.status.ensures (printed {verdict = verdict_of c.args.verdict.now} (rw (← c.requires) c.in-Done.ensures))

@@ -1,5 +1,5 @@
-use Rattle.trick_top.proofs.TopLemmas as top
-use Rattle.trick_top.proofs.alone.tricks_alone.Goals as goal
+use Rattle.trick_top_alone.proofs.TopLemmas as top
+use Rattle.trick_top_alone.proofs.alone.tricks_alone.Goals as goal
 
 pub returns-clause-called : goal.returns-clause-called
 returns-clause-called g c = top.called c.one_command.ensures c.texts_have_one_meaning.ensures c.answer.ensures

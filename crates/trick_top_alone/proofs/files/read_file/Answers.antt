@@ -1,9 +1,9 @@
 use Rattle.std.proofs.Common.{◌∷◌, [], None, refl}
 use Rattle.trick_outside.specs.Calls.{Get, Read, Stopped}
 use Rattle.trick_outside.specs.declared.stop.Stop.TheVariants.{Memory, Shelf}
-use Rattle.trick_top.proofs.GoneLemmas.{found_one}
-use Rattle.trick_top.proofs.files.read_file.Goals as goal
-use Rattle.trick_top.specs.Outcome.{missing, no_memory_to_read, not_read}
+use Rattle.trick_top_alone.proofs.GoneLemmas.{found_one}
+use Rattle.trick_top_alone.proofs.files.read_file.Goals as goal
+use Rattle.trick_top_alone.specs.Outcome.{missing, no_memory_to_read, not_read}
 
 pub returns-in-Found-clause-found : goal.returns-in-Found-clause-found
 returns-in-Found-clause-found g c = rw c.from_vec.ensures (found_one c.args.name.now _ c.in-Found.ensures)

@@ -1,8 +1,8 @@
 use Rattle.std.proofs.Common.{◌∙◌, ap}
 use Rattle.std.proofs.lemmas.Result.{err_from_is_err_and}
 use Rattle.std.specs.Prelude.{is_some}
-use Rattle.trick_top.proofs.GoneLemmas.{found_all, no_checkpoint, no_input, no_journal, no_s_define, not_found_handed}
-use Rattle.trick_top.proofs.files.read_named.Goals as goal
+use Rattle.trick_top_alone.proofs.GoneLemmas.{found_all, no_checkpoint, no_input, no_journal, no_s_define, not_found_handed}
+use Rattle.trick_top_alone.proofs.files.read_named.Goals as goal
 
 pub returns-in_err-s_define-clause-not_found : goal.returns-in_err-s_define-clause-not_found
 returns-in_err-s_define-clause-not_found g c =

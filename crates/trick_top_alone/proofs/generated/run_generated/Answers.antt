@@ -1,6 +1,6 @@
 use Rattle.std.proofs.Common.{Err, ap, refl, ◌∙◌}
-use Rattle.trick_top.proofs.GeneratedLemmas.{gone_run, gone_short, gone_unwritten}
-use Rattle.trick_top.proofs.generated.run_generated.Goals as goal
+use Rattle.trick_top_alone.proofs.GeneratedLemmas.{gone_run, gone_short, gone_unwritten}
+use Rattle.trick_top_alone.proofs.generated.run_generated.Goals as goal
 
 pub returns-in-Ok : goal.returns-in-Ok
 returns-in-Ok g c =

@@ -3,8 +3,8 @@ use Rattle.std.proofs.lemmas.Result.{err_from_is_err_and}
 use Rattle.std.specs.Prelude.{codes}
 use Rattle.trick_model.specs.Turn.{file_writes}
 use Rattle.trick_outside.proofs.DoesLemmas.{does_err, does_then}
-use Rattle.trick_tic.specs.Steps.{steps_of}
-use Rattle.trick_top.proofs.generated.write_both.Goals as goal
+use Rattle.trick_exec_tic.specs.Steps.{steps_of}
+use Rattle.trick_top_alone.proofs.generated.write_both.Goals as goal
 
 pub returns-in_err-write_text : goal.returns-in_err-write_text
 returns-in_err-write_text g c =

@@ -1,8 +1,8 @@
 use Rattle.std.proofs.Common.{refl, ◌∙◌}
 use Rattle.std.proofs.lemmas.Result.{err_from_is_err_and}
 use Rattle.trick_outside.proofs.DoesLemmas.{does_fail, does_none, does_ok}
-use Rattle.trick_top.proofs.GeneratedLemmas.{of_objects}
-use Rattle.trick_top.proofs.generated.write_texts.Goals as goal
+use Rattle.trick_top_alone.proofs.GeneratedLemmas.{of_objects}
+use Rattle.trick_top_alone.proofs.generated.write_texts.Goals as goal
 
 pub returns-in_default-clause-written : goal.returns-in_default-clause-written
 returns-in_default-clause-written g c = does_none _ _ _ (g.met.F.Shelf.called_none _) (λ d. cc) (λ f. cc)

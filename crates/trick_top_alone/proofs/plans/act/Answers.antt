@@ -1,7 +1,7 @@
 use Rattle.std.proofs.Common.{ap}
-use Rattle.trick_top.proofs.ActedLemmas.{acted_checked, acted_listed}
-use Rattle.trick_top.proofs.plans.act.Goals as goal
-use Rattle.trick_top.specs.Words.{aim_of_task}
+use Rattle.trick_top_alone.proofs.ActedLemmas.{acted_checked, acted_listed}
+use Rattle.trick_top_alone.proofs.plans.act.Goals as goal
+use Rattle.trick_top_alone.specs.Words.{aim_of_task}
 
 pub returns-in-Check : goal.returns-in-Check
 returns-in-Check g c =

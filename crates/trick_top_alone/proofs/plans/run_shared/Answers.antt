@@ -1,5 +1,5 @@
-use Rattle.trick_top.proofs.ActedLemmas.{acted_no_memory}
-use Rattle.trick_top.proofs.plans.run_shared.Goals as goal
+use Rattle.trick_top_alone.proofs.ActedLemmas.{acted_no_memory}
+use Rattle.trick_top_alone.proofs.plans.run_shared.Goals as goal
 
 pub returns-in-Ok : goal.returns-in-Ok
 returns-in-Ok g c = rw c.in-Ok.ensures.ok at c.run_given.ensures

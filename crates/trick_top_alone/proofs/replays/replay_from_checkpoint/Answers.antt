@@ -1,8 +1,8 @@
 use Rattle.std.proofs.Common.{Some}
 use Rattle.std.specs.Arc.{arc_value}
-use Rattle.trick_top.proofs.ActedLemmas.{acted_unloaded, loaded_from}
-use Rattle.trick_top.proofs.ReplayLemmas.{acted_replay, acted_unread}
-use Rattle.trick_top.proofs.replays.replay_from_checkpoint.Goals as goal
+use Rattle.trick_top_alone.proofs.ActedLemmas.{acted_unloaded, loaded_from}
+use Rattle.trick_top_alone.proofs.ReplayLemmas.{acted_replay, acted_unread}
+use Rattle.trick_top_alone.proofs.replays.replay_from_checkpoint.Goals as goal
 
 pub returns-in-Err : goal.returns-in-Err
 returns-in-Err g c =

@@ -4,8 +4,8 @@ use Rattle.trick_journal.specs.Refusals.{IsRefused}
 use Rattle.trick_model.specs.JournalText.{IsJournal}
 use Rattle.trick_model.specs.PlanOf.{plan_of}
 use Rattle.trick_model.specs.Run.{start}
-use Rattle.trick_top.proofs.ReplayLemmas.{acted_replay, acted_unread, turn_of_start}
-use Rattle.trick_top.proofs.replays.replay_from_start.Goals as goal
+use Rattle.trick_top_alone.proofs.ReplayLemmas.{acted_replay, acted_unread, turn_of_start}
+use Rattle.trick_top_alone.proofs.replays.replay_from_start.Goals as goal
 
 pub returns-in-Ok : goal.returns-in-Ok
 returns-in-Ok g c =

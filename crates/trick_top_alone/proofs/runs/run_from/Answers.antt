@@ -1,7 +1,7 @@
 use Rattle.std.proofs.Common.{None, Some}
 use Rattle.std.specs.Arc.{arc_value}
-use Rattle.trick_top.proofs.ActedLemmas.{acted_run, acted_unloaded, loaded_from}
-use Rattle.trick_top.proofs.runs.run_from.Goals as goal
+use Rattle.trick_top_alone.proofs.ActedLemmas.{acted_run, acted_unloaded, loaded_from}
+use Rattle.trick_top_alone.proofs.runs.run_from.Goals as goal
 
 pub serial_from-requires-clause-valid : goal.serial_from-requires-clause-valid
 serial_from-requires-clause-valid g c = let is = rw (c.plan.ensures.plan, c.deref.ensures) at c.in-Ok.ensures.checkpoint in is.valid

@@ -2,8 +2,8 @@ use Rattle.std.proofs.Common.{None, refl}
 use Rattle.std.specs.Arc.{arc_value}
 use Rattle.trick_model.specs.PlanOf.{plan_of}
 use Rattle.trick_model.specs.Run.{start}
-use Rattle.trick_top.proofs.ActedLemmas.{acted_run}
-use Rattle.trick_top.proofs.runs.run_new.Goals as goal
+use Rattle.trick_top_alone.proofs.ActedLemmas.{acted_run}
+use Rattle.trick_top_alone.proofs.runs.run_new.Goals as goal
 
 pub returns : goal.returns
 returns g c =

@@ -1,5 +1,5 @@
 use Rattle.std.proofs.Common.{◌≡◌, ◌∙◌, ap, append_assoc}
-use Rattle.trick_top.proofs.verdict.accepted_line.Goals as goal
+use Rattle.trick_top_alone.proofs.verdict.ended_facts.Goals as goal
 
 pub returns : goal.returns
 returns c = simp append_assoc (ap (λ v. v.items) c.into_bytes.ensures.value ∙ c.in_ok-line.ensures.ok)

@@ -1,6 +1,6 @@
-use Rattle.trick_top.proofs.WordLemmas.{runs_none, says_run}
-use Rattle.trick_top.proofs.words.read_run.Goals as goal
-use Rattle.trick_words.specs.Command.{AreRefused, Asks}
+use Rattle.trick_top_alone.proofs.WordLemmas.{runs_none, says_run}
+use Rattle.trick_top_alone.proofs.words.read_run.Goals as goal
+use Rattle.trick_top_words.specs.Command.{AreRefused, Asks}
 
 pub returns-in-Some : goal.returns-in-Some
 returns-in-Some c =

@@ -1,6 +1,6 @@
-use Rattle.trick_top.proofs.WordLemmas.{says_none, says_words}
-use Rattle.trick_top.proofs.words.read_words.Goals as goal
-use Rattle.trick_words.specs.Command.{AreRefused, Asks}
+use Rattle.trick_top_alone.proofs.WordLemmas.{says_none, says_words}
+use Rattle.trick_top_alone.proofs.words.read_words.Goals as goal
+use Rattle.trick_top_words.specs.Command.{AreRefused, Asks}
 
 pub returns-in-Some : goal.returns-in-Some
 returns-in-Some c =

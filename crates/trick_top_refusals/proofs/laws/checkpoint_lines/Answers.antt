@@ -1,6 +1,6 @@
 use Rattle.std.proofs.Common.{refl}
 use Rattle.std.specs.Fmt.{digits}
-use Rattle.trick_refusal.proofs.laws.checkpoint_lines.Goals as goal
+use Rattle.trick_top_refusals.proofs.laws.checkpoint_lines.Goals as goal
 
 pub returns : goal.returns
 unfolding digits

@@ -1,7 +1,7 @@
 use Rattle.std.proofs.Common.{◌≡◌, ◌++◌, drop, map}
-use Rattle.trick_refusal.proofs.line.push_fields.Given as goal
-use Rattle.trick_refusal.specs.Line.{fields}
-use Rattle.trick_refusal.specs.Seen.{field_text}
+use Rattle.trick_top_refusals.proofs.line.push_fields.Given as goal
+use Rattle.trick_top_refusals.specs.Line.{fields}
+use Rattle.trick_top_refusals.specs.Seen.{field_text}
 
 abbrev pub invariant-loop-field : goal.invariant-loop-field
 invariant-loop-field l =

@@ -1,5 +1,5 @@
-use Rattle.trick_ready.proofs.OneMeaning.{one_meaning}
-use Rattle.trick_ready.proofs.laws.texts_have_one_meaning.Goals as goal
+use Rattle.trick_top_texts.proofs.OneMeaning.{one_meaning}
+use Rattle.trick_top_texts.proofs.laws.texts_have_one_meaning.Goals as goal
 
 pub returns : goal.returns
 returns c = λ s_define input.

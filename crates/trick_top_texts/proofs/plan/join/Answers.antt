@@ -1,4 +1,4 @@
-use Rattle.trick_ready.proofs.plan.join.Goals as goal
+use Rattle.trick_top_texts.proofs.plan.join.Goals as goal
 
 pub returns-in-Err-clause-refused : goal.returns-in-Err-clause-refused
 returns-in-Err-clause-refused c = λ s_define input has lines.

@@ -1,8 +1,8 @@
 use Rattle.std.proofs.lemmas.Result.{IfOk-weaker}
 use Rattle.trick_check.specs.Named.{IsNamed}
 use Rattle.trick_lang.specs.SDefineOf.{sdefine_of}
-use Rattle.trick_ready.proofs.s_define.program.Goals as goal
-use Rattle.trick_ready.specs.Texts.{HasProgram}
+use Rattle.trick_top_texts.proofs.s_define.program.Goals as goal
+use Rattle.trick_top_texts.specs.Texts.{HasProgram}
 
 pub returns-in-Ok-clause-program : goal.returns-in-Ok-clause-program
 returns-in-Ok-clause-program c =

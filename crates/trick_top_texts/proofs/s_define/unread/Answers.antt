@@ -2,8 +2,8 @@ use Rattle.std.proofs.Common.{ℕ}
 use Rattle.std.proofs.lemmas.Result.{IfOk-weaker}
 use Rattle.std.specs.Global.{Global}
 use Rattle.std.specs.declared.vec.Vec.{Vec}
-use Rattle.trick_ready.proofs.Refusals.{s_define_refused}
-use Rattle.trick_ready.proofs.s_define.unread.Goals as goal
+use Rattle.trick_top_texts.proofs.Refusals.{s_define_refused}
+use Rattle.trick_top_texts.proofs.s_define.unread.Goals as goal
 
 pub returns-in_default : goal.returns-in_default
 returns-in_default c = λ s_define input refused. c.by_text.ensures s_define input

@@ -1,6 +1,6 @@
 use Rattle.std.proofs.Common.{rules, sym}
-use Rattle.trick_ready.proofs.Refusals.{planned, same_lines}
-use Rattle.trick_ready.proofs.texts.planned.Goals as goal
+use Rattle.trick_top_texts.proofs.Refusals.{planned, same_lines}
+use Rattle.trick_top_texts.proofs.texts.planned.Goals as goal
 
 pub returns-in_err-program-clause-refused : goal.returns-in_err-program-clause-refused
 returns-in_err-program-clause-refused c = search (rules, c.in_err-program.ensures.refused c.args.input.now)

@@ -3,8 +3,8 @@ use Rattle.std.specs.List.{All}
 use Rattle.std.specs.Str.{IsUtf8}
 use Rattle.std.proofs.lemmas.List.{take_all, take_more}
 use Rattle.std.proofs.lemmas.List.Elements.{All-push}
-use Rattle.trick_words.proofs.Values.{map_push}
-use Rattle.trick_words.proofs.command.as_texts.Goals as goal
+use Rattle.trick_top_words.proofs.Values.{map_push}
+use Rattle.trick_top_words.proofs.command.as_texts.Goals as goal
 
 pub returns-in_default : goal.returns-in_default
 returns-in_default c all =

@@ -1,13 +1,13 @@
 use Rattle.std.proofs.Common.{◌≡◌, ◌∙◌, sym, subst, List, Some}
 use Rattle.clap.specs.Walk.{Row, Text, rows_of}
 use Rattle.clap.specs.Matches.{found_of}
-use Rattle.trick_words.specs.Commands.{name_of}
-use Rattle.trick_words.specs.Fields.{HasPlaces}
-use Rattle.trick_words.specs.Reads.{IsRead, Values, values_of}
-use Rattle.trick_words.specs.declared.Kind.{Kind}
-use Rattle.trick_words.proofs.Reading.{kind_some, name_met, named_some, rows_met, same_kind}
-use Rattle.trick_words.proofs.Values.{found_as, held_values}
-use Rattle.trick_words.proofs.command.command_of.Goals as goal
+use Rattle.trick_top_words.specs.Commands.{name_of}
+use Rattle.trick_top_words.specs.Fields.{HasPlaces}
+use Rattle.trick_top_words.specs.Reads.{IsRead, Values, values_of}
+use Rattle.trick_top_words.specs.declared.Kind.{Kind}
+use Rattle.trick_top_words.proofs.Reading.{kind_some, name_met, named_some, rows_met, same_kind}
+use Rattle.trick_top_words.proofs.Values.{found_as, held_values}
+use Rattle.trick_top_words.proofs.command.command_of.Goals as goal
 
 some_text : (a b : Text) → Some a ≡ Some b → a ≡ b
 some_text a b e = cc e

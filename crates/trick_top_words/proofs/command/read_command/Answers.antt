@@ -1,10 +1,10 @@
 use Rattle.std.proofs.Common.{◌≡◌, ◌∙◌, ap, sym, subst, map, List, Bor}
 use Rattle.std.specs.List.{All}
 use Rattle.std.specs.Str.{IsUtf8}
-use Rattle.trick_words.specs.CommandLine.{Text}
-use Rattle.trick_words.specs.Reads.{IsUsage, Reads}
-use Rattle.trick_words.proofs.Values.{no_line, read_as, whole}
-use Rattle.trick_words.proofs.command.read_command.Goals as goal
+use Rattle.trick_top_words.specs.CommandLine.{Text}
+use Rattle.trick_top_words.specs.Reads.{IsUsage, Reads}
+use Rattle.trick_top_words.proofs.Values.{no_line, read_as, whole}
+use Rattle.trick_top_words.proofs.command.read_command.Goals as goal
 
 abbrev now_of : List (Bor Text) → List Text
 now_of texts = map (λ text. text.now) texts

@@ -1,7 +1,7 @@
 use Rattle.std.proofs.Common.{◌∙◌, refl, subst, sym}
-use Rattle.trick_words.specs.Command.{HasRest}
-use Rattle.trick_words.specs.Reads.{values_of}
-use Rattle.trick_words.proofs.command.texts_of.Goals as goal
+use Rattle.trick_top_words.specs.Command.{HasRest}
+use Rattle.trick_top_words.specs.Reads.{values_of}
+use Rattle.trick_top_words.proofs.command.texts_of.Goals as goal
 
 pub returns : goal.returns
 returns c =

@@ -1,8 +1,8 @@
 use Rattle.std.proofs.Common.{◌∙◌, sym, map}
-use Rattle.trick_words.proofs.Values.{given_values}
-use Rattle.trick_words.proofs.Reading.{all_good, met_of, not_plain, usage_of}
-use Rattle.trick_words.proofs.Rows.{rows}
-use Rattle.trick_words.proofs.command_line.read.Goals as goal
+use Rattle.trick_top_words.proofs.Values.{given_values}
+use Rattle.trick_top_words.proofs.Reading.{all_good, met_of, not_plain, usage_of}
+use Rattle.trick_top_words.proofs.Rows.{rows}
+use Rattle.trick_top_words.proofs.command_line.read.Goals as goal
 
 pub returns-then-not-are_plain : goal.returns-then-not-are_plain
 returns-then-not-are_plain c =

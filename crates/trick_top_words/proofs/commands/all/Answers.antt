@@ -2,7 +2,7 @@ use Rattle.std.proofs.Common.{◌≡◌, ◌∙◌, ap₂, IfOk, IsOkAnd, Ok, Er
 use Rattle.std.proofs.lemmas.Result.{IfOk-weaker}
 use Rattle.clap.specs.Simple.{App, app_of, shape_of, with_subcommand}
 use Rattle.clap.specs.declared.builder.command.Command.{Command}
-use Rattle.trick_words.proofs.commands.all.Goals as goal
+use Rattle.trick_top_words.proofs.commands.all.Goals as goal
 
 -- what was put below an app, which is `above`, is the top of the app that it was made as
 put : {E : Type 0} (made : Result Command E) (app before above form : App)

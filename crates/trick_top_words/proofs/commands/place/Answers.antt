@@ -3,8 +3,8 @@ use Rattle.std.proofs.Math.Bool.{or-false}
 use Rattle.std.proofs.lemmas.Result.{IfOk-weaker}
 use Rattle.clap.specs.Walk.{rule_of}
 use Rattle.clap.specs.Simple.{app_of, with_rule}
-use Rattle.trick_words.specs.Rules.{place_rule}
-use Rattle.trick_words.proofs.commands.place.Goals as goal
+use Rattle.trick_top_words.specs.Rules.{place_rule}
+use Rattle.trick_top_words.proofs.commands.place.Goals as goal
 
 pub returns : goal.returns
 returns c =

@@ -1,6 +1,6 @@
 use Rattle.std.proofs.Common.{◌∙◌, refl}
 use Rattle.std.proofs.lemmas.Result.{IfOk-weaker}
-use Rattle.trick_words.proofs.commands.subcommand.Goals as goal
+use Rattle.trick_top_words.proofs.commands.subcommand.Goals as goal
 
 pub returns-clause-app : goal.returns-clause-app
 returns-clause-app c =

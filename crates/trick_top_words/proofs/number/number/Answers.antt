@@ -1,5 +1,5 @@
-use Rattle.trick_words.proofs.Digits.{no_number}
-use Rattle.trick_words.proofs.number.number.Goals as goal
+use Rattle.trick_top_words.proofs.Digits.{no_number}
+use Rattle.trick_top_words.proofs.number.number.Goals as goal
 
 pub returns-in_default-3 : goal.returns-in_default-3
 returns-in_default-3 c number is =

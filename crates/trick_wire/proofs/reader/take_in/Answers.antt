@@ -1,5 +1,5 @@
 use Rattle.std.proofs.Common.{rules, ◌≡◌, ◌≢◌, Err, true, refl, ◌∙◌}
-use Rattle.trick_feed.specs.declared.fault.FeedFault.TheVariants.{LongLine, OutOfMemory}
+use Rattle.trick_command.specs.declared.feed_fault.FeedFault.TheVariants.{LongLine, OutOfMemory}
 use Rattle.trick_wire.proofs.Reading.{cut_piece, fed_pushed, fed_put, held_fed, put_closed, put_end, put_memory}
 use Rattle.trick_wire.proofs.reader.take_in.Goals as goal
 

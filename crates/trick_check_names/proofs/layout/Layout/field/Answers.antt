@@ -1,8 +1,8 @@
 use Rattle.std.proofs.Common.{◌≡◌, ◌<◌, ◌≤◌, length, List, slice_index_or, ap, sym, ◌∙◌, subst}
-use Rattle.trick_layout.proofs.Lists.{fields_past, fields_in}
-use Rattle.trick_layout.proofs.layout.Layout.field.Goals as goal
-use Rattle.trick_layout.specs.declared.layout.Field.{Field}
-use Rattle.trick_names.specs.Names.{Names, meaning_of}
+use Rattle.trick_check_names.proofs.LayoutLists.{fields_past, fields_in}
+use Rattle.trick_check_names.proofs.layout.Layout.field.Goals as goal
+use Rattle.trick_check_names.specs.declared.layout.Field.{Field}
+use Rattle.trick_check_names.specs.Names.{Names, meaning_of}
 
 pub returns-then-group-groups : goal.returns-then-group-groups
 returns-then-group-groups c =

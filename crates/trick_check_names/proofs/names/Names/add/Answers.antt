@@ -1,7 +1,7 @@
 use Rattle.std.proofs.Common.{◌≡◌, ◌∙◌, ap, is_some, sym}
-use Rattle.trick_names.proofs.Known.{finds, goes_last, none_from, shown, with_known, with_new}
-use Rattle.trick_names.proofs.names.Names.add.Goals as goal
-use Rattle.trick_names.specs.Names.{meaning_of}
+use Rattle.trick_check_names.proofs.Known.{finds, goes_last, none_from, shown, with_known, with_new}
+use Rattle.trick_check_names.proofs.names.Names.add.Goals as goal
+use Rattle.trick_check_names.specs.Names.{meaning_of}
 
 pub returns-then-contains_key-clause-known : goal.returns-then-contains_key-clause-known
 returns-then-contains_key-clause-known g c =

@@ -1,6 +1,6 @@
 use Rattle.std.proofs.Common.{◌≡◌, ◌<◌, ◌∙◌, ap, subst, sym, length, slice_get, slice_index_or, Some}
-use Rattle.trick_names.proofs.Known.{entry_is, shown_length}
-use Rattle.trick_names.proofs.names.Names.entry.Goals as goal
+use Rattle.trick_check_names.proofs.Known.{entry_is, shown_length}
+use Rattle.trick_check_names.proofs.names.Names.entry.Goals as goal
 
 pub returns : goal.returns
 returns g c =

@@ -1,7 +1,7 @@
 use Rattle.std.proofs.Common.{◌∙◌, ap}
-use Rattle.trick_names.proofs.Known.{finds, shown}
-use Rattle.trick_names.proofs.names.Names.meaning.Goals as goal
-use Rattle.trick_names.specs.Names.{meaning_of}
+use Rattle.trick_check_names.proofs.Known.{finds, shown}
+use Rattle.trick_check_names.proofs.names.Names.meaning.Goals as goal
+use Rattle.trick_check_names.specs.Names.{meaning_of}
 
 pub returns : goal.returns
 returns g c =

@@ -1,8 +1,8 @@
 use Rattle.std.proofs.Common.{◌≡◌, ◌<◌, ◌≤◌, length, List, slice_index_or, ap, sym, ◌∙◌, subst}
-use Rattle.trick_names.proofs.Lists.{groups_past, groups_in}
-use Rattle.trick_names.proofs.scope.FileScope.member.Goals as goal
-use Rattle.trick_names.specs.Names.{Names, meaning_of}
-use Rattle.trick_names.specs.declared.tables.Member.{Member}
+use Rattle.trick_check_names.proofs.Lists.{groups_past, groups_in}
+use Rattle.trick_check_names.proofs.scope.FileScope.member.Goals as goal
+use Rattle.trick_check_names.specs.Names.{Names, meaning_of}
+use Rattle.trick_check_names.specs.declared.tables.Member.{Member}
 
 pub returns-then-group-groups : goal.returns-then-group-groups
 returns-then-group-groups c =

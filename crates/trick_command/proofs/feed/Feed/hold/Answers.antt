@@ -1,5 +1,5 @@
 use Rattle.std.proofs.Common.{rules}
-use Rattle.trick_feed.proofs.feed.Feed.hold.Goals as goal
+use Rattle.trick_command.proofs.feed.Feed.hold.Goals as goal
 
 pub returns-clause-ok : goal.returns-clause-ok
 returns-clause-ok c = search rules

@@ -1,10 +1,10 @@
 use Rattle.std.proofs.Common.{◌≡◌, take, drop, sym, ap, ◌∙◌, Result, Err, rules}
 use Rattle.std.proofs.lemmas.List.{take-append-drop}
-use Rattle.trick_feed.proofs.Pieces.{one_more}
-use Rattle.trick_feed.specs.Fed.{Fed}
-use Rattle.trick_feed.specs.declared.fault.FeedFault.{FeedFault}
-use Rattle.trick_feed.specs.declared.fault.FeedFault.TheVariants.{LongLine, OutOfMemory}
-use Rattle.trick_feed.proofs.feed.Feed.push.Goals as goal
+use Rattle.trick_command.proofs.FedPieces.{one_more}
+use Rattle.trick_command.specs.Fed.{Fed}
+use Rattle.trick_command.specs.declared.feed_fault.FeedFault.{FeedFault}
+use Rattle.trick_command.specs.declared.feed_fault.FeedFault.TheVariants.{LongLine, OutOfMemory}
+use Rattle.trick_command.proofs.feed.Feed.push.Goals as goal
 
 differ : (r : Result (Unit {0}) FeedFault) → r ≡ Err OutOfMemory → r ≡ Err LongLine → ⊥
 differ r memory long = cc

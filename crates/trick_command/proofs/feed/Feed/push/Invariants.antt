@@ -1,6 +1,6 @@
 use Rattle.std.proofs.Common.{◌≡◌, take}
-use Rattle.trick_feed.specs.Fed.{fed}
-use Rattle.trick_feed.proofs.feed.Feed.push.Given as goal
+use Rattle.trick_command.specs.Fed.{fed}
+use Rattle.trick_command.proofs.feed.Feed.push.Given as goal
 
 abbrev pub invariant-loop-byte : goal.invariant-loop-byte
 invariant-loop-byte l = l.self ≡ fed l.fn.self (take l.byte-index l.piece)

@@ -1,5 +1,5 @@
 use Rattle.std.proofs.Common.{rules}
-use Rattle.trick_feed.proofs.feed.Feed.take.Goals as goal
+use Rattle.trick_command.proofs.feed.Feed.take.Goals as goal
 
 pub hold-requires : goal.hold-requires
 hold-requires c = search rules

@@ -1,10 +1,10 @@
 use Rattle.std.proofs.Common.{subst}
 use Rattle.std.specs.Arc.{arc_value}
-use Rattle.trick_crew_whole.proofs.Needs.{nothing_starts}
-use Rattle.trick_crew_whole.proofs.clerks.ClerksPosts.start.Goals as goal
-use Rattle.trick_crew_whole.specs.InHand.{plan_for}
+use Rattle.trick_crew.proofs.Needs.{nothing_starts}
+use Rattle.trick_crew.proofs.clerks.ClerksPosts.start.Goals as goal
+use Rattle.trick_crew.specs.InHand.{plan_for}
 use Rattle.trick_model.specs.PlanOf.{plan_of}
-use Rattle.trick_post.specs.Work.{CanStart}
+use Rattle.trick_post_work.specs.Work.{CanStart}
 
 pub unreachable-requires : goal.unreachable-requires
 unreachable-requires g c =

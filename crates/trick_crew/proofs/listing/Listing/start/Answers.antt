@@ -1,9 +1,9 @@
 use Rattle.std.proofs.Common.{◌≡◌, false, subst}
 use Rattle.std.specs.Arc.{arc_value}
-use Rattle.trick_crew_whole.proofs.Needs.{nobody_clerked}
-use Rattle.trick_crew_whole.proofs.listing.Listing.start.Goals as goal
-use Rattle.trick_crew_whole.specs.Clerks.{IsListedFor}
-use Rattle.trick_crew_whole.specs.Needs.{needs_clerks}
+use Rattle.trick_crew.proofs.Needs.{nobody_clerked}
+use Rattle.trick_crew.proofs.listing.Listing.start.Goals as goal
+use Rattle.trick_crew.specs.Clerks.{IsListedFor}
+use Rattle.trick_crew.specs.Needs.{needs_clerks}
 use Rattle.trick_model.specs.declared.accepted.Accepted.{Accepted}
 
 pub returns-in-Nobody-clause-clerks : goal.returns-in-Nobody-clause-clerks

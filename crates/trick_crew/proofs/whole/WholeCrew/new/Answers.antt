@@ -1,11 +1,11 @@
 use Rattle.std.proofs.Common.{◌≡◌, subst}
 use Rattle.std.specs.Arc.{arc_value}
 use Rattle.std.specs.Prelude.{reverse}
-use Rattle.trick_crew.specs.Children.{children}
-use Rattle.trick_crew.specs.Members.{AreFor}
-use Rattle.trick_crew.specs.Working.{HasWorked}
-use Rattle.trick_crew_whole.proofs.whole.WholeCrew.new.Goals as goal
-use Rattle.trick_crew_whole.specs.Clerks.{IsListedFor}
+use Rattle.trick_crew_team.specs.Children.{children}
+use Rattle.trick_crew_team.specs.Members.{AreFor}
+use Rattle.trick_crew_team.specs.Working.{HasWorked}
+use Rattle.trick_crew.proofs.whole.WholeCrew.new.Goals as goal
+use Rattle.trick_crew.specs.Clerks.{IsListedFor}
 use Rattle.trick_model.specs.declared.accepted.Accepted.{Accepted}
 
 pub returns-clause-free : goal.returns-clause-free

@@ -1,8 +1,8 @@
 use Rattle.std.proofs.Common.{◌∙◌}
 use Rattle.std.specs.Arc.{arc_value}
-use Rattle.trick_crew_yard.proofs.Posted.{made_of_post, made_threads}
-use Rattle.trick_crew_yard.proofs.Sharing.{is_empty_of}
-use Rattle.trick_crew_yard.proofs.roster.Roster.new.Goals as goal
+use Rattle.trick_crew_clerks.proofs.Posted.{made_of_post, made_threads}
+use Rattle.trick_crew_clerks.proofs.Sharing.{is_empty_of}
+use Rattle.trick_crew_clerks.proofs.roster.Roster.new.Goals as goal
 
 pub invariant_of-roster-clause-of_post : goal.invariant_of-roster-clause-of_post
 invariant_of-roster-clause-of_post g c =

@@ -1,7 +1,7 @@
 use Rattle.std.specs.Arc.{arc_value}
-use Rattle.trick_crew_yard.proofs.Posted.{away_of_post, here_of_post}
-use Rattle.trick_crew_yard.proofs.Sharing.{none_in}
-use Rattle.trick_crew_yard.proofs.roster.Roster.start.Goals as goal
+use Rattle.trick_crew_clerks.proofs.Posted.{away_of_post, here_of_post}
+use Rattle.trick_crew_clerks.proofs.Sharing.{none_in}
+use Rattle.trick_crew_clerks.proofs.roster.Roster.start.Goals as goal
 
 pub start_each-requires-clause-nobody_here : goal.start_each-requires-clause-nobody_here
 start_each-requires-clause-nobody_here g c κs within = none_in c.args.self.staff.here.items c.args.self.nobody_here

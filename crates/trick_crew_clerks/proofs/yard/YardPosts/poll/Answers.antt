@@ -1,11 +1,11 @@
 use Rattle.std.proofs.Common.{ap, subst, sym, ℕ, ◌≡◌, ◌∷◌, [], ⊎_elim}
 use Rattle.std.specs.Arc.{arc_value}
 use Rattle.std.specs.Prelude.{All}
-use Rattle.trick_crew_yard.proofs.Posted.{tended_of_post}
-use Rattle.trick_crew_yard.proofs.Tended.{tended_for}
-use Rattle.trick_crew_yard.proofs.yard.YardPosts.poll.Goals as goal
-use Rattle.trick_crew_yard.specs.Staffs.{RunsAtPost}
-use Rattle.trick_crew_yard.specs.Tending.{WasAsked}
+use Rattle.trick_crew_clerks.proofs.Posted.{tended_of_post}
+use Rattle.trick_crew_clerks.proofs.Tended.{tended_for}
+use Rattle.trick_crew_clerks.proofs.yard.YardPosts.poll.Goals as goal
+use Rattle.trick_crew_clerks.specs.Staffs.{RunsAtPost}
+use Rattle.trick_crew_clerks.specs.Tending.{WasAsked}
 
 pub invariant_of-self : goal.invariant_of-self
 invariant_of-self g c =

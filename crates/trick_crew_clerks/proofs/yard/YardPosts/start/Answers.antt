@@ -1,9 +1,9 @@
 use Rattle.std.proofs.Common.{ap, subst, sym}
 use Rattle.std.specs.Arc.{arc_value}
 use Rattle.std.specs.Prelude.{All}
-use Rattle.trick_crew_yard.proofs.yard.YardPosts.start.Goals as goal
-use Rattle.trick_crew_yard.specs.Staffs.{AreOfPost, RunsAtPost}
-use Rattle.trick_crew_yard.specs.Tending.{tended_none}
+use Rattle.trick_crew_clerks.proofs.yard.YardPosts.start.Goals as goal
+use Rattle.trick_crew_clerks.specs.Staffs.{AreOfPost, RunsAtPost}
+use Rattle.trick_crew_clerks.specs.Tending.{tended_none}
 
 pub invariant_of-self : goal.invariant_of-self
 invariant_of-self g c =

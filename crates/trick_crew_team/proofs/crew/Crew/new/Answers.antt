@@ -1,12 +1,12 @@
 use Rattle.std.proofs.Common.{◌∙◌, List, ap, subst, ℕ}
 use Rattle.std.specs.Arc.{arc_value}
 use Rattle.std.specs.Prelude.{reverse}
-use Rattle.trick_crew.proofs.Starting.{are_for}
-use Rattle.trick_crew.proofs.TakingIn.{all_of_hall, last_of_hall, members_of_hall, workers_of_hall}
-use Rattle.trick_crew.proofs.crew.Crew.new.Goals as goal
-use Rattle.trick_crew.specs.Children.{children}
-use Rattle.trick_crew.specs.Members.{AreFor}
-use Rattle.trick_crew.specs.Working.{HasWorked}
+use Rattle.trick_crew_team.proofs.Starting.{are_for}
+use Rattle.trick_crew_team.proofs.TakingIn.{all_of_hall, last_of_hall, members_of_hall, workers_of_hall}
+use Rattle.trick_crew_team.proofs.crew.Crew.new.Goals as goal
+use Rattle.trick_crew_team.specs.Children.{children}
+use Rattle.trick_crew_team.specs.Members.{AreFor}
+use Rattle.trick_crew_team.specs.Working.{HasWorked}
 use Rattle.trick_model.specs.declared.accepted.Accepted.{Accepted}
 
 pub returns-clause-threads : goal.returns-clause-threads

@@ -1,7 +1,7 @@
 use Rattle.std.proofs.Common.{◌∙◌, ap, sym}
 use Rattle.std.specs.Arc.{arc_value}
-use Rattle.trick_crew.proofs.TakingIn.{hall_of, same_hall, still_of_hall}
-use Rattle.trick_crew.proofs.team.TeamPhases.tic.Goals as goal
+use Rattle.trick_crew_team.proofs.TakingIn.{hall_of, same_hall, still_of_hall}
+use Rattle.trick_crew_team.proofs.team.TeamPhases.tic.Goals as goal
 
 pub invariant_of-self-clause-share_of_hall : goal.invariant_of-self-clause-share_of_hall
 invariant_of-self-clause-share_of_hall g c =

@@ -1,22 +1,22 @@
 use Rattle.std.proofs.Common.{◌≡◌, ◌∙◌, List, ap, length, refl, subst, sym}
 use Rattle.std.proofs.lemmas.Result.{err_from_is_err_and}
 use Rattle.std.specs.Prelude.{All}
-use Rattle.trick_beside.proofs.Loops.{asks_none}
+use Rattle.trick_exec_posts.proofs.Loops.{asks_none}
 use Rattle.trick_exec.proofs.RestLemmas.{right_sessions}
 use Rattle.trick_exec.proofs.SaidLemmas.{said_all, said_half, said_stops, unsaid}
 use Rattle.trick_exec.proofs.SendLemmas.{not_ok}
 use Rattle.trick_exec.proofs.lent.Run.finish.Goals as goal
-use Rattle.trick_hear.specs.Hearing.{said_of}
-use Rattle.trick_hear.specs.Sessions.{numbers_of}
+use Rattle.trick_exec_entries.specs.Hearing.{said_of}
+use Rattle.trick_exec_entries.specs.Sessions.{numbers_of}
 use Rattle.trick_model.specs.PlanOf.{plan_of}
 use Rattle.trick_model.specs.Session.{samples}
 use Rattle.trick_model.specs.State.{State, seen}
 use Rattle.trick_model.specs.declared.session.Session.{Session}
 use Rattle.trick_outside.proofs.DoesLemmas.{does_as, does_fail, does_none, does_ok}
-use Rattle.trick_runs.specs.Parts.{state_after}
+use Rattle.trick_exec_meaning.specs.Parts.{state_after}
 use Rattle.trick_session.specs.Kept.{IsSession}
-use Rattle.trick_tic.specs.Current.{asking_of}
-use Rattle.trick_turns.specs.Turns.{Sessions}
+use Rattle.trick_exec_tic.specs.Current.{asking_of}
+use Rattle.trick_exec_sources.specs.Turns.{Sessions}
 
 pub send_samples-requires-clause-right : goal.send_samples-requires-clause-right
 send_samples-requires-clause-right g c =

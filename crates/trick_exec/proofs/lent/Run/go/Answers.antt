@@ -20,14 +20,14 @@ use Rattle.trick_model.specs.declared.entry.Entry.{Entry}
 use Rattle.trick_model.specs.declared.thread.Thread.{Thread}
 use Rattle.trick_outside.specs.declared.stop.Stop.TheVariants.{Memory}
 use Rattle.trick_outside.specs.declared.stop.Stop.{Stop}
-use Rattle.trick_runs.proofs.Ending.{ends_short, over_asked, over_unasked, stops_between}
-use Rattle.trick_runs.proofs.Gaps.{AreQuiet, AreStill, GivesTurn, none_still, turn_still}
-use Rattle.trick_runs.proofs.Going.{Gave, IsGoing, Laws, going_starts}
-use Rattle.trick_runs.specs.Hosts.{Place, at, hosts}
-use Rattle.trick_runs.specs.Rounds.{no_waits}
-use Rattle.trick_turns.specs.Gap.{Gap}
-use Rattle.trick_turns.specs.Turns.{Gives, Told}
-use Rattle.trick_turns.specs.declared.turns.Next.TheVariants as next
+use Rattle.trick_exec_meaning.proofs.Ending.{ends_short, over_asked, over_unasked, stops_between}
+use Rattle.trick_exec_meaning.proofs.Gaps.{AreQuiet, AreStill, GivesTurn, none_still, turn_still}
+use Rattle.trick_exec_meaning.proofs.Going.{Gave, IsGoing, Laws, going_starts}
+use Rattle.trick_exec_meaning.specs.Hosts.{Place, at, hosts}
+use Rattle.trick_exec_meaning.specs.Rounds.{no_waits}
+use Rattle.trick_exec_sources.specs.Gap.{Gap}
+use Rattle.trick_exec_sources.specs.Turns.{Gives, Told}
+use Rattle.trick_exec_sources.specs.declared.turns.Next.TheVariants as next
 
 pub loop-turn-init : goal.loop-turn-init
 loop-turn-init g c =

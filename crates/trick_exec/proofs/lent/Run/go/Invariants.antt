@@ -7,8 +7,8 @@ use Rattle.trick_exec.specs.Worlds.{world_of}
 use Rattle.trick_model.specs.Plan.{threads_beside}
 use Rattle.trick_model.specs.PlanOf.{plan_of}
 use Rattle.trick_model.specs.State.{seen}
-use Rattle.trick_runs.proofs.Gaps.{AreStill}
-use Rattle.trick_runs.specs.Hosts.{hosts}
+use Rattle.trick_exec_meaning.proofs.Gaps.{AreStill}
+use Rattle.trick_exec_meaning.specs.Hosts.{hosts}
 
 -- so many turns are done
 abbrev pub invariant-loop-turn : goal.invariant-loop-turn

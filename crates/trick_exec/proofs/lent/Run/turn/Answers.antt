@@ -1,9 +1,9 @@
 use Rattle.std.proofs.Common.{◌≡◌, ◌∙◌, ◌++◌, ℕ, List, Err, Ok, ap, arith, drop, length, refl, subst, sym, take}
 use Rattle.std.proofs.lemmas.Result.{IfOk-weaker, err_from_is_err_and}
 use Rattle.std.specs.Prelude.{Result, cond}
-use Rattle.trick_beside.proofs.Seats.{stations_many}
-use Rattle.trick_beside.specs.Flight.{GoesWith}
-use Rattle.trick_choice.proofs.ChoiceLemmas.{goes_as_is}
+use Rattle.trick_exec_posts.proofs.Seats.{stations_many}
+use Rattle.trick_exec_posts.specs.Flight.{GoesWith}
+use Rattle.trick_exec_frame.proofs.ChoiceLemmas.{goes_as_is}
 use Rattle.trick_exec.proofs.SendLemmas.{not_ok}
 use Rattle.trick_exec.proofs.TurnLemmas.{apart_of, asks_of, came_late, came_short, came_so, heard_goes, line_entries, line_known, line_reached, line_replies, line_sessions, made, worlds_so, written_back}
 use Rattle.trick_exec.proofs.lent.Run.turn.Goals as goal
@@ -11,7 +11,7 @@ use Rattle.trick_exec.specs.CameTo.{HasGiven}
 use Rattle.trick_exec.specs.Known.{AreKnown}
 use Rattle.trick_exec.specs.Worlds.{world_of}
 use Rattle.trick_model.specs.declared.world.World.{World as WorldValue}
-use Rattle.trick_hear.specs.Hearing.{hearing_of, said_of}
+use Rattle.trick_exec_entries.specs.Hearing.{hearing_of, said_of}
 use Rattle.trick_model.specs.Files.{note}
 use Rattle.trick_model.specs.Plan.{threads_beside}
 use Rattle.trick_model.specs.PlanOf.{plan_of}
@@ -24,15 +24,15 @@ use Rattle.trick_outside.proofs.DoesLemmas.{does_as, does_fail}
 use Rattle.trick_outside.specs.Does.{Does}
 use Rattle.trick_outside.specs.declared.stop.Stop.TheVariants.{Memory}
 use Rattle.trick_outside.specs.declared.stop.Stop.{Stop}
-use Rattle.trick_runs.proofs.Going.{Laws}
-use Rattle.trick_runs.proofs.PartLemmas.{IsMade}
-use Rattle.trick_runs.proofs.SayLemmas.{says_as}
-use Rattle.trick_runs.proofs.Times.{heard_time}
-use Rattle.trick_runs.proofs.TurnedLemmas.{turned, turned_second}
-use Rattle.trick_runs.specs.Hosts.{hosts}
-use Rattle.trick_runs.specs.Parts.{AreApart, counting, state_after, writes_after}
-use Rattle.trick_runs.specs.Rounds.{waited}
-use Rattle.trick_tic.specs.Steps.{steps_of}
+use Rattle.trick_exec_meaning.proofs.Going.{Laws}
+use Rattle.trick_exec_meaning.proofs.PartLemmas.{IsMade}
+use Rattle.trick_exec_meaning.proofs.SayLemmas.{says_as}
+use Rattle.trick_exec_meaning.proofs.Times.{heard_time}
+use Rattle.trick_exec_meaning.proofs.TurnedLemmas.{turned, turned_second}
+use Rattle.trick_exec_meaning.specs.Hosts.{hosts}
+use Rattle.trick_exec_meaning.specs.Parts.{AreApart, counting, state_after, writes_after}
+use Rattle.trick_exec_meaning.specs.Rounds.{waited}
+use Rattle.trick_exec_tic.specs.Steps.{steps_of}
 
 pub hear_lines-requires-clause-entries : goal.hear_lines-requires-clause-entries
 hear_lines-requires-clause-entries g c =

@@ -13,10 +13,10 @@ use Rattle.trick_model.specs.State.{State, World, seen}
 use Rattle.trick_model.specs.declared.plan.Plan.{Plan as PlanValue}
 use Rattle.trick_outside.specs.Does.{Does}
 use Rattle.trick_outside.specs.declared.stop.Stop.{Stop}
-use Rattle.trick_runs.proofs.Going.{Laws}
-use Rattle.trick_runs.proofs.Whole.{stopped_first, stopped_started}
-use Rattle.trick_runs.specs.Hosts.{Place, at, hosts}
-use Rattle.trick_tic.specs.Steps.{steps_of}
+use Rattle.trick_exec_meaning.proofs.Going.{Laws}
+use Rattle.trick_exec_meaning.proofs.Whole.{stopped_first, stopped_started}
+use Rattle.trick_exec_meaning.specs.Hosts.{Place, at, hosts}
+use Rattle.trick_exec_tic.specs.Steps.{steps_of}
 
 pub returns-in_err-begin_files-clause-run : goal.returns-in_err-begin_files-clause-run
 returns-in_err-begin_files-clause-run g c =

@@ -1,6 +1,6 @@
 use Rattle.std.proofs.Common.{sym, ◌∙◌}
-use Rattle.trick_journal_turns.proofs.Turns.{since_all}
-use Rattle.trick_journal_turns.proofs.due.DueEntries.take_before.Goals as goal
+use Rattle.trick_exec_sources.proofs.TurnEntries.{since_all}
+use Rattle.trick_exec_sources.proofs.due.DueEntries.take_before.Goals as goal
 
 pub returns-clause-left : goal.returns-clause-left
 returns-clause-left c =

@@ -1,7 +1,7 @@
 use Rattle.std.proofs.Common.{◌≡◌, ◌++◌, ◌≤◌, length}
 use Rattle.std.specs.Prelude.{vec_capacity}
-use Rattle.trick_journal_turns.specs.Due.{before, since}
-use Rattle.trick_journal_turns.proofs.due.DueEntries.take_before.Given as goal
+use Rattle.trick_exec_sources.specs.Due.{before, since}
+use Rattle.trick_exec_sources.proofs.due.DueEntries.take_before.Given as goal
 
 abbrev pub invariant-loop-entry : goal.invariant-loop-entry
 invariant-loop-entry l = record {

@@ -1,7 +1,7 @@
 use Rattle.std.proofs.Common.{ℕ, ap, ◌∙◌}
 use Rattle.std.specs.Prelude.{min}
-use Rattle.trick_journal_turns.proofs.Gaps.{none_before}
-use Rattle.trick_journal_turns.proofs.journal_turns.JournalTurns.gap.Goals as goal
+use Rattle.trick_exec_sources.proofs.Gaps.{none_before}
+use Rattle.trick_exec_sources.proofs.journal_turns.JournalTurns.gap.Goals as goal
 
 pub returns-in-Some-clause-none : goal.returns-in-Some-clause-none
 returns-in-Some-clause-none c = λ some.

@@ -1,7 +1,7 @@
 use Rattle.std.proofs.Common.{sym, ◌∙◌}
-use Rattle.trick_journal_turns.proofs.Replaying.{joins_left}
-use Rattle.trick_journal_turns.proofs.journal_turns.JournalTurns.joins.Goals as goal
-use Rattle.trick_journal_turns.specs.Due.{sessions_so_far}
+use Rattle.trick_exec_sources.proofs.Replaying.{joins_left}
+use Rattle.trick_exec_sources.proofs.journal_turns.JournalTurns.joins.Goals as goal
+use Rattle.trick_exec_sources.specs.Due.{sessions_so_far}
 
 pub returns : goal.returns
 returns c =

@@ -1,8 +1,8 @@
 use Rattle.std.proofs.Common.{◌≡◌, refl, ap, ◌∙◌, false}
-use Rattle.trick_journal_turns.proofs.Joining.{IsJournal}
-use Rattle.trick_journal_turns.proofs.Replaying.{Stands, lists_first, stands_first, told_same}
-use Rattle.trick_journal_turns.specs.Due.{resumed}
-use Rattle.trick_journal_turns.proofs.journal_turns.JournalTurns.new.Goals as goal
+use Rattle.trick_exec_sources.proofs.Joining.{IsJournal}
+use Rattle.trick_exec_sources.proofs.Replaying.{Stands, lists_first, stands_first, told_same}
+use Rattle.trick_exec_sources.specs.Due.{resumed}
+use Rattle.trick_exec_sources.proofs.journal_turns.JournalTurns.new.Goals as goal
 use Rattle.trick_model.specs.Turn.{is_frozen}
 
 pub invariant_of-result : goal.invariant_of-result

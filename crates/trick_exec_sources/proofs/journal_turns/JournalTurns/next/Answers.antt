@@ -1,12 +1,12 @@
 use Rattle.std.proofs.Common.{List, ◌≡◌, ◌<◌, ◌+◌, ◌-◌, Bool, cond, true, false, sym, ap, subst, ◌∙◌, arith}
 use Rattle.std.specs.List.{list_any}
 use Rattle.std.specs.Prelude.{◌||◌, not}
-use Rattle.trick_journal_turns.proofs.Replaying.{Stands, comes_next, list_next, owes_behind, owes_step, rest_is, sessions_step, stands_next, told_same}
-use Rattle.trick_journal_turns.specs.Due.{is_line, sessions_so_far, since}
+use Rattle.trick_exec_sources.proofs.Replaying.{Stands, comes_next, list_next, owes_behind, owes_step, rest_is, sessions_step, stands_next, told_same}
+use Rattle.trick_exec_sources.specs.Due.{is_line, sessions_so_far, since}
 use Rattle.trick_model.specs.Journal.{Noted, is_of_session, lists_from}
 use Rattle.trick_model.specs.declared.entry.Entry.{Entry}
-use Rattle.trick_turns.specs.Turns.{after_entries, in_next, may_all_come}
-use Rattle.trick_journal_turns.proofs.journal_turns.JournalTurns.next.Goals as goal
+use Rattle.trick_exec_sources.specs.Turns.{after_entries, in_next, may_all_come}
+use Rattle.trick_exec_sources.proofs.journal_turns.JournalTurns.next.Goals as goal
 
 pub returns-then-self-clause-owes : goal.returns-then-self-clause-owes
 returns-then-self-clause-owes c =

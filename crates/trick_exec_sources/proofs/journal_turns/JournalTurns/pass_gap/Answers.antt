@@ -1,8 +1,8 @@
 use Rattle.std.proofs.Common.{◌+◌, arith}
-use Rattle.trick_journal_turns.proofs.Gaps.{gap_below, stands_later}
-use Rattle.trick_journal_turns.proofs.Replaying.{Stands}
-use Rattle.trick_journal_turns.specs.Due.{sessions_so_far}
-use Rattle.trick_journal_turns.proofs.journal_turns.JournalTurns.pass_gap.Goals as goal
+use Rattle.trick_exec_sources.proofs.Gaps.{gap_below, stands_later}
+use Rattle.trick_exec_sources.proofs.Replaying.{Stands}
+use Rattle.trick_exec_sources.specs.Due.{sessions_so_far}
+use Rattle.trick_exec_sources.proofs.journal_turns.JournalTurns.pass_gap.Goals as goal
 
 pub overflow_add-self : goal.overflow_add-self
 overflow_add-self c =

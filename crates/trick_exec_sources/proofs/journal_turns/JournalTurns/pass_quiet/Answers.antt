@@ -1,13 +1,13 @@
 use Rattle.std.proofs.Common.{List, ◌+◌, ◌-◌, sym, ap, ◌∙◌}
 use Rattle.std.specs.List.{list_any}
-use Rattle.trick_journal_turns.proofs.Gaps.{stands_one}
-use Rattle.trick_journal_turns.proofs.Replaying.{Stands, list_next, owes_on, rest_is, sessions_step, told_same}
-use Rattle.trick_journal_turns.proofs.Turns.{since_all}
-use Rattle.trick_journal_turns.specs.Due.{is_line, sessions_so_far}
+use Rattle.trick_exec_sources.proofs.Gaps.{stands_one}
+use Rattle.trick_exec_sources.proofs.Replaying.{Stands, list_next, owes_on, rest_is, sessions_step, told_same}
+use Rattle.trick_exec_sources.proofs.TurnEntries.{since_all}
+use Rattle.trick_exec_sources.specs.Due.{is_line, sessions_so_far}
 use Rattle.trick_model.specs.Journal.{lists_from}
 use Rattle.trick_model.specs.declared.entry.Entry.{Entry}
-use Rattle.trick_turns.specs.Turns.{after_entries, in_next}
-use Rattle.trick_journal_turns.proofs.journal_turns.JournalTurns.pass_quiet.Goals as goal
+use Rattle.trick_exec_sources.specs.Turns.{after_entries, in_next}
+use Rattle.trick_exec_sources.proofs.journal_turns.JournalTurns.pass_quiet.Goals as goal
 
 pub invariant_of-self : goal.invariant_of-self
 invariant_of-self c =

@@ -1,11 +1,11 @@
 use Rattle.std.proofs.Common.{Some, ap, refl, rules, sym, ◌∙◌}
 use Rattle.std.specs.List.{list_any}
-use Rattle.trick_journal_turns.proofs.Gaps.{answers_told, gap_of}
-use Rattle.trick_journal_turns.proofs.Replaying.{done_else, done_then, lines_left}
-use Rattle.trick_journal_turns.specs.Due.{is_line, sessions_so_far}
-use Rattle.trick_journal_turns.proofs.journal_turns.JournalTurnsTurns.entries.Goals as goal
+use Rattle.trick_exec_sources.proofs.Gaps.{answers_told, gap_of}
+use Rattle.trick_exec_sources.proofs.Replaying.{done_else, done_then, lines_left}
+use Rattle.trick_exec_sources.specs.Due.{is_line, sessions_so_far}
+use Rattle.trick_exec_sources.proofs.journal_turns.JournalTurnsTurns.entries.Goals as goal
 use Rattle.trick_model.specs.State.{seen}
-use Rattle.trick_turns.specs.Turns.{Told}
+use Rattle.trick_exec_sources.specs.Turns.{Told}
 
 pub returns-then-is_done-clause-step : goal.returns-then-is_done-clause-step
 returns-then-is_done-clause-step g c =

@@ -1,11 +1,11 @@
 use Rattle.std.proofs.Common.{◌∙◌, ap, subst, sym, refl}
-use Rattle.trick_board.specs.Board.{BoardView}
+use Rattle.trick_phase_board.specs.Board.{BoardView}
 use Rattle.trick_hall.proofs.Boards.{open_board}
 use Rattle.trick_hall.proofs.Tics.{closes_in, closes_on, scalars_given}
 use Rattle.trick_hall.specs.HallView.{HallView}
 use Rattle.trick_hall.specs.Histories.{after}
 use Rattle.trick_hall.specs.Standing.{StandsAt}
-use Rattle.trick_play.proofs.Follows.{Laws}
+use Rattle.trick_phase.proofs.Follows.{Laws}
 use Rattle.trick_hall.proofs.kept.Kept.close.Goals as goal
 
 pub close-requires : goal.close-requires

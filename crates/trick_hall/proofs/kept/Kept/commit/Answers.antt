@@ -1,5 +1,5 @@
 use Rattle.trick_hall.proofs.Committings.{commits_in, commits_on}
-use Rattle.trick_play.proofs.Follows.{Laws}
+use Rattle.trick_phase.proofs.Follows.{Laws}
 use Rattle.trick_hall.proofs.kept.Kept.commit.Goals as goal
 
 pub commit_to_board-requires-clause-belongs : goal.commit_to_board-requires-clause-belongs

@@ -1,5 +1,5 @@
 use Rattle.std.proofs.Common.{◌∙◌, ap, subst, sym, refl}
-use Rattle.trick_board.specs.Board.{BoardView}
+use Rattle.trick_phase_board.specs.Board.{BoardView}
 use Rattle.trick_hall.proofs.Boards.{closed_board}
 use Rattle.trick_hall.proofs.Tics.{open_entry_is, opens}
 use Rattle.trick_hall.specs.HallView.{HallView}

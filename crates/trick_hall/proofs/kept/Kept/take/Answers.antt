@@ -1,5 +1,5 @@
 use Rattle.trick_hall.proofs.Takings.{takes_filled, takes_in, takes_on}
-use Rattle.trick_play.proofs.Follows.{Laws}
+use Rattle.trick_phase.proofs.Follows.{Laws}
 use Rattle.trick_hall.proofs.kept.Kept.take.Goals as goal
 
 pub take_from_board-requires-clause-belongs : goal.take_from_board-requires-clause-belongs

@@ -1,5 +1,5 @@
 use Rattle.std.proofs.Common.{◌∙◌, ap, subst, sym}
-use Rattle.trick_board.specs.Board.{BoardView}
+use Rattle.trick_phase_board.specs.Board.{BoardView}
 use Rattle.trick_hall.proofs.Boards.{tic_of_course}
 use Rattle.trick_hall.specs.HallView.{HallView}
 use Rattle.trick_hall.specs.Standing.{StandsAt}

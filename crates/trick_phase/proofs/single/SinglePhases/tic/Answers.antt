@@ -1,16 +1,16 @@
 use Rattle.std.proofs.Common.{ap, subst, sym, ◌∙◌}
 use Rattle.std.specs.List.{slice_index_or}
-use Rattle.trick_board.proofs.Counting.{among_at}
+use Rattle.trick_phase_board.proofs.Counting.{among_at}
 use Rattle.trick_eval.specs.Bench.{IsFor}
 use Rattle.trick_model.specs.Laws.{is_among}
 use Rattle.trick_model.specs.Valid.{ids}
-use Rattle.trick_play.proofs.Follows.{Laws}
-use Rattle.trick_play.proofs.OneByOne.{all_along, at_self, close_not_left, close_serial, job_run}
+use Rattle.trick_phase.proofs.Follows.{Laws}
+use Rattle.trick_phase.proofs.OneByOne.{all_along, at_self, close_not_left, close_serial, job_run}
 use Rattle.trick_queue.specs.Line.{no_id}
-use Rattle.trick_schedule.proofs.Due.{due_there}
-use Rattle.trick_schedule.specs.Schedule.{one_by_one}
-use Rattle.trick_schedule.specs.Tics.{tic_of}
-use Rattle.trick_play.proofs.single.SinglePhases.tic.Goals as goal
+use Rattle.trick_phase_schedules.proofs.Due.{due_there}
+use Rattle.trick_phase_schedules.specs.Schedule.{one_by_one}
+use Rattle.trick_phase_schedules.specs.Tics.{tic_of}
+use Rattle.trick_phase.proofs.single.SinglePhases.tic.Goals as goal
 
 pub run_job-requires-clause-there : goal.run_job-requires-clause-there
 run_job-requires-clause-there g c =

@@ -1,10 +1,10 @@
 use Rattle.std.proofs.Common.{take}
-use Rattle.trick_board.specs.Board.{IsBoardOf}
+use Rattle.trick_phase_board.specs.Board.{IsBoardOf}
 use Rattle.trick_eval.specs.Bench.{IsFor}
 use Rattle.trick_model.specs.Valid.{ids}
-use Rattle.trick_play.specs.Steps.{IsBoardAlong}
-use Rattle.trick_schedule.specs.Schedule.{one_by_one}
-use Rattle.trick_play.proofs.single.SinglePhases.tic.Given as goal
+use Rattle.trick_phase.specs.Steps.{IsBoardAlong}
+use Rattle.trick_phase_schedules.specs.Schedule.{one_by_one}
+use Rattle.trick_phase.proofs.single.SinglePhases.tic.Given as goal
 
 -- the first jobs are taken and committed
 abbrev pub invariant-loop-job : goal.invariant-loop-job

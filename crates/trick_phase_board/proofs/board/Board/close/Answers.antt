@@ -1,5 +1,5 @@
-use Rattle.trick_board.proofs.Calls.{closes_serial}
-use Rattle.trick_board.proofs.board.Board.close.Goals as goal
+use Rattle.trick_phase_board.proofs.Calls.{closes_serial}
+use Rattle.trick_phase_board.proofs.board.Board.close.Goals as goal
 
 pub returns-clause-serial : goal.returns-clause-serial
 returns-clause-serial g c = λ plan accepted belongs first steps.

@@ -1,14 +1,14 @@
 use Rattle.std.proofs.Common.{subst}
 use Rattle.std.specs.Option.{IfSome}
-use Rattle.trick_board.proofs.Calls.{never_stale}
-use Rattle.trick_board.specs.Answers.{IsLeftBy, IsStale}
-use Rattle.trick_board.specs.Board.{tic_at}
+use Rattle.trick_phase_board.proofs.Calls.{never_stale}
+use Rattle.trick_phase_board.specs.Answers.{IsLeftBy, IsStale}
+use Rattle.trick_phase_board.specs.Board.{tic_at}
 use Rattle.trick_eval.specs.Bench.{the_job}
 use Rattle.trick_lang.specs.Effect.{reads}
 use Rattle.trick_lang.specs.Laws.{AgreeOn}
 use Rattle.trick_model.specs.declared.plan.Plan.{Plan as PlanValue}
-use Rattle.trick_schedule.specs.Play.{copy_of, opening, played}
-use Rattle.trick_board.proofs.board.Board.commit.Goals as goal
+use Rattle.trick_phase_schedules.specs.Play.{copy_of, opening, played}
+use Rattle.trick_phase_board.proofs.board.Board.commit.Goals as goal
 
 pub returns-clause-never_stale : goal.returns-clause-never_stale
 returns-clause-never_stale g c = λ first steps.

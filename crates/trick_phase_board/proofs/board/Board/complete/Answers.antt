@@ -1,7 +1,7 @@
 use Rattle.std.proofs.Common.{subst, sym}
-use Rattle.trick_board.proofs.Runs.{cleared, fill_filled, fill_job, fill_parts, taken_run, underway}
+use Rattle.trick_phase_board.proofs.Runs.{cleared, fill_filled, fill_job, fill_parts, taken_run, underway}
 use Rattle.trick_eval.specs.Bench.{IsFor}
-use Rattle.trick_board.proofs.board.Board.complete.Goals as goal
+use Rattle.trick_phase_board.proofs.board.Board.complete.Goals as goal
 
 pub eval-requires-clause-bench : goal.eval-requires-clause-bench
 eval-requires-clause-bench g c =

@@ -1,15 +1,15 @@
 use Rattle.std.proofs.Common.{rules, ◌≡◌, length, subst, sym}
 use Rattle.std.specs.Prelude.{replicate, vec_capacity}
-use Rattle.trick_board.proofs.Among.{none_due}
-use Rattle.trick_board.proofs.Counting.{none_counted}
-use Rattle.trick_board.proofs.Passed.{none_passed}
-use Rattle.trick_board.proofs.Ranks.{none_in_turn, none_ranked}
-use Rattle.trick_board.specs.Board.{AreDueAmong, IsRoomy}
-use Rattle.trick_board.specs.Counts.{AreCounted, AreInTurn, AreRanked}
-use Rattle.trick_board.specs.Search.{ArePassed}
+use Rattle.trick_phase_board.proofs.Among.{none_due}
+use Rattle.trick_phase_board.proofs.Counting.{none_counted}
+use Rattle.trick_phase_board.proofs.Passed.{none_passed}
+use Rattle.trick_phase_board.proofs.Ranks.{none_in_turn, none_ranked}
+use Rattle.trick_phase_board.specs.Board.{AreDueAmong, IsRoomy}
+use Rattle.trick_phase_board.specs.Counts.{AreCounted, AreInTurn, AreRanked}
+use Rattle.trick_phase_board.specs.Search.{ArePassed}
 use Rattle.trick_model.specs.Valid.{ids}
-use Rattle.trick_schedule.specs.declared.stage.Stage.TheVariants.{Idle}
-use Rattle.trick_board.proofs.board.Board.new.Goals as goal
+use Rattle.trick_phase_schedules.specs.declared.stage.Stage.TheVariants.{Idle}
+use Rattle.trick_phase_board.proofs.board.Board.new.Goals as goal
 
 pub invariant_of-result : goal.invariant_of-result
 invariant_of-result g c =

@@ -1,14 +1,14 @@
 use Rattle.std.proofs.Common.{List, ◌∙◌, ap, subst, sym}
 use Rattle.std.specs.Option.{IfSome}
-use Rattle.trick_board.proofs.Calls.{first_at, next_at}
-use Rattle.trick_board.specs.Answers.{CanDo}
-use Rattle.trick_board.specs.Board.{BoardView, IsBoardOf, tic_at}
+use Rattle.trick_phase_board.proofs.Calls.{first_at, next_at}
+use Rattle.trick_phase_board.specs.Answers.{CanDo}
+use Rattle.trick_phase_board.specs.Board.{BoardView, IsBoardOf, tic_at}
 use Rattle.std.specs.Prelude.{IsSome}
-use Rattle.trick_board.specs.Counts.{own_at}
-use Rattle.trick_board.specs.Search.{AreFirst, next_in}
+use Rattle.trick_phase_board.specs.Counts.{own_at}
+use Rattle.trick_phase_board.specs.Search.{AreFirst, next_in}
 use Rattle.trick_model.specs.PlanOf.{plan_of}
-use Rattle.trick_schedule.specs.declared.stage.Stage.{Stage}
-use Rattle.trick_board.proofs.board.Board.next.Goals as goal
+use Rattle.trick_phase_schedules.specs.declared.stage.Stage.{Stage}
+use Rattle.trick_phase_board.proofs.board.Board.next.Goals as goal
 
 pub returns : goal.returns
 returns g c =

@@ -1,28 +1,28 @@
 use Rattle.std.proofs.Common.{◌≡◌, ◌<◌, ℕ, IsTrue, List, length, ◌∙◌, ap, subst, sym, arith}
 use Rattle.std.proofs.lemmas.List.{length-replicate}
-use Rattle.trick_board.proofs.Among.{opened_among}
-use Rattle.trick_board.proofs.Calls.{opened_belongs}
-use Rattle.trick_board.proofs.Counting.{all_counted}
-use Rattle.trick_board.proofs.Lines.{thread_small}
-use Rattle.trick_board.proofs.Passed.{none_passed}
-use Rattle.trick_board.proofs.Ranks.{opened_in_turn, opened_ranked}
-use Rattle.trick_board.proofs.Stages.{few_due}
-use Rattle.trick_board.specs.Board.{AreDueAmong, BoardView, IsBoardOf}
-use Rattle.trick_board.specs.Counts.{AreInTurn, AreRanked, IsCounted, many_on, rank_in}
-use Rattle.trick_board.specs.Search.{ArePassed}
-use Rattle.trick_board.specs.Tables.{thread_in}
+use Rattle.trick_phase_board.proofs.Among.{opened_among}
+use Rattle.trick_phase_board.proofs.Calls.{opened_belongs}
+use Rattle.trick_phase_board.proofs.Counting.{all_counted}
+use Rattle.trick_phase_board.proofs.Lines.{thread_small}
+use Rattle.trick_phase_board.proofs.Passed.{none_passed}
+use Rattle.trick_phase_board.proofs.Ranks.{opened_in_turn, opened_ranked}
+use Rattle.trick_phase_board.proofs.Stages.{few_due}
+use Rattle.trick_phase_board.specs.Board.{AreDueAmong, BoardView, IsBoardOf}
+use Rattle.trick_phase_board.specs.Counts.{AreInTurn, AreRanked, IsCounted, many_on, rank_in}
+use Rattle.trick_phase_board.specs.Search.{ArePassed}
+use Rattle.trick_phase_board.specs.Tables.{thread_in}
 use Rattle.trick_lang.specs.declared.job.JobId.{JobId}
 use Rattle.trick_model.specs.Laws.{is_among}
 use Rattle.trick_model.specs.PlanOf.{plan_of}
 use Rattle.trick_model.specs.Valid.{ids}
-use Rattle.trick_schedule.proofs.Due.{due_there}
-use Rattle.trick_schedule.proofs.History.{length-waiting}
-use Rattle.trick_schedule.specs.Play.{with_waiting}
-use Rattle.trick_schedule.specs.Tics.{tic_of}
-use Rattle.trick_schedule.specs.declared.stage.Stage.{Stage}
-use Rattle.trick_schedule.specs.declared.stage.Stage.TheVariants.{Idle}
+use Rattle.trick_phase_schedules.proofs.Due.{due_there}
+use Rattle.trick_phase_schedules.proofs.History.{length-waiting}
+use Rattle.trick_phase_schedules.specs.Play.{with_waiting}
+use Rattle.trick_phase_schedules.specs.Tics.{tic_of}
+use Rattle.trick_phase_schedules.specs.declared.stage.Stage.{Stage}
+use Rattle.trick_phase_schedules.specs.declared.stage.Stage.TheVariants.{Idle}
 use Rattle.std.specs.Prelude.{replicate}
-use Rattle.trick_board.proofs.board.Board.open_tic.Goals as goal
+use Rattle.trick_phase_board.proofs.board.Board.open_tic.Goals as goal
 
 pub copy_jobs-requires : goal.copy_jobs-requires
 copy_jobs-requires g c =

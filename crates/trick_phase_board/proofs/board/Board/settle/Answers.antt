@@ -1,5 +1,5 @@
-use Rattle.trick_board.proofs.Calls.{commit_belongs}
-use Rattle.trick_board.proofs.board.Board.settle.Goals as goal
+use Rattle.trick_phase_board.proofs.Calls.{commit_belongs}
+use Rattle.trick_phase_board.proofs.board.Board.settle.Goals as goal
 
 pub returns-clause-belongs : goal.returns-clause-belongs
 returns-clause-belongs g c =

@@ -1,16 +1,16 @@
 use Rattle.std.proofs.Common.{rules, ap, length, subst, sym}
 use Rattle.std.specs.Option.{IfSome}
 use Rattle.std.specs.Prelude.{IsSome, vec_capacity, ◌≡◌}
-use Rattle.trick_board.proofs.Among.{stage_open, stepped_among}
-use Rattle.trick_board.proofs.Calls.{own_open}
-use Rattle.trick_board.proofs.Counting.{start_counted, start_passed}
-use Rattle.trick_board.proofs.Ranks.{start_in_turn, start_ranked}
-use Rattle.trick_board.specs.Board.{BoardView, IsRoomy}
-use Rattle.trick_board.specs.Counts.{own_anew}
-use Rattle.trick_schedule.specs.Play.{is_due, stage_at}
-use Rattle.trick_schedule.specs.declared.stage.Stage.TheVariants.{Waiting}
-use Rattle.trick_board.proofs.board.Board.start.Goals.{in-Some, in_default}
-use Rattle.trick_board.proofs.board.Board.start.Goals as goal
+use Rattle.trick_phase_board.proofs.Among.{stage_open, stepped_among}
+use Rattle.trick_phase_board.proofs.Calls.{own_open}
+use Rattle.trick_phase_board.proofs.Counting.{start_counted, start_passed}
+use Rattle.trick_phase_board.proofs.Ranks.{start_in_turn, start_ranked}
+use Rattle.trick_phase_board.specs.Board.{BoardView, IsRoomy}
+use Rattle.trick_phase_board.specs.Counts.{own_anew}
+use Rattle.trick_phase_schedules.specs.Play.{is_due, stage_at}
+use Rattle.trick_phase_schedules.specs.declared.stage.Stage.TheVariants.{Waiting}
+use Rattle.trick_phase_board.proofs.board.Board.start.Goals.{in-Some, in_default}
+use Rattle.trick_phase_board.proofs.board.Board.start.Goals as goal
 
 pub invariant_of-self : goal.invariant_of-self
 invariant_of-self g c =

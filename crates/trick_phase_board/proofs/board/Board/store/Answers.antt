@@ -2,21 +2,21 @@ use Rattle.std.proofs.Common.{rules, [], List, ap, length, refl, subst, sym, ◌
 use Rattle.std.specs.List.{slice_index_or}
 use Rattle.std.specs.Option.{IfSome}
 use Rattle.std.specs.Prelude.{IsSome, vec_capacity, ◌≡◌, ◌<◌}
-use Rattle.trick_board.proofs.Among.{stage_open, stepped_among}
-use Rattle.trick_board.proofs.Calls.{flying_known, once_open}
-use Rattle.trick_board.proofs.Counting.{done_counted, open_sees}
-use Rattle.trick_board.proofs.Passed.{done_passed}
-use Rattle.trick_board.proofs.Ranks.{done_in_turn, done_ranked}
-use Rattle.trick_board.specs.Board.{BoardView, IsBoardOf, IsRoomy}
-use Rattle.trick_board.specs.Counts.{with_fewer}
-use Rattle.trick_board.specs.Search.{is_open}
-use Rattle.trick_board.specs.declared.tables.Tables.{Tables}
+use Rattle.trick_phase_board.proofs.Among.{stage_open, stepped_among}
+use Rattle.trick_phase_board.proofs.Calls.{flying_known, once_open}
+use Rattle.trick_phase_board.proofs.Counting.{done_counted, open_sees}
+use Rattle.trick_phase_board.proofs.Passed.{done_passed}
+use Rattle.trick_phase_board.proofs.Ranks.{done_in_turn, done_ranked}
+use Rattle.trick_phase_board.specs.Board.{BoardView, IsBoardOf, IsRoomy}
+use Rattle.trick_phase_board.specs.Counts.{with_fewer}
+use Rattle.trick_phase_board.specs.Search.{is_open}
+use Rattle.trick_phase_board.specs.declared.tables.Tables.{Tables}
 use Rattle.trick_lang.specs.declared.job.JobId.{JobId}
 use Rattle.trick_model.specs.Valid.{ids}
-use Rattle.trick_schedule.specs.Play.{is_due, stage_at}
-use Rattle.trick_schedule.specs.declared.stage.Stage.TheVariants.{InFlight}
-use Rattle.trick_board.proofs.board.Board.store.Goals.{then-is_flagged+in-Some, then-is_flagged+in_default, else-is_flagged}
-use Rattle.trick_board.proofs.board.Board.store.Goals as goal
+use Rattle.trick_phase_schedules.specs.Play.{is_due, stage_at}
+use Rattle.trick_phase_schedules.specs.declared.stage.Stage.TheVariants.{InFlight}
+use Rattle.trick_phase_board.proofs.board.Board.store.Goals.{then-is_flagged+in-Some, then-is_flagged+in_default, else-is_flagged}
+use Rattle.trick_phase_board.proofs.board.Board.store.Goals as goal
 
 pub lower_thread-requires : goal.lower_thread-requires
 lower_thread-requires g c =

@@ -1,9 +1,9 @@
 use Rattle.std.proofs.Common.{subst, sym}
 use Rattle.std.specs.Option.{IfSome}
 use Rattle.std.specs.Prelude.{IsSome}
-use Rattle.trick_board.proofs.Calls.{ready_first, ready_there}
-use Rattle.trick_board.specs.Board.{BoardView, IsBoardOf, IsOpenOf}
-use Rattle.trick_board.proofs.board.Board.take_step.Goals as goal
+use Rattle.trick_phase_board.proofs.Calls.{ready_first, ready_there}
+use Rattle.trick_phase_board.specs.Board.{BoardView, IsBoardOf, IsOpenOf}
+use Rattle.trick_phase_board.proofs.board.Board.take_step.Goals as goal
 
 pub start-requires-clause-there : goal.start-requires-clause-there
 start-requires-clause-there g c =

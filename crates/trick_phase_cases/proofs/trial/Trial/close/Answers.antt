@@ -1,6 +1,6 @@
 use Rattle.std.proofs.Common.{◌≡◌, ◌∙◌, refl, rules, true}
-use Rattle.trick_schedule_cases.proofs.Trials.{closed_trial, kept_trial}
-use Rattle.trick_schedule_cases.proofs.trial.Trial.close.Goals as goal
+use Rattle.trick_phase_cases.proofs.Trials.{closed_trial, kept_trial}
+use Rattle.trick_phase_cases.proofs.trial.Trial.close.Goals as goal
 
 pub close-requires : goal.close-requires
 close-requires c =

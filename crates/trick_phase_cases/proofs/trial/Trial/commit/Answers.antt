@@ -1,9 +1,9 @@
 use Rattle.std.proofs.Common.{◌≡◌, ◌∙◌, ap, refl, rules, subst, sym, true}
 use Rattle.trick_eval.specs.Bench.{BenchView, IsFor, the_job}
 use Rattle.trick_model.specs.declared.plan.Plan.{Plan}
-use Rattle.trick_schedule.specs.declared.step.Step.TheVariants.{Commit}
-use Rattle.trick_schedule_cases.proofs.Trials.{committed_trial, kept_trial}
-use Rattle.trick_schedule_cases.proofs.trial.Trial.commit.Goals as goal
+use Rattle.trick_phase_schedules.specs.declared.step.Step.TheVariants.{Commit}
+use Rattle.trick_phase_cases.proofs.Trials.{committed_trial, kept_trial}
+use Rattle.trick_phase_cases.proofs.trial.Trial.commit.Goals as goal
 
 pub eval-requires-clause-bench : goal.eval-requires-clause-bench
 eval-requires-clause-bench c =

@@ -1,9 +1,9 @@
 use Rattle.std.proofs.Common.{◌≡◌, ◌∙◌, false, rules, subst}
-use Rattle.trick_board.specs.Board.{IsOpenedWith}
+use Rattle.trick_phase_board.specs.Board.{IsOpenedWith}
 use Rattle.trick_model.specs.declared.plan.Plan.{Plan}
 use Rattle.trick_queue.specs.Queue.{IsFor}
-use Rattle.trick_schedule_cases.proofs.Trials.{closed_none, opened_trial, zeros_memory}
-use Rattle.trick_schedule_cases.proofs.trial.Trial.open.Goals as goal
+use Rattle.trick_phase_cases.proofs.Trials.{closed_none, opened_trial, zeros_memory}
+use Rattle.trick_phase_cases.proofs.trial.Trial.open.Goals as goal
 
 pub open-requires-clause-closed : goal.open-requires-clause-closed
 open-requires-clause-closed c =

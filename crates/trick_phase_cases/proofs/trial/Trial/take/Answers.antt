@@ -1,9 +1,9 @@
 use Rattle.std.proofs.Common.{◌≡◌, ◌∙◌, rules, true}
 use Rattle.trick_eval.specs.Bench.{the_job}
 use Rattle.trick_lang.specs.Effect.{reads}
-use Rattle.trick_schedule.specs.declared.step.Step.TheVariants.{Take}
-use Rattle.trick_schedule_cases.proofs.Trials.{taken_trial}
-use Rattle.trick_schedule_cases.proofs.trial.Trial.take.Goals as goal
+use Rattle.trick_phase_schedules.specs.declared.step.Step.TheVariants.{Take}
+use Rattle.trick_phase_cases.proofs.Trials.{taken_trial}
+use Rattle.trick_phase_cases.proofs.trial.Trial.take.Goals as goal
 
 pub take-took-requires-clause-open : goal.take-took-requires-clause-open
 take-took-requires-clause-open c =

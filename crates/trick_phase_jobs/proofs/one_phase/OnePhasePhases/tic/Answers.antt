@@ -3,8 +3,8 @@ use Rattle.std.specs.Prelude.{All, ◌<◌, length}
 use Rattle.trick_lang.specs.declared.job.JobId.{JobId}
 use Rattle.trick_model.specs.PlanOf.{plan_of}
 use Rattle.trick_model.specs.declared.plan.Plan.{Plan}
-use Rattle.trick_phase.proofs.DueJobs.{due_jobs}
-use Rattle.trick_phase.proofs.one_phase.OnePhasePhases.tic.Goals as goal
+use Rattle.trick_phase_jobs.proofs.DueJobs.{due_jobs}
+use Rattle.trick_phase_jobs.proofs.one_phase.OnePhasePhases.tic.Goals as goal
 
 pub run_jobs-requires-clause-jobs : goal.run_jobs-requires-clause-jobs
 run_jobs-requires-clause-jobs g c =

@@ -1,6 +1,6 @@
 use Rattle.std.proofs.Common.{◌≡◌, ◌+◌, ◌≤◌, drop, length}
-use Rattle.trick_draft.specs.Cells.{with_cells}
-use Rattle.trick_draft.proofs.cells.KnownCells.add_cells.Given as goal
+use Rattle.trick_plan_draft.specs.Cells.{with_cells}
+use Rattle.trick_plan_draft.proofs.cells.KnownCells.add_cells.Given as goal
 
 -- the cells that are left are still to be known, and there is room for them
 abbrev pub invariant-loop-cell : goal.invariant-loop-cell

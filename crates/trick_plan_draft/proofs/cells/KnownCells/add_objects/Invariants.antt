@@ -1,6 +1,6 @@
 use Rattle.std.proofs.Common.{◌≡◌, drop}
-use Rattle.trick_draft.specs.Cells.{with_objects}
-use Rattle.trick_draft.proofs.cells.KnownCells.add_objects.Given as goal
+use Rattle.trick_plan_draft.specs.Cells.{with_objects}
+use Rattle.trick_plan_draft.proofs.cells.KnownCells.add_objects.Given as goal
 
 -- the objects that are left are still to be known
 abbrev pub invariant-loop-object : goal.invariant-loop-object

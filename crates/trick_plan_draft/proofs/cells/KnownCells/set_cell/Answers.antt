@@ -1,8 +1,8 @@
 use Rattle.std.proofs.Common.{◌∙◌, ℤ, Some, ap, sym}
 use Rattle.std.proofs.lemmas.Int.{to_z-of_z}
 use Rattle.std.specs.Int.{w128}
-use Rattle.trick_draft.proofs.Known.{cell_place, none_set}
-use Rattle.trick_draft.proofs.cells.KnownCells.set_cell.Goals as goal
+use Rattle.trick_plan_draft.proofs.Known.{cell_place, none_set}
+use Rattle.trick_plan_draft.proofs.cells.KnownCells.set_cell.Goals as goal
 use Rattle.trick_model.specs.Names.{set_in_range}
 
 pub returns-in-Some : goal.returns-in-Some

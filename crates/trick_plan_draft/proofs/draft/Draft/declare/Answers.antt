@@ -1,15 +1,15 @@
 use Rattle.std.proofs.Common.{◌≡◌, ◌∙◌, ◌+◌, ℕ, false, nat_lt, List, Option, Some, Result, Err, length, ◌≤◌, sym, ap, subst}
 use Rattle.std.proofs.lemmas.Result.{err_from_is_err_and}
 use Rattle.std.specs.Borrow.{Bor}
-use Rattle.trick_declare.specs.Cells.{cells_of, count_of}
-use Rattle.trick_declare.specs.declared.spelled.SpelledDeclaration.{SpelledDeclaration}
-use Rattle.trick_draft.proofs.Declaring.{added_cells, as_many_cells, free_in, mirrors_more, room_left, says_more, says_refused}
-use Rattle.trick_draft.proofs.draft.Draft.declare.Goals as goal
-use Rattle.trick_draft.specs.Cells.{is_taken_in, with_cells}
-use Rattle.trick_draft.specs.Lines.{Did, declare_line}
-use Rattle.trick_draft.specs.Seen.{declared_in}
-use Rattle.trick_draft.specs.declared.draft.Draft.{Draft}
-use Rattle.trick_draft.specs.declared.fault.LineFault.{LineFault}
+use Rattle.trick_plan_variables.specs.Cells.{cells_of, count_of}
+use Rattle.trick_plan_variables.specs.declared.spelled.SpelledDeclaration.{SpelledDeclaration}
+use Rattle.trick_plan_draft.proofs.Declaring.{added_cells, as_many_cells, free_in, mirrors_more, room_left, says_more, says_refused}
+use Rattle.trick_plan_draft.proofs.draft.Draft.declare.Goals as goal
+use Rattle.trick_plan_draft.specs.Cells.{is_taken_in, with_cells}
+use Rattle.trick_plan_draft.specs.Lines.{Did, declare_line}
+use Rattle.trick_plan_draft.specs.Seen.{declared_in}
+use Rattle.trick_plan_draft.specs.declared.draft.Draft.{Draft}
+use Rattle.trick_plan_draft.specs.declared.fault.LineFault.{LineFault}
 use Rattle.trick_lang.specs.declared.variable.Variable.{Variable}
 
 pub add_declared-requires : goal.add_declared-requires

@@ -1,8 +1,8 @@
 use Rattle.std.proofs.Common.{◌≡◌, drop}
-use Rattle.trick_draft.proofs.Asked.{after}
-use Rattle.trick_draft.proofs.draft.Draft.deeds_of.Given as goal
-use Rattle.trick_draft.specs.Drafts.{names_of}
-use Rattle.trick_draft.specs.Jobs.{jobs_of}
+use Rattle.trick_plan_draft.proofs.Asked.{after}
+use Rattle.trick_plan_draft.proofs.draft.Draft.deeds_of.Given as goal
+use Rattle.trick_plan_draft.specs.Drafts.{names_of}
+use Rattle.trick_plan_draft.specs.Jobs.{jobs_of}
 use Rattle.trick_model.specs.Names.{deeds_of}
 
 -- the deeds so far with those that are left are all

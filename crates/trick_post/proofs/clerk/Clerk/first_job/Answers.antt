@@ -2,12 +2,12 @@ use Rattle.std.proofs.Common.{◌∙◌, List, ap}
 use Rattle.std.specs.Arc.{arc_value}
 use Rattle.std.specs.List.{slice_get}
 use Rattle.std.specs.Option.{option_map}
-use Rattle.trick_desk.proofs.Beginnings.{first_is}
-use Rattle.trick_desk.proofs.clerk.Clerk.first_job.Goals as goal
-use Rattle.trick_desk.specs.Beginnings.{first_of}
+use Rattle.trick_post.proofs.Beginnings.{first_is}
+use Rattle.trick_post.proofs.clerk.Clerk.first_job.Goals as goal
+use Rattle.trick_post.specs.Beginnings.{first_of}
 use Rattle.trick_lang.specs.declared.job.JobId.{JobId}
 use Rattle.trick_model.specs.PlanOf.{plan_of}
-use Rattle.trick_tray.specs.Calendars.{scheduled_of}
+use Rattle.trick_post_trays.specs.Calendars.{scheduled_of}
 
 pub returns : goal.returns
 returns g c =

@@ -1,19 +1,19 @@
 use Rattle.std.proofs.Common.{◌≡◌, ◌∙◌, ℕ, ◌<◌, List, ap, arith, length, subst, sym}
 use Rattle.std.specs.Arc.{arc_value}
-use Rattle.trick_desk.proofs.Passes.{added_as, back_ready, back_stands, has_work_in, outcome_held, same_number, still_works}
-use Rattle.trick_desk.proofs.Posts.{returned_own}
-use Rattle.trick_desk.specs.Histories.{after, clerk_seat}
-use Rattle.trick_desk.specs.Places.{PostView, Stands}
-use Rattle.trick_desk.specs.declared.event.Event.{Event}
-use Rattle.trick_desk.specs.declared.event.Event.TheVariants.{Back}
+use Rattle.trick_post.proofs.Passes.{added_as, back_ready, back_stands, has_work_in, outcome_held, same_number, still_works}
+use Rattle.trick_post.proofs.PostLemmas.{returned_own}
+use Rattle.trick_post.specs.Histories.{after, clerk_seat}
+use Rattle.trick_post.specs.Places.{PostView, Stands}
+use Rattle.trick_post.specs.declared.event.Event.{Event}
+use Rattle.trick_post.specs.declared.event.Event.TheVariants.{Back}
 use Rattle.trick_model.specs.declared.accepted.Accepted.{Accepted}
 use Rattle.trick_model.specs.declared.plan.Plan.{Plan as PlanValue}
-use Rattle.trick_tray.specs.Outputs.{IsOutcome, IsParcelOf}
-use Rattle.trick_tray.specs.Trays.{IsWorkerOf, held_in}
+use Rattle.trick_post_trays.specs.Outputs.{IsOutcome, IsParcelOf}
+use Rattle.trick_post_trays.specs.Trays.{IsWorkerOf, held_in}
 use Rattle.std.specs.Option.{IfSome}
 use Rattle.trick_turn.specs.Passes.{number_of, seen}
 use Rattle.trick_turn.specs.declared.view.View.{View}
-use Rattle.trick_desk.proofs.clerk.Clerk.put_back.Goals as goal
+use Rattle.trick_post.proofs.clerk.Clerk.put_back.Goals as goal
 
 pub work-requires-clause-own : goal.work-requires-clause-own
 work-requires-clause-own g c =

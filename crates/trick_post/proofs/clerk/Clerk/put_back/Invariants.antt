@@ -1,7 +1,7 @@
 use Rattle.std.proofs.Common.{Some}
-use Rattle.trick_desk.specs.declared.event.Event.TheVariants.{Back}
+use Rattle.trick_post.specs.declared.event.Event.TheVariants.{Back}
 use Rattle.trick_turn.specs.Passes.{number_of}
-use Rattle.trick_desk.proofs.clerk.Clerk.put_back.Given as goal
+use Rattle.trick_post.proofs.clerk.Clerk.put_back.Given as goal
 
 abbrev pub ghosts-end_turn : goal.ghosts-end_turn
 ghosts-end_turn g a = record { tells = Some (Back (number_of a.turn.pass.now) a.thread) }

@@ -3,19 +3,19 @@ use Rattle.std.specs.Arc.{arc_value}
 use Rattle.std.specs.List.{slice_index_or}
 use Rattle.std.specs.Prelude.{Option}
 use Rattle.std.specs.Option.{IfSome}
-use Rattle.trick_desk.proofs.Desks.{comes_to, finishes, finishes_other, is_started}
-use Rattle.trick_desk.proofs.Passes.{has_work_in}
-use Rattle.trick_desk.specs.Histories.{desk_seat}
-use Rattle.trick_job.specs.Belongs.{IsMemoryOf}
+use Rattle.trick_post.proofs.Desks.{comes_to, finishes, finishes_other, is_started}
+use Rattle.trick_post.proofs.Passes.{has_work_in}
+use Rattle.trick_post.specs.Histories.{desk_seat}
+use Rattle.trick_phase_jobs.specs.Belongs.{IsMemoryOf}
 use Rattle.trick_model.specs.FaultList.{with_faults}
 use Rattle.trick_model.specs.PlanOf.{plan_of}
 use Rattle.trick_model.specs.declared.accepted.Accepted.{Accepted}
 use Rattle.trick_model.specs.declared.plan.Plan.{Plan as PlanValue}
-use Rattle.trick_post.specs.Work.{Started, finished}
-use Rattle.trick_tray.specs.Outputs.{IsOutcome, IsParcelOf}
-use Rattle.trick_tray.specs.Trays.{IsWorkerOf, held_in}
+use Rattle.trick_post_work.specs.Work.{Started, finished}
+use Rattle.trick_post_trays.specs.Outputs.{IsOutcome, IsParcelOf}
+use Rattle.trick_post_trays.specs.Trays.{IsWorkerOf, held_in}
 use Rattle.trick_turn.specs.Passes.{own}
-use Rattle.trick_desk.proofs.desk.DeskPosts.finish.Goals as goal
+use Rattle.trick_post.proofs.desk.DeskPosts.finish.Goals as goal
 
 pub index-parcel-requires : goal.index-parcel-requires
 index-parcel-requires g c =

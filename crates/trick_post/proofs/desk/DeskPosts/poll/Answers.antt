@@ -1,9 +1,9 @@
 use Rattle.std.proofs.Common.{List, ap}
-use Rattle.trick_desk.proofs.Desks.{asks_none}
-use Rattle.trick_desk.proofs.Lateness.{rose_not_yet}
-use Rattle.trick_desk.specs.Histories.{started_in}
-use Rattle.trick_desk.specs.declared.event.Event.{Event}
-use Rattle.trick_desk.proofs.desk.DeskPosts.poll.Goals as goal
+use Rattle.trick_post.proofs.Desks.{asks_none}
+use Rattle.trick_post.proofs.Lateness.{rose_not_yet}
+use Rattle.trick_post.specs.Histories.{started_in}
+use Rattle.trick_post.specs.declared.event.Event.{Event}
+use Rattle.trick_post.proofs.desk.DeskPosts.poll.Goals as goal
 
 pub returns-clause-cause : goal.returns-clause-cause
 returns-clause-cause g c = λ is. rose_not_yet c.args.self.now.late c.ask.new.self.late c.ask.result c.ask.ensures.late is

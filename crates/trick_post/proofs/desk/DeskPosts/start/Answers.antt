@@ -1,7 +1,7 @@
-use Rattle.trick_desk.proofs.Desks.{starts, starts_other}
-use Rattle.trick_desk.specs.Histories.{desk_seat}
+use Rattle.trick_post.proofs.Desks.{starts, starts_other}
+use Rattle.trick_post.specs.Histories.{desk_seat}
 use Rattle.trick_turn.specs.Passes.{own}
-use Rattle.trick_desk.proofs.desk.DeskPosts.start.Goals as goal
+use Rattle.trick_post.proofs.desk.DeskPosts.start.Goals as goal
 
 pub returns-clause-started : goal.returns-clause-started
 returns-clause-started g c =

@@ -1,5 +1,5 @@
-use Rattle.trick_desk.proofs.Making.{places_made}
-use Rattle.trick_desk.proofs.places.Places.new.Goals as goal
+use Rattle.trick_post.proofs.Making.{places_made}
+use Rattle.trick_post.proofs.places.Places.new.Goals as goal
 
 pub returns : goal.returns
 returns g c =

@@ -1,17 +1,17 @@
 use Rattle.std.proofs.Common.{◌≡◌, ◌∙◌, ap, subst, sym}
 use Rattle.std.specs.Arc.{arc_value}
-use Rattle.trick_desk.proofs.Clerks.{dealt_first, others_dealt}
-use Rattle.trick_desk.proofs.Making.{stands_made}
-use Rattle.trick_desk.specs.Clerks.{AreClerkPasses, numbers}
-use Rattle.trick_desk.specs.Histories.{fresh, has_shut}
-use Rattle.trick_desk.specs.Places.{IsPostAt}
-use Rattle.trick_desk.specs.declared.event.Event.{Event}
+use Rattle.trick_post.proofs.Clerks.{dealt_first, others_dealt}
+use Rattle.trick_post.proofs.Making.{stands_made}
+use Rattle.trick_post.specs.Clerks.{AreClerkPasses, numbers}
+use Rattle.trick_post.specs.Histories.{fresh, has_shut}
+use Rattle.trick_post.specs.Places.{IsPostAt}
+use Rattle.trick_post.specs.declared.event.Event.{Event}
 use Rattle.trick_model.specs.declared.accepted.Accepted.{Accepted}
 use Rattle.trick_model.specs.declared.plan.Plan.{Plan as PlanValue}
-use Rattle.trick_tray.specs.Outputs.{AreParcelsOf}
+use Rattle.trick_post_trays.specs.Outputs.{AreParcelsOf}
 use Rattle.trick_turn.specs.Passes.{IsPassOf, own}
 use Rattle.trick_turn.specs.declared.view.View.{View}
-use Rattle.trick_desk.proofs.post.Post.new.Goals as goal
+use Rattle.trick_post.proofs.post.Post.new.Goals as goal
 
 pub new-requires-2-clause-stands : goal.new-requires-2-clause-stands
 new-requires-2-clause-stands g c =

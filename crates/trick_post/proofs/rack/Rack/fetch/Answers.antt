@@ -1,10 +1,10 @@
 use Rattle.std.proofs.Common.{◌≡◌, subst}
 use Rattle.std.specs.Arc.{arc_value}
-use Rattle.trick_desk.proofs.Desks.{still_started, taken_since}
-use Rattle.trick_desk.specs.Answers.{HasTakenBack}
+use Rattle.trick_post.proofs.Desks.{still_started, taken_since}
+use Rattle.trick_post.specs.Answers.{HasTakenBack}
 use Rattle.trick_model.specs.declared.plan.Plan.{Plan as PlanValue}
 use Rattle.trick_turn.specs.Passes.{own}
-use Rattle.trick_desk.proofs.rack.Rack.fetch.Goals as goal
+use Rattle.trick_post.proofs.rack.Rack.fetch.Goals as goal
 
 pub take_back-requires : goal.take_back-requires
 take_back-requires g c = record {

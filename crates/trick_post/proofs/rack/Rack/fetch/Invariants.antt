@@ -1,5 +1,5 @@
 use Rattle.std.proofs.Common.{◌≡◌}
-use Rattle.trick_desk.proofs.rack.Rack.fetch.Given as goal
+use Rattle.trick_post.proofs.rack.Rack.fetch.Given as goal
 use Rattle.trick_turn.specs.Passes.{own, seen}
 use mathlib.Core.List.{IsPrefix}
 

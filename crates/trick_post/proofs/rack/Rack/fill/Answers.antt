@@ -1,16 +1,16 @@
 use Rattle.std.proofs.Common.{rules, ◌≡◌, ◌∙◌, ◌<◌, Some, ap, arith, length, subst, sym}
 use Rattle.std.specs.Arc.{arc_value}
 use Rattle.std.specs.List.{slice_index_or}
-use Rattle.trick_desk.proofs.Desks.{filled, filled_there}
-use Rattle.trick_desk.proofs.Passes.{parcels_set}
+use Rattle.trick_post.proofs.Desks.{filled, filled_there}
+use Rattle.trick_post.proofs.Passes.{parcels_set}
 use Rattle.trick_model.specs.PlanOf.{plan_of}
 use Rattle.trick_model.specs.declared.accepted.Accepted.{Accepted}
 use Rattle.trick_model.specs.declared.plan.Plan.{Plan as PlanValue}
-use Rattle.trick_post.specs.Work.{CanStart}
-use Rattle.trick_tray.proofs.Trays.{thread_small}
-use Rattle.trick_tray.specs.Outputs.{IsParcelOf}
-use Rattle.trick_tray.specs.Trays.{IsTrayOf}
-use Rattle.trick_desk.proofs.rack.Rack.fill.Goals as goal
+use Rattle.trick_post_work.specs.Work.{CanStart}
+use Rattle.trick_post_trays.proofs.Trays.{thread_small}
+use Rattle.trick_post_trays.specs.Outputs.{IsParcelOf}
+use Rattle.trick_post_trays.specs.Trays.{IsTrayOf}
+use Rattle.trick_post.proofs.rack.Rack.fill.Goals as goal
 
 pub index_mut-requires : goal.index_mut-requires
 index_mut-requires g c =

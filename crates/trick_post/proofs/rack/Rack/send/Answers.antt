@@ -1,18 +1,18 @@
 use Rattle.std.proofs.Common.{rules, ◌≡◌, ◌∙◌, ◌<◌, List, Some, arith, length, refl, subst, sym, true}
 use Rattle.std.specs.Arc.{arc_value}
 use Rattle.std.specs.List.{slice_index_or}
-use Rattle.trick_desk.proofs.Passes.{parcels_set, same_number, start_stands, told_open}
-use Rattle.trick_desk.proofs.Posts.{returned_own}
-use Rattle.trick_desk.specs.Histories.{after, desk_seat}
-use Rattle.trick_desk.specs.Places.{PostView, Stands}
-use Rattle.trick_desk.specs.declared.event.Event.{Event}
-use Rattle.trick_desk.specs.declared.event.Event.TheVariants.{Start}
-use Rattle.trick_tray.proofs.Trays.{thread_small}
-use Rattle.trick_tray.specs.Outputs.{IsParcelOf}
-use Rattle.trick_tray.specs.Trays.{held_in}
-use Rattle.trick_tray.specs.declared.outputs.Parcel.{Parcel}
+use Rattle.trick_post.proofs.Passes.{parcels_set, same_number, start_stands, told_open}
+use Rattle.trick_post.proofs.PostLemmas.{returned_own}
+use Rattle.trick_post.specs.Histories.{after, desk_seat}
+use Rattle.trick_post.specs.Places.{PostView, Stands}
+use Rattle.trick_post.specs.declared.event.Event.{Event}
+use Rattle.trick_post.specs.declared.event.Event.TheVariants.{Start}
+use Rattle.trick_post_trays.proofs.Trays.{thread_small}
+use Rattle.trick_post_trays.specs.Outputs.{IsParcelOf}
+use Rattle.trick_post_trays.specs.Trays.{held_in}
+use Rattle.trick_post_trays.specs.declared.outputs.Parcel.{Parcel}
 use Rattle.trick_turn.specs.Passes.{number_of, own, seen}
-use Rattle.trick_desk.proofs.rack.Rack.send.Goals as goal
+use Rattle.trick_post.proofs.rack.Rack.send.Goals as goal
 
 pub index_mut-parcel-requires : goal.index_mut-parcel-requires
 index_mut-parcel-requires g c =

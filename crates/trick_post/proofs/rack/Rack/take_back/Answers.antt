@@ -1,14 +1,14 @@
 use Rattle.std.proofs.Common.{rules, ◌≡◌, ◌∙◌, ◌<◌, List, arith, length, refl, subst, sym}
 use Rattle.std.specs.Arc.{arc_value}
 use Rattle.std.specs.List.{slice_index_or}
-use Rattle.trick_desk.proofs.Passes.{finish_fits, finish_holds, finish_stands, has_nothing, names_told, parcels_kept, parcels_set, ready_at, same_number, set_holds, started_small, takes_back, thread_there, told_now, told_open}
-use Rattle.trick_desk.specs.Histories.{Ready}
-use Rattle.trick_desk.specs.Places.{PostView, Stands, StandsAt}
-use Rattle.trick_desk.specs.declared.event.Event.{Event}
-use Rattle.trick_desk.specs.declared.event.Event.TheVariants.{Finish}
-use Rattle.trick_tray.specs.Outputs.{IsParcelOf}
+use Rattle.trick_post.proofs.Passes.{finish_fits, finish_holds, finish_stands, has_nothing, names_told, parcels_kept, parcels_set, ready_at, same_number, set_holds, started_small, takes_back, thread_there, told_now, told_open}
+use Rattle.trick_post.specs.Histories.{Ready}
+use Rattle.trick_post.specs.Places.{PostView, Stands, StandsAt}
+use Rattle.trick_post.specs.declared.event.Event.{Event}
+use Rattle.trick_post.specs.declared.event.Event.TheVariants.{Finish}
+use Rattle.trick_post_trays.specs.Outputs.{IsParcelOf}
 use Rattle.trick_turn.specs.Passes.{number_of, own, seen}
-use Rattle.trick_desk.proofs.rack.Rack.take_back.Goals as goal
+use Rattle.trick_post.proofs.rack.Rack.take_back.Goals as goal
 
 pub index_mut-parcel-requires : goal.index_mut-parcel-requires
 index_mut-parcel-requires g c =

@@ -4,12 +4,12 @@ use Rattle.std.specs.List.{slice_index_or}
 use Rattle.std.specs.Option.{option_map}
 use Rattle.trick_model.specs.declared.accepted.Accepted.{Accepted}
 use Rattle.trick_model.specs.declared.plan.Plan.{Plan as PlanValue}
-use Rattle.trick_tray.proofs.Finish.{handed}
-use Rattle.trick_one_post.proofs.Trays.{set_here, set_other, started_there}
-use Rattle.trick_tray.proofs.Trays.{tray_set}
-use Rattle.trick_tray.specs.Trays.{IsTrayOf, IsWorkerOf}
-use Rattle.trick_tray.specs.declared.tray.Tray.{Tray}
-use Rattle.trick_one_post.proofs.one_post.OnePostPosts.finish.Goals as goal
+use Rattle.trick_post_trays.proofs.Finish.{handed}
+use Rattle.trick_post_trays.proofs.OneTrays.{set_here, set_other, started_there}
+use Rattle.trick_post_trays.proofs.Trays.{tray_set}
+use Rattle.trick_post_trays.specs.Trays.{IsTrayOf, IsWorkerOf}
+use Rattle.trick_post_trays.specs.declared.tray.Tray.{Tray}
+use Rattle.trick_post_trays.proofs.one_post.OnePostPosts.finish.Goals as goal
 
 pub finish-requires-clause-tray : goal.finish-requires-clause-tray
 finish-requires-clause-tray g c =

@@ -4,12 +4,12 @@ use Rattle.std.specs.List.{slice_index_or}
 use Rattle.trick_model.specs.PlanOf.{plan_of}
 use Rattle.trick_model.specs.declared.accepted.Accepted.{Accepted}
 use Rattle.trick_model.specs.declared.plan.Plan.{Plan as PlanValue}
-use Rattle.trick_one_post.proofs.Trays.{set_here, set_other}
-use Rattle.trick_tray.proofs.Trays.{thread_small, tray_set}
-use Rattle.trick_tray.specs.Trays.{IsTrayOf}
-use Rattle.trick_tray.specs.declared.tray.Tray.{Tray}
-use Rattle.trick_post.specs.Work.{CanStart}
-use Rattle.trick_one_post.proofs.one_post.OnePostPosts.start.Goals as goal
+use Rattle.trick_post_trays.proofs.OneTrays.{set_here, set_other}
+use Rattle.trick_post_trays.proofs.Trays.{thread_small, tray_set}
+use Rattle.trick_post_trays.specs.Trays.{IsTrayOf}
+use Rattle.trick_post_trays.specs.declared.tray.Tray.{Tray}
+use Rattle.trick_post_work.specs.Work.{CanStart}
+use Rattle.trick_post_trays.proofs.one_post.OnePostPosts.start.Goals as goal
 
 pub index_mut-requires : goal.index_mut-requires
 index_mut-requires c =

@@ -1,7 +1,7 @@
 use Rattle.std.proofs.Common.{◌≡◌, ◌∙◌, ℕ, ◌+◌, ◌-◌, ◌^◌, ◌<◌, ◌≤◌, ap, arith, length, min, subst, sym}
 use Rattle.trick_model.specs.FaultList.{FaultList, kept}
-use Rattle.trick_tray.proofs.Dated.{all_dated, counts_kept, dated_more, dates_few, dates_many}
-use Rattle.trick_tray.proofs.outputs.Outputs.add_faults.Goals as goal
+use Rattle.trick_post_trays.proofs.Dated.{all_dated, counts_kept, dated_more, dates_few, dates_many}
+use Rattle.trick_post_trays.proofs.outputs.Outputs.add_faults.Goals as goal
 
 pub loop-fault-preserved : goal.loop-fault-preserved
 loop-fault-preserved c =

@@ -1,10 +1,10 @@
 use Rattle.std.proofs.Common.{◌∙◌, ℕ, ◌+◌, ◌∷◌, [], List, ap, arith, length, subst, sym}
 use Rattle.std.proofs.lemmas.List.{length-append}
 use Rattle.std.specs.List.{slice_index_or}
-use Rattle.trick_tray.proofs.Trays.{tray_more}
-use Rattle.trick_tray.specs.Outputs.{IsParcelOf}
-use Rattle.trick_tray.specs.declared.outputs.Parcel.{Parcel}
-use Rattle.trick_tray.proofs.outputs.Parcel.all.Goals as goal
+use Rattle.trick_post_trays.proofs.Trays.{tray_more}
+use Rattle.trick_post_trays.specs.Outputs.{IsParcelOf}
+use Rattle.trick_post_trays.specs.declared.outputs.Parcel.{Parcel}
+use Rattle.trick_post_trays.proofs.outputs.Parcel.all.Goals as goal
 
 pub loop-number-preserved : goal.loop-number-preserved
 loop-number-preserved c =

@@ -1,8 +1,8 @@
 use Rattle.std.proofs.Common.{◌≡◌, ℕ, ◌<◌, length}
 use Rattle.std.specs.List.{slice_index_or}
-use Rattle.trick_tray.specs.Outputs.{IsParcelOf}
-use Rattle.trick_tray.specs.declared.outputs.Parcel.{Parcel}
-use Rattle.trick_tray.proofs.outputs.Parcel.all.Given as goal
+use Rattle.trick_post_trays.specs.Outputs.{IsParcelOf}
+use Rattle.trick_post_trays.specs.declared.outputs.Parcel.{Parcel}
+use Rattle.trick_post_trays.proofs.outputs.Parcel.all.Given as goal
 
 -- the threads so far have their parcels
 abbrev pub invariant-loop-number : goal.invariant-loop-number

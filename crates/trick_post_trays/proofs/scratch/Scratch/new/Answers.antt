@@ -3,9 +3,9 @@ use Rattle.std.proofs.lemmas.List.{take_all}
 use Rattle.std.specs.Prelude.{ℤ}
 use Rattle.trick_lang.specs.Effect.{scalars_of}
 use Rattle.trick_lang.specs.declared.scalar.Scalar.{Scalar}
-use Rattle.trick_tray.proofs.Writes.{scalars_length, taken_scalar, zeros_stored}
-use Rattle.trick_tray.specs.Scratch.{AreStored}
-use Rattle.trick_tray.proofs.scratch.Scratch.new.Goals as goal
+use Rattle.trick_post_trays.proofs.Writes.{scalars_length, taken_scalar, zeros_stored}
+use Rattle.trick_post_trays.specs.Scratch.{AreStored}
+use Rattle.trick_post_trays.proofs.scratch.Scratch.new.Goals as goal
 
 pub loop-variable-preserved : goal.loop-variable-preserved
 loop-variable-preserved c =

@@ -1,6 +1,6 @@
 use Rattle.std.proofs.Common.{◌≡◌, take}
 use Rattle.trick_lang.specs.Effect.{scalars_of}
-use Rattle.trick_tray.proofs.scratch.Scratch.new.Given as goal
+use Rattle.trick_post_trays.proofs.scratch.Scratch.new.Given as goal
 
 -- the types of the first cells
 abbrev pub invariant-loop-variable : goal.invariant-loop-variable

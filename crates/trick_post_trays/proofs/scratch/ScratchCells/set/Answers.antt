@@ -4,8 +4,8 @@ use Rattle.std.proofs.lemmas.List.{length-set}
 use Rattle.std.specs.Int.{w64}
 use Rattle.trick_lang.specs.Wrap.{IsInRange}
 use Rattle.trick_model.proofs.Ranges.{set_each}
-use Rattle.trick_tray.specs.Scratch.{AreStored, Numbers}
-use Rattle.trick_tray.proofs.scratch.ScratchCells.set.Goals as goal
+use Rattle.trick_post_trays.specs.Scratch.{AreStored, Numbers}
+use Rattle.trick_post_trays.proofs.scratch.ScratchCells.set.Goals as goal
 
 pub invariant_of-self : goal.invariant_of-self
 invariant_of-self c =

@@ -1,5 +1,5 @@
-use Rattle.trick_tray.proofs.Trays.{made_more}
-use Rattle.trick_tray.proofs.tray.Tray.all.Goals as goal
+use Rattle.trick_post_trays.proofs.Trays.{made_more}
+use Rattle.trick_post_trays.proofs.tray.Tray.all.Goals as goal
 
 pub loop-number-preserved : goal.loop-number-preserved
 loop-number-preserved c =

@@ -1,8 +1,8 @@
 use Rattle.std.proofs.Common.{◌≡◌, ℕ, ◌<◌, None, length}
 use Rattle.std.specs.List.{slice_index_or}
-use Rattle.trick_tray.specs.Trays.{IsTrayOf}
-use Rattle.trick_tray.specs.declared.tray.Tray.{Tray}
-use Rattle.trick_tray.proofs.tray.Tray.all.Given as goal
+use Rattle.trick_post_trays.specs.Trays.{IsTrayOf}
+use Rattle.trick_post_trays.specs.declared.tray.Tray.{Tray}
+use Rattle.trick_post_trays.proofs.tray.Tray.all.Given as goal
 
 -- the threads so far have their trays
 abbrev pub invariant-loop-number : goal.invariant-loop-number

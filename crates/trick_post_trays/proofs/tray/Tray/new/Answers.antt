@@ -1,9 +1,9 @@
 use Rattle.std.proofs.Common.{rules, ◌≡◌, ◌∙◌, None, ap, length, refl}
 use Rattle.trick_model.specs.Valid.{ids}
-use Rattle.trick_tray.proofs.Jobs.{line_few, line_scheduled}
-use Rattle.trick_tray.proofs.Trays.{empty_tray}
-use Rattle.trick_tray.specs.Scratch.{cell_ids}
-use Rattle.trick_tray.proofs.tray.Tray.new.Goals as goal
+use Rattle.trick_post_trays.proofs.Jobs.{line_few, line_scheduled}
+use Rattle.trick_post_trays.proofs.Trays.{empty_tray}
+use Rattle.trick_post_trays.specs.Scratch.{cell_ids}
+use Rattle.trick_post_trays.proofs.tray.Tray.new.Goals as goal
 
 pub new-requires-clause-scheduled : goal.new-requires-clause-scheduled
 new-requires-clause-scheduled c = line_scheduled c.args.plan.now c.args.number c.in_ok-line.field-0 c.in_ok-line.ensures

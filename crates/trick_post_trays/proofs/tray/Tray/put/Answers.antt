@@ -1,6 +1,6 @@
 use Rattle.std.proofs.Common.{rules, ◌≡◌, ◌∙◌, ap, length}
-use Rattle.trick_tray.proofs.Trays.{taken_cells, taken_flags}
-use Rattle.trick_tray.proofs.tray.Tray.put.Goals as goal
+use Rattle.trick_post_trays.proofs.Trays.{taken_cells, taken_flags}
+use Rattle.trick_post_trays.proofs.tray.Tray.put.Goals as goal
 
 pub copy_from_slice-requires : goal.copy_from_slice-requires
 copy_from_slice-requires c =

@@ -3,10 +3,10 @@ use Rattle.trick_lang.specs.declared.cells.Cell.{Cell}
 use Rattle.trick_lang.specs.declared.job.JobId.{JobId}
 use Rattle.trick_model.specs.Laws.{is_among}
 use Rattle.trick_model.specs.Valid.{ids}
-use Rattle.trick_tray.proofs.Finish.{IsFinished, begins_anew, finishes, laid_memory, wanted_of}
-use Rattle.trick_tray.proofs.Trays.{AreCells, scope_cells}
-use Rattle.trick_tray.specs.Scratch.{IsWritten, cell_ids}
-use Rattle.trick_tray.proofs.worker.Worker.finish.Goals as goal
+use Rattle.trick_post_trays.proofs.Finish.{IsFinished, begins_anew, finishes, laid_memory, wanted_of}
+use Rattle.trick_post_trays.proofs.Trays.{AreCells, scope_cells}
+use Rattle.trick_post_trays.specs.Scratch.{IsWritten, cell_ids}
+use Rattle.trick_post_trays.proofs.worker.Worker.finish.Goals as goal
 
 pub run-requires-clause-memory : goal.run-requires-clause-memory
 run-requires-clause-memory g c = laid_memory c.args.plan.now c.args.tray.now c.args.self.now c.lay_out.new.self c.lay_out.ensures

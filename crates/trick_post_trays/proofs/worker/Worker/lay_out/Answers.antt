@@ -1,10 +1,10 @@
 use Rattle.std.proofs.Common.{List, length, subst, sym}
 use Rattle.trick_lang.specs.declared.cells.Cell.{Cell}
 use Rattle.trick_lang.specs.declared.job.JobId.{JobId}
-use Rattle.trick_tray.proofs.Jobs.{members_there}
-use Rattle.trick_tray.proofs.Trays.{AreCells, held_numbers, scope_there}
-use Rattle.trick_tray.specs.Trays.{AreThere}
-use Rattle.trick_tray.proofs.worker.Worker.lay_out.Goals as goal
+use Rattle.trick_post_trays.proofs.Jobs.{members_there}
+use Rattle.trick_post_trays.proofs.Trays.{AreCells, held_numbers, scope_there}
+use Rattle.trick_post_trays.specs.Trays.{AreThere}
+use Rattle.trick_post_trays.proofs.worker.Worker.lay_out.Goals as goal
 
 pub spread-requires-clause-below : goal.spread-requires-clause-below
 spread-requires-clause-below c =

@@ -6,13 +6,13 @@ use Rattle.trick_model.specs.Beside.{spread}
 use Rattle.trick_model.specs.Laws.{is_among}
 use Rattle.trick_model.specs.Valid.{ids}
 use Rattle.trick_model.specs.ValidState.{AreNumbersOf}
-use Rattle.trick_tray.proofs.Dated.{kept_of}
-use Rattle.trick_tray.proofs.Finish.{handed, wanted_of}
-use Rattle.trick_tray.proofs.Publishing.{clears_again, laid_again, outcome_of, outputs_many, outputs_right, publishes}
-use Rattle.trick_tray.proofs.Trays.{AreCells, scope_cells, scope_there}
-use Rattle.trick_tray.specs.Outputs.{outcome}
-use Rattle.trick_tray.specs.Scratch.{IsWritten, Numbers, cell_ids}
-use Rattle.trick_tray.proofs.worker.Worker.publish.Goals as goal
+use Rattle.trick_post_trays.proofs.Dated.{kept_of}
+use Rattle.trick_post_trays.proofs.Finish.{handed, wanted_of}
+use Rattle.trick_post_trays.proofs.Publishing.{clears_again, laid_again, outcome_of, outputs_many, outputs_right, publishes}
+use Rattle.trick_post_trays.proofs.Trays.{AreCells, scope_cells, scope_there}
+use Rattle.trick_post_trays.specs.Outputs.{outcome}
+use Rattle.trick_post_trays.specs.Scratch.{IsWritten, Numbers, cell_ids}
+use Rattle.trick_post_trays.proofs.worker.Worker.publish.Goals as goal
 
 pub spread-requires-clause-below : goal.spread-requires-clause-below
 spread-requires-clause-below g c =

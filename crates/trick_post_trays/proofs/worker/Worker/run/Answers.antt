@@ -1,8 +1,8 @@
 use Rattle.std.proofs.Common.{List, length, subst, sym}
 use Rattle.trick_lang.specs.declared.job.JobId.{JobId}
-use Rattle.trick_tray.proofs.Jobs.{scheduled_there}
-use Rattle.trick_tray.specs.Trays.{AreThere}
-use Rattle.trick_tray.proofs.worker.Worker.run.Goals as goal
+use Rattle.trick_post_trays.proofs.Jobs.{scheduled_there}
+use Rattle.trick_post_trays.specs.Trays.{AreThere}
+use Rattle.trick_post_trays.proofs.worker.Worker.run.Goals as goal
 
 pub run_due-requires-clause-jobs : goal.run_due-requires-clause-jobs
 run_due-requires-clause-jobs c =

@@ -6,13 +6,13 @@ use Rattle.trick_model.specs.PlanOf.{plan_of}
 use Rattle.trick_model.specs.Running.{after_jobs}
 use Rattle.trick_model.specs.Valid.{ids}
 use Rattle.trick_model.specs.declared.flags.Flags.{Flags}
-use Rattle.trick_tray.proofs.Jobs.{due_are_there}
-use Rattle.trick_tray.proofs.Runs.{rest_faults, rest_memory}
-use Rattle.trick_tray.proofs.Tics.{work_next, work_over}
-use Rattle.trick_tray.specs.Calendars.{due_of, line_work}
-use Rattle.trick_tray.specs.Trays.{AreThere}
-use Rattle.trick_post.specs.declared.posts.Job1.TheVariants as work
-use Rattle.trick_tray.proofs.worker.Worker.run_tics.Goals as goal
+use Rattle.trick_post_trays.proofs.Jobs.{due_are_there}
+use Rattle.trick_post_trays.proofs.Runs.{rest_faults, rest_memory}
+use Rattle.trick_post_trays.proofs.Tics.{work_next, work_over}
+use Rattle.trick_post_trays.specs.Calendars.{due_of, line_work}
+use Rattle.trick_post_trays.specs.Trays.{AreThere}
+use Rattle.trick_post_work.specs.declared.posts.Job1.TheVariants as work
+use Rattle.trick_post_trays.proofs.worker.Worker.run_tics.Goals as goal
 
 pub run_due-requires-clause-jobs : goal.run_due-requires-clause-jobs
 run_due-requires-clause-jobs c =

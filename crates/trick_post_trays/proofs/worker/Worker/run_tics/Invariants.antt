@@ -1,14 +1,14 @@
 use Rattle.std.proofs.Common.{◌≡◌, ◌+◌, ◌-◌}
-use Rattle.trick_job.specs.Belongs.{IsMemoryOf}
+use Rattle.trick_phase_jobs.specs.Belongs.{IsMemoryOf}
 use Rattle.trick_model.specs.FaultList.{with_faults}
 use Rattle.trick_model.specs.Plan.{is_on}
 use Rattle.trick_model.specs.PlanOf.{plan_of}
 use Rattle.trick_model.specs.Running.{after_jobs}
 use Rattle.trick_model.specs.Valid.{ids}
-use Rattle.trick_tray.specs.Calendars.{IsCalendar, IsSet, line_work}
-use Rattle.trick_post.specs.declared.posts.Job1.TheVariants as work
+use Rattle.trick_post_trays.specs.Calendars.{IsCalendar, IsSet, line_work}
+use Rattle.trick_post_work.specs.declared.posts.Job1.TheVariants as work
 use Rattle.trick_queue.specs.Tree.{IsLeast}
-use Rattle.trick_tray.proofs.worker.Worker.run_tics.Given as goal
+use Rattle.trick_post_trays.proofs.worker.Worker.run_tics.Given as goal
 
 -- what is left of the tics makes of what is there what all tics make of the beginning
 abbrev pub invariant-loop-next : goal.invariant-loop-next

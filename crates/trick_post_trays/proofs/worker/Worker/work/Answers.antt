@@ -4,10 +4,10 @@ use Rattle.trick_lang.specs.declared.cells.Cell.{Cell}
 use Rattle.trick_model.specs.Laws.{is_among}
 use Rattle.trick_model.specs.State.{number_at}
 use Rattle.trick_model.specs.ValidState.{AreNumbersOf}
-use Rattle.trick_tray.proofs.Finish.{begins_anew, comes_to, laid_memory}
-use Rattle.trick_tray.proofs.Trays.{AreCells, scope_cells}
-use Rattle.trick_tray.specs.Scratch.{IsWritten, cell_ids}
-use Rattle.trick_tray.proofs.worker.Worker.work.Goals as goal
+use Rattle.trick_post_trays.proofs.Finish.{begins_anew, comes_to, laid_memory}
+use Rattle.trick_post_trays.proofs.Trays.{AreCells, scope_cells}
+use Rattle.trick_post_trays.specs.Scratch.{IsWritten, cell_ids}
+use Rattle.trick_post_trays.proofs.worker.Worker.work.Goals as goal
 
 pub run-requires-clause-memory : goal.run-requires-clause-memory
 run-requires-clause-memory c =

@@ -1,5 +1,5 @@
-use Rattle.trick_serve.proofs.Gaps.{no_gap}
-use Rattle.trick_serve.proofs.entries.ServedTurns.entries.Goals as goal
+use Rattle.trick_serve_source.proofs.Gaps.{no_gap}
+use Rattle.trick_serve_source.proofs.entries.ServedTurns.entries.Goals as goal
 
 pub returns-clause-gap : goal.returns-clause-gap
 returns-clause-gap g c = no_gap c.next.result _ c.next.ensures.no_gap

@@ -1,9 +1,9 @@
 use Rattle.std.proofs.Common.{rules, ◌≡◌, false, refl}
 use Rattle.trick_model.specs.Turn.{is_frozen}
-use Rattle.trick_serve.proofs.Calm.{calm_next}
-use Rattle.trick_serve.proofs.Looking.{went_calm}
-use Rattle.trick_serve.proofs.entries.ServedTurns.gives_nothing.Goals as goal
-use Rattle.trick_serve.specs.Rolls.{view_of}
+use Rattle.trick_serve_source.proofs.Calm.{calm_next}
+use Rattle.trick_serve_source.proofs.Looking.{went_calm}
+use Rattle.trick_serve_source.proofs.entries.ServedTurns.gives_nothing.Goals as goal
+use Rattle.trick_serve_source.specs.Rolls.{view_of}
 
 pub returns-clause-step : goal.returns-clause-step
 returns-clause-step g c = λ yes.

@@ -1,6 +1,6 @@
 use Rattle.std.proofs.Common.{refl}
-use Rattle.trick_serve.proofs.Looking.{went_handed}
-use Rattle.trick_serve.proofs.entries.ServedTurns.send.Goals as goal
+use Rattle.trick_serve_source.proofs.Looking.{went_handed}
+use Rattle.trick_serve_source.proofs.entries.ServedTurns.send.Goals as goal
 
 pub returns-clause-step : goal.returns-clause-step
 returns-clause-step g c =

@@ -2,11 +2,11 @@ use Rattle.std.proofs.Common.{rules, ◌≡◌, ◌≤◌, List, ℕ, length, tr
 use Rattle.std.proofs.lemmas.List.{take_all}
 use Rattle.std.specs.List.{All}
 use Rattle.std.specs.Prelude.{IsTrue}
-use Rattle.trick_serve.proofs.Placing.{kept_where}
-use Rattle.trick_serve.proofs.roll.Roll.are_over.Goals as goal
-use Rattle.trick_serve.specs.Ended.{has_end}
-use Rattle.trick_serve.specs.Rules.{is_live}
-use Rattle.trick_serve.specs.Sides.{side}
+use Rattle.trick_serve_source.proofs.Placing.{kept_where}
+use Rattle.trick_serve_source.proofs.roll.Roll.are_over.Goals as goal
+use Rattle.trick_serve_source.specs.Ended.{has_end}
+use Rattle.trick_serve_source.specs.Rules.{is_live}
+use Rattle.trick_serve_source.specs.Sides.{side}
 
 pub returns : goal.returns
 returns c =

@@ -1,6 +1,6 @@
 use Rattle.std.proofs.Common.{rules}
 use Rattle.std.proofs.lemmas.Fn.{filter_same}
-use Rattle.trick_serve.proofs.roll.Roll.begin.Goals as goal
+use Rattle.trick_serve_source.proofs.roll.Roll.begin.Goals as goal
 
 pub returns-clause-live : goal.returns-clause-live
 returns-clause-live c = filter_same _ _ _ (λ x b f' k. search rules) _ _ c.retain.ensures.filtered

@@ -1,7 +1,7 @@
 use Rattle.std.proofs.Common.{◌≤◌, ◌+◌, length, take}
 use Rattle.std.specs.List.{filter}
-use Rattle.trick_serve.proofs.roll.Roll.dismiss.Given as goal
-use Rattle.trick_serve.specs.Rules.{is_live}
+use Rattle.trick_serve_source.proofs.roll.Roll.dismiss.Given as goal
+use Rattle.trick_serve_source.specs.Rules.{is_live}
 use Rattle.trick_serve_door.specs.Departures.{left_of}
 use Rattle.trick_wire.specs.Ends.{IsSamePutter, put_by}
 

@@ -1,9 +1,9 @@
 use Rattle.std.proofs.Common.{rules, ◌≡◌, ◌∙◌, [], ℕ, true, false, Bool, ap, subst, sym, Vec, Global}
 use Rattle.std.specs.Prelude.{is_ok}
-use Rattle.trick_serve.proofs.Looking.{empty_from, found_more, looked_more}
-use Rattle.trick_serve.proofs.served.Served.find.Goals as goal
-use Rattle.trick_serve.specs.Rolls.{IsGathered, view_of}
-use Rattle.trick_serve.specs.Rules.{is_live}
+use Rattle.trick_serve_source.proofs.Looking.{empty_from, found_more, looked_more}
+use Rattle.trick_serve_source.proofs.served.Served.find.Goals as goal
+use Rattle.trick_serve_source.specs.Rolls.{IsGathered, view_of}
+use Rattle.trick_serve_source.specs.Rules.{is_live}
 use Rattle.std.specs.List.{filter}
 
 pub returns-in_err-look-clause-found : goal.returns-in_err-look-clause-found

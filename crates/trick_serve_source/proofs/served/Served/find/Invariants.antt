@@ -1,7 +1,7 @@
 use Rattle.std.proofs.Common.{◌≡◌}
-use Rattle.trick_serve.proofs.served.Served.find.Given as goal
-use Rattle.trick_serve.specs.Looks.{HasLooked}
-use Rattle.trick_serve.specs.Rolls.{view_of}
+use Rattle.trick_serve_source.proofs.served.Served.find.Given as goal
+use Rattle.trick_serve_source.specs.Looks.{HasLooked}
+use Rattle.trick_serve_source.specs.Rolls.{view_of}
 use Rattle.trick_wire.specs.Ends.{IsSamePutter, IsSameTaker}
 
 abbrev pub invariant-loop : goal.invariant-loop

@@ -1,9 +1,9 @@
 use Rattle.std.proofs.Common.{rules, ◌≡◌, Ok, true, false, Bool, ap, refl, subst}
 use Rattle.std.specs.Prelude.{is_ok}
-use Rattle.trick_serve.proofs.Looking.{answer_yes, came_lost, given, lost, no_answer}
-use Rattle.trick_serve.proofs.served.Served.list.Goals as goal
-use Rattle.trick_serve.specs.Looks.{HasFound}
-use Rattle.trick_serve.specs.Rolls.{view_of}
+use Rattle.trick_serve_source.proofs.Looking.{answer_yes, came_lost, given, lost, no_answer}
+use Rattle.trick_serve_source.proofs.served.Served.list.Goals as goal
+use Rattle.trick_serve_source.specs.Looks.{HasFound}
+use Rattle.trick_serve_source.specs.Rolls.{view_of}
 
 pub returns-in_err-find-clause-came : goal.returns-in_err-find-clause-came
 returns-in_err-find-clause-came g c =

@@ -1,9 +1,9 @@
 use Rattle.std.proofs.Common.{rules, ◌≡◌, [], Some, None, Ok, Err, Bool, true, refl, subst}
 use Rattle.std.specs.Prelude.{OnOk}
-use Rattle.trick_serve.proofs.Looking.{empty_from, nothing_owed, went_given, went_lost, went_over}
-use Rattle.trick_serve.proofs.served.Served.seek.Goals as goal
-use Rattle.trick_serve.specs.Looks.{Came, HasGiven, HasLost, HasNoMore}
-use Rattle.trick_serve.specs.Rolls.{view_of}
+use Rattle.trick_serve_source.proofs.Looking.{empty_from, nothing_owed, went_given, went_lost, went_over}
+use Rattle.trick_serve_source.proofs.served.Served.seek.Goals as goal
+use Rattle.trick_serve_source.specs.Looks.{Came, HasGiven, HasLost, HasNoMore}
+use Rattle.trick_serve_source.specs.Rolls.{view_of}
 use Rattle.trick_model.specs.Turn.{is_frozen}
 
 pub returns-else-is_empty-clause-went : goal.returns-else-is_empty-clause-went

@@ -1,17 +1,17 @@
 use Rattle.std.proofs.Common.{ℕ, List}
 use Rattle.std.specs.Prelude.{Some, true}
-use Rattle.trick_journal_turns.proofs.Gaps.{GivesEach}
-use Rattle.trick_journal_turns.specs.Replay.{AreTold, sessions_of, told_of}
-use Rattle.trick_journal_turns.specs.declared.journal_turns.JournalTurns.{JournalTurns}
-use Rattle.trick_message_tests.proofs.listener.ListenerTurns.entries.Goals as goal
-use Rattle.trick_message_tests.specs.declared.listener.Listener.{Listener}
+use Rattle.trick_exec_sources.proofs.Gaps.{GivesEach}
+use Rattle.trick_exec_sources.specs.Replay.{AreTold, sessions_of, told_of}
+use Rattle.trick_exec_sources.specs.declared.journal_turns.JournalTurns.{JournalTurns}
+use Rattle.trick_session_tests.proofs.listener.ListenerTurns.entries.Goals as goal
+use Rattle.trick_session_tests.specs.declared.listener.Listener.{Listener}
 use Rattle.trick_model.specs.State.{State, seen}
 use Rattle.trick_model.specs.Turn.{counted}
 use Rattle.trick_model.specs.declared.session.Session.{Session}
-use Rattle.trick_turns.specs.Gap as gap
-use Rattle.trick_turns.specs.Gap.{Gap, GivesNone, IfGap}
-use Rattle.trick_turns.specs.declared.turns.Next.TheVariants as next
-use Rattle.trick_turns.specs.declared.turns.Next.{Next}
+use Rattle.trick_exec_sources.specs.Gap as gap
+use Rattle.trick_exec_sources.specs.Gap.{Gap, GivesNone, IfGap}
+use Rattle.trick_exec_sources.specs.declared.turns.Next.TheVariants as next
+use Rattle.trick_exec_sources.specs.declared.turns.Next.{Next}
 
 -- A listener gave a turn no entry.
 abbrev Gives : List Session → State → Listener → Listener → Type 0

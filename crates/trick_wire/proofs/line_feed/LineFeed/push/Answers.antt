@@ -1,5 +1,5 @@
 use Rattle.std.proofs.Common.{subst}
-use Rattle.trick_feed.specs.Fed.{HasTaken}
+use Rattle.trick_command.specs.Fed.{HasTaken}
 use Rattle.trick_wire.proofs.Feeding.{push_taken, taken_holds}
 use Rattle.trick_wire.proofs.line_feed.LineFeed.push.Goals as goal
 

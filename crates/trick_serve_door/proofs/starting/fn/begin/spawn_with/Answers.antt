@@ -1,5 +1,5 @@
 use denote.Param.Send.{sendable}
-use Rattle.trick_serve_start.proofs.starting.fn.begin.spawn_with.Goals as goal
+use Rattle.trick_serve_door.proofs.starting.fn.begin.spawn_with.Goals as goal
 
 pub go-requires-send-D-In : goal.go-requires-send-D-In
 go-requires-send-D-In g c κs within = search sendable depth 20

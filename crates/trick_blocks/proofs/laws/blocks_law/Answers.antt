@@ -1,5 +1,0 @@
-use Rattle.trick_blocks.proofs.Made.{holds}
-use Rattle.trick_blocks.proofs.laws.blocks_law.Goals as goal
-
-pub returns : goal.returns
-returns c = holds

@@ -1,5 +1,0 @@
-use Rattle.trick_blocks.proofs.Made.{keeps_class}
-use Rattle.trick_blocks.proofs.laws.class_law.Goals as goal
-
-pub returns : goal.returns
-returns c = keeps_class

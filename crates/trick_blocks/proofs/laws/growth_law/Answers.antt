@@ -1,5 +1,0 @@
-use Rattle.trick_blocks.proofs.Made.{grows_parts}
-use Rattle.trick_blocks.proofs.laws.growth_law.Goals as goal
-
-pub returns : goal.returns
-returns c = grows_parts

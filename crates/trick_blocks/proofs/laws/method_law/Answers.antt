@@ -1,5 +1,0 @@
-use Rattle.trick_blocks.proofs.Made.{method_holds}
-use Rattle.trick_blocks.proofs.laws.method_law.Goals as goal
-
-pub returns : goal.returns
-returns c = method_holds

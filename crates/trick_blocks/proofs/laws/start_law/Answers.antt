@@ -1,5 +1,0 @@
-use Rattle.trick_blocks.proofs.Made.{keeps_start}
-use Rattle.trick_blocks.proofs.laws.start_law.Goals as goal
-
-pub returns : goal.returns
-returns c = keeps_start

@@ -1,2 +1,0 @@
--- What is made of classes, one after another.
-pub mod Classes

@@ -1,5 +1,0 @@
-use Rattle.trick_cells.proofs.Declared.{declared_first}
-use Rattle.trick_cells.proofs.laws.declared_law.Goals as goal
-
-pub returns : goal.returns
-returns c = declared_first

@@ -1,5 +1,0 @@
-use Rattle.trick_cells.proofs.Laid.{are_laid}
-use Rattle.trick_cells.proofs.laws.layout_law.Goals as goal
-
-pub returns : goal.returns
-returns c = are_laid

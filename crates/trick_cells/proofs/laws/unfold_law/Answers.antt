@@ -1,5 +1,0 @@
-use Rattle.trick_cells.proofs.Unfold.{unfolds}
-use Rattle.trick_cells.proofs.laws.unfold_law.Goals as goal
-
-pub returns : goal.returns
-returns c = unfolds

@@ -1,5 +1,0 @@
-use Rattle.trick_conflicts.proofs.Named.{are_named}
-use Rattle.trick_conflicts.proofs.laws.worked_conflicts_are_named.Goals as goal
-
-pub returns : goal.returns
-returns c = are_named

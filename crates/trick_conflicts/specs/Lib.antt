@@ -1,4 +1,0 @@
--- the grammars of the readers
-pub mod Readers
--- worked conflicts, one of each kind
-pub mod Named

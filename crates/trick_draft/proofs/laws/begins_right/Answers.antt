@@ -1,5 +1,0 @@
-use Rattle.trick_draft.proofs.Keeping.{begun_right}
-use Rattle.trick_draft.proofs.laws.begins_right.Goals as goal
-
-pub returns : goal.returns
-returns c = begun_right

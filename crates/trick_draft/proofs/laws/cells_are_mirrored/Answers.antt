@@ -1,5 +1,0 @@
-use Rattle.trick_draft.proofs.Mirrored.{mirrored}
-use Rattle.trick_draft.proofs.laws.cells_are_mirrored.Goals as goal
-
-pub returns : goal.returns
-returns c = mirrored

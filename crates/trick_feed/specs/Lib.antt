@@ -1,4 +1,0 @@
--- What a feed of a client's bytes stands for.
-pub mod Fed
--- Laws of feeds.
-pub mod Laws

@@ -1,5 +1,0 @@
-use Rattle.trick_journal_facts.proofs.Apart.{refused_is_none}
-use Rattle.trick_journal_facts.proofs.laws.refused_texts_are_no_journals.Goals as goal
-
-pub returns : goal.returns
-returns c = refused_is_none

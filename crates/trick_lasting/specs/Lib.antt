@@ -1,2 +1,0 @@
--- How long a run under a journal lasts.
-pub mod Lasting

@@ -1,4 +1,0 @@
--- What lies where.
-pub mod Laid
--- What the tables of a file keep.
-pub mod Kept

@@ -1,5 +1,0 @@
-use Rattle.trick_meaning.proofs.Worked.{meant}
-use Rattle.trick_meaning.proofs.laws.worked_bodies_are_meant.Goals as goal
-
-pub returns : goal.returns
-returns c = meant

@@ -1,2 +1,0 @@
--- trays of which one is changed
-pub mod Trays

@@ -1,2 +1,0 @@
--- What a value that does the work itself promises.
-pub mod Posting

@@ -1,2 +1,0 @@
--- A turn after its entries were heard.
-pub mod Pass

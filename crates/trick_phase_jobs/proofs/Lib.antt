@@ -1,0 +1,2 @@
+-- which jobs can be due
+pub mod DueJobs

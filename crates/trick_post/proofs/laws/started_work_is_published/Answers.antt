@@ -1,5 +1,0 @@
-use Rattle.trick_post.proofs.Published.{is_published}
-use Rattle.trick_post.proofs.laws.started_work_is_published.Goals as goal
-
-pub returns : goal.returns
-returns c = is_published

@@ -1,0 +1,2 @@
+-- what is published is what the rules publish
+pub mod Published

@@ -1,5 +1,0 @@
-use Rattle.trick_ready.proofs.OneReading.{one_reading}
-use Rattle.trick_ready.proofs.laws.inputs_have_one_reading.Goals as goal
-
-pub returns : goal.returns
-returns c = one_reading

@@ -1,5 +1,0 @@
-use Rattle.trick_ready.proofs.OneTree.{one_tree}
-use Rattle.trick_ready.proofs.laws.s_defines_have_one_tree.Goals as goal
-
-pub returns : goal.returns
-returns c = one_tree

@@ -1,5 +1,0 @@
-use Rattle.trick_replay.proofs.Joins.{joins_written}
-use Rattle.trick_replay.proofs.laws.joins_are_written.Goals as goal
-
-pub returns : goal.returns
-returns c = joins_written

@@ -1,0 +1,20 @@
+//! The served run: the source of entries of a run with clients. Any number of sessions come and go; what their readers
+//! put into their inboxes is given to the run, and what the run says to them goes into their outboxes.
+#![tactic(auto)]
+
+mod asks;
+mod calls;
+mod clients;
+mod entries;
+mod hang_up;
+mod hear;
+mod here;
+mod roll;
+mod seat;
+mod send;
+mod served;
+
+pub use here::ServedHere;
+pub use roll::Roll;
+pub use seat::Seat;
+pub use served::{Finished, Served};

@@ -1,2 +1,0 @@
--- What an acceptor in a thread comes to, and where it is.
-pub mod Running

@@ -1,2 +1,0 @@
--- What an input says of the run and of its threads.
-pub mod Settings
