@@ -25,6 +25,7 @@ demo: tricks
 
 test:
 	rt ci
+	.ci/names
 	examples/check
 	.ci/hostile
 	.ci/served

@@ -1,11 +1,6 @@
-//! The methods and the jobs of a simulation: which lines of which constructors run what on which
-//! object.
-//!
-//! The bodies of a program, class by class: the blocks of each class' methods, and the methods with
-//! their numbers.
-//!
-//! Places by their full names: a path with its indexes written out as numbers is the full name of
-//! the one cell that its resolved place leads to.
+//! The methods and the jobs of a simulation: which lines of which constructors run what on which object, the blocks of
+//! each class' methods, and the methods with their numbers. Its laws say of places that a path with its indexes written
+//! out as numbers is the full name of the one cell that its resolved place leads to.
 #![tactic(auto)]
 
 mod class;

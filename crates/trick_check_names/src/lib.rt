@@ -1,9 +1,6 @@
-//! What the names of a simulation definition stand for, and the mistakes in them: what a file
-//! declares, and of each name in it whether it is given once and whether there is such a thing.
-//!
-//! Where the variables of a simulation lie: the cells of structs, classes and objects, with the
-//! places of their members and the strides of their arrays. The tables say where a name leads; what
-//! fills them is elsewhere.
+//! What the names of a simulation definition stand for, and the mistakes in them: what a file declares, and of each name
+//! in it whether it is given once and whether there is such a thing; and where the variables lie that the names lead to:
+//! the cells of structs, classes and objects, with the places of their members and the strides of their arrays.
 #![tactic(auto)]
 
 mod body;

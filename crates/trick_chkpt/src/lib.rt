@@ -1,5 +1,5 @@
 //! Checkpoints as they are loaded: the state of a text, or why it is the checkpoint of none, with the laws
-//! of these texts.
+//! of these texts. `trick_chkpt_printer` prints them.
 #![tactic(auto)]
 
 mod fault_kind;
@@ -13,3 +13,4 @@ mod read_groups;
 mod read_records;
 
 pub use loader::load;
+pub use trick_chkpt_printer::print;

@@ -1,7 +1,6 @@
-//! Reader of actions, which the reads and the events of an input ask a run for, and of the lines of
-//! clients, which can ask for the same and have forms of their own. The forms are those of `trick_model`.
-//!
-//! The lines of a client: its bytes come in pieces, cut anywhere, and its lines go out one by one.
+//! The lines of clients: their bytes come in pieces, cut anywhere, and lines go out one by one; and the reader of these
+//! lines, and of the actions which the reads and the events of an input ask a run for. The forms are those of
+//! `trick_model`.
 #![tactic(auto)]
 
 mod fault;
@@ -23,4 +22,3 @@ pub use fault::ActionFault;
 pub use feed::Feed;
 pub use feed_fault::FeedFault;
 pub use reader::{actions, command};
-pub use crate::{Feed, FeedFault};

@@ -9,4 +9,6 @@ mod whole;
 
 pub use clerks::Clerks;
 pub use nobody::Nobody;
+pub use trick_crew_clerks::Yard;
+pub use trick_crew_team::Team;
 pub use whole::{CrewEnd, WholeCrew};

@@ -16,7 +16,11 @@ mod beginning;
 mod turn;
 mod whole;
 
-pub use ended::Ended;
 pub use beginning::Start;
-pub use whole::run;
+pub use ended::Ended;
+pub use trick_exec_classes::start;
+pub use trick_exec_sources::{JournalTurns, Next, NoTurns, Turns};
 pub use trick_model::World;
+pub use trick_phase_jobs::OnePhase;
+pub use trick_post_trays::OnePost;
+pub use whole::run;

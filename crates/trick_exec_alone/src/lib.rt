@@ -1,8 +1,6 @@
-//! What `serial` does once its texts were read: the whole run of an accepted plan on one thread, without clients.
-//! `docs/RULES.md` has the rules of a run and `docs/FORMATS.md` its files.
-//!
-//! What `replay` does once its texts were read: the run of an accepted plan under a journal, on one thread.
-//! `docs/RULES.md` says what a replay is.
+//! The whole run of an accepted plan on one thread: without clients, as `serial` does it once its texts were read, and
+//! under a journal, as `replay` does it. `docs/RULES.md` has the rules of a run and says what a replay is, and
+//! `docs/FORMATS.md` has its files.
 #![tactic(auto)]
 
 mod first;

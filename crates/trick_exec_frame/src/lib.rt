@@ -1,8 +1,6 @@
-//! Which rounds of asynchronous threads a run frame publishes: those that are ready, and those that have
-//! waited long enough; and which publications that a turn is given count. `docs/RULES.md` has the rules.
-//!
-//! A turn after its entries were heard: its frame, its checkpoint and its count. `docs/RULES.md` has the
-//! rules of a turn.
+//! A turn after its entries were heard: its frame with the rounds that it publishes, its checkpoint and its count.
+//! `docs/RULES.md` has the rules of a turn, and says which rounds of asynchronous threads a frame publishes and which
+//! publications that a turn is given count.
 #![tactic(auto)]
 
 mod choice;

@@ -1,7 +1,6 @@
-//! The source of entries of a replay: a journal, turn by turn. `docs/RULES.md` says what a replay is.
-//!
-//! Who gives each turn of a run its entries, and takes the messages to sessions: a trait, and the source
-//! of a run without clients. `docs/RULES.md` says which entries may come.
+//! Who gives each turn of a run its entries, and takes the messages to sessions: a trait; the source of a run without
+//! clients; and the source of a replay, which is a journal, turn by turn. `docs/RULES.md` says which entries may come and
+//! what a replay is.
 #![tactic(auto)]
 
 mod due;

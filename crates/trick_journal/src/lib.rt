@@ -1,6 +1,5 @@
-//! Journals: the text of what came to a run from outside, printed and read, with the laws of these texts.
-//!
-//! What holds of each text that `trick_journal::read` reads: one that it refuses is no journal.
+//! Journals: the text of what came to a run from outside, printed and read, with the laws of these texts. A text that is
+//! refused is no journal.
 #![tactic(auto)]
 
 mod journal_fault;

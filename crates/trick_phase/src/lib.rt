@@ -8,3 +8,5 @@ mod steps;
 
 pub use player::{Played, play};
 pub use single::Single;
+pub use trick_phase_board::Board;
+pub use trick_phase_jobs::{OnePhase, Phases};

@@ -1,8 +1,6 @@
-//! Runs jobs of a plan one after another, on one bench. Whoever has jobs to run, in a tic, of a class
-//! or beside the tics, runs them here.
-//!
-//! The jobs of one tic: a trait of whoever runs the due jobs of scheduled threads, with the promise
-//! that they come to what one thread makes of them; and the form that runs them on the caller's thread.
+//! Jobs of a plan one after another, on one bench: whoever has jobs to run, in a tic, of a class or beside the tics,
+//! runs them here. And a trait of whoever runs the due jobs of a tic, with the promise that they come to what one thread
+//! makes of them, and its form on the caller's thread.
 #![tactic(auto)]
 
 mod one_phase;

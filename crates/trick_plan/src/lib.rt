@@ -1,7 +1,5 @@
-//! The plan of a simulation: a program and the lines of an input, joined.
-//!
-//! The end of a plan: once all lines of an input were taken, their draft and what they say of the run and
-//! of its threads give the plan of a program.
+//! The plan of a simulation: a program and the lines of an input, joined. Once all lines were taken, their draft and what
+//! they say of the run and of its threads give the plan.
 #![tactic(auto)]
 
 mod ending;

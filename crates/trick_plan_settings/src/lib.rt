@@ -1,8 +1,6 @@
-//! The threads of a plan, from the jobs of a program and what an input says of threads, and the queues
-//! of a plan: the jobs of each class in the order of their keys.
-//!
-//! What an input says of a run and of its threads, whatever the order of its lines: the software frame, the
-//! first tic that is not run, whether the run starts in Freeze, and the threads of the plan.
+//! What an input says of a run and of its threads, whatever the order of its lines: the software frame, the first tic
+//! that is not run, and whether the run starts in Freeze; the threads of the plan, and its queues: the jobs of each class
+//! in the order of their keys.
 #![tactic(auto)]
 
 pub mod laws;

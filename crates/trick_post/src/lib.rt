@@ -24,3 +24,4 @@ pub use post::Post;
 pub use rack::Rack;
 pub use shut_post::ShutPost;
 pub use stage::Stage;
+pub use trick_post_work::{Job1, Posted, Posts};

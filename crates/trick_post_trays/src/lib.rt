@@ -1,8 +1,5 @@
 //! The work of a must-finish or asynchronous thread: a tray keeps what the thread was handed, and a worker does it and
-//! publishes it.
-//!
-//! The work of must-finish and asynchronous threads on the caller's thread: what a thread was handed is
-//! kept until it is to be published, and done then.
+//! publishes it. The form of one thread does it on the caller's, when it is to be published.
 #![tactic(auto)]
 
 mod calendar;

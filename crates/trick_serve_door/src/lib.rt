@@ -1,8 +1,6 @@
 //! How the clients of a served run come and go: the acceptor, which takes clients from a door and starts the reader and
-//! the writer of each; the door as its caller asks it himself, where the acceptor was refused a thread; and the end of a
-//! session, at which both are taken in.
-//!
-//! How the acceptor of a served run is started in a thread of its own, and how it is waited for.
+//! the writer of each, in a thread of its own that is started and waited for here; the door as its caller asks it
+//! himself, where the acceptor was refused a thread; and the end of a session, at which both are taken in.
 #![tactic(auto)]
 
 mod acceptor;

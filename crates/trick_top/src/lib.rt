@@ -9,3 +9,4 @@ mod top;
 
 pub use ports::port_wanted;
 pub use top::{Finished, tricks};
+pub use trick_top_alone::tricks_alone;
