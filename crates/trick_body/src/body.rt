@@ -19,7 +19,7 @@ use crate::source::Source;
 use crate::symbol::{Symbol, Token};
 use crate::telling::{told, told_line};
 use std::alloc::Global;
-use trick_grammar::{Refusal, GrammarStop};
+use trick_grammar::{GrammarStop, Refusal};
 use trick_lang::syntax::{Expr, Method};
 use trick_text::{FirstFault, Style, TextFault, cut, last_line};
 

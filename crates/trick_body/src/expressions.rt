@@ -16,7 +16,7 @@ use crate::operators::{marks, operator_of, prefix_of};
 use crate::source::{Source, name_of};
 use crate::symbol::{NAMES, Symbol, Token, WHOLES};
 use std::alloc::Global;
-use trick_grammar::{Refusal, GrammarStop, next_is, next_is_one_of, reason_at, take, take_one_of};
+use trick_grammar::{GrammarStop, Refusal, next_is, next_is_one_of, reason_at, take, take_one_of};
 use trick_lang::syntax::{Choice, Expr, Link, Part, Path};
 
 // How many levels of precedence the binary operators have.

@@ -15,7 +15,7 @@ use crate::symbol::{ASSIGNMENTS, BASIC, COUNTING, NAMES, OPERATIONS, Symbol, Tok
 use crate::types::read_basic;
 use std::alloc::{AllocError, Global};
 use trick_grammar::{
-    Refusal, GrammarStop, is_in_scope, next_is, next_is_one_of, reason_at, take, take_one_of,
+    GrammarStop, Refusal, is_in_scope, next_is, next_is_one_of, reason_at, take, take_one_of,
 };
 use trick_lang::syntax::{Change, Expr, Part, Path, Stmt, TypeName};
 use trick_lang::{Arithmetic, Scalar};

@@ -6,7 +6,7 @@ ghost use Rattle.trick_grammar.specs.Reading.{read_token, with_hint};
 use crate::symbol::{Symbol, Token};
 use std::alloc::{AllocError, Global};
 use trick_base::{Items, Word};
-use trick_grammar::{Refusal, GrammarStop, hinted, take_one_of, text_of};
+use trick_grammar::{GrammarStop, Refusal, hinted, take_one_of, text_of};
 
 /// What a reader knows beside the tokens: the text that they were cut from, how many items a list may
 /// have, and the names of the loops round the statement, the innermost first.

@@ -17,7 +17,7 @@ use crate::source::{Source, name_beside, take_hinted, within};
 use crate::symbol::{BOUNDS, NAMES, STATEMENTS, Symbol, Token, WHOLES};
 use std::alloc::{AllocError, Global};
 use trick_grammar::{
-    Refusal, GrammarStop, hinted, next_is, next_is_one_of, reason_at, take, take_again, take_one_of,
+    GrammarStop, Refusal, hinted, next_is, next_is_one_of, reason_at, take, take_again, take_one_of,
 };
 use trick_lang::syntax::{Branch, Expr, Stmt};
 use trick_lang::{BOUND_LIMIT, Bound};
@@ -497,7 +497,10 @@ fn read_header<'a>(
     match read_plain_header(source, rest) {
         Ok(read) => Ok(read),
         Err(GrammarStop::Memory) => Err(GrammarStop::Memory),
-        Err(GrammarStop::At(kind, at)) => Err(GrammarStop::At(hinted(Refusal::BadHeader, kind), at)),
+        Err(GrammarStop::At(kind, at)) => Err(GrammarStop::At(
+            hinted(Refusal::BadHeader, kind),
+            at,
+        )),
     }
 }
 

@@ -37,7 +37,9 @@ pub fn unsigned_of(more: &Token) -> Scalar
 /// basic = "bool" | "char" | "short" | "int" | "long" | "unsigned" [ "char" | "short" | "int" ]; its
 /// line and the type.
 #[tactic(auto, unfolding(crate::specs::Statements::basic_body))]
-pub fn read_basic<'a>(rest: &'a [Token]) -> Result<((u32, Scalar), &'a [Token]), GrammarStop<'a, Symbol>>
+pub fn read_basic<'a>(
+    rest: &'a [Token],
+) -> Result<((u32, Scalar), &'a [Token]), GrammarStop<'a, Symbol>>
     ensures { Gives (λ x. (x.0, x.1.now)) result (read number_of class_of [] basic rest.now) }
 {
     if next_is_one_of(rest, &SCALARS) {

@@ -13,11 +13,11 @@ ghost use Rattle.trick_check_names.specs.Tables.{tables_of};
 use crate::CheckFault;
 use std::alloc::Global as Memory;
 use trick_base::{CELL_LIMIT, Items};
-use trick_check_cells::{cell_count, laws, objects, sizes};
 use trick_check_bodies::job_count;
+use trick_check_cells::{cell_count, laws, objects, sizes};
+use trick_check_names::Tables;
 use trick_lang::Object;
 use trick_lang::syntax::Definition;
-use trick_check_names::Tables;
 
 /// The most jobs that a simulation has.
 const JOB_LIMIT: u64 = 512;

@@ -5,8 +5,8 @@ ghost use Rattle.trick_check.specs.Draft.{IsJoined, IsProper, IsWhole};
 use trick_base::Items;
 use trick_check_blocks::{ClassScope, laws};
 use trick_check_bodies::Bodies;
-use trick_lang::{EnumItem, Job, Object, Program, Variable};
 use trick_check_names::Layout;
+use trick_lang::{EnumItem, Job, Object, Program, Variable};
 
 /// The parts of a program.
 #[derive(Drop)]

@@ -6,8 +6,8 @@ ghost use Rattle.trick_check_names.specs.Tables.{tables_of};
 
 use crate::CheckFault;
 use std::alloc::Global as Memory;
-use trick_lang::syntax::SDefine;
 use trick_check_names::{NameFault, Tables, check};
+use trick_lang::syntax::SDefine;
 
 // The refusal of a mistake in names.
 fn check_fault(fault: NameFault) -> CheckFault

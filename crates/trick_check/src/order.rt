@@ -13,9 +13,9 @@ use crate::CheckFault;
 use crate::class::{method_name, parts_at};
 use std::alloc::Global as Memory;
 use trick_base::Items;
-use trick_lang::syntax::{ClassPart, Definition};
 use trick_check_names::{Member, Names, Tables, calls_of_class};
 use trick_check_order::{OrderFault, laws, order};
+use trick_lang::syntax::{ClassPart, Definition};
 
 // The order of the parts of a class that has these members, or the first that reaches itself.
 fn order_of(

@@ -21,9 +21,9 @@ use std::alloc::{AllocError, Global as Memory};
 use trick_base::Items;
 use trick_check_bodies::{Bodies, jobs};
 use trick_check_cells::{cells, items, laws as cell_laws, lay_out};
+use trick_check_names::Tables;
 use trick_lang::syntax::{Definition, SDefine};
 use trick_lang::{Job, Object, Program};
-use trick_check_names::Tables;
 
 // What is made of the classes.
 fn make_bodies(
@@ -112,7 +112,11 @@ fn make(
 }
 
 // All parts of the program of a file whose names are right.
-fn draft_of(alloc: Memory, definitions: &[Definition], tables: &Tables) -> Result<ProgramDraft, CheckFault>
+fn draft_of(
+    alloc: Memory,
+    definitions: &[Definition],
+    tables: &Tables,
+) -> Result<ProgramDraft, CheckFault>
     requires tables { tables.now ≡ tables_of (definitions_of definitions.now) }
     requires right { NamesAreRight (definitions_of definitions.now) }
     ensures draft { IfOk result (λ draft. IsDraft (definitions_of definitions.now) draft) }

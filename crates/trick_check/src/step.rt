@@ -9,8 +9,8 @@ use crate::CheckFault;
 use crate::title::job_name;
 use std::alloc::{AllocError, Global as Memory};
 use trick_check_bodies::Bodies;
-use trick_lang::{Job, Method, Object};
 use trick_check_steps::{laws, steps};
+use trick_lang::{Job, Method, Object};
 
 /// The most static steps that a job has.
 const STEP_LIMIT: u64 = 1_000_000;

@@ -12,9 +12,9 @@ use std::alloc::{AllocError, Global as Memory};
 use trick_base::Items;
 use trick_check_blocks::{ClassScope, laws};
 use trick_check_bodies::{Bodies, add_class};
+use trick_check_names::{Layout, Names};
 use trick_lang::Object;
 use trick_lang::syntax::Definition;
-use trick_check_names::{Layout, Names};
 
 // What the classes of a file are made by: for each definition the order of its parts, and whether it is
 // a class that has objects.

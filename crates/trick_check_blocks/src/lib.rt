@@ -8,16 +8,16 @@ pub mod laws;
 mod local;
 mod method;
 mod path;
+mod scope;
 mod slots;
 mod spot;
 mod start;
 mod statement;
 mod term;
-mod scope;
 
 pub use method::resolve_class;
+pub use scope::ClassScope;
 pub use spot::{Element, Loose, Spot};
 pub use start::{Local, Meaning};
 pub use statement::resolve_all;
 pub use term::{Reached, resolve_expression, resolve_path};
-pub use scope::ClassScope;

@@ -5,13 +5,13 @@ ghost use Rattle.trick_check_blocks.specs.Codes.{declared, loop_in, loop_slot, n
 ghost use Rattle.trick_lang.specs.Locals.{bound_number};
 ghost use Rattle.trick_lang.specs.Syntax.{written_of};
 
-use crate::start::Local;
 use crate::scope::ClassScope;
+use crate::start::Local;
 use std::alloc::AllocError;
 use trick_base::Word;
+use trick_check_names::Names;
 use trick_lang::syntax::TypeName;
 use trick_lang::{BOUND_LIMIT, Bound, Scalar};
-use trick_check_names::Names;
 
 // So many slots and locals fit the numbers of slots.
 const SLOT_LIMIT: usize = 1_000_000_000;

@@ -9,13 +9,13 @@ ghost use Rattle.trick_check_blocks.specs.Room.{IsLaid};
 ghost use Rattle.trick_lang.specs.Syntax.{class_part_of, class_parts_of, method_of, statements_of_list};
 
 use crate::block::count_of;
+use crate::scope::ClassScope;
 use crate::slots::slots_of_blocks;
 use crate::statement::add_statements;
-use crate::scope::ClassScope;
 use std::alloc::{AllocError, Global};
+use trick_check_names::Names;
 use trick_lang::Block;
 use trick_lang::syntax::{ClassPart, Method, Stmt};
-use trick_check_names::Names;
 
 // The body of a method, with the blocks in it, and its number.
 fn add_body(

@@ -5,12 +5,12 @@ ghost use Rattle.trick_check_blocks.specs.Terms.{computed, offset_of, span_of, s
 ghost use Rattle.trick_lang.specs.Syntax.{expression_of, parts_of_list};
 ghost use Rattle.trick_lang.specs.TreeOf.{spot_of, steps_of_list};
 
-use crate::spot::{Element, Loose, Spot, array_of, element_on, loosen, move_on};
 use crate::scope::ClassScope;
+use crate::spot::{Element, Loose, Spot, array_of, element_on, loosen, move_on};
 use trick_base::Word;
+use trick_check_names::{Base, Dims};
 use trick_lang::syntax::{Expr, Part};
 use trick_lang::{Index, Place};
-use trick_check_names::{Base, Dims};
 
 // Where `.name` leads.
 fn member(name: &Word, scope: &ClassScope, spot: Spot) -> Option<Spot>

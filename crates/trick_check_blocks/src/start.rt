@@ -1,11 +1,11 @@
 ghost use Rattle.std.specs.Prelude.{◌≡◌};
 ghost use Rattle.trick_check_blocks.specs.Places.{named};
 
-use crate::spot::Spot;
 use crate::scope::ClassScope;
+use crate::spot::Spot;
 use trick_base::Word;
-use trick_lang::Scalar;
 use trick_check_names::{Base, Dims, Extent, Names, Site};
+use trick_lang::Scalar;
 
 /// A local variable that is known at a place of a body.
 #[derive(Clone, Copy)]

@@ -13,13 +13,13 @@ ghost use Rattle.trick_check_names.specs.Names.{meaning_of};
 
 use crate::block::{add_block, add_single};
 use crate::local::{declare, enter_loop, scalar};
+use crate::scope::ClassScope;
 use crate::start::Local;
 use crate::term::{Reached, resolve_expression, resolve_path};
-use crate::scope::ClassScope;
 use std::alloc::{AllocError, Global};
 use trick_base::Word;
-use trick_lang::{Block, Bound, Branch, Change, Expr, Scalar, Stmt, syntax};
 use trick_check_names::Names;
+use trick_lang::{Block, Bound, Branch, Change, Expr, Scalar, Stmt, syntax};
 
 // ---- what has no blocks
 

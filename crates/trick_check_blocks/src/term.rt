@@ -10,12 +10,12 @@ ghost use Rattle.trick_lang.specs.Wrap.{wrap};
 ghost use Rattle.trick_lang.specs.declared.scalar.Scalar.TheVariants.{Long};
 
 use crate::path::{computed_array, follow, literal, literals, place_at, step};
+use crate::scope::ClassScope;
 use crate::spot::{Spot, scalar};
 use crate::start::{Local, Meaning, stands_for};
-use crate::scope::ClassScope;
 use std::alloc::{AllocError, Global};
-use trick_lang::{Choice, Expr, Index, Link, Place, Prefix, Scalar, syntax};
 use trick_check_names::Names;
+use trick_lang::{Choice, Expr, Index, Link, Place, Prefix, Scalar, syntax};
 
 /// What a path stands for.
 #[derive(Drop)]

@@ -6,13 +6,13 @@ ghost use Rattle.trick_lang.specs.Syntax.{class_parts_of};
 ghost use Rattle.trick_check_names.specs.Kept.{AreLaid};
 ghost use Rattle.trick_check_names.specs.Laid.{size_at};
 
+use crate::{add_methods, numbers};
 use std::alloc::{AllocError, Global as Memory};
 use trick_base::Items;
 use trick_check_blocks::{ClassScope, resolve_class};
-use crate::{add_methods, numbers};
+use trick_check_names::Names;
 use trick_lang::syntax::ClassPart;
 use trick_lang::{Block, Method};
-use trick_check_names::Names;
 
 // So many methods fit their numbers.
 const METHOD_LIMIT: usize = 1_000_000_000;

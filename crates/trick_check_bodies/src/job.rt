@@ -7,9 +7,9 @@ ghost use Rattle.trick_lang.specs.Syntax.{definitions_of, jobs_of};
 use crate::line::{calls_in, lines_at};
 use std::alloc::{AllocError, Global as Memory};
 use trick_base::Items;
+use trick_check_names::Names;
 use trick_lang::syntax::{Definition, JobLine};
 use trick_lang::{Job, Object};
-use trick_check_names::Names;
 
 // A number of 32 bits.
 fn small(number: usize) -> Result<u32, AllocError>

@@ -6,9 +6,9 @@ ghost use Rattle.trick_lang.specs.Syntax.{class_part_of, class_parts_of};
 
 use std::alloc::{AllocError, Global as Memory};
 use trick_base::Items;
+use trick_check_names::Names;
 use trick_lang::Method;
 use trick_lang::syntax::ClassPart;
-use trick_check_names::Names;
 
 fn add_part(
     class: u32,

@@ -11,8 +11,8 @@ use crate::name::{with_index, with_member};
 use crate::size::base_size;
 use std::alloc::{AllocError, Global as Memory};
 use trick_base::{Items, Word};
-use trick_lang::Variable;
 use trick_check_names::{Base, Global, Lengths, Member, Names, Tables};
+use trick_lang::Variable;
 
 /// What is to be written, under the name of what it belongs to.
 #[derive(Drop)]

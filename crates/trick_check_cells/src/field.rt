@@ -7,7 +7,9 @@ ghost use Rattle.trick_check_cells.specs.Tables.{dim, dims_of, fields_of, groups
 use crate::size::{base_size, cell_count, global_size, member_size};
 use std::alloc::{AllocError, Global as Memory};
 use trick_base::{CELL_LIMIT, Items, Word};
-use trick_check_names::{Base, Dim, Dims, Extent, Field, Global, Layout, Lengths, Member, Names, Site, Tables};
+use trick_check_names::{
+    Base, Dim, Dims, Extent, Field, Global, Layout, Lengths, Member, Names, Site, Tables,
+};
 
 /// Stands still at 2^32 - 1.
 pub fn narrow(number: u64) -> u32

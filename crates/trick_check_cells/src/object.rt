@@ -7,8 +7,8 @@ use crate::field::narrow;
 use crate::size::global_size;
 use std::alloc::{AllocError, Global as Memory};
 use trick_base::{Items, Word};
-use trick_lang::{EnumItem, Object};
 use trick_check_names::{Base, Global, Names};
+use trick_lang::{EnumItem, Object};
 
 // Adds an object that has so many cells before it.
 fn add_object(

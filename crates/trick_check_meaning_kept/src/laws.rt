@@ -3,8 +3,8 @@
 
 ghost use Rattle.trick_check_meaning_kept.specs.Kept.{ExpressionsKeep, StatementsKeep, TablesKeep};
 
-use trick_lang::laws::wrap_law;
 use trick_check_bodies::laws::{object_law, place_law};
+use trick_lang::laws::wrap_law;
 
 /// What a file declares is the same by names and by cells.
 pub fn tables_keep()

@@ -4,11 +4,11 @@
 ghost use Rattle.trick_check_meaning_of_jobs.specs.Example.{HasProgram};
 ghost use Rattle.trick_check_meaning_of_jobs.specs.Jobs.{EffectsAreMeant, MethodsKeep, TextsAreMeant, TextsAreReadable};
 
+use trick_check_bodies::laws::{object_law, place_law, tables_law};
 use trick_check_cells::laws::{count_law, declared_law, unfold_law};
-use trick_lang::laws::{block_law, wrap_law};
 use trick_check_meaning_kept::laws::tables_keep;
 use trick_check_order::laws::one_order_law;
-use trick_check_bodies::laws::{object_law, place_law, tables_law};
+use trick_lang::laws::{block_law, wrap_law};
 
 /// What the block of a method does is what the method's text says.
 pub fn methods_keep()

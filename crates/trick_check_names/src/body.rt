@@ -8,8 +8,8 @@ ghost use Rattle.trick_check_names.specs.Places.{followed, own_member};
 
 use crate::follow::{State, element, fixed, follow, literal, member, start};
 use crate::found::{Found, declare};
-use crate::tables::Local;
 use crate::scope::FileScope;
+use crate::tables::Local;
 use crate::{Base, Global, Lengths, Member, Names};
 use std::alloc::AllocError;
 use trick_base::Word;
@@ -117,7 +117,13 @@ fn look_choices(
 }
 
 #[cycle(look)]
-fn look_path(path: &Path, assigned: bool, scope: &FileScope, locals: &Names<Local>, found: &mut Found)
+fn look_path(
+    path: &Path,
+    assigned: bool,
+    scope: &FileScope,
+    locals: &Names<Local>,
+    found: &mut Found,
+)
     ensures { found.new ≡ noted (path_mistakes (path_of path.now) assigned scope.now locals.now) found.old }
 {
     let from = start(&path.name, scope, locals);
@@ -129,7 +135,13 @@ fn look_path(path: &Path, assigned: bool, scope: &FileScope, locals: &Names<Loca
 }
 
 #[cycle(look)]
-fn look_parts(parts: &[Part], from: State, scope: &FileScope, locals: &Names<Local>, found: &mut Found)
+fn look_parts(
+    parts: &[Part],
+    from: State,
+    scope: &FileScope,
+    locals: &Names<Local>,
+    found: &mut Found,
+)
     ensures { found.new ≡ noted (part_mistakes (parts_of_list parts.now) scope.now locals.now from) found.old }
 {
     let mut state = from;

@@ -10,8 +10,8 @@ ghost use Rattle.trick_check_names.specs.Tables.{behind_part, behind_parts, noth
 use crate::body::{look_all, look_call};
 use crate::found::{Found, declare};
 use crate::members::add_members;
-use crate::tables::Inside;
 use crate::scope::FileScope;
+use crate::tables::Inside;
 use crate::{Global, Member, Names};
 use std::alloc::{AllocError, Global as Memory};
 use trick_base::Word;

@@ -3,8 +3,8 @@ ghost use Rattle.trick_lang.specs.Syntax.{expression_of, parts_of_list};
 ghost use Rattle.trick_check_names.specs.Places.{element_in, followed, global_state, in_array, is_fixed, is_fixed_global, literal_of, member_in, named, single, to_element, to_member};
 ghost use Rattle.trick_check_names.specs.declared.follow.State.TheVariants.{Stands};
 
-use crate::tables::Local;
 use crate::scope::FileScope;
+use crate::tables::Local;
 use crate::{Base, Global, Lengths, Member, Names, Shape};
 use trick_base::Word;
 use trick_lang::Scalar;

@@ -2,8 +2,8 @@ ghost use Rattle.std.specs.Prelude.{◌≡◌};
 ghost use Rattle.trick_check_names.specs.Laid.{fields_at};
 ghost use Rattle.trick_check_names.specs.Names.{meaning_of};
 
-use trick_base::{Items, Word};
 use crate::{Base, Names};
+use trick_base::{Items, Word};
 
 /// An index of an array.
 #[derive(Clone, Copy)]

@@ -14,7 +14,7 @@ use crate::read_groups::read_groups;
 use crate::read_records::read_records;
 use std::alloc::Global;
 use trick_base::TIC_LIMIT;
-use trick_codes::{LoadFault, LineStop, end_line, number_line, whole, word_line};
+use trick_codes::{LineStop, LoadFault, end_line, number_line, whole, word_line};
 use trick_lang::Cells;
 use trick_model::{LAST_TURN, Mode, Plan, State};
 

@@ -12,7 +12,7 @@ use crate::fault_kind::fault_kind;
 use crate::job_texts::{job_texts, slices};
 use std::alloc::Global;
 use trick_base::TIC_LIMIT;
-use trick_codes::{Miss, LineStop, feed, number, number_line, one_of, set_indexed, title};
+use trick_codes::{LineStop, Miss, feed, number, number_line, one_of, set_indexed, title};
 use trick_lang::{FaultKind, JobFault, JobId};
 use trick_model::{Faults, KEPT_FAULTS, Plan};
 

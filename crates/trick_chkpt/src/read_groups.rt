@@ -13,7 +13,7 @@ use crate::ranges::ranges_at;
 use crate::read_cells::read_flag;
 use std::alloc::Global;
 use trick_base::Items;
-use trick_codes::{Miss, Range, LineStop, feed, kind_of, row_or_none, set_indexed, title};
+use trick_codes::{LineStop, Miss, Range, feed, kind_of, row_or_none, set_indexed, title};
 use trick_model::{Flags, Group, Plan};
 
 // The last row of one group, where there is one.

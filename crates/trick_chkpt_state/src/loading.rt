@@ -9,9 +9,9 @@ ghost use Rattle.trick_chkpt_state.specs.Loaded.{IsCheckpointOf, IsLoadedAs};
 
 use crate::laws;
 use std::alloc::Global;
-use trick_codes::LoadFault;
 use trick_chkpt::laws::{lines_are_the_text, no_checkpoint_is_a_proper_prefix};
 use trick_chkpt::load;
+use trick_codes::LoadFault;
 use trick_memory::Memory;
 use trick_model::{Plan, State};
 

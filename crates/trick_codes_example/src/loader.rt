@@ -22,7 +22,7 @@ use crate::file::{Gauge, Mode, Readings};
 use std::alloc::{AllocError, Global};
 use trick_base::Items;
 use trick_codes::{
-    LoadFault, Miss, Range, LineStop, end_line, feed, integer_line, kind_of, number_line, one_of,
+    LineStop, LoadFault, Miss, Range, end_line, feed, integer_line, kind_of, number_line, one_of,
     row_or_none, set_indexed, title, whole,
 };
 
@@ -110,7 +110,11 @@ fn last<'a>(
 }
 
 #[tactic(auto, unfolding(crate::specs::Panel::note_line))]
-fn note<'a>(name: &mut Vec<u8>, place: usize, rest: &'a [u8]) -> Result<(u64, &'a [u8]), LineStop<'a>>
+fn note<'a>(
+    name: &mut Vec<u8>,
+    place: usize,
+    rest: &'a [u8],
+) -> Result<(u64, &'a [u8]), LineStop<'a>>
     ensures { Gives beside result (read_lines (note_line place) rest.now) }
 {
     set_indexed(name, b"note", place)?;

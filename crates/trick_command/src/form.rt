@@ -16,7 +16,11 @@ use std::alloc::{AllocError, Global};
 use trick_base::{Items, Word};
 use trick_model::Action;
 
-fn read_piece(alloc: Global, piece: Piece, words: &[CommandLexeme]) -> Result<Option<Read>, AllocError>
+fn read_piece(
+    alloc: Global,
+    piece: Piece,
+    words: &[CommandLexeme],
+) -> Result<Option<Read>, AllocError>
     ensures read { IfOk result (λ read. read_if_any words.now read
         ≡ read_piece (piece_in piece) (lexemes_in words.now)) }
     ensures within { IfOk result (λ read. IsWithin read words.now) }

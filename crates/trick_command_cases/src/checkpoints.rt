@@ -3,9 +3,9 @@
 use crate::bytes::push_lines;
 use crate::runs::Runs;
 use std::alloc::{AllocError, Global};
+use trick_chkpt::load;
 use trick_chkpt_printer::{jobs_of, print, scope, threads_beside};
 use trick_codes::LoadFault;
-use trick_chkpt::load;
 use trick_memory::Memory;
 use trick_model::{Plan, State, Thread};
 

@@ -6,10 +6,10 @@ ghost use Rattle.trick_lang.specs.Effect.{scalars_of};
 use crate::bytes::push_named;
 use std::alloc::{AllocError, Global};
 use trick_command::actions;
-use trick_plan_deeds::{deed_in_plan, deed_of, find_cell};
 use trick_lang::{Cell, Cells};
 use trick_memory::Memory;
 use trick_model::{Action, Deed, Plan};
+use trick_plan_deeds::{deed_in_plan, deed_of, find_cell};
 
 /// Calls about deeds and cells.
 #[derive(Clone, Copy)]

@@ -5,8 +5,8 @@ use crate::checkpoints::{refusal as refusal_of_state, state_of};
 use crate::journals::refusal;
 use crate::texts::Texts;
 use std::alloc::{AllocError, Global};
-use trick_journal::{push_entry_line, read};
 use trick_exec_sources::{JournalTurns, Next, Turns};
+use trick_journal::{push_entry_line, read};
 use trick_memory::Memory;
 use trick_model::{Entry, Journal, Mode, Plan, State};
 

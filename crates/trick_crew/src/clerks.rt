@@ -5,10 +5,10 @@ use crate::nobody::Nobody;
 use std::sync::Wait;
 use std::thread::Threads;
 use trick_crew_clerks::Yard;
-use trick_post::ShutPost;
 use trick_lang::Cells;
 use trick_model::{Faults, Planned, Taken};
 use trick_outside::Gate;
+use trick_post::ShutPost;
 use trick_post_work::{Job1, Posted, Posts};
 
 /// Who does the work of must-finish and asynchronous threads.

@@ -13,9 +13,9 @@ use std::alloc::{AllocError, Global};
 use std::sync::{Arc, Wait};
 use std::thread::Threads;
 use trick_crew_clerks::Roster;
-use trick_post::Held;
 use trick_model::Planned;
 use trick_outside::{Gate, Spawner};
+use trick_post::Held;
 
 /// The clerks that a plan needs, none of which was started yet, with all memory that they ever need.
 #[derive(Drop)]

@@ -3,8 +3,8 @@ ghost use Rattle.std.specs.Arc.{arc_value};
 ghost use Rattle.std.specs.Prelude.{◌≡◌, false};
 ghost use Rattle.trick_crew.specs.Needs.{needs_clerks};
 
-use trick_post::Held;
 use trick_model::{Plan, Planned};
+use trick_post::Held;
 
 /// Stands for the clerks where no thread of the plan works beside the tics: nothing can be handed over. It has no
 /// thread, and no memory but its share of the plan.

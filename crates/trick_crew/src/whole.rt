@@ -20,11 +20,11 @@ use std::alloc::{AllocError, Global};
 use std::sync::{Arc, Wait};
 use std::thread::Threads;
 use trick_crew_team::{Crew, Team};
-use trick_post::ShutPost;
 use trick_hall::Chief;
 use trick_lang::Cells;
 use trick_model::{Accepted, Planned};
 use trick_outside::{Gate, Spawner};
+use trick_post::ShutPost;
 
 /// Who does all the work of a run in threads. Each thread of it ends in [`WholeCrew::finish`].
 #[derive(Drop)]

@@ -8,9 +8,9 @@ ghost use mathlib.Core.List.{IsPrefix};
 use crate::shift::Shift;
 use std::sync::Wait;
 use std::thread::Threads;
-use trick_post::{Clerk, ShutPost};
 use trick_model::Planned;
 use trick_outside::{Gate, Running};
+use trick_post::{Clerk, ShutPost};
 
 /// Takes in the clerk of each of these shifts, which were not started.
 pub(crate) fn take_each_in<P: Planned, G: Gate + Drop, R: Wait + Drop>(

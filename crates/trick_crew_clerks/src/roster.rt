@@ -13,9 +13,9 @@ use crate::yard::Yard;
 use std::alloc::{AllocError, Global};
 use std::sync::{Arc, Wait};
 use std::thread::Threads;
-use trick_post::{Clerk, Desk, Held, Post};
 use trick_model::Planned;
 use trick_outside::{Gate, Spawner};
+use trick_post::{Clerk, Desk, Held, Post};
 
 /// A desk and the shift of each of its clerks, none of which was started yet, with room for all of them.
 #[derive(Drop)]

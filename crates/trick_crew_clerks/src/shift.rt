@@ -7,9 +7,9 @@ ghost use Rattle.trick_turn.specs.Passes.{own, seen};
 
 use std::alloc::{AllocError, Global};
 use std::sync::{Arc, Wait};
-use trick_post::{Clerk, Picked};
 use trick_model::Planned;
 use trick_outside::{Gate, NoGate, Work};
+use trick_post::{Clerk, Picked};
 
 /// A clerk with what it needs to work in a thread of its own. It is moved into the thread that runs it.
 #[derive(Drop)]

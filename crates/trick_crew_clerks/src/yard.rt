@@ -11,10 +11,10 @@ use crate::staff::Staff;
 use crate::tending::attend_each;
 use std::sync::Wait;
 use std::thread::Threads;
-use trick_post::{Desk, ShutPost};
 use trick_lang::Cells;
 use trick_model::{Faults, Planned, Taken};
 use trick_outside::Gate;
+use trick_post::{Desk, ShutPost};
 use trick_post_work::{Job1, Posted, Posts};
 
 /// A desk, and the shifts of its clerks. What waits for a clerk whose shift was not started is done by the caller, in

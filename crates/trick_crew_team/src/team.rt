@@ -14,11 +14,11 @@ use crate::share::Share;
 use crate::worker::Worker;
 use std::sync::Wait;
 use std::thread::Threads;
-use trick_phase_board::Closed;
 use trick_hall::Chief;
 use trick_lang::{Cells, JobId};
 use trick_model::{Accepted, Faults, Flags, Planned};
 use trick_outside::{Begun, Gate};
+use trick_phase_board::Closed;
 use trick_phase_jobs::Phases;
 
 /// The scheduled threads of a crew: the chief of their hall, the caller's share, and the workers. Between two tics no

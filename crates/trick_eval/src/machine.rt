@@ -15,8 +15,8 @@ use crate::expression::{apply, find, value_of};
 use crate::stack::{Frame, Stack};
 use crate::working::Working;
 use trick_lang::{
-    Arithmetic, Bound, Branch, Change, Expr, FaultKind, Place, Program, Scalar, Stmt, StatementFault,
-    Variable, wrap,
+    Arithmetic, Bound, Branch, Change, Expr, FaultKind, Place, Program, Scalar, StatementFault,
+    Stmt, Variable, wrap,
 };
 
 // Whether the test of the statement in that line is true.

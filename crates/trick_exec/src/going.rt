@@ -18,12 +18,12 @@ use crate::source::ask;
 use crate::turn::Given;
 use crate::{Ended, World};
 use std::sync::ledger::Ledger;
+use trick_exec_sources::{Next, Turns};
 use trick_lang::Cells;
 use trick_model::{Accepted, LAST_TURN, Mode, State, laws};
 use trick_outside::{Shelf, Stop};
 use trick_phase_jobs::Phases;
 use trick_post_work::Posts;
-use trick_exec_sources::{Next, Turns};
 
 // Whether a run is over without a question to its source.
 fn is_over<M: Cells>(state: &State<M>) -> bool

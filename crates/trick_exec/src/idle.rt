@@ -8,9 +8,9 @@ ghost use Rattle.trick_exec_frame.specs.Pass.{IsEquipped, passed, unasked};
 
 use crate::World;
 use std::sync::ledger::Ledger;
+use trick_exec_frame::{Equipment, pass_idle};
 use trick_lang::Cells;
 use trick_model::Accepted;
-use trick_exec_frame::{Equipment, pass_idle};
 use trick_post_work::Posts;
 
 /// Passes a turn without entries in place, where no session is there and nothing is due in it; and tells whether it was

@@ -4,11 +4,11 @@
 ghost use Rattle.trick_exec.specs.Own.{AreAlone, IsAlone, RunsAreAlone, RunsAreOwn};
 ghost use Rattle.trick_exec_meaning.specs.Hosts.{hosts, Place};
 
-use trick_lang::Cells;
-use trick_post_trays::OnePost;
-use trick_outside::Shelf;
-use trick_post_work::Posts;
 use trick_exec_sources::{NoTurns, Turns};
+use trick_lang::Cells;
+use trick_outside::Shelf;
+use trick_post_trays::OnePost;
+use trick_post_work::Posts;
 
 /// A run whose source gives no entry, and whose posts are ready whenever they are asked, is the one without
 /// clients: its journal is its own, and no other.

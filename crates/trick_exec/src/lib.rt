@@ -2,6 +2,7 @@
 //! rules of a run.
 #![tactic(auto)]
 
+mod beginning;
 mod ended;
 mod going;
 mod idle;
@@ -12,7 +13,6 @@ mod publish;
 mod rest;
 mod sending;
 mod source;
-mod beginning;
 mod turn;
 mod whole;
 

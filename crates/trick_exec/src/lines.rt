@@ -20,13 +20,13 @@ ghost use Rattle.trick_exec_tic.specs.Steps.{steps_of};
 ghost use Rattle.trick_exec_sources.specs.Turns.{Sessions as SessionsOf, may_all_come};
 
 use std::sync::ledger::Ledger;
-use trick_exec_files::note;
 use trick_exec_entries::{Hearing, Message, hear};
+use trick_exec_files::note;
+use trick_exec_frame::Equipment;
+use trick_exec_tic::Course;
 use trick_lang::Cells;
 use trick_model::{Accepted, Entry, Plan, State, laws};
 use trick_outside::{Shelf, Stop};
-use trick_exec_frame::Equipment;
-use trick_exec_tic::Course;
 
 // Whether an entry is a join, a line or a leave.
 fn is_of_session(entry: &Entry) -> bool

@@ -22,13 +22,13 @@ use crate::sending::send_all;
 use std::alloc::{AllocError, Global};
 use std::sync::ledger::Ledger;
 use trick_exec_entries::{Hearing, Message, samples, stay};
+use trick_exec_frame::{Rest, pass};
+use trick_exec_sources::Turns;
 use trick_lang::Cells;
 use trick_model::{Accepted, Entry, Session, State};
 use trick_outside::{Shelf, Stop};
-use trick_exec_frame::{Rest, pass};
 use trick_phase_jobs::Phases;
 use trick_post_work::Posts;
-use trick_exec_sources::Turns;
 
 // Hands over the samples of a turn, at whose start the tic was `from`.
 fn send_samples<M: Cells, T: Turns<M>>(

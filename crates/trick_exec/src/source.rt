@@ -6,9 +6,9 @@ ghost use Rattle.trick_exec_sources.specs.Gap.{Gap, GivesNone, IfGap};
 ghost use Rattle.trick_exec_sources.specs.Turns.{answered, Gives, GoesOn, Pays};
 
 use std::alloc::Global;
+use trick_exec_sources::{Next, Turns};
 use trick_lang::Cells;
 use trick_model::{Session, State};
-use trick_exec_sources::{Next, Turns};
 
 /// What the turn that comes next is given, in this state, where these sessions are there. Mostly that is nothing, which
 /// the source tells by a call that gives no list.

@@ -17,13 +17,13 @@ use crate::publish::{choose_publications, decided, note_publications};
 use std::sync::ledger::Ledger;
 use trick_event::Asked;
 use trick_exec_entries::Hearing;
+use trick_exec_sources::Turns;
+use trick_exec_tic::Current;
 use trick_lang::Cells;
 use trick_model::{Accepted, Entry, laws};
 use trick_outside::{Shelf, Stop};
 use trick_phase_jobs::Phases;
 use trick_post_work::Posts;
-use trick_exec_tic::Current;
-use trick_exec_sources::Turns;
 
 /// What the source of a run gives for a turn: its entries, and whether these decide the publications.
 #[derive(Clone, Copy)]

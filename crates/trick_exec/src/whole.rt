@@ -27,19 +27,19 @@ use crate::{Ended, Start, World};
 use std::alloc::{AllocError, Global};
 use std::marker::Brand;
 use std::sync::ledger::{Blank, Ledger};
-use trick_exec_posts::{Station, start_held};
 use trick_eval::Bench;
+use trick_exec_classes::shut;
 use trick_exec_files::{begin_files, end_files};
+use trick_exec_frame::Equipment;
+use trick_exec_posts::{Station, start_held};
+use trick_exec_sources::Turns;
+use trick_exec_tic::Workers;
 use trick_lang::Cells;
 use trick_model::{Accepted, Plan, State, laws};
-use trick_exec_classes::shut;
 use trick_outside::{Shelf, Stop};
-use trick_exec_frame::Equipment;
 use trick_phase_jobs::Phases;
 use trick_post_work::Posts;
 use trick_queue::Steps;
-use trick_exec_tic::Workers;
-use trick_exec_sources::Turns;
 
 // For each of these threads that its round has not waited.
 fn no_wait(alloc: Global, stations: &[Station]) -> Result<Vec<u64>, AllocError>

@@ -7,9 +7,9 @@ ghost use Rattle.trick_model.specs.Run.{start as start_of};
 ghost use Rattle.trick_model.specs.State.{seen};
 
 use std::alloc::{AllocError, Global};
+use trick_exec_classes::start;
 use trick_memory::Memory;
 use trick_model::{Accepted, State};
-use trick_exec_classes::start;
 
 /// The state in which a run of the plan starts.
 pub fn first_state(alloc: Global, accepted: &Accepted) -> Result<State<Memory>, AllocError>

@@ -13,14 +13,14 @@ use crate::{Replayed, first_state, one_thread, summary_of};
 use std::alloc::Global;
 use std::sync::Arc;
 use trick_exec::{Ended, Start, run};
+use trick_exec_meaning::laws::journals_show;
 use trick_exec_sources::JournalTurns;
+use trick_exec_tic::Workers;
 use trick_lang::Cells;
 use trick_model::{Accepted, Journal, State, laws};
 use trick_outside::{Shelf, Stop};
 use trick_phase_jobs::Phases;
 use trick_post_work::Posts;
-use trick_exec_meaning::laws::journals_show;
-use trick_exec_tic::Workers;
 
 // Replays a journal from a state by these workers.
 fn replay_by<M: Cells + Drop, F: Shelf, H: Phases<M> + Drop, P: Posts + Drop>(

@@ -11,20 +11,20 @@ ghost use Rattle.trick_post_trays.specs.Posting.{started_at};
 ghost use Rattle.trick_exec_alone.specs.Serial.{RunsSerially};
 
 use crate::Summary;
-use crate::summary::summary_of;
 use crate::first::first_state;
+use crate::summary::summary_of;
 use crate::workers::one_thread;
 use std::alloc::Global;
 use std::sync::Arc;
 use trick_exec::laws::{runs_are_alone, serial_forms_are_alone};
 use trick_exec::{Start, run};
+use trick_exec_sources::NoTurns;
+use trick_exec_tic::Workers;
 use trick_lang::Cells;
 use trick_model::{Accepted, State, laws};
-use trick_post_trays::OnePost;
 use trick_outside::{Shelf, Stop};
 use trick_phase_jobs::Phases;
-use trick_exec_tic::Workers;
-use trick_exec_sources::NoTurns;
+use trick_post_trays::OnePost;
 
 /// Runs an accepted plan from a state by these workers, who have nothing in flight, without clients, until the run
 /// is over; whoever does the jobs, it comes to what one thread makes of it. It writes the files of the run, and where

@@ -7,11 +7,11 @@ ghost use Rattle.trick_phase.specs.Single.{IsSingleOf};
 
 use std::alloc::{AllocError, Global};
 use std::sync::Arc;
+use trick_exec_tic::Workers;
 use trick_lang::Cells;
 use trick_model::Accepted;
-use trick_post_trays::OnePost;
 use trick_phase::Single;
-use trick_exec_tic::Workers;
+use trick_post_trays::OnePost;
 
 /// The workers of a run on the caller's thread, with nothing started: the jobs of a tic go through a board, one
 /// after another. This call alone takes memory.

@@ -9,9 +9,9 @@ ghost use Rattle.trick_model.specs.Running.{run_class as class_ran};
 ghost use Rattle.trick_model.specs.State.{seen};
 
 use trick_eval::Bench;
-use trick_phase_jobs::{Setting, run_jobs};
 use trick_lang::{Cells, Class};
 use trick_model::{Plan, State};
+use trick_phase_jobs::{Setting, run_jobs};
 
 /// Whether a plan has a job of a class.
 pub fn has_jobs(plan: &Plan, class: Class) -> bool

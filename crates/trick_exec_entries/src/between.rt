@@ -11,11 +11,11 @@ ghost use Rattle.trick_exec_tic.specs.Current.{asking_of};
 
 use trick_eval::Bench;
 use trick_event::{Moment, act};
+use trick_exec_classes::{enter_freeze, leave_freeze};
+use trick_exec_tic::Current;
 use trick_lang::Cells;
 use trick_model::{Deed, Plan};
-use trick_exec_classes::{enter_freeze, leave_freeze};
 use trick_session::Reply;
-use trick_exec_tic::Current;
 
 // Does a deed of a client between two tics. Freeze is entered at once.
 fn act_between<M: Cells>(plan: &Plan, deed: Deed, current: &mut Current<M>, bench: &mut Bench)

@@ -1,5 +1,5 @@
-use trick_model::Session;
 use trick_exec_tic::Current;
+use trick_model::Session;
 
 /// A state in a turn whose entries are heard, with the sessions that are there, by rising number.
 #[derive(Drop)]

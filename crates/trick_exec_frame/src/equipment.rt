@@ -9,10 +9,10 @@ ghost use Rattle.trick_exec_tic.specs.Course.{IsCourseOf};
 use std::alloc::{AllocError, Global};
 use std::sync::ledger::Ledger;
 use trick_eval::Bench;
+use trick_exec_tic::Course;
 use trick_lang::Cells;
 use trick_model::{Accepted, State};
 use trick_queue::Steps;
-use trick_exec_tic::Course;
 
 /// What a run keeps beside its state: its course, and a bench for the jobs of classes. It is made once.
 #[derive(Drop)]

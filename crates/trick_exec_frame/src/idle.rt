@@ -14,11 +14,11 @@ use crate::Equipment;
 use crate::rest::count;
 use std::sync::ledger::Ledger;
 use trick_eval::Bench;
+use trick_exec_classes::{has_jobs, run_class};
+use trick_exec_tic::skip;
 use trick_lang::{Cells, Class};
 use trick_model::{Accepted, Plan, State, laws};
-use trick_exec_classes::{has_jobs, run_class};
 use trick_post_work::Posts;
-use trick_exec_tic::skip;
 
 // Runs the end_of_frame jobs. It looks first whether there are some, which costs less than a call.
 fn run_end_of_frame<M: Cells>(plan: &Plan, state: &mut State<M>, bench: &mut Bench)

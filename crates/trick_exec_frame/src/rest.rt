@@ -14,15 +14,15 @@ ghost use Rattle.trick_exec_tic.specs.Steps.{steps_of};
 use crate::Equipment;
 use std::alloc::{AllocError, Global};
 use std::sync::ledger::Ledger;
-use trick_exec_posts::{Station, publish_all, start_rounds};
+use trick_exec_classes::{checkpoint_jobs, freeze_if_asked, run_class};
 use trick_exec_files::write_checkpoint;
+use trick_exec_posts::{Station, publish_all, start_rounds};
+use trick_exec_tic::{Current, Workers, frame};
 use trick_lang::{Cells, Class};
 use trick_model::{Accepted, Entry, LAST_TURN, State, laws};
-use trick_exec_classes::{checkpoint_jobs, freeze_if_asked, run_class};
 use trick_outside::{Shelf, Stop};
 use trick_phase_jobs::Phases;
 use trick_post_work::Posts;
-use trick_exec_tic::{Current, Workers, frame};
 
 /// What is left of a turn whose entries were heard: where it is, and the rounds that its frame publishes first.
 #[derive(Drop)]

@@ -9,10 +9,10 @@ ghost use Rattle.trick_exec_laws.specs.Stopping.{StopsLeave};
 ghost use Rattle.trick_exec_laws.specs.Waiting.{RoundsAreBounded};
 ghost use Rattle.trick_exec_meaning.specs.Hosts.{hosts};
 
+use trick_exec_sources::{NoTurns, Turns};
 use trick_lang::Cells;
 use trick_outside::Shelf;
 use trick_post_work::Posts;
-use trick_exec_sources::{NoTurns, Turns};
 
 /// A run that stopped leaves whole lines in its journal; these are what was noted of all lists that it was given, or of
 /// all but the last and a part of that. Of each other file it leaves a prefix of what the run under these lines makes

@@ -7,10 +7,10 @@ ghost use Rattle.trick_exec_own_journal.specs.Replaying.{ReplaysRunAgain, Writte
 ghost use Rattle.trick_exec_own_journal.specs.Written.{TurnsAreCounted, WrittenJournals};
 ghost use Rattle.trick_exec_meaning.specs.Hosts.{hosts};
 
+use trick_exec_sources::Turns;
 use trick_lang::Cells;
 use trick_outside::Shelf;
 use trick_post_work::Posts;
-use trick_exec_sources::Turns;
 
 /// The lists of a run that is done, or missed the end of a journal, are right: the premise of the laws below.
 pub fn runs_are_right<M: Cells, F: Shelf, P: Posts, T: Turns<M>>()

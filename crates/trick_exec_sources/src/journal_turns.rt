@@ -9,11 +9,11 @@ ghost use Rattle.trick_model.specs.Turn.{is_frozen as is_frozen_of};
 
 use crate::due::{DueEntries, has_line};
 use crate::sessions::resume;
+use crate::{Next, Turns};
 use std::alloc::{AllocError, Global};
 use std::snapshot::Snapshot;
 use trick_lang::Cells;
 use trick_model::{Entry, Journal, Mode, Session, State};
-use crate::{Next, Turns};
 
 /// What a journal gives a run from a turn on: a list of entries for each turn, and the journal's end.
 ///

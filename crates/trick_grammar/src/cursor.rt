@@ -10,7 +10,10 @@ use crate::refusal::Refusal;
 use crate::stop::GrammarStop;
 
 /// The next token, if it is of this class, and the tokens after it.
-pub fn take<C: Class>(rest: &[Lexeme<C>], class: C) -> Result<(&Lexeme<C>, &[Lexeme<C>]), GrammarStop<C>>
+pub fn take<C: Class>(
+    rest: &[Lexeme<C>],
+    class: C,
+) -> Result<(&Lexeme<C>, &[Lexeme<C>]), GrammarStop<C>>
     ensures { Gives (λ x. (x.0.now, x.1.now)) result
         (read_token C.number class_of (class ∷ []) rest.now) }
 {

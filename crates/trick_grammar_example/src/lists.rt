@@ -10,7 +10,7 @@ ghost use Rattle.trick_grammar_example.specs.Words.{number_of};
 use crate::tree::Stmt;
 use crate::word::{Token, Word};
 use std::alloc::Global;
-use trick_grammar::{Refusal, GrammarStop, next_is, take};
+use trick_grammar::{GrammarStop, Refusal, next_is, take};
 
 /// list = "enum" NAME "{" items "}" ";"
 #[tactic(auto, unfolding(crate::specs::Statements::list_body))]

@@ -15,7 +15,7 @@ use crate::telling::told_line;
 use crate::tree::Stmt;
 use crate::word::{Token, Word};
 use std::alloc::Global;
-use trick_grammar::{Refusal, GrammarStop};
+use trick_grammar::{GrammarStop, Refusal};
 
 /// Why a text is no program.
 #[derive(Clone, Copy, Debug, PartialEq, Eq)]

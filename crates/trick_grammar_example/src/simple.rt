@@ -13,7 +13,7 @@ use crate::sums::read_sum;
 use crate::tree::{Expr, Stmt};
 use crate::word::{Token, Word};
 use std::alloc::Global;
-use trick_grammar::{Refusal, GrammarStop, is_in_scope, next_is, reason_at, take, take_hinted};
+use trick_grammar::{GrammarStop, Refusal, is_in_scope, next_is, reason_at, take, take_hinted};
 
 /// What a simple statement does to its name.
 #[derive(Drop)]
@@ -36,7 +36,11 @@ fn read_called(rest: &[Token]) -> Result<(Deed, &[Token]), GrammarStop<Word>>
 
 /// free = called | ( "=" sum | "++" ) ";"
 #[tactic(auto, unfolding(crate::specs::Statements::free_body))]
-fn read_free(alloc: Global, depth: usize, rest: &[Token]) -> Result<(Deed, &[Token]), GrammarStop<Word>>
+fn read_free(
+    alloc: Global,
+    depth: usize,
+    rest: &[Token],
+) -> Result<(Deed, &[Token]), GrammarStop<Word>>
     ensures { Gives (λ x. (deed_of x.0, x.1.now)) result
         (read number_of class_of [] (free depth) rest.now) }
 {

@@ -16,7 +16,7 @@ use crate::tree::{Link, Stmt};
 use crate::word::{Token, Word};
 use std::alloc::Global;
 use trick_grammar::{
-    Refusal, GrammarStop, hinted, next_is, next_is_one_of, take, take_again, take_hinted,
+    GrammarStop, Refusal, hinted, next_is, next_is_one_of, take, take_again, take_hinted,
 };
 
 // What a statement begins with.
@@ -237,7 +237,10 @@ fn read_header<'a>(
     match read_plain_header(source, rest) {
         Ok(read) => Ok(read),
         Err(GrammarStop::Memory) => Err(GrammarStop::Memory),
-        Err(GrammarStop::At(kind, at)) => Err(GrammarStop::At(hinted(Refusal::BadHeader, kind), at)),
+        Err(GrammarStop::At(kind, at)) => Err(GrammarStop::At(
+            hinted(Refusal::BadHeader, kind),
+            at,
+        )),
     }
 }
 

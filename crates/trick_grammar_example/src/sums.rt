@@ -11,7 +11,7 @@ ghost use Rattle.trick_grammar_example.specs.Words.{number_of};
 use crate::tree::Expr;
 use crate::word::{Token, Word};
 use std::alloc::Global;
-use trick_grammar::{Refusal, GrammarStop, next_is, next_is_one_of, reason_at, take, take_one_of};
+use trick_grammar::{GrammarStop, Refusal, next_is, next_is_one_of, reason_at, take, take_one_of};
 
 /// The operators of a level of precedence, from the tightest.
 fn marks(level: usize) -> &'static [Word]
@@ -25,7 +25,11 @@ fn marks(level: usize) -> &'static [Word]
 }
 
 /// sum: all levels
-pub fn read_sum(alloc: Global, depth: usize, rest: &[Token]) -> Result<(Expr, &[Token]), GrammarStop<Word>>
+pub fn read_sum(
+    alloc: Global,
+    depth: usize,
+    rest: &[Token],
+) -> Result<(Expr, &[Token]), GrammarStop<Word>>
     ensures { Gives (λ x. (expression_of x.0, x.1.now)) result
         (read number_of class_of [] (sum depth) rest.now) }
 {
@@ -109,7 +113,11 @@ fn read_link(
 /// operand = NAME | WHOLE | "(" sum ")"
 #[cycle(sums)]
 #[tactic(auto, unfolding(crate::specs::Statements::operand_body))]
-fn read_operand(alloc: Global, depth: usize, rest: &[Token]) -> Result<(Expr, &[Token]), GrammarStop<Word>>
+fn read_operand(
+    alloc: Global,
+    depth: usize,
+    rest: &[Token],
+) -> Result<(Expr, &[Token]), GrammarStop<Word>>
     ensures { Gives (λ x. (expression_of x.0, x.1.now)) result
         (read number_of class_of [] (operand depth) rest.now) }
 {
@@ -130,7 +138,11 @@ fn read_operand(alloc: Global, depth: usize, rest: &[Token]) -> Result<(Expr, &[
 /// inner = "(" sum ")"
 #[cycle(sums)]
 #[tactic(auto, unfolding(crate::specs::Statements::inner_body))]
-fn read_inner(alloc: Global, depth: usize, rest: &[Token]) -> Result<(Expr, &[Token]), GrammarStop<Word>>
+fn read_inner(
+    alloc: Global,
+    depth: usize,
+    rest: &[Token],
+) -> Result<(Expr, &[Token]), GrammarStop<Word>>
     ensures { Gives (λ x. (expression_of x.0, x.1.now)) result
         (read number_of class_of [] (inner (suc depth)) rest.now) }
 {

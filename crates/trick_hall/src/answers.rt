@@ -2,8 +2,8 @@
 ghost use Rattle.std.specs.Prelude.{◌≡◌};
 ghost use Rattle.trick_hall.specs.Answers.{as_tried, gives_memory, job_committed, job_taken};
 
-use trick_phase_board::Closed;
 use trick_lang::{Cell, JobId};
+use trick_phase_board::Closed;
 
 /// What a hand's take comes to.
 #[derive(Clone, Copy, Debug, PartialEq, Eq)]

@@ -25,9 +25,9 @@ use crate::kept::Kept;
 use std::alloc::Global;
 use std::marker::Brand;
 use std::sync::{Arc, Wait};
-use trick_phase_board::Closed;
 use trick_lang::{Cells, JobId};
 use trick_model::{Accepted, Faults, Flags, Planned};
+use trick_phase_board::Closed;
 use trick_turn::{Adds, Claim, Nothing, Pass, Quiet, Turn, TurnLock};
 
 /// The chief of a hall, who alone opens and closes its tics, and shuts it in the end.

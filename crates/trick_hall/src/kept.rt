@@ -23,12 +23,12 @@ use crate::answers::{HandCommit, HandTook};
 use crate::entry::Entry;
 use std::alloc::{AllocError, Global};
 use std::marker::{Model, PhantomData};
-use trick_phase_board::{Board, Closed, Commit, Took};
 use trick_eval::Bench;
 use trick_lang::laws::{frame_law, write_law};
 use trick_lang::{Cells, JobId};
 use trick_model::laws::key_order_is_one;
 use trick_model::{Accepted, Faults, Flags, Planned};
+use trick_phase_board::{Board, Closed, Commit, Took};
 use trick_race::laws::due_jobs_are_settled;
 use trick_turn::Keeps;
 

@@ -14,11 +14,11 @@ use std::process::Abort;
 use std::sync::Wait;
 use std::test::Fail;
 use std::thread::Threads;
-use trick_phase_board::Closed;
 use trick_hall::{Chief, Hall, Hand};
 use trick_lang::{Cell, Cells};
 use trick_memory::Memory;
 use trick_model::{Accepted, Faults, Planned};
+use trick_phase_board::Closed;
 use trick_queue::Queues;
 use trick_top_texts::ready;
 

@@ -13,16 +13,16 @@ ghost use Rattle.trick_phase_schedules.specs.Tics.{tic_of};
 use crate::steps::{commit_job, take_job, thread_at};
 use std::alloc::{AllocError, Global};
 use trick_base::TIC_LIMIT;
-use trick_phase_board::{Board, Closed};
 use trick_cycle::laws::due_test_is_exact;
 use trick_eval::Bench;
 use trick_lang::laws::{frame_law, write_law};
 use trick_lang::{Cells, JobId};
 use trick_model::laws::key_order_is_one;
 use trick_model::{Accepted, Faults, Flags, Plan};
+use trick_phase_board::{Board, Closed};
+use trick_phase_schedules::Step;
 use trick_queue::Queues;
 use trick_race::laws::due_jobs_are_settled;
-use trick_phase_schedules::Step;
 
 /// What a list of steps comes to.
 #[derive(Drop)]

@@ -3,12 +3,12 @@ ghost use Rattle.trick_phase.specs.Single.{IsSingleOf};
 
 use crate::steps::run_job;
 use std::alloc::{AllocError, Global};
-use trick_phase_board::{Board, Closed};
 use trick_eval::Bench;
 use trick_lang::laws::{frame_law, write_law};
 use trick_lang::{Cells, JobId};
 use trick_model::laws::key_order_is_one;
 use trick_model::{Accepted, Faults, Flags};
+use trick_phase_board::{Board, Closed};
 use trick_phase_jobs::Phases;
 use trick_race::laws::due_jobs_are_settled;
 

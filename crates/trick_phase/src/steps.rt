@@ -6,10 +6,10 @@ ghost use Rattle.trick_eval.specs.Bench.{IsFor};
 ghost use Rattle.trick_model.specs.Plan.{thread_of};
 ghost use Rattle.trick_phase.specs.Steps.{Commits, HoldsRight, Runs, Takes, has_job};
 
-use trick_phase_board::{Board, Commit, Ran, Took};
 use trick_eval::{Bench, eval};
 use trick_lang::{Cells, JobId};
 use trick_model::{Accepted, Plan};
+use trick_phase_board::{Board, Commit, Ran, Took};
 
 /// The thread of a job.
 pub fn thread_at(plan: &Plan, job: JobId) -> u8

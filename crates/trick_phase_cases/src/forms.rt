@@ -8,8 +8,8 @@ use std::alloc::{AllocError, Global};
 use trick_base::TIC_LIMIT;
 use trick_memory::Memory;
 use trick_model::{Accepted, Faults};
-use trick_phase_jobs::{OnePhase, Phases};
 use trick_phase::Single;
+use trick_phase_jobs::{OnePhase, Phases};
 use trick_queue::Queues;
 
 // What the due jobs of a tic come to, one after the other in key order.

@@ -1,9 +1,9 @@
 //! The plain forms of what queues and boards answer: they look at each job, as the rules are read.
 
 use std::alloc::{AllocError, Global};
-use trick_phase_board::Took;
 use trick_lang::{Class, Job, JobId};
 use trick_model::{Depends, Plan};
+use trick_phase_board::Took;
 
 // Whether a job of class scheduled is due at a tic.
 fn is_due(job: &Job, tic: u64) -> bool {

@@ -8,11 +8,11 @@ use crate::told::told;
 use std::alloc::{AllocError, Global};
 use std::mem::swap;
 use trick_base::TIC_LIMIT;
-use trick_phase_board::{Board, Closed};
 use trick_eval::{Bench, eval};
 use trick_lang::JobId;
 use trick_memory::Memory;
 use trick_model::{Accepted, Faults};
+use trick_phase_board::{Board, Closed};
 use trick_queue::Queues;
 
 /// An act on a board and two benches.

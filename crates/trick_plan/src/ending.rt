@@ -12,9 +12,9 @@ ghost use Rattle.trick_plan_settings.specs.Threads.{AreThreads};
 use crate::Parts;
 use crate::parts::parts_from;
 use std::alloc::{AllocError, Global};
-use trick_plan_draft::{Draft, laws};
 use trick_lang::Program;
 use trick_model::Plan;
+use trick_plan_draft::{Draft, laws};
 use trick_plan_settings::Settings;
 
 // The plan of a program with these parts.

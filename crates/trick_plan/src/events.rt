@@ -11,10 +11,10 @@ use crate::places::places;
 use std::alloc::{AllocError, Global};
 use std::mem;
 use trick_base::Items;
-use trick_plan_draft::{Condition, EventDraft};
+use trick_check_names::Names;
 use trick_lang::Expr;
 use trick_model::{Event, Flags};
-use trick_check_names::Names;
+use trick_plan_draft::{Condition, EventDraft};
 
 // The tree of a condition, where there is one.
 fn tree(condition: Option<Condition>) -> Option<Expr>

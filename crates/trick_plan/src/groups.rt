@@ -10,9 +10,9 @@ use crate::places::places;
 use std::alloc::{AllocError, Global};
 use std::mem;
 use trick_base::Items;
-use trick_plan_draft::GroupDraft;
-use trick_model::{Flags, Group};
 use trick_check_names::Names;
+use trick_model::{Flags, Group};
+use trick_plan_draft::GroupDraft;
 
 // The group of a plan that a draft gives.
 fn plan_group(draft: GroupDraft) -> Group

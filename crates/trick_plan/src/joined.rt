@@ -2,12 +2,12 @@
 
 ghost use Rattle.trick_plan.specs.Plan.{IsPlan};
 
-use std::alloc::Global;
 use crate::end;
+use std::alloc::Global;
 use trick_input::Call;
 use trick_lang::Program;
-use trick_plan_lines::{JoinFault, draft};
 use trick_model::Plan;
+use trick_plan_lines::{JoinFault, draft};
 use trick_plan_settings::settings_in;
 
 /// The plan that the lines of an input make of a program, or the first refusal with its line. It takes time

@@ -11,9 +11,9 @@ use crate::groups::groups;
 use std::alloc::{AllocError, Global};
 use std::mem;
 use trick_base::Items;
-use trick_plan_draft::Draft;
 use trick_lang::{Cell, JobId, Program};
 use trick_model::{Depends, Event, Flags, Group, ReadAt, Thread};
+use trick_plan_draft::Draft;
 use trick_plan_settings::{Settings, queues};
 
 /// What a plan has beside its program.

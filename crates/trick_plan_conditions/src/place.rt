@@ -10,9 +10,9 @@ ghost use Rattle.trick_lang.specs.Syntax.{expression_of, parts_of_list};
 use itoa::Buffer;
 use std::alloc::{AllocError, Global};
 use trick_base::{Items, Word};
+use trick_check_names::Names;
 use trick_lang::Cell;
 use trick_lang::syntax::{Expr, Part, Path};
-use trick_check_names::Names;
 
 /// What a place of a condition stands for.
 #[derive(Clone, Copy, Debug, PartialEq, Eq)]

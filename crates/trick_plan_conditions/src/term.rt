@@ -9,8 +9,8 @@ ghost use Rattle.trick_lang.specs.declared.scalar.Scalar.TheVariants.{Long};
 use crate::ConditionFault;
 use crate::place::{Referent, literals, stands_for};
 use std::alloc::Global;
-use trick_lang::{Cell, Choice, Expr, Link, Place, Scalar, syntax};
 use trick_check_names::Names;
+use trick_lang::{Cell, Choice, Expr, Link, Place, Scalar, syntax};
 
 // A literal, wrapped to 64 bits.
 fn number(n: u64) -> i64

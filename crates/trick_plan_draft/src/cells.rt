@@ -7,10 +7,10 @@ ghost use Rattle.trick_lang.specs.Wrap.{scalar_at};
 
 use std::alloc::{AllocError, Global};
 use trick_base::{Items, Word};
-use trick_plan_variables::first_name;
-use trick_plan_deeds::fitting;
-use trick_lang::{Cell, Object, Program, Scalar, Variable};
 use trick_check_names::Names;
+use trick_lang::{Cell, Object, Program, Scalar, Variable};
+use trick_plan_deeds::fitting;
+use trick_plan_variables::first_name;
 
 /// The cells of a program with those that the lines so far declare, and the names that a declaration
 /// cannot have.

@@ -10,10 +10,10 @@ ghost use Rattle.trick_model.specs.Names.{deed_of, deeds_of, find_name, set_in_r
 use crate::{Draft, KnownCells};
 use std::alloc::{AllocError, Global};
 use trick_base::{Items, Word};
-use trick_plan_deeds::{find_job, stop};
+use trick_check_names::Names;
 use trick_lang::{Cell, Program};
 use trick_model::{Action, Deed};
-use trick_check_names::Names;
+use trick_plan_deeds::{find_job, stop};
 
 impl KnownCells {
     // A cell gets a number, if that is in its range.

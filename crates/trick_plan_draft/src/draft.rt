@@ -6,9 +6,9 @@ ghost use Rattle.trick_plan_draft.specs.Drafts.{begun, event_of, group_of, with_
 use crate::{EventDraft, GroupDraft, Handle, KnownCells};
 use std::alloc::{AllocError, Global};
 use trick_base::{Items, Word};
+use trick_check_names::Names;
 use trick_lang::{Cell, EnumItem, Program};
 use trick_model::{Depends, Flags, ReadAt};
-use trick_check_names::Names;
 
 /// What the lines of an input so far have said. Groups and events go by their places, from 0 in the
 /// order of the lines that bind them to a variable.

@@ -14,10 +14,10 @@ use crate::limits::EVENT_LIMIT;
 use crate::{Condition, Draft, EventDraft, Handle, LineFault};
 use std::alloc::{AllocError, Global};
 use trick_base::{Items, Word};
-use trick_plan_conditions::{ConditionFault, is_plain, resolve};
 use trick_lang::Program;
 use trick_lang::syntax::Expr;
 use trick_model::{Action, Deed};
+use trick_plan_conditions::{ConditionFault, is_plain, resolve};
 
 fn new_event(alloc: Global, name: &Word, frame: u64) -> Result<EventDraft, AllocError>
     ensures { IfOk result (λ event. event ≡ new_event name.now frame) }

@@ -6,9 +6,9 @@ ghost use Rattle.trick_model.specs.Plan.{job_at};
 ghost use Rattle.trick_model.specs.Valid.{can_depend};
 
 use trick_base::Word;
-use trick_plan_deeds::find_job;
 use trick_lang::{Class, Job, JobId, Program};
 use trick_model::{Thread, is_of_class, process_of};
+use trick_plan_deeds::find_job;
 
 /// The job of a name and an instance. It takes time as there are jobs, and no memory.
 pub fn job_of(program: &Program, name: &Word, instance: u64) -> Option<JobId>

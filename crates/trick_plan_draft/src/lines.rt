@@ -12,9 +12,9 @@ use crate::limits::{PAIR_LIMIT, READ_LIMIT};
 use crate::{Draft, LineFault};
 use std::alloc::Global;
 use trick_base::{CELL_LIMIT, Items, Word};
-use trick_plan_variables::{DeclareFault, SpelledDeclaration, add};
 use trick_lang::{JobId, Program};
 use trick_model::{Action, Depends, ReadAt};
+use trick_plan_variables::{DeclareFault, SpelledDeclaration, add};
 
 // Adds the cells of a declaration to a program, whose name is free.
 fn add_declared(

@@ -16,9 +16,9 @@ use crate::said::{Line, said};
 use crate::texts::texts_of;
 use crate::times::time_fault;
 use std::alloc::Global;
-use trick_plan_draft::Draft;
 use trick_input::Call;
 use trick_lang::Program;
+use trick_plan_draft::Draft;
 use trick_plan_settings::Settings;
 
 // One line: it is refused, or adds to the draft.

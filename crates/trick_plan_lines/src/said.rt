@@ -13,9 +13,9 @@ ghost use Rattle.trick_plan_lines.specs.Texts.{texts_in};
 use crate::texts::{ReadTexts, actions_of};
 use crate::times::tics_of;
 use std::alloc::Global;
-use trick_plan_draft::{Draft, LineFault, job_of, waiting_job};
 use trick_input::{EventForm, Form, GroupForm, JobForm, RunForm, TextForm, VariableForm};
 use trick_lang::Program;
+use trick_plan_draft::{Draft, LineFault, job_of, waiting_job};
 use trick_plan_settings::{Settings, is_frame};
 
 // A line with what its texts read as.

@@ -9,10 +9,10 @@ use std::alloc::{AllocError, Global};
 use trick_base::{Items, Word};
 use trick_body::BodyFault;
 use trick_command::ActionFault;
-use trick_plan_variables::SpelledDeclaration;
 use trick_input::{Form, TextForm};
 use trick_lang::syntax::Expr;
 use trick_model::Action;
+use trick_plan_variables::SpelledDeclaration;
 
 // The declaration and the condition of a line, where it has them and they read.
 #[derive(Drop)]

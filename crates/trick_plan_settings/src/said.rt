@@ -3,10 +3,10 @@
 ghost use Rattle.std.specs.Prelude.{◌≡◌, [], IfOk};
 ghost use Rattle.trick_plan_settings.specs.Settings.{changed, frame_said, frozen_said, is_frame, later, limit_said, over, said_in, threads_after};
 
+use crate::Setting;
 use std::alloc::{AllocError, Global};
 use trick_base::{Items, TIC_LIMIT};
 use trick_input::{Form, RunForm};
-use crate::Setting;
 
 /// The longest software frame, in tics.
 const FRAME_LIMIT: u64 = 1_000_000_000;

@@ -7,12 +7,12 @@ ghost use Rattle.trick_plan_settings.specs.Settings.{said_in, settings_in};
 ghost use Rattle.trick_plan_settings.specs.Threads.{AreThreads};
 
 use crate::said::Said;
+use crate::threads;
 use std::alloc::{AllocError, Global};
 use trick_base::{Items, TIC_LIMIT};
 use trick_input::Call;
 use trick_lang::Program;
 use trick_model::Thread;
-use crate::threads;
 
 // The software frame of an input that names none: a second, in tics.
 const DEFAULT_FRAME: u64 = 1_000_000;

@@ -26,8 +26,8 @@ use std::marker::Brand;
 use std::sync::{Arc, Wait};
 use trick_lang::JobId;
 use trick_model::Planned;
-use trick_post_work::Job1;
 use trick_post_trays::{Parcel, Worker};
+use trick_post_work::Job1;
 use trick_turn::{Pass, TurnLock};
 
 /// A clerk, who does the work of one thread. It may cross threads.

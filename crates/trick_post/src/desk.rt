@@ -13,8 +13,8 @@ use crate::shut_post::ShutPost;
 use std::sync::Wait;
 use trick_lang::Cells;
 use trick_model::{Faults, Planned, Taken};
-use trick_post_work::{Job1, Posted, Posts};
 use trick_post_trays::Worker;
+use trick_post_work::{Job1, Posted, Posts};
 
 /// The desk of a post: the work of must-finish and asynchronous threads is handed to clerks, and what comes of it is
 /// published here. Whatever the clerks do, that is what one thread makes of what was handed in.

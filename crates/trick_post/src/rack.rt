@@ -20,8 +20,8 @@ use std::alloc::Global;
 use std::marker::Brand;
 use std::sync::{Arc, Wait};
 use trick_model::{Planned, Taken};
-use trick_post_work::{Job1, Posted};
 use trick_post_trays::Parcel;
+use trick_post_work::{Job1, Posted};
 use trick_turn::{Nothing, Pass, TurnLock};
 
 /// A parcel for each thread, and the pass by which they are handed over and taken back. Each call waits for the turn

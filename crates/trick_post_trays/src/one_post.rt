@@ -2,12 +2,12 @@ ghost use Rattle.std.specs.Arc.{arc_value};
 ghost use Rattle.std.specs.Prelude.{◌≡◌, ℕ, IfOk, None};
 ghost use Rattle.trick_post_trays.specs.Posting.{AreParts, started_at};
 
+use crate::{Tray, Worker};
 use std::alloc::{AllocError, Global};
 use std::sync::Arc;
 use trick_lang::Cells;
 use trick_model::{Accepted, Faults, Taken};
 use trick_post_work::{Job1, Posted, Posts};
-use crate::{Tray, Worker};
 
 /// The work of must-finish and asynchronous threads on the caller's thread: each is done where it is to
 /// be published. A round is always ready.

@@ -25,10 +25,10 @@ use std::alloc::{AllocError, Global};
 use trick_base::Items;
 use trick_cycle::laws::due_test_is_exact;
 use trick_eval::Bench;
-use trick_phase_jobs::{Setting, run_jobs};
 use trick_lang::laws::write_law;
 use trick_lang::{CellRange, Cells, JobId};
 use trick_model::{Accepted, Faults, Flags, Plan};
+use trick_phase_jobs::{Setting, run_jobs};
 use trick_post_work::Job1;
 
 /// A bench, and a memory of its own. All of its buffers are made with it.

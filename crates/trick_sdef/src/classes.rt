@@ -21,7 +21,7 @@ use trick_body::{
     NAMES, Source, Symbol, Token, UNSIGNED, name_of, read_int_inside, read_int_rest,
     read_void_rest, scalar_of, take_hinted, unsigned_of,
 };
-use trick_grammar::{Refusal, GrammarStop, next_is, next_is_one_of, reason_at, take, take_one_of};
+use trick_grammar::{GrammarStop, Refusal, next_is, next_is_one_of, reason_at, take, take_one_of};
 use trick_lang::Scalar;
 use trick_lang::syntax::{
     ClassPart, Declarator, Definition, JobLine, Members, Method, Stmt, TypeName,

@@ -14,7 +14,7 @@ use crate::members::read_struct;
 use crate::names::take_free_name;
 use std::alloc::Global;
 use trick_body::{NAMES, Source, Symbol, Token, name_of};
-use trick_grammar::{Refusal, GrammarStop, next_is, next_is_one_of, reason_at, take, take_one_of};
+use trick_grammar::{GrammarStop, Refusal, next_is, next_is_one_of, reason_at, take, take_one_of};
 use trick_lang::syntax::Definition;
 
 // What names another file than the one that may be included.

@@ -18,7 +18,7 @@ use crate::names::take_free_name;
 use std::alloc::{AllocError, Global};
 use trick_base::Items;
 use trick_body::{NAMES, Source, Symbol, Token, WHOLES, name_of};
-use trick_grammar::{Refusal, GrammarStop, next_is, next_is_one_of, take, take_one_of};
+use trick_grammar::{GrammarStop, Refusal, next_is, next_is_one_of, take, take_one_of};
 use trick_lang::syntax::{Definition, EnumItem};
 
 // "=" [ "-" ] WHOLE

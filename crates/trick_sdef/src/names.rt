@@ -7,7 +7,7 @@ ghost use Rattle.trick_grammar.specs.Reading.{read};
 ghost use Rattle.trick_sdef.specs.Members.{free_name};
 
 use trick_body::{Symbol, Token};
-use trick_grammar::{Refusal, GrammarStop, next_is, reason_at, take_one_of};
+use trick_grammar::{GrammarStop, Refusal, next_is, reason_at, take_one_of};
 
 // The symbols of names other than `trick`.
 pub const FREE_NAMES: [Symbol; 7] = [

@@ -17,7 +17,7 @@ use trick_base::Items;
 use trick_body::{
     LIST_LIMIT, METHOD_LEVELS, NESTING_LIMIT, Source, Symbol, Token, lexemes, told, told_line,
 };
-use trick_grammar::{Refusal, GrammarStop};
+use trick_grammar::{GrammarStop, Refusal};
 use trick_lang::syntax::{Definition, SDefine};
 use trick_text::{FirstFault, Style, TextFault, TimeFault, TokenKind, cut, last_line, seconds};
 

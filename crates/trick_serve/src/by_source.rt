@@ -11,14 +11,14 @@ ghost use Rattle.trick_serve.specs.Ran.{HasRun};
 ghost use Rattle.trick_exec_sources.specs.Turns.{no_sessions};
 
 use trick_exec::{Start, run};
+use trick_exec_alone::{Summary, summary_of};
+use trick_exec_sources::Turns;
+use trick_exec_tic::Workers;
 use trick_lang::Cells;
 use trick_model::Accepted;
 use trick_outside::{Shelf, Stop};
 use trick_phase_jobs::Phases;
 use trick_post_work::Posts;
-use trick_exec_alone::{Summary, summary_of};
-use trick_exec_tic::Workers;
-use trick_exec_sources::Turns;
 
 /// Runs an accepted plan from a state by these workers, who have nothing in flight, over a source of entries that has
 /// given nothing yet and tells no journal, until the run is over. It writes the files of the run, and where it stops a

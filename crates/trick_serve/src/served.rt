@@ -22,19 +22,19 @@ use std::sync::{Arc, Wait};
 use std::thread::Threads;
 use trick_crew::WholeCrew;
 use trick_exec::Start;
-use trick_serve_headline::laws::{tended_clients_are_sent, tended_clients_are_served};
+use trick_exec_alone::one_thread;
+use trick_exec_laws::laws::{rounds_are_bounded, stopped_runs_leave_fronts};
+use trick_exec_tic::Workers;
 use trick_lang::Cells;
 use trick_memory::Memory;
 use trick_model::{Accepted, Planned, State};
 use trick_outside::{Door, Gate, Shelf, Spawner, Stop};
 use trick_phase_jobs::Phases;
 use trick_post_work::Posts;
-use trick_exec_laws::laws::{rounds_are_bounded, stopped_runs_leave_fronts};
-use trick_exec_alone::one_thread;
-use trick_serve_source::{Served, ServedHere};
 use trick_serve_clients::{Opened, close_clients, close_here, open_clients};
 use trick_serve_facts::laws::joins_are_in_order;
-use trick_exec_tic::Workers;
+use trick_serve_headline::laws::{tended_clients_are_sent, tended_clients_are_served};
+use trick_serve_source::{Served, ServedHere};
 
 // A run that could not begin, for want of memory.
 fn not_begun<D, S>(door: D, spawner: S) -> Service<D, S>

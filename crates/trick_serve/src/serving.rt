@@ -2,8 +2,8 @@
 
 use std::alloc::Global;
 use std::sync::Arc;
-use trick_outside::Stop;
 use trick_exec_alone::Summary;
+use trick_outside::Stop;
 
 /// What a served run works with, beside its plan, its first state and its shelf.
 #[derive(Drop)]

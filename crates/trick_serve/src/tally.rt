@@ -4,10 +4,10 @@ ghost use Rattle.std.specs.Prelude.{◌≡◌, ◌&&◌, length, not};
 ghost use Rattle.trick_serve.specs.Ending.{concluded as concluded_of};
 
 use crate::serving::Service;
-use trick_outside::Stop;
 use trick_exec_alone::Summary;
-use trick_serve_source::Served;
+use trick_outside::Stop;
 use trick_serve_clients::Closed;
+use trick_serve_source::Served;
 
 // What a source of entries tells at the end of a run.
 #[derive(Drop)]

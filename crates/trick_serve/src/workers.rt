@@ -7,12 +7,12 @@ ghost use Rattle.trick_crew.specs.InHand.{in_hand, plan_for};
 use std::alloc::{AllocError, Global};
 use std::sync::{Arc, Wait};
 use std::thread::Threads;
-use trick_crew_team::Team;
 use trick_crew::{Clerks, WholeCrew};
+use trick_crew_team::Team;
+use trick_exec_tic::Workers;
 use trick_memory::Memory;
 use trick_model::{Accepted, Plan, Planned};
 use trick_outside::{Gate, Spawner};
-use trick_exec_tic::Workers;
 
 /// Whether some child thread of a plan has a job. Where none has, the caller does all jobs, as fast as on one thread.
 pub(crate) fn has_children(plan: &Plan) -> bool {

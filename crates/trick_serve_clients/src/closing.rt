@@ -16,8 +16,8 @@ use crate::{Clients, ClientsHere};
 use std::sync::Wait;
 use std::thread::Threads;
 use trick_outside::{Door, Spawner};
-use trick_serve_source::{Finished, ServedHere};
 use trick_serve_door::{Ends, Taken, finish_accepting};
+use trick_serve_source::{Finished, ServedHere};
 
 /// The door and the spawner of a run whose clients are closed.
 #[derive(Drop)]

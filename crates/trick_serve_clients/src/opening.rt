@@ -11,8 +11,10 @@ use std::snapshot::Snapshot;
 use std::sync::{Arc, Wait};
 use std::thread::Threads;
 use trick_outside::{Door, Spawner};
+use trick_serve_door::{
+    Accepting, AcceptorThread, Asking, Comes, Departure, RunningAcceptor, Taken, start_accepting,
+};
 use trick_serve_source::{Served, ServedHere};
-use trick_serve_door::{Accepting, AcceptorThread, Asking, Comes, Departure, RunningAcceptor, Taken, start_accepting};
 use trick_turn::Bell;
 use trick_wire::{Putter, Taker, channel};
 

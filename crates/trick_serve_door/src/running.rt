@@ -2,10 +2,10 @@
 
 ghost use Rattle.std.specs.Prelude.{◌≡◌};
 
+use crate::{Accepting, Taken};
 use std::snapshot::Snapshot;
 use std::thread::{Promise, PromisedHandle};
 use trick_outside::{Door, Spawner};
-use crate::{Accepting, Taken};
 
 /// What a thread made of its work.
 #[derive(Drop)]

@@ -23,11 +23,11 @@ use crate::{Finished, Roll, Seat, Served};
 use std::alloc::{AllocError, Global};
 use std::sync::{Arc, Wait};
 use trick_base::Items;
+use trick_exec_sources::{Next, Turns};
 use trick_lang::Cells;
 use trick_model::{Entry, Mode, Session, State};
 use trick_serve_door::{Comes, Departure};
 use trick_turn::Bell;
-use trick_exec_sources::{Next, Turns};
 use trick_wire::{Putter, Taker};
 
 // Whether no time passes in a mode.

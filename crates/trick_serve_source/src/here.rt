@@ -5,11 +5,11 @@ ghost use Rattle.trick_serve_source.specs.Here.{WentHere};
 use crate::Served;
 use std::alloc::{AllocError, Global};
 use std::sync::Wait;
+use trick_exec_sources::{Next, Turns};
 use trick_lang::Cells;
 use trick_model::{Session, State};
 use trick_outside::{Door, Spawner};
 use trick_serve_door::Asking;
-use trick_exec_sources::{Next, Turns};
 
 /// The clients of a run as its source of entries, where no thread takes them: the door is asked before each look at
 /// what came.

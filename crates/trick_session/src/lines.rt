@@ -13,8 +13,8 @@ use crate::Reply;
 use crate::session::remove;
 use std::alloc::{AllocError, Global};
 use trick_base::Word;
-use trick_plan_deeds::{deed_in_plan, find_cell};
 use trick_model::{Action, Command, Plan, Session};
+use trick_plan_deeds::{deed_in_plan, find_cell};
 
 // The most variables of a session.
 const VARIABLE_LIMIT: usize = 256;

@@ -12,8 +12,10 @@ use std::alloc::{AllocError, Global};
 use std::sync::Arc;
 use std::test::Fail;
 use trick_exec::{Ended, Start, run};
-use trick_journal::read;
+use trick_exec_alone::{first_state, one_thread};
 use trick_exec_sources::{JournalTurns, Next, Turns};
+use trick_exec_tic::Workers;
+use trick_journal::read;
 use trick_lang::Cells;
 use trick_memory::Memory;
 use trick_model::{Accepted, Journal, Mode, Session, State, laws};
@@ -21,8 +23,6 @@ use trick_outside::MemoryShelf;
 use trick_phase_jobs::Phases;
 use trick_post_work::Posts;
 use trick_top_texts::ready;
-use trick_exec_alone::{first_state, one_thread};
-use trick_exec_tic::Workers;
 
 /// A journal, and the messages to sessions, in order.
 #[derive(Drop)]

@@ -4,9 +4,9 @@ use crate::cases::{Call, number_of};
 use std::alloc::{AllocError, Global};
 use trick_base::Word;
 use trick_body::{BodyFault, condition, read_body};
-use trick_plan_conditions::{is_plain, resolve};
-use trick_lang::{Cell, Expr, syntax};
 use trick_check_names::Names;
+use trick_lang::{Cell, Expr, syntax};
+use trick_plan_conditions::{is_plain, resolve};
 use trick_text::{Style, TextFault, laws, tokens};
 
 /// Whether a text is a condition.

@@ -4,9 +4,9 @@ use crate::cases::Call;
 use crate::line::push_escaped;
 use crate::settings::program;
 use std::alloc::{AllocError, Global};
-use trick_plan_variables::{Declaration, SpelledDeclaration, declare, first_name};
 use trick_model::Plan;
 use trick_plan::plan;
+use trick_plan_variables::{Declaration, SpelledDeclaration, declare, first_name};
 
 // A declaration in a line: its type, its name and the lengths of its array.
 fn shown(alloc: Global, declaration: &Declaration) -> Result<String, AllocError> {

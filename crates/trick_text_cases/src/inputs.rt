@@ -5,8 +5,8 @@ use crate::line::push_escaped;
 use std::alloc::{AllocError, Global};
 use trick_check::resolve;
 use trick_input::{Form, RunForm, read_input};
-use trick_top_refusals::{check_line, input_line, s_define_line};
 use trick_sdef::read_sdef;
+use trick_top_refusals::{check_line, input_line, s_define_line};
 
 // A line as a text.
 fn text_of(alloc: Global, line: Result<Vec<u8>, AllocError>) -> Result<String, AllocError> {

@@ -4,8 +4,8 @@ use crate::cases::{Call, number_of};
 use crate::line::push_escaped;
 use std::alloc::{AllocError, Global};
 use trick_base::{Items, Word};
-use trick_lang::syntax::{ClassPart, Definition, SDefine};
 use trick_check_names::{Member, Names, calls_of_class, laws};
+use trick_lang::syntax::{ClassPart, Definition, SDefine};
 use trick_sdef::read_sdef;
 
 // Does what a word says: `fuel=7` makes a name known and tells whether it was, `keep:1` forgets all names but

@@ -15,11 +15,11 @@ ghost use Rattle.trick_top.specs.Rows.{IsServedSo, has_risen as has_risen_so, se
 use std::alloc::Global;
 use std::sync::{Arc, Wait};
 use std::thread::Threads;
+use trick_chkpt_state::resume;
+use trick_exec_alone::{Summary, first_state};
 use trick_memory::Memory;
 use trick_model::{Accepted, State, laws};
 use trick_outside::{Door, Gate, Shelf, Spawner, Stop};
-use trick_chkpt_state::resume;
-use trick_exec_alone::{Summary, first_state};
 use trick_serve::{Service, Serving, serve};
 use trick_top_alone::{Verdict, unloaded};
 

@@ -15,9 +15,9 @@ use std::sync::{Arc, Wait};
 use std::thread::Threads;
 use trick_model::Accepted;
 use trick_outside::{Door, Gate, Shelf, Spawner};
-use trick_top_texts::ready;
 use trick_serve::Serving;
 use trick_top_alone::{Contents, Sources, Verdict, as_sources, read_named, refused};
+use trick_top_texts::ready;
 use trick_top_words::Texts;
 
 /// A run that does not begin, by this verdict: its door and its spawner are handed back.

@@ -33,13 +33,13 @@ use std::alloc::Global;
 use std::sync::{Arc, Wait};
 use std::thread::Threads;
 use trick_base::Word;
+use trick_outside::{Door, Gate, Shelf, Sink, Spawner};
+use trick_serve::Serving;
 use trick_serve_headline::laws::{
     fronts_are_sent, runs_of_nobody_are_alone, served_runs_keep_the_headline,
 };
-use trick_outside::{Door, Gate, Shelf, Sink, Spawner};
-use trick_top_texts::laws::texts_have_one_meaning;
-use trick_serve::Serving;
 use trick_top_alone::{print, print_out_of_memory, read_run, tricks_alone};
+use trick_top_texts::laws::texts_have_one_meaning;
 use trick_top_words::{Texts, laws};
 
 /// How the program ends: its status, and the door and the spawner that it was handed.

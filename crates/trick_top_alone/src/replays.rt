@@ -10,12 +10,12 @@ use crate::runs::unloaded;
 use crate::verdict::Verdict;
 use std::alloc::Global;
 use std::sync::Arc;
+use trick_chkpt_state::resume;
+use trick_exec_alone::{Replayed, replay as replay_new, replay_from};
 use trick_journal::{JournalFault, laws, read};
 use trick_model::Accepted;
 use trick_outside::{Shelf, Stop};
 use trick_top_refusals::journal_line;
-use trick_exec_alone::{Replayed, replay as replay_new, replay_from};
-use trick_chkpt_state::resume;
 
 /// The turn at which a plan's own start begins.
 const FIRST_TURN: u64 = 0;

@@ -9,12 +9,12 @@ ghost use Rattle.trick_top_alone.specs.Verdict.{OutOfMemory, run_verdict, unload
 use crate::verdict::Verdict;
 use std::alloc::Global;
 use std::sync::Arc;
+use trick_chkpt_state::resume;
 use trick_codes::LoadFault;
+use trick_exec_alone::{Summary, serial, serial_from};
 use trick_model::Accepted;
 use trick_outside::{Shelf, Stop};
 use trick_top_refusals::checkpoint_line;
-use trick_chkpt_state::resume;
-use trick_exec_alone::{Summary, serial, serial_from};
 
 /// The verdict on a run that ended so.
 pub(crate) fn ended(run: Result<Summary, Stop>) -> Verdict<'static>

@@ -6,8 +6,8 @@ ghost use Rattle.trick_top_alone.specs.Verdict.{status_of, verdict_of};
 
 use std::alloc::{AllocError, Global};
 use trick_base::Word;
-use trick_top_refusals::length_line;
 use trick_exec_alone::Summary;
+use trick_top_refusals::length_line;
 
 const USAGE: &[u8] = b"usage: tricks serial|run|replay|check|list|gen\n";
 
@@ -80,7 +80,12 @@ fn accepted_line(alloc: Global, cells: u64, jobs: u64, threads: u64) -> Result<V
 }
 
 // What a run says, with this end of its line.
-fn ended_facts(alloc: Global, ended: Summary, sessions: u64, end: &str) -> Result<Vec<u8>, AllocError>
+fn ended_facts(
+    alloc: Global,
+    ended: Summary,
+    sessions: u64,
+    end: &str,
+) -> Result<Vec<u8>, AllocError>
     ensures { IfOk result (λ line. line.items ≡ ended_facts_of ended sessions ++ end.now) }
 {
     let Summary {

@@ -8,8 +8,8 @@ use trick_base::Word;
 use trick_outside::{
     EndedDoor, MemoryOut, MemoryShelf, MemorySink, NoGate, ScriptIn, Shelf, Sink, Spawner,
 };
-use trick_top_alone::tricks_alone;
 use trick_top::tricks;
+use trick_top_alone::tricks_alone;
 
 /// What the next command is done with.
 #[derive(Drop)]

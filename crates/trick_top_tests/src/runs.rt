@@ -13,8 +13,8 @@ use trick_outside::{
     Door, LinkIn, LinkOut, ListSpawner, MemoryOut, MemoryShelf, MemorySink, ScriptDoor, Shelf,
     Sink, Spawner,
 };
-use trick_top_alone::tricks_alone;
 use trick_top::tricks;
+use trick_top_alone::tricks_alone;
 
 /// Nothing is wrong with a run.
 pub(crate) const RIGHT: &str = "nothing is wrong";

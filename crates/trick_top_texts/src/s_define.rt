@@ -13,8 +13,8 @@ use std::alloc::Global;
 use trick_check::{CheckFault, resolve};
 use trick_lang::Program;
 use trick_lang::syntax::SDefine;
-use trick_top_refusals::{check_line, s_define_line};
 use trick_sdef::{SdefFault, read_sdef};
+use trick_top_refusals::{check_line, s_define_line};
 
 // The refusal of an S_define by its reader.
 fn unread(alloc: Global, fault: SdefFault) -> Unready

@@ -19,8 +19,8 @@ use std::{env, fs, io};
 use trick_base::Word;
 use trick_outside::{Door, EndedDoor, MemoryOut, NoGate, ScriptIn, Shelf, Sink, ThreadSpawner};
 use trick_outside_tcp::TcpDoor;
-use trick_top_alone::print_out_of_memory;
 use trick_top::{port_wanted, tricks};
+use trick_top_alone::print_out_of_memory;
 
 /// The status where standard output cannot be written.
 const NO_OUTPUT: u8 = 8;
