@@ -62,14 +62,6 @@ before_next first c q h = by_place q c
     (λ more. let a : nat_lt q (c + 1) ≡ false = grind (arith, nat_tests) in let b : nat_lt q c ≡ false = grind (arith, nat_tests) in let d : nat_le c q ≡ true = grind (arith, nat_tests) in let e : nat_le first q ≡ true = grind (arith, nat_tests) in
     ap₂ (λ s t. s && t) e a ∙ sym (ap₂ (λ s t. (nat_le first q && s) || (t && nat_lt q (c + 1))) b d ∙ ap₂ (λ s t. (s && false) || t) e a))
 
-if_true : {X : Type 0} (b : Bool) (x y : X) → b ≡ true → (if b then x else y) ≡ x
-if_true true x y h = refl
-if_true false x y h = cc
-
-if_false : {X : Type 0} (b : Bool) (x y : X) → b ≡ false → (if b then x else y) ≡ y
-if_false true x y h = cc
-if_false false x y h = refl
-
 module _ (f : ℕ → Bool) (q : ℕ) where
   spans_in : (n c : ℕ) (began : Option ℕ) → IsBegun began c → is_in (spans f c n began) q ≡ (before began c q || window c n q (f q))
   spans_in zero c None h = sym (window_end c q (f q))

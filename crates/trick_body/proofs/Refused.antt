@@ -5,10 +5,10 @@ use Rattle.trick_body.specs.Limits.{list_limit, nesting_limit, method_levels}
 use Rattle.trick_body.specs.Symbols.{number_of, spelled, Token}
 use Rattle.trick_body.specs.Told.{told, told_line}
 use Rattle.trick_body.proofs.ExpressionTests.{expression_test}
-use Rattle.trick_body.proofs.Lines.{front_is}
 use Rattle.trick_body.proofs.MethodTests.{method_test}
 use Rattle.trick_grammar.proofs.Cut.{first}
 use Rattle.trick_grammar.proofs.Exact.{exact, exact_front}
+use Rattle.trick_grammar.proofs.Fronts.{front_is}
 use Rattle.trick_grammar.proofs.Short.{leaves}
 use Rattle.trick_grammar.specs.Cut.{at_token, IsFirst}
 use Rattle.trick_grammar.specs.Gives.{class_of}

@@ -6,6 +6,7 @@ use Rattle.std.proofs.lemmas.Slice.Eq.{bytes_eq-Decides}
 use Rattle.std.specs.Fmt.{decimal}
 use Rattle.std.specs.List.{list_all}
 use Rattle.std.specs.Str.{bytes_eq}
+use Rattle.trick_check_cells.proofs.Lists.{under_append, under_under}
 use Rattle.trick_check_cells.specs.Cells.{array_cells, base_cells, bracket, cells_at, dotted, each, global_cells, group_cells, member_cells, members_cells, memory_cells, objects_cells, all_groups, under}
 use Rattle.trick_lang.specs.Names.{are_apart, of_one_name}
 use Rattle.trick_lang.specs.SyntaxTree.{Name}
@@ -20,7 +21,7 @@ use Rattle.trick_check_names.specs.declared.tables.Lengths.TheVariants.{Plain, O
 use Rattle.trick_check_names.specs.declared.tables.Member.{Member}
 use Rattle.trick_check_names.specs.declared.tables.Member.TheVariants.{Variable as Holds, Method}
 use Rattle.trick_check_names.specs.declared.tables.Tables.{Tables}
-use Rattle.trick_check.proofs.Unlike.{are_tails, are_unlike, apart_append, is_plain, is_tail, under_apart, under_append, under_tails, under_under, under_unlike, unlike_append, unlike_none}
+use Rattle.trick_check.proofs.Unlike.{are_tails, are_unlike, apart_append, is_plain, is_tail, under_apart, under_tails, under_unlike, unlike_append, unlike_none}
 use Rattle.trick_check.proofs.Jobs.{all_append}
 
 -- ---- elements of arrays

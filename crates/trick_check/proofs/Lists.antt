@@ -1,5 +1,5 @@
 -- Parts of classes and tables of definitions, by their numbers.
-use Rattle.std.proofs.Common.{◌≡◌, ℕ, zero, suc, ◌<◌, ◌≤◌, List, [], ◌∷◌, length, get_or, slice_get, Some, None, Result, Ok, Err, IfOk, OnOk, refl, ap, arith}
+use Rattle.std.proofs.Common.{◌≡◌, ℕ, zero, suc, ◌<◌, ◌≤◌, List, [], ◌∷◌, length, get_or, slice_get, Some, None, Result, Ok, Err, IfOk, refl, ap, arith}
 use Rattle.trick_check_blocks.specs.Kept.{is_one_of}
 use Rattle.trick_check.specs.Parts.{parts_at, parts_in}
 use Rattle.trick_lang.specs.Syntax.{class_part_of, class_parts_of, definition_of, definitions_of}
@@ -46,10 +46,6 @@ parts_many (p ∷ ps) = ap suc (parts_many ps)
 pub has_is : (xs : List ℕ) (k : ℕ) → has xs k ≡ is_one_of xs k
 has_is [] k = refl
 has_is (x ∷ xs) k = rw (has_is xs k) refl
-
-pub on_ok : {T E P Q : Type 0} (r : Result T E) → (P → Q) → OnOk r P → OnOk r Q
-on_ok (Ok x) f h = f h
-on_ok (Err e) f h = tt
 
 pub both_ok : {T E : Type 0} (P Q : T → Type 0) (r : Result T E) → IfOk r P → IfOk r Q → IfOk r (λ x. P x × Q x)
 both_ok P Q (Ok x) p q = (p, q)

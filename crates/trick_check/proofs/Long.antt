@@ -5,6 +5,7 @@ use Rattle.std.proofs.lemmas.Bool.{and_parts, eqb-true, le-leb, leb-true}
 use Rattle.std.proofs.lemmas.Option.{get_or_from_slice_get, slice_get-get_or}
 use Rattle.std.specs.List.{list_all}
 use Rattle.trick_base.specs.Capped.{capped}
+use Rattle.trick_check_blocks.proofs.Rows.{bodies_many, codes_are}
 use Rattle.trick_check_blocks.specs.Held.{bodies_of}
 use Rattle.trick_check_blocks.specs.Kept.{codes_in}
 use Rattle.trick_check_bodies.specs.Classes.{Made, made}
@@ -23,14 +24,6 @@ use Rattle.trick_lang.specs.declared.method.Method.{Method}
 use Rattle.trick_lang.specs.declared.object.Object.{Object}
 use Rattle.trick_lang.specs.declared.tree.Block.{Block}
 use Rattle.trick_check_steps.specs.Steps.{blocks_steps, count_at}
-
-pub codes_are : (bs : List Block) → codes_in (bodies_of bs) ≡ codes_of bs
-codes_are [] = refl
-codes_are (b ∷ bs) = rw (codes_are bs) refl
-
-pub bodies_many : (bs : List Block) → length (bodies_of bs) ≡ length bs
-bodies_many [] = refl
-bodies_many (b ∷ bs) = ap suc (bodies_many bs)
 
 codes_many : (bs : List Block) → length (codes_of bs) ≡ length bs
 codes_many [] = refl

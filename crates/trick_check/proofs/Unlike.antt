@@ -1,7 +1,6 @@
 -- Lists of which no two are alike, and cells under names that differ.
 use Rattle.std.proofs.Common.{◌≡◌, ℕ, Bool, true, false, not, ◌&&◌, ◌==◌, List, [], ◌∷◌, ◌++◌, refl, sym, ap, subst, ◌∙◌, eq-eqb}
 use Rattle.std.proofs.lemmas.Bool.{and_parts, ne_eqb}
-use Rattle.std.proofs.lemmas.List.{append_assoc}
 use Rattle.std.specs.List.{list_all}
 use Rattle.std.specs.Str.{bytes_eq}
 use Rattle.trick_check_cells.specs.Cells.{under}
@@ -50,16 +49,6 @@ one_under p c (d ∷ ds) = rw (same_front p c.name d.name, one_under p c ds) ref
 pub under_apart : (p : Name) (cs : List Variable) → are_apart of_one_name (under p cs) ≡ are_apart of_one_name cs
 under_apart p [] = refl
 under_apart p (c ∷ cs) = rw (one_under p c cs, under_apart p cs) refl
-
-pub under_append : (p : Name) (xs ys : List Variable) → under p (xs ++ ys) ≡ under p xs ++ under p ys
-under_append p [] ys = refl
-under_append p (x ∷ xs) ys = ap (λ zs. record { name = p ++ x.name; scalar = x.scalar } ∷ zs) (under_append p xs ys)
-
-pub under_under : (p q : Name) (cs : List Variable) → under p (under q cs) ≡ under (p ++ q) cs
-under_under p q [] = refl
-under_under p q (c ∷ cs) =
-    ap (λ n. record { name = n; scalar = c.scalar } ∷ under p (under q cs)) (sym (append_assoc p q c.name))
-    ∙ ap (λ zs. record { name = (p ++ q) ++ c.name; scalar = c.scalar } ∷ zs) (under_under p q cs)
 
 -- ---- names that end where such a byte stands
 

@@ -6,7 +6,7 @@ pub mod Build
 mod Fitting
 mod Grow
 mod Depths
-mod Rows
+pub mod Rows
 mod Passing
 mod Reaching
 mod Running

@@ -1,8 +1,8 @@
 -- What is kept of all methods of a program, class by class.
-use Rattle.std.proofs.Common.{rules, ◌≡◌, ℕ, ◌++◌, ◌||◌, ◌==◌, IsTrue, List, [], ◌∷◌, slice_get, Option, Some, None, is_some, Bool, true, false, if◌then◌else◌, refl, ap, sym, ◌∙◌, subst}
+use Rattle.std.proofs.Common.{◌≡◌, ℕ, ◌++◌, ◌||◌, ◌==◌, IsTrue, List, [], ◌∷◌, slice_get, Option, Some, None, is_some, Bool, true, false, if◌then◌else◌, refl, ap, sym, ◌∙◌, subst}
 use Rattle.std.proofs.lemmas.Bool.{and_from, eqb-true}
-use Rattle.std.proofs.lemmas.Slice.Eq.{bytes_eq-Decides}
 use Rattle.std.specs.Str.{bytes_eq}
+use Rattle.trick_base.proofs.ListLemmas.{own_bytes}
 use Rattle.trick_check_blocks.proofs.Made.{method_holds}
 use Rattle.trick_check_blocks.specs.Held.{bodies_of}
 use Rattle.trick_check_blocks.specs.Kept.{AreKept, Grows, MethodsHold, is_one_of}
@@ -39,9 +39,6 @@ methods_hold w blocks ms h = record { method_blocks = stand w blocks ms h; local
 
 -- ---- each method that is taken is known
 
-same_name : (name : Name) → bytes_eq name name ≡ true
-same_name name = search (rules, bytes_eq-Decides)
-
 added_some : (q name : Name) (x : ℕ) (names : Names ℕ) → IsTrue (is_some (meaning_of q names)) → IsTrue (is_some (meaning_of q (names ++ (name, x) ∷ [])))
 added_some q name x [] h = absurd (cc h)
 added_some q name x (e ∷ es) h = by_test (bytes_eq q e.0) (added_some q name x es) h where
@@ -50,7 +47,7 @@ added_some q name x (e ∷ es) h = by_test (bytes_eq q e.0) (added_some q name x
   by_test false rest h = rest h
 
 added_here : (name : Name) (x : ℕ) (names : Names ℕ) → IsTrue (is_some (meaning_of name (names ++ (name, x) ∷ [])))
-added_here name x [] = subst (λ b. IsTrue (is_some (if b then Some x else None))) (sym (same_name name)) refl
+added_here name x [] = subst (λ b. IsTrue (is_some (if b then Some x else None))) (sym (own_bytes name)) refl
 added_here name x (e ∷ es) = by_test (bytes_eq name e.0) (added_here name x es) where
   by_test : (b : Bool) → IsTrue (is_some (meaning_of name (es ++ (name, x) ∷ []))) → IsTrue (is_some (if b then Some e.1 else meaning_of name (es ++ (name, x) ∷ [])))
   by_test true rest = refl

@@ -17,9 +17,9 @@ pub codes_are : (bs : List Block) → codes_in (bodies_of bs) ≡ codes_of bs
 codes_are [] = refl
 codes_are (b ∷ bs) = ap (λ q. code_list b.statements ∷ q) (codes_are bs)
 
-pub as_many : (bs : List Block) → length (bodies_of bs) ≡ length bs
-as_many [] = refl
-as_many (b ∷ bs) = omega (arith, as_many bs)
+pub bodies_many : (bs : List Block) → length (bodies_of bs) ≡ length bs
+bodies_many [] = refl
+bodies_many (b ∷ bs) = omega (arith, bodies_many bs)
 
 pub codes_one : (bodies : List Body) (b : Body) → codes_in (bodies ++ b ∷ []) ≡ codes_in bodies ++ b.codes ∷ []
 codes_one [] b = refl

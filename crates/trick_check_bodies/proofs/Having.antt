@@ -2,6 +2,7 @@
 use Rattle.std.proofs.Common.{◌≡◌, ℕ, zero, suc, ◌+◌, ◌*◌, ◌<◌, List, [], ◌∷◌, ◌++◌, length, refl, ap, sym, ◌∙◌, subst, arith}
 use Rattle.std.proofs.Math.ListN.{length-append}
 use Rattle.std.proofs.lemmas.List.{append_assoc}
+use Rattle.trick_check_cells.proofs.Lists.{under_append, under_under}
 use Rattle.trick_check_cells.specs.Cells.{bracket, each, under}
 use Rattle.trick_lang.specs.SyntaxTree.{Name}
 use Rattle.trick_lang.specs.declared.variable.Variable.{Variable}
@@ -12,16 +13,6 @@ use Rattle.trick_check_bodies.specs.Named.{HasAt}
 length_under : (p : Name) (cs : List Variable) → length (under p cs) ≡ length cs
 length_under p [] = refl
 length_under p (c ∷ cs) = ap suc (length_under p cs)
-
-under_append : (p : Name) (xs ys : List Variable) → under p (xs ++ ys) ≡ under p xs ++ under p ys
-under_append p [] ys = refl
-under_append p (x ∷ xs) ys = ap (λ zs. record { name = p ++ x.name; scalar = x.scalar } ∷ zs) (under_append p xs ys)
-
-under_under : (p q : Name) (cs : List Variable) → under p (under q cs) ≡ under (p ++ q) cs
-under_under p q [] = refl
-under_under p q (c ∷ cs) =
-    ap (λ n. record { name = n; scalar = c.scalar } ∷ under p (under q cs)) (sym (append_assoc p q c.name))
-    ∙ ap (λ zs. record { name = (p ++ q) ++ c.name; scalar = c.scalar } ∷ zs) (under_under p q cs)
 
 -- ---- parts of parts
 

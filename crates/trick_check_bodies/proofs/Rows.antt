@@ -1,5 +1,5 @@
 -- Lists of the file, one item after another.
-use Rattle.std.proofs.Common.{◌≡◌, ℕ, zero, suc, ◌+◌, ◌<◌, ◌≤◌, Bool, true, false, if◌then◌else◌, List, [], ◌∷◌, ◌++◌, length, get_or, take, drop, refl, ap, sym, ◌∙◌, arith, Result, Ok, Err, OnOk}
+use Rattle.std.proofs.Common.{◌≡◌, ℕ, zero, suc, ◌+◌, ◌<◌, ◌≤◌, List, [], ◌∷◌, ◌++◌, length, get_or, take, drop, refl, ap, sym, ◌∙◌, arith}
 use Rattle.std.proofs.lemmas.List.{append_assoc, take_more}
 use Rattle.trick_base.proofs.ListLemmas.{next_item}
 use Rattle.trick_check_bodies.specs.Jobs.{calls_in, definition_lines, lines_at, method_number, numbers_at, object_jobs}
@@ -17,14 +17,6 @@ parts_next xs i item h is = ap class_parts_of (next_item xs i item h is)
 -- a part after what is there, and then the rest
 pub appended : {A : Type 0} (before part rest all made : List A) → before ++ (part ++ rest) ≡ all → made ≡ before ++ part → made ++ rest ≡ all
 appended before part rest all made was is = ap (λ xs. xs ++ rest) is ∙ (append_assoc before part rest ∙ was)
-
-pub if_true : {T : Type 0} (b : Bool) (x y : T) → b ≡ true → (if b then x else y) ≡ x
-if_true true x y h = refl
-if_true false x y h = absurd (cc h)
-
-pub if_false : {T : Type 0} (b : Bool) (x y : T) → b ≡ false → (if b then x else y) ≡ y
-if_false true x y h = absurd (cc h)
-if_false false x y h = refl
 
 pub lines_past : (ds : List Definition) (k : ℕ) → length ds ≤ k → lines_at (definitions_of ds) k ≡ []
 lines_past [] k h = refl
@@ -76,10 +68,6 @@ object_next object numbers xs i line job low at is =
     ap (λ q. (job ∷ []) ++ object_jobs object numbers q rest) grown
     ∙ (ap (λ js. js ++ object_jobs object numbers (before ++ line_of line ∷ []) rest) is
     ∙ sym (ap (λ q. object_jobs object numbers before (jobs_of q)) (next_item xs i line low at)))
-
-pub on_ok : {T E P Q : Type 0} (r : Result T E) → (P → Q) → OnOk r P → OnOk r Q
-on_ok (Ok x) f h = f h
-on_ok (Err e) f h = tt
 
 -- the job of one line
 pub job_is : (object : ℕ) (numbers : Names ℕ) (before : List JobLine) (line : JobLine) (method instance number : ℕ) → method ≡ method_number numbers line.method → instance ≡ calls_in line.method (jobs_of before) + 1 → number ≡ length (jobs_of before) → record {

@@ -1,12 +1,13 @@
 -- The tables of a file tell where its cells are.
-use Rattle.std.proofs.Common.{rules, ◌≡◌, ℕ, zero, suc, ◌+◌, ◌*◌, ◌≤◌, Bool, true, false, if◌then◌else◌, nat_le, List, [], ◌∷◌, ◌++◌, length, slice_index_or, is_some, Some, None, refl, ap, sym, subst, ◌∙◌, arith}
+use Rattle.std.proofs.Common.{◌≡◌, ℕ, zero, suc, ◌+◌, ◌*◌, ◌≤◌, Bool, true, false, if◌then◌else◌, nat_le, List, [], ◌∷◌, ◌++◌, length, slice_index_or, is_some, Some, None, refl, ap, sym, subst, ◌∙◌, arith}
 use Rattle.std.proofs.lemmas.Bool.{and_parts, leb-true}
 use Rattle.std.proofs.lemmas.Nat.{mul-le}
-use Rattle.std.proofs.lemmas.Slice.Eq.{bytes_eq-Decides}
 use Rattle.std.specs.Str.{bytes_eq}
+use Rattle.trick_base.proofs.ListLemmas.{same_bytes}
+use Rattle.trick_base.proofs.Numbers.{factor_small}
 use Rattle.trick_base.specs.Capped.{capped}
 use Rattle.trick_check_cells.proofs.Counted.{base_counted, global_counted, member_counted, members_counted, size_counts}
-use Rattle.trick_check_cells.proofs.Laid.{groups_at}
+use Rattle.trick_check_cells.proofs.Laid.{groups_at, narrow_small}
 use Rattle.trick_check_cells.proofs.Lists.{length_each, length_under}
 use Rattle.trick_check_cells.specs.Cells.{array_cells, base_cells, cells_at, dotted, each, global_cells, member_cells, members_cells, objects_cells, place_cells, under}
 use Rattle.trick_check_cells.specs.Counts.{base_count, counts, global_count, member_count, members_count, names_count, place_count}
@@ -33,14 +34,11 @@ use Rattle.trick_check_bodies.specs.Named.{AreNamed, AreTied, HasAt, IsHeld, dim
 
 -- ---- names
 
-one_name : (p q : Name) → bytes_eq p q ≡ true → p ≡ q
-one_name p q h = search (rules, bytes_eq-Decides)
-
 -- what a name means after a new one: what it meant, or it is that one
 added : {T : Type 0} (P : Name → T → Type 0) (q name : Name) (x y : T) (names : Names T) → P name x → (meaning_of q names ≡ Some y → P q y) → meaning_of q (names ++ (name, x) ∷ []) ≡ Some y → P q y
 added {T} P q name x y [] new old is = by (bytes_eq q name) refl is where
   by : (b : Bool) → bytes_eq q name ≡ b → (if b then Some x else None) ≡ Some y → P q y
-  by true t h = let same : x ≡ y = cc h in subst (P q) same (subst (λ p. P p x) (sym (one_name q name t)) new)
+  by true t h = let same : x ≡ y = cc h in subst (P q) same (subst (λ p. P p x) (sym (same_bytes q name t)) new)
   by false t h = absurd (cc h)
 added {T} P q name x y (e ∷ es) new old is = by (bytes_eq q e.0) (λ old. added P q name x y es new old) old is where
   by : (b : Bool) → ((meaning_of q es ≡ Some y → P q y) → meaning_of q (es ++ (name, x) ∷ []) ≡ Some y → P q y) → ((if b then Some e.1 else meaning_of q es) ≡ Some y → P q y) → (if b then Some e.1 else meaning_of q (es ++ (name, x) ∷ [])) ≡ Some y → P q y
@@ -58,14 +56,6 @@ with_one {T} P name x names new old q y = by (is_some (meaning_of name names)) w
   by false is = added P q name x y names new (old q y) is
 
 -- ---- arrays
-
-narrow_small : (n : ℕ) → n ≤ 65536 → narrow n ≡ n
-narrow_small n h = omega (arith, h)
-
-element_small : (n b : ℕ) → 1 ≤ n → n * b ≤ 65536 → b ≤ 65536
-element_small n b some small =
-    let low : 1 * b ≤ n * b = mul-le 1 b n b some (omega arith) in
-    omega (arith, low, small)
 
 count_small : (n b : ℕ) → 1 ≤ b → n * b ≤ 65536 → n ≤ 65536
 count_small n b some small =
@@ -108,7 +98,7 @@ array_is (Two m n) cs some small =
     let inner = each 0 n cs in
     let all : m * length inner ≤ 65536 = subst (λ k. k ≤ 65536) (length_each 0 m inner) small in
     let ones = and_parts (nat_le 1 m) (nat_le 1 n) some in
-    let row : n * length cs ≤ 65536 = subst (λ k. k ≤ 65536) (length_each 0 n cs) (element_small m (length inner) (leb-true 1 m ones.0) all) in
+    let row : n * length cs ≤ 65536 = subst (λ k. k ≤ 65536) (length_each 0 n cs) (factor_small m (length inner) (leb-true 1 m ones.0) all) in
     let same : each 0 (narrow n) cs ≡ inner = row_is n cs row in
     (ap (each 0 (narrow m)) same ∙ row_is m inner all, (cells_of_dim n (length cs) row ∙ sym (length_each 0 (narrow n) cs), refl))
 
@@ -119,10 +109,10 @@ exact count cells same small = omega (arith, same, small)
 
 base_exact : (done : List (List Variable)) (ls : Lengths) (base : Base) → has_elements ls ≡ true → place_count (counts done) ls base ≤ 65536 → base_count (counts done) base ≤ 65536
 base_exact done Plain base some small = small
-base_exact done (One n) base some small = element_small n (base_count (counts done) base) (leb-true 1 n some) small
+base_exact done (One n) base some small = factor_small n (base_count (counts done) base) (leb-true 1 n some) small
 base_exact done (Two m n) base some small =
     let ones = and_parts (nat_le 1 m) (nat_le 1 n) some in
-    element_small n (base_count (counts done) base) (leb-true 1 n ones.1) (element_small m (n * base_count (counts done) base) (leb-true 1 m ones.0) small)
+    factor_small n (base_count (counts done) base) (leb-true 1 n ones.1) (factor_small m (n * base_count (counts done) base) (leb-true 1 m ones.0) small)
 
 abbrev Held : List (List Variable) → ℕ → Names Field → Type 0
 Held done group fields = Each (IsHeld done group) fields

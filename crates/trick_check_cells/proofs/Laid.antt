@@ -3,6 +3,8 @@ use Rattle.std.proofs.Common.{◌≡◌, ℕ, zero, suc, ◌+◌, ◌*◌, ◌�
 use Rattle.std.proofs.lemmas.Bool.{and_parts, le-leb, leb-true}
 use Rattle.std.proofs.lemmas.Nat.{mul-le}
 use Rattle.std.specs.Str.{bytes_eq}
+use Rattle.trick_base.proofs.Numbers.{factor_small}
+use Rattle.trick_base.proofs.Truths.{if_true}
 use Rattle.trick_base.specs.Capped.{capped}
 use Rattle.trick_check_cells.proofs.Counted.{members_counted, size_counts}
 use Rattle.trick_check_cells.specs.Counts.{base_count, counts, global_count, member_count, members_count, names_count, place_count}
@@ -46,10 +48,6 @@ with_one {T} P q name x names none new old = by (is_some (meaning_of name names)
 
 -- ---- sizes
 
-if_true : {T : Type 0} (b : Bool) (x y : T) → b ≡ true → (if b then x else y) ≡ x
-if_true true x y h = refl
-if_true false x y h = absurd (cc h)
-
 pub taken_is : (sizes : List ℕ) (k : ℕ) → slice_index_or sizes k 0 ≤ 65536 → size_at (taken sizes) k ≡ slice_index_or sizes k 0
 taken_is [] k h = refl
 taken_is (n ∷ ns) zero h = if_true (nat_le n 65536) n 0 (le-leb n 65536 h)
@@ -69,12 +67,7 @@ dim_is n (suc b) some small =
     let whole : narrow n * suc b ≡ n * suc b = ap (λ k. k * suc b) all in
     ((omega (arith, some), refl, omega (arith, whole, small)), omega (arith, whole, small))
 
-element_small : (n b : ℕ) → 1 ≤ n → n * b ≤ 65536 → b ≤ 65536
-element_small n b some small =
-    let low : 1 * b ≤ n * b = mul-le 1 b n b some (omega arith) in
-    omega (arith, low, small)
-
-narrow_small : (n : ℕ) → n ≤ 65536 → narrow n ≡ n
+pub narrow_small : (n : ℕ) → n ≤ 65536 → narrow n ≡ n
 narrow_small n h = omega (arith, h)
 
 -- an array of so many cells has its strides
@@ -88,25 +81,25 @@ right_at sizes (One n) base b is some small =
     let at : 1 ≤ n = leb-true 1 n some in
     let low : n * b ≤ 65536 = subst (λ k. n * k ≤ 65536) (sym is) small in
     let d = dim_is n b at low in
-    let size : b ≡ base_size (taken sizes) base = is ∙ sym (base_is sizes base (subst (λ k. k ≤ 65536) is (element_small n b at low))) in
+    let size : b ≡ base_size (taken sizes) base = is ∙ sym (base_is sizes base (subst (λ k. k ≤ 65536) is (factor_small n b at low))) in
     (d.1 ∙ ap (λ k. n * k) is, subst (IsDim (dim n b)) size d.0)
 right_at sizes (Two m n) base b is some small =
     let both = and_parts (nat_le 1 m) (nat_le 1 n) some in
     let outer : 1 ≤ m = leb-true 1 m both.0 in
     let inner : 1 ≤ n = leb-true 1 n both.1 in
     let all : m * (n * b) ≤ 65536 = subst (λ k. m * (n * k) ≤ 65536) (sym is) small in
-    let row : n * b ≤ 65536 = element_small m (n * b) outer all in
+    let row : n * b ≤ 65536 = factor_small m (n * b) outer all in
     let e = dim_is n b inner row in
     let d = dim_is m (dim n b).cells outer (subst (λ k. m * k ≤ 65536) (sym e.1) all) in
-    let size : b ≡ base_size (taken sizes) base = is ∙ sym (base_is sizes base (subst (λ k. k ≤ 65536) is (element_small n b inner row))) in
+    let size : b ≡ base_size (taken sizes) base = is ∙ sym (base_is sizes base (subst (λ k. k ≤ 65536) is (factor_small n b inner row))) in
     (d.1 ∙ (ap (λ k. m * k) e.1 ∙ ap (λ k. m * (n * k)) is), (d.0, subst (IsDim (dim n b)) size e.0))
 
 base_small : (sizes : List ℕ) (ls : Lengths) (base : Base) → has_elements ls ≡ true → place_count sizes ls base ≤ 65536 → base_count sizes base ≤ 65536
 base_small sizes Plain base some small = small
-base_small sizes (One n) base some small = element_small n (base_count sizes base) (leb-true 1 n some) small
+base_small sizes (One n) base some small = factor_small n (base_count sizes base) (leb-true 1 n some) small
 base_small sizes (Two m n) base some small =
     let both = and_parts (nat_le 1 m) (nat_le 1 n) some in
-    element_small n (base_count sizes base) (leb-true 1 n both.1) (element_small m (n * base_count sizes base) (leb-true 1 m both.0) small)
+    factor_small n (base_count sizes base) (leb-true 1 n both.1) (factor_small m (n * base_count sizes base) (leb-true 1 m both.0) small)
 
 is_right : (sizes : List ℕ) (ls : Lengths) (base : Base) → has_elements ls ≡ true → place_count sizes ls base ≤ 65536 → IsRight sizes ls base (narrow (base_count sizes base))
 is_right sizes ls base some small =

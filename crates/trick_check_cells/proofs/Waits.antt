@@ -71,10 +71,6 @@ group_in [] k d h = absurd (omega arith)
 group_in (g ∷ gs) zero d h = refl
 group_in (g ∷ gs) (suc k) d h = group_in gs k d (omega arith)
 
-pub on_ok : {T E P Q : Type 0} (r : Result T E) → (P → Q) → OnOk r P → OnOk r Q
-on_ok (Ok x) f h = f h
-on_ok (Err e) f h = tt
-
 pub told_ok : {T E P : Type 0} (r : Result T E) (x : T) → r ≡ Ok x → OnOk r P → P
 told_ok (Ok y) x e h = h
 told_ok (Err y) x e h = absurd (cc e)

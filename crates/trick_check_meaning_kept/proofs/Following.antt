@@ -5,6 +5,7 @@ use Rattle.std.proofs.Math.ListN.{length-append}
 use Rattle.std.proofs.lemmas.Bool.{and_parts, leb-true}
 use Rattle.std.proofs.lemmas.Nat.{mul-le}
 use Rattle.std.specs.Str.{bytes_eq}
+use Rattle.trick_base.proofs.Numbers.{factor_small}
 use Rattle.trick_check_blocks.specs.Places as by_cell
 use Rattle.trick_check_blocks.specs.Places.{field_in, moved, loosened, on_element, on_field}
 use Rattle.trick_check_blocks.specs.declared.spot.Element.{Element}
@@ -67,11 +68,6 @@ length_small n b some small =
     let low : n * 1 ≤ n * b = mul-le n 1 n b (omega arith) some in
     let one : n * 1 ≡ n = omega arith in
     omega (arith, low, one, small)
-
-element_small : (n b : ℕ) → 1 ≤ n → n * b ≤ 65536 → b ≤ 65536
-element_small n b one small =
-    let low : 1 * b ≤ n * b = mul-le 1 b n b one (omega arith) in
-    omega (arith, low, small)
 
 -- ---- literals
 
@@ -237,7 +233,7 @@ module _ (w : ClassScope) (x : ByName) (done : List (List Variable)) (same : Are
         short = omega (arith, lengths, length_small n (length (base_cells done base)) cell whole);
         below = subst (IsBelow literal) (sym lengths) inside.1;
         further = inside.0;
-        stage = record { is_same = (tt, is); some = refl; small = element_small n (length (base_cells done base)) (leb-true 1 n some) whole };
+        stage = record { is_same = (tt, is); some = refl; small = factor_small n (length (base_cells done base)) (leb-true 1 n some) whole };
       }
   element_step (Two m n) base dims.Plain b literal rest scalar lengths is some small h = absurd lengths
   element_step (Two m n) base (dims.One d) b literal rest scalar lengths is some small h = absurd lengths
@@ -258,7 +254,7 @@ module _ (w : ClassScope) (x : ByName) (done : List (List Variable)) (same : Are
         short = omega (arith, lengths.0, length_small m (length row) cell whole);
         below = subst (IsBelow literal) (sym lengths.0) inside.1;
         further = inside.0;
-        stage = record { is_same = (lengths.1, is); some = some_two.1; small = element_small m (length row) (leb-true 1 m some_two.0) whole };
+        stage = record { is_same = (lengths.1, is); some = some_two.1; small = factor_small m (length row) (leb-true 1 m some_two.0) whole };
       }
 
   -- ---- whole paths

@@ -1,7 +1,7 @@
 -- Local variables in their slots.
-use Rattle.std.proofs.Common.{rules, ◌≡◌, ◌≢◌, ℕ, zero, suc, ◌+◌, ◌<◌, ◌≤◌, ℤ, pos, Bool, true, false, if◌then◌else◌, is_some, [], ◌∷◌, ◌++◌, length, take, Option, Some, None, unwrap_or, refl, ap, sym, ◌∙◌, subst, arith, get_or-set_other, get_or-set_same}
-use Rattle.std.proofs.lemmas.Slice.Eq.{bytes_eq-Decides}
+use Rattle.std.proofs.Common.{◌≡◌, ◌≢◌, ℕ, zero, suc, ◌+◌, ◌<◌, ◌≤◌, ℤ, pos, Bool, true, false, if◌then◌else◌, is_some, [], ◌∷◌, ◌++◌, length, take, Option, Some, None, unwrap_or, refl, ap, sym, ◌∙◌, subst, arith, get_or-set_other, get_or-set_same}
 use Rattle.std.specs.Str.{bytes_eq}
+use Rattle.trick_base.proofs.ListLemmas.{own_bytes}
 use Rattle.trick_check_blocks.specs.declared.start.Local.{Local as InSlot}
 use Rattle.trick_lang.specs.Run.{State as Resolved, local_of, with_local}
 use Rattle.trick_lang.specs.SyntaxTree.{Name}
@@ -145,12 +145,9 @@ slot_other s slot j v other = ap (λ o. unwrap_or o (pos 0)) (get_or-set_other s
 pub name_added : {T : Type 0} (name : Name) (l : T) (names : Names T) → meaning_of name names ≡ None → with_name name l names ≡ names ++ (name, l) ∷ []
 name_added {T} name l names none = ap (λ (o : Option T). if is_some o then names else names ++ (name, l) ∷ []) none
 
-same_bytes : (p : Name) → bytes_eq p p ≡ true
-same_bytes p = search (rules, bytes_eq-Decides)
-
 -- a name that was added means what it was added with
 pub added_means : {T : Type 0} (name : Name) (l : T) (names : Names T) → meaning_of name names ≡ None → meaning_of name (names ++ (name, l) ∷ []) ≡ Some l
-added_means {T} name l [] none = ap (λ b. if b then Some l else None) (same_bytes name)
+added_means {T} name l [] none = ap (λ b. if b then Some l else None) (own_bytes name)
 added_means {T} name l (e ∷ es) none = by (bytes_eq name e.0) (added_means name l es) none where
   by : (b : Bool) → (meaning_of name es ≡ None → meaning_of name (es ++ (name, l) ∷ []) ≡ Some l) → (if b then Some e.1 else meaning_of name es) ≡ None → (if b then Some e.1 else meaning_of name (es ++ (name, l) ∷ [])) ≡ Some l
   by true rest h = absurd (cc h)

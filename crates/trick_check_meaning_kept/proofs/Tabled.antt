@@ -1,13 +1,14 @@
 -- The tables of names and those of cells of a file say the same.
-use Rattle.std.proofs.Common.{rules, ◌≡◌, ℕ, zero, suc, ◌+◌, ◌*◌, ◌≤◌, ℤ, pos, Bool, true, false, if◌then◌else◌, is_some, List, [], ◌∷◌, ◌++◌, length, Option, Some, None, refl, ap, sym, ◌∙◌, subst, arith}
+use Rattle.std.proofs.Common.{◌≡◌, ℕ, zero, suc, ◌+◌, ◌*◌, ◌≤◌, ℤ, pos, Bool, true, false, if◌then◌else◌, is_some, List, [], ◌∷◌, ◌++◌, length, Option, Some, None, refl, ap, sym, ◌∙◌, subst, arith}
 use Rattle.std.proofs.Math.ListN.{length-append}
 use Rattle.std.proofs.lemmas.Bool.{le-leb}
 use Rattle.std.proofs.lemmas.Nat.{mul-le}
-use Rattle.std.proofs.lemmas.Slice.Eq.{bytes_eq-Decides}
 use Rattle.std.specs.List.{slice_index_or}
 use Rattle.std.specs.Str.{bytes_eq}
+use Rattle.trick_base.proofs.ListLemmas.{own_bytes, same_bytes}
+use Rattle.trick_base.proofs.Numbers.{factor_small}
 use Rattle.trick_check_cells.proofs.Counted.{size_counts}
-use Rattle.trick_check_cells.proofs.Laid.{groups_at, with_one}
+use Rattle.trick_check_cells.proofs.Laid.{groups_at, narrow_small, with_one}
 use Rattle.trick_check_cells.proofs.Lists.{length_each}
 use Rattle.trick_check_cells.specs.Cells.{base_cells, cells_at, each}
 use Rattle.trick_check_cells.specs.Counts.{base_count, counts, global_count, member_count, names_count}
@@ -50,18 +51,12 @@ abbrev pub Once : {T : Type 0} → Names T → Type 0
 Once {T} [] = Unit {0}
 Once {T} (e ∷ es) = (meaning_of e.0 es ≡ None) × Once es
 
-pub one_name : (p q : Name) → bytes_eq p q ≡ true → p ≡ q
-one_name p q h = search (rules, bytes_eq-Decides)
-
-pub same_bytes : (p : Name) → bytes_eq p p ≡ true
-same_bytes p = search (rules, bytes_eq-Decides)
-
 -- two names that differ, the other way round
 turned : (p q : Name) → bytes_eq p q ≡ false → bytes_eq q p ≡ false
 turned p q h = by (bytes_eq q p) refl where
   by : (b : Bool) → bytes_eq q p ≡ b → bytes_eq q p ≡ false
   by false is = is
-  by true is = let same : q ≡ p = one_name q p is in absurd (cc (sym h ∙ subst (λ r. bytes_eq p r ≡ true) (sym same) (same_bytes p)))
+  by true is = let same : q ≡ p = same_bytes q p is in absurd (cc (sym h ∙ subst (λ r. bytes_eq p r ≡ true) (sym same) (own_bytes p)))
 
 -- a name of none in front
 pub other_head : {T : Type 0} (q : Name) (e : Name × T) (es : Names T) → meaning_of q (e ∷ es) ≡ None → (bytes_eq q e.0 ≡ false) × (meaning_of q es ≡ None)
@@ -172,7 +167,7 @@ fields_none sizes offset q (m ∷ ms) fields none =
 pub head_case : {T : Type 0} (q : Name) (e : Name × T) (es : Names T) (l : T) (P : Type 0) → meaning_of q (e ∷ es) ≡ Some l → (q ≡ e.0 → e.1 ≡ l → P) → (bytes_eq q e.0 ≡ false → meaning_of q es ≡ Some l → P) → P
 head_case {T} q e es l P known here behind = by (bytes_eq q e.0) refl known where
   by : (b : Bool) → bytes_eq q e.0 ≡ b → (if b then Some e.1 else meaning_of q es) ≡ Some l → P
-  by true is h = here (one_name q e.0 is) (cc h)
+  by true is h = here (same_bytes q e.0 is) (cc h)
   by false is h = behind is h
 
 abbrev HasField : Extent → Option Field → Type 0
@@ -208,19 +203,11 @@ some_length zero b h = absurd (omega (arith, h))
 some_length (suc n) zero h = absurd (omega (arith, h))
 some_length (suc n) (suc b) h = (omega arith, omega arith)
 
-narrow_small : (n : ℕ) → n ≤ 65536 → narrow n ≡ n
-narrow_small n h = omega (arith, h)
-
 length_small : (n b : ℕ) → 1 ≤ b → n * b ≤ 65536 → n ≤ 65536
 length_small n b some small =
     let low : n * 1 ≤ n * b = mul-le n 1 n b (omega arith) some in
     let one : n * 1 ≡ n = omega arith in
     omega (arith, low, one, small)
-
-element_small : (n b : ℕ) → 1 ≤ n → n * b ≤ 65536 → b ≤ 65536
-element_small n b one small =
-    let low : 1 * b ≤ n * b = mul-le 1 b n b one (omega arith) in
-    omega (arith, low, small)
 
 extent_same : (done : List (List Variable)) (sizes : List ℕ) (ls : Lengths) (base : Base) → 1 ≤ many done (record { lengths = ls; base = base }) → many done (record { lengths = ls; base = base }) ≤ 65536 → IsSame (record { lengths = ls; base = base }) (extent_of sizes (record { lengths = ls; base = base }))
 extent_same done sizes Plain base some small = (tt, refl)
@@ -236,7 +223,7 @@ extent_same done sizes (Two m n) base some small =
     let inner = length_each 0 n (base_cells done base) in
     let part = some_length m (length row) (subst (λ k. 1 ≤ k) is some) in
     let whole = subst (λ k. k ≤ 65536) is small in
-    let row_small = subst (λ k. k ≤ 65536) inner (element_small m (length row) part.0 whole) in
+    let row_small = subst (λ k. k ≤ 65536) inner (factor_small m (length row) part.0 whole) in
     let part_two = some_length n c (subst (λ k. 1 ≤ k) inner part.1) in
     ((narrow_small m (length_small m (length row) part.1 whole), narrow_small n (length_small n c part_two.1 row_small)), refl)
 

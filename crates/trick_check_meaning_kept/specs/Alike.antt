@@ -175,7 +175,8 @@ EndAlike w size top slots declared memory before (Err c) (Ok b) = ⊥
 EndAlike w size top slots declared memory before (Err c) (Err d) = c ≡ d
 
 -- a method that is called by one with slots from `from` on leaves those as they are
-abbrev pub CallAlike : ClassScope → ℕ → ℕ → List Variable → Resolved → Result Resolved StatementFault → Result Stored StatementFault → Type 0
+abbrev pub CallAlike : ClassScope → ℕ → ℕ → List Variable → Resolved
+    → Result Resolved StatementFault → Result Stored StatementFault → Type 0
 CallAlike w size top memory before (Ok a) (Ok stored) =
     AreAlike w size top [] [] memory a (record { stored = stored; locals = [] }) × KeepsFrom w.slots before a
 CallAlike w size top memory before (Ok a) (Err d) = ⊥

@@ -3,12 +3,12 @@ use Rattle.std.proofs.Common.{◌≡◌, ℕ, zero, suc, ℤ, pos, Bool, true, f
 use Rattle.std.proofs.lemmas.Bool.{and_parts}
 use Rattle.std.specs.List.{list_all, slice_index_or}
 use Rattle.std.specs.Str.{bytes_eq}
+use Rattle.trick_base.proofs.ListLemmas.{own_bytes, same_bytes}
 use Rattle.trick_lang.specs.Names.{are_apart, of_one_name}
 use Rattle.trick_lang.specs.SyntaxTree.{Name}
 use Rattle.trick_lang.specs.declared.variable.Variable.{Variable}
 use Rattle.trick_check_meaning.specs.Meaning.{Stored}
 use Rattle.trick_check_meaning_kept.proofs.Cells.{IsAt, is_at}
-use Rattle.trick_check_meaning_of_jobs.proofs.Known.{name_same, same_name}
 use Rattle.trick_check_meaning_of_jobs.specs.Jobs.{by_cell, number_named}
 use Rattle.trick_check_names.specs.Names.{meaning_of}
 use Rattle.trick_check_bodies.specs.Named.{IsNamed}
@@ -52,8 +52,8 @@ not_alike u v h = by (bytes_eq v.name u.name) refl where
   by : (b : Bool) → bytes_eq v.name u.name ≡ b → b ≡ false
   by false e = refl
   by true e =
-      let same : bytes_eq u.name v.name ≡ true = subst (λ q. bytes_eq u.name q ≡ true) (sym (same_name v.name u.name e))
-      (name_same u.name) in
+      let same : bytes_eq u.name v.name ≡ true = subst (λ q. bytes_eq u.name q ≡ true) (sym (same_bytes v.name u.name e))
+      (own_bytes u.name) in
       let no : not true ≡ true = subst (λ b. not b ≡ true) same h in
       absurd (cc no)
 
@@ -64,7 +64,7 @@ number_at (u ∷ us) [] zero v apart at = refl
 number_at (u ∷ us) [] (suc cell) v apart at = refl
 number_at (u ∷ us) (n ∷ ns) zero v apart at =
     sym (ap (λ b. if b then n else number_named us ns v.name)
-    (subst (λ (q : Variable). bytes_eq v.name q.name ≡ true) (sym at) (name_same v.name)))
+    (subst (λ (q : Variable). bytes_eq v.name q.name ≡ true) (sym at) (own_bytes v.name)))
 number_at (u ∷ us) (n ∷ ns) (suc cell) v apart at =
     let parts = and_parts (list_all (λ y. not (of_one_name u y)) us) (are_apart of_one_name us) apart in
     let other = not_alike u v (passes (λ y. not (of_one_name u y)) us cell v parts.0 at) in

@@ -1,7 +1,7 @@
 -- Names that stay known, and what a name means after a new one.
 use Rattle.std.proofs.Common.{◌≡◌, ◌⊎◌, ℕ, ℤ, pos, Bool, true, false, if◌then◌else◌, is_some, List, [], ◌∷◌, ◌++◌, length, Option, Some, None, inl, inr, refl, ap, sym, ◌∙◌}
-use Rattle.std.proofs.lemmas.Slice.Eq.{bytes_eq-Decides}
 use Rattle.std.specs.Str.{bytes_eq}
+use Rattle.trick_base.proofs.ListLemmas.{same_bytes}
 use Rattle.trick_lang.specs.SyntaxTree as tree
 use Rattle.trick_lang.specs.SyntaxTree.{Declarator, EnumItem, Members, Name, SDefine}
 use Rattle.trick_check_meaning_kept.proofs.Rows.{added_means, name_added}
@@ -16,12 +16,6 @@ use Rattle.trick_check_names.specs.declared.tables.Member.TheVariants.{Method}
 use Rattle.trick_check_names.specs.declared.tables.Tables.{Tables}
 
 -- ---- names
-
-pub same_name : (p q : Name) → bytes_eq p q ≡ true → p ≡ q
-same_name p q h = (bytes_eq-Decides p q).0 h
-
-pub name_same : (p : Name) → bytes_eq p p ≡ true
-name_same p = (bytes_eq-Decides p p).1 refl
 
 -- all that is known stays known
 abbrev pub Grow : {T : Type 0} → Names T → Names T → Type 0
@@ -48,7 +42,7 @@ last_case : {T : Type 0} (q name : Name) (l k : T) (names : Names T) → meaning
 last_case {T} q name l k [] h = by (bytes_eq q name) refl h where
   by : (b : Bool) → bytes_eq q name ≡ b → (if b then Some l else None) ≡ Some k
       → ◌⊎◌ (◌≡◌ {A = Option T} None (Some k)) ((q ≡ name) × (l ≡ k))
-  by true e g = inr (same_name q name e, cc g)
+  by true e g = inr (same_bytes q name e, cc g)
   by false e g = absurd (cc g)
 last_case {T} q name l k (e ∷ es) h = by (bytes_eq q e.0) (last_case q name l k es) h where
   by : (b : Bool) → (meaning_of q (es ++ (name, l) ∷ []) ≡ Some k → (meaning_of q es ≡ Some k) ⊎ ((q ≡ name) × (l ≡ k)))

@@ -2,6 +2,7 @@
 use Rattle.std.proofs.Common.{◌≡◌, ℕ, zero, suc, ◌+◌, ◌==◌, Bool, true, false, if◌then◌else◌, List, [], ◌∷◌, ◌++◌, Some, None, slice_get, refl, ap, sym, ◌∙◌, subst, eq-eqb}
 use Rattle.std.proofs.lemmas.Bool.{or_left, or_right}
 use Rattle.std.specs.Str.{bytes_eq}
+use Rattle.trick_base.proofs.ListLemmas.{own_bytes, same_bytes}
 use Rattle.trick_check_cells.specs.Counts.{global_count}
 use Rattle.trick_check_cells.specs.Tables.{narrow, object_row, object_rows, with_site, with_sites}
 use Rattle.trick_check.specs.Walk.{has_object}
@@ -10,7 +11,6 @@ use Rattle.trick_lang.specs.declared.object.Object.{Object}
 use Rattle.trick_check_names.specs.declared.layout.Site.{Site}
 use Rattle.trick_check_names.specs.declared.layout.Site.TheVariants as site
 use Rattle.trick_check_meaning_kept.proofs.Tabled.{Once, new_site, site_other, sites_none}
-use Rattle.trick_check_meaning_of_jobs.proofs.Known.{name_same, same_name}
 use Rattle.trick_check_names.specs.Names.{Names, meaning_of}
 use Rattle.trick_check_names.specs.declared.tables.Base.TheVariants.{Single, Group}
 use Rattle.trick_check_names.specs.declared.tables.Global.{Global}
@@ -27,7 +27,7 @@ behind : (name : Name) (e : Name × Global) (es : Names Global) (g : Global) →
 behind name e es g new known = by (bytes_eq name e.0) refl where
   by : (b : Bool) → bytes_eq name e.0 ≡ b → (b ≡ false) × ((if b then Some e.1 else meaning_of name es) ≡ Some g)
   by false is = (refl, known)
-  by true is = absurd (cc (sym (subst (λ q. meaning_of q es ≡ Some g) (same_name name e.0 is) known) ∙ new))
+  by true is = absurd (cc (sym (subst (λ q. meaning_of q es ≡ Some g) (same_bytes name e.0 is) known) ∙ new))
 
 -- what is known of an object: what its name stands for, and where it lies
 abbrev IsTold : List ℕ → ℕ → Names Global → Names Site → Object → Type 0
@@ -48,7 +48,7 @@ first_told : (sizes : List ℕ) (first k : ℕ) (name : Name) (es : Names Global
     → meaning_of name es ≡ None
     → IsTold sizes first ((name, the.Object (Group k)) ∷ es) sites (record { name = name; class = k; first = first })
 first_told sizes first k name es sites new = (
-  ap (λ b. if b then Some (the.Object (Group k)) else meaning_of name es) (name_same name),
+  ap (λ b. if b then Some (the.Object (Group k)) else meaning_of name es) (own_bytes name),
   λ free. sites_none sizes (narrow (first + global_count sizes (the.Object (Group k)))) name es
       (with_site first name (the.Object (Group k)) sites) new
       ∙ new_site name (site.Object first k) sites free,

@@ -5,6 +5,7 @@ use Rattle.std.proofs.lemmas.Bool.{and_parts}
 use Rattle.std.proofs.lemmas.List.{append-nil, append_assoc}
 use Rattle.std.specs.List.{list_all}
 use Rattle.std.specs.Str.{bytes_eq}
+use Rattle.trick_base.proofs.ListLemmas.{own_bytes, same_bytes}
 use Rattle.trick_check.specs.Parts.{parts_at, parts_in}
 use Rattle.trick_lang.specs.SyntaxTree as tree
 use Rattle.trick_lang.specs.SyntaxTree.{Declarator, Definition, Members, Name, Part, SDefine, ClassOf, HasMethod}
@@ -13,7 +14,7 @@ use Rattle.trick_check_meaning.specs.Methods.{body_in, world_of}
 use Rattle.trick_check_meaning_kept.proofs.Statements.{not_known}
 use Rattle.trick_check_meaning_kept.proofs.Values.{none_left, none_right}
 use Rattle.trick_check_meaning_of_jobs.proofs.Bodies.{all_none}
-use Rattle.trick_check_meaning_of_jobs.proofs.Known.{Grow, definitions_grow, name_same, new_case, new_known, part_grows, same_name, unknown_before}
+use Rattle.trick_check_meaning_of_jobs.proofs.Known.{Grow, definitions_grow, new_case, new_known, part_grows, unknown_before}
 use Rattle.trick_check_meaning_of_jobs.proofs.Lists.{get_behind}
 use Rattle.trick_lang.specs.Facts.{have_short_loops}
 use Rattle.trick_lang.specs.Loops.{are_short_loops}
@@ -181,7 +182,7 @@ module _ (class : Name) (w : FileScope) where
   body_found (part ∷ rest) number inside zero m none there =
       let is : part ≡ HasMethod m = cc there in
       subst (λ p. body_in m.name (p ∷ rest) ≡ m.body) (sym is)
-      (ap (λ b. if b then m.body else body_in m.name rest) (name_same m.name))
+      (ap (λ b. if b then m.body else body_in m.name rest) (own_bytes m.name))
   body_found (part ∷ rest) number inside (suc k) m none there =
       let behind = none_right (done_mistakes part class w) _
       (none_right (declared_mistakes part w.names inside) _ none) in
@@ -200,7 +201,7 @@ module _ (class : Name) (w : FileScope) where
               let known : is_some (meaning_of m.name
               (with_name other.name (Method number) inside.members)) ≡ true = subst
               (λ q. is_some (meaning_of q (with_name other.name (Method number) inside.members)) ≡ true)
-              (sym (same_name m.name other.name e)) (new_known other.name (Method number) inside.members) in
+              (sym (same_bytes m.name other.name e)) (new_known other.name (Method number) inside.members) in
               absurd (cc (sym known ∙ ap (λ (o : Option Member). is_some o) new))
 
   -- and has no mistakes

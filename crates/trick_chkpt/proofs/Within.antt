@@ -47,7 +47,3 @@ pub in_range_at : (slice cells : List Variable) (i : ℕ) (v : Variable) (n : �
     → IsOf v.scalar n → IsInRange (scalars_of cells) i n
 in_range_at slice cells i v n same lt is h =
     in_range_of cells i v n lt (subst (λ (w : Variable). IsOf w.scalar n) (is ∙ ap (λ (us : List Variable). get_or us i v) same) h)
-
-pub length-scalars : (cells : List Variable) → length (scalars_of cells) ≡ length cells
-length-scalars [] = refl
-length-scalars (v ∷ cells) = ap suc (length-scalars cells)

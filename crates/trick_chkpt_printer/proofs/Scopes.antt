@@ -3,11 +3,10 @@ use Rattle.std.proofs.Common.{◌≡◌, ℕ, zero, suc, ◌+◌, ◌<◌, ◌�
 use Rattle.std.specs.Prelude.{filter, ◌||◌}
 use Rattle.trick_chkpt_printer.specs.Marks.{is_marked, marked_cells, numbers_of, touched_by}
 use Rattle.trick_lang.specs.declared.job.JobId.{JobId}
-use Rattle.trick_lang.specs.declared.variable.Variable.{Variable}
+use Rattle.trick_model.proofs.Lengths.{names_length}
 use Rattle.trick_model.specs.Access.{may_read, may_write, scope}
 use Rattle.trick_model.specs.Plan.{jobs_of, numbers_from}
 use Rattle.trick_model.specs.PlanOf.{plan_of}
-use Rattle.trick_model.specs.Valid.{cell_names}
 use Rattle.trick_model.specs.declared.plan.Plan.{Plan as PlanValue}
 use Rattle.trick_model.specs.declared.thread.Thread.{Thread}
 
@@ -20,10 +19,6 @@ kept_alike f g from (x ∷ xs) [] e same = absurd (omega arith)
 kept_alike f g from (x ∷ xs) (y ∷ ys) e same =
     ap (λ (b : Bool). cond b (from ∷ filter f (numbers_from (suc from) xs)) (filter f (numbers_from (suc from) xs))) (same from (omega arith))
     ∙ ap (λ (us : List ℕ). cond (g from) (from ∷ us) us) (kept_alike f g (suc from) xs ys (omega arith) (λ k lt. same k (omega arith)))
-
-length_names : (cells : List Variable) → length (cell_names cells) ≡ length cells
-length_names [] = refl
-length_names (v ∷ cells) = ap suc (length_names cells)
 
 drop_all : {A : Type 0} (i : ℕ) (xs : List A) → length xs ≤ i → drop i xs ≡ []
 drop_all zero [] le = refl
@@ -39,7 +34,7 @@ pub in_scope : (plan : PlanValue) (thread : Thread) (jobs : List JobId) (marks :
     → marked_cells marks ≡ scope (plan_of plan) thread
 in_scope plan thread jobs marks i of_thread size le walked =
     let p = plan_of plan in
-    let names = length_names plan.program.cells in
+    let names = names_length plan.program.cells in
     kept_alike (is_marked marks) (touched_by p jobs) 0 marks p.names (size ∙ sym names)
     (λ k lt. sym (ap (λ (us : List JobId). touched_by p us k || is_marked marks k) (drop_all i jobs le))
     ∙ walked k (omega (arith, size, lt)))

@@ -3,7 +3,7 @@ use Rattle.std.proofs.Common.{◌≡◌, ◌∙◌, ℕ, zero, suc, ◌+◌, ◌
 use Rattle.std.proofs.lemmas.List.{length-map}
 use Rattle.std.specs.List.{enumerate_from, slice_index_or, zip}
 use Rattle.std.specs.Prelude.{All, IsTrue, codes, map}
-use Rattle.trick_base.proofs.Numbers.{zero_at_most}
+use Rattle.trick_base.proofs.Numbers.{at_most_itself, zero_at_most}
 use Rattle.trick_chkpt.proofs.Reading.{firsts_of, seconds_of}
 use Rattle.trick_chkpt.specs.CheckpointLines.{cells_of, checkpoint, flag_line, flags_of, group_of, groups_of, head_lines, held_behind, held_of, job_flags_of, last_line, last_of, memory_of, mode_at, mode_line, mode_place, record_name, record_of, records_of, scope_cells, taken_by, taken_parts, thread_jobs}
 use Rattle.trick_chkpt.specs.Faults.{fault_line, faults_lines, faults_of, job_text, job_texts, kind_place, kind_word_at, most_faults, no_fault}
@@ -45,15 +45,12 @@ use Rattle.trick_chkpt_state.specs.States.{HasNumbers, StatesHaveCheckpoints}
 
 -- ---- words and flags
 
-itself : (n : ℕ) → n ≤ n
-itself n = omega arith
-
 number_holds : (name : List ℕ) (low most n : ℕ) → low ≤ n → n ≤ most → Holds (number_line name low most) n
 number_holds name low most n one other = ((tt, (one, other)), refl)
 
 flag_holds : (name : List ℕ) (on : Bool) → Holds (flag_line name) on
 unfolding flag_line
-flag_holds name true = (number_holds name 0 1 1 (zero_at_most 1) (itself 1), refl)
+flag_holds name true = (number_holds name 0 1 1 (zero_at_most 1) (at_most_itself 1), refl)
 flag_holds name false = (number_holds name 0 1 0 (zero_at_most 0) (zero_at_most 1), refl)
 
 mode_holds : (m : Mode) → Holds mode_line m
@@ -282,7 +279,7 @@ states_have_checkpoints plan s right numbers =
     let taken : length s.taken ≡ length (threads_beside p) = part 5 (sizes s) (sizes_of p) size in
     let head : Holds head_lines (s.turn, (s.tic, (s.limit, s.mode))) = (
       (
-        number_holds (codes "checkpoint") 1 1 1 (itself 1) (itself 1),
+        number_holds (codes "checkpoint") 1 1 1 (at_most_itself 1) (at_most_itself 1),
         (
           number_holds (codes "turn") 0 last_turn s.turn (zero_at_most s.turn) right.turn,
           (

@@ -7,24 +7,17 @@ use Rattle.trick_chkpt.proofs.Within.{in_range_of, of_type}
 use Rattle.trick_chkpt.specs.CheckpointLines.{cells_of, memory_of}
 use Rattle.trick_chkpt.specs.Ranges.{range_at, range_of, ranges_at}
 use Rattle.trick_codes.specs.Code.{Fits, IsWithin}
-use Rattle.trick_codes.specs.Lines.{Holds, each, split_first}
+use Rattle.trick_codes.specs.Lines.{Holds, split_first}
 use Rattle.trick_codes.specs.Named.{each_code, integer_line, row, row_number}
+use Rattle.trick_lang.proofs.Variables.{zero_of}
 use Rattle.trick_lang.specs.Effect.{scalars_of}
-use Rattle.trick_lang.specs.Wrap.{IsInRange, IsOf, scalar_at}
+use Rattle.trick_lang.specs.Wrap.{IsInRange, scalar_at}
 use Rattle.trick_lang.specs.declared.cells.Cell.{Cell}
-use Rattle.trick_lang.specs.declared.scalar.Scalar.{Scalar}
 use Rattle.trick_lang.specs.declared.scalar.Scalar.TheVariants as scalar
 use Rattle.trick_lang.specs.declared.variable.Variable.{Variable}
 use Rattle.trick_model.specs.ValidState.{AreInRange, AreNumbersOf}
 use Rattle.trick_model.specs.declared.plan.Plan.{Plan}
 use Rattle.trick_chkpt_state.proofs.Items.{each_item, each_length}
-
--- 0 is a number of each type
-zero_of : (s : Scalar) → IsOf s (pos 0)
-zero_of s = of_type s (pos 0) (least (range_of s).above)
-  where
-    least : (n : ℕ) → 0 ≤ n
-    least n = omega arith
 
 past : {A : Type 0} (xs : List A) (k : ℕ) (d : A) → length xs ≤ k → slice_index_or xs k d ≡ d
 past [] k d more = refl

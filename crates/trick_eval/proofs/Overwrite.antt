@@ -4,6 +4,7 @@ use Rattle.std.proofs.lemmas.Bool.Decides.{nat_tests}
 use Rattle.std.proofs.lemmas.List.{ext_get_or, length-set}
 use Rattle.std.specs.List.{slice_index_or}
 use Rattle.trick_eval.specs.Bench.{with_number}
+use Rattle.trick_lang.proofs.Overwrites.{overwritten_length}
 use Rattle.trick_lang.specs.Effect.{overwritten}
 use Rattle.trick_eval.specs.Sparse.{has, AreAmong}
 
@@ -70,11 +71,6 @@ over_next stored old ns rest cell long over = go (slice_index_or stored cell Non
     go None at = next_none stored old ns rest cell at over
     go (Some m) at = next_some stored old ns rest cell m (omega (arith, here stored cell m at, over.same)) at over
 
-long_over : (stored : List (Option ℤ)) (old : List ℤ) → length (overwritten stored old) ≡ length old
-long_over stored [] = refl
-long_over [] (n ∷ ns) = refl
-long_over (v ∷ stored) (n ∷ ns) = ap suc (long_over stored ns)
-
 at_over : (stored : List (Option ℤ)) (old : List ℤ) (c : ℕ) → c < length old → slice_index_or (overwritten stored old) c (pos 0) ≡ unwrap_or (slice_index_or stored c None) (slice_index_or old c (pos 0))
 at_over stored [] c h = absurd (omega arith)
 at_over [] (n ∷ ns) c h = refl
@@ -83,7 +79,7 @@ at_over (v ∷ stored) (n ∷ ns) (suc c) h = at_over stored ns c (omega arith)
 
 pub over_end : (stored : List (Option ℤ)) (old ns : List ℤ) → IsOver stored old ns [] → ns ≡ overwritten stored old
 over_end stored old ns over =
-    ext_get_or (pos 0) ns (overwritten stored old) (over.same ∙ sym (long_over stored old))
+    ext_get_or (pos 0) ns (overwritten stored old) (over.same ∙ sym (overwritten_length stored old))
     (λ c h. each c (slice_index_or stored c None) refl ∙ sym (at_over stored old c (omega (arith, over.same))))
   where
     each : (c : ℕ) (v : Option ℤ) → slice_index_or stored c None ≡ v → slice_index_or ns c (pos 0) ≡ unwrap_or (slice_index_or stored c None) (slice_index_or old c (pos 0))

@@ -2,6 +2,7 @@
 use Rattle.std.proofs.Common.{◌≡◌, ◌∙◌, List, [], ◌∷◌, ◌++◌, Bool, Ok, Err, false, ap, append_assoc, inl, refl, subst, sym}
 use Rattle.std.proofs.lemmas.Bool.{false_from_ne_true}
 use Rattle.std.specs.Prelude.{ℕ, ℤ, IsTrue, Result}
+use Rattle.trick_base.proofs.Results.{not_ok}
 use Rattle.trick_exec.specs.Ended.{IsRun}
 use Rattle.trick_exec.specs.declared.ended.Ended.TheVariants as ended
 use Rattle.trick_exec.specs.declared.ended.Ended.{Ended as EndedValue}
@@ -18,7 +19,7 @@ use Rattle.trick_model.specs.declared.entry.Entry.{Entry}
 use Rattle.trick_model.specs.declared.plan.Plan.{Plan as PlanValue}
 use Rattle.trick_model.specs.declared.session.Session.{Session}
 use Rattle.trick_outside.proofs.CallLemmas.{not_both, part_of_early, part_of_late}
-use Rattle.trick_outside.proofs.DoesLemmas.{does_ok, not_ok}
+use Rattle.trick_outside.proofs.DoesLemmas.{does_ok}
 use Rattle.trick_outside.specs.Calls.{Call}
 use Rattle.trick_outside.specs.Does.{IsPartOf}
 use Rattle.trick_outside.specs.declared.stop.Stop.{Stop}

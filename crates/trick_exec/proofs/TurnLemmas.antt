@@ -1,7 +1,8 @@
 -- A turn of the code comes to what it is to come to.
-use Rattle.std.proofs.Common.{◌≡◌, ◌∙◌, ℕ, ℤ, List, [], ◌++◌, length, Bool, true, false, Err, Ok, IsOk, ap, append-nil, arith, drop, inl, inr, refl, subst, sym, take}
+use Rattle.std.proofs.Common.{◌≡◌, ◌∙◌, ℕ, ℤ, List, [], ◌++◌, length, Bool, true, false, Err, Ok, ap, append-nil, arith, drop, inl, inr, refl, subst, sym, take}
 use Rattle.std.proofs.lemmas.List.{drop_all, take_all}
 use Rattle.std.specs.Prelude.{◌⊎◌, All, IfOk, IsTrue, Option, Result, cond}
+use Rattle.trick_base.proofs.Results.{not_ok}
 use Rattle.trick_exec_posts.specs.Flight.{GoesWith, IsInFlight}
 use Rattle.trick_exec.proofs.LineLemmas.{after_lines, entries_given, lines_come, publications_are}
 use Rattle.trick_exec.proofs.SessionLemmas.{AreAlong, all_entries, along_all, along_starts, joins_rise, known_after, replies_reach}
@@ -54,10 +55,6 @@ pub written_back : (len : ℕ) (new old : List ℕ) → len ≡ length old → l
 written_back len new old is same =
     ap (λ (l : List ℕ). take len (new ++ l)) (drop_all (length new) old (omega (arith, same)))
     ∙ ap (take len) (append-nil new) ∙ take_all len new (omega (arith, is, same))
-
-not_ok : {T : Type 0} (result : Result T Stop) (e : Stop) → result ≡ Err e → IsOk result → ⊥
-not_ok (Ok x) e is ok = cc
-not_ok (Err f) e is ok = cc
 
 if_not : {T : Type 0} (P : T → Type 0) (result : Result T Stop) (e : Stop) → result ≡ Err e → IfOk result P
 if_not P (Ok x) e is = cc

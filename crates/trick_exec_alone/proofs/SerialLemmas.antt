@@ -1,6 +1,7 @@
 -- What a run that stopped or ended hands on.
 use Rattle.std.proofs.Common.{◌≡◌, List, [], Ok, Err, IsOk, refl, subst, sym}
 use Rattle.std.specs.Prelude.{Result}
+use Rattle.trick_base.proofs.Results.{not_ok}
 use Rattle.trick_exec.specs.Alone.{RunsAlone}
 use Rattle.trick_model.specs.Files.{run_writes, start_writes}
 use Rattle.trick_model.specs.Plan.{Plan}
@@ -17,10 +18,6 @@ use Rattle.trick_exec_meaning.specs.Stops.{StopsAt, before}
 use Rattle.trick_exec_alone.specs.Serial.{RunsSerially, summary_of}
 use Rattle.trick_exec_alone.specs.declared.summary.Summary.{Summary}
 use Rattle.trick_exec_tic.specs.Steps.{steps_of}
-
-not_ok : {T : Type 0} (result : Result T Stop) (e : Stop) → result ≡ Err e → IsOk result → ⊥
-not_ok (Ok x) e is ok = cc
-not_ok (Err f) e is ok = cc
 
 -- there was no memory for what it keeps
 pub none_kept : {S : Type 0} {shelf : Ghosts S} (old : S) (p : Plan) (s : State) → shelf.called old [] old

@@ -1,6 +1,7 @@
 -- Fronts of writes, and writes of other names.
 use Rattle.std.proofs.Common.{◌≡◌, ◌∙◌, ℕ, List, [], ◌∷◌, ◌++◌, Bool, false, cond, Some, unwrap_or, ap, append-nil, append_assoc, inl, inr, refl, subst, sym}
 use Rattle.std.specs.Prelude.{◌⊎◌, Option}
+use Rattle.trick_base.proofs.ListLemmas.{same_first}
 use Rattle.trick_base.specs.Content.{IsKept, content, same_name}
 use Rattle.trick_base.specs.Files.{Append, Create, Write}
 use Rattle.trick_base.specs.Fronts.{IsFrontOf, IsPrefix}
@@ -83,9 +84,6 @@ empty_of : (bytes rest : List ℕ) → [] ≡ bytes ++ rest → bytes ≡ []
 empty_of [] rest e = refl
 empty_of (byte ∷ bytes) rest e = cc e
 
-heads : (a b : ℕ) (xs ys : List ℕ) → a ∷ xs ≡ b ∷ ys → a ≡ b
-heads a b xs ys e = cc e
-
 tails : (a b : ℕ) (xs ys : List ℕ) → a ∷ xs ≡ b ∷ ys → xs ≡ ys
 tails a b xs ys e = cc e
 
@@ -103,7 +101,7 @@ parted : (part one other : List ℕ) → IsPrefix part (one ++ other) → Parted
 parted part [] other is = inr (part, refl, is)
 parted [] (byte ∷ one) other is = inl (byte, one, refl)
 parted (mine ∷ part) (byte ∷ one) other (rest, e) =
-    one_byte mine byte part one other (heads byte mine (one ++ other) (part ++ rest) e)
+    one_byte mine byte part one other (same_first byte mine (one ++ other) (part ++ rest) e)
     (parted part one other (rest, tails byte mine (one ++ other) (part ++ rest) e))
 
 -- bytes that are the lines of the first of these entries, and what is torn

@@ -2,6 +2,7 @@
 use Rattle.std.proofs.Common.{◌≡◌, ◌∙◌, ℕ, List, [], ◌∷◌, ◌++◌, Bool, true, false, not, ap, append-nil, append_assoc, inl, inr, refl, subst, sym}
 use Rattle.std.specs.List.{list_any}
 use Rattle.std.specs.Prelude.{◌⊎◌, cond, filter}
+use Rattle.trick_base.proofs.ListLemmas.{same_rest}
 use Rattle.trick_base.specs.Content.{IsKept, same_name}
 use Rattle.trick_base.specs.Files.{Write}
 use Rattle.trick_base.specs.Fronts.{IsFrontOf}
@@ -101,14 +102,11 @@ InParts front early late = ((rest : List Entry) × (early ≡ front ++ rest)) �
 first_entry : (a b : Entry) (xs ys : List Entry) → a ∷ xs ≡ b ∷ ys → a ≡ b
 first_entry a b xs ys e = cc e
 
-other_entries : (a b : Entry) (xs ys : List Entry) → a ∷ xs ≡ b ∷ ys → xs ≡ ys
-other_entries a b xs ys e = cc e
-
 in_parts : (front rest early late : List Entry) → early ++ late ≡ front ++ rest → InParts front early late
 in_parts [] rest early late e = inl (early, refl)
 in_parts (mine ∷ front) rest [] late e = inr (mine ∷ front, rest, refl, e)
 in_parts (mine ∷ front) rest (entry ∷ early) late e =
-    by (in_parts front rest early late (other_entries entry mine (early ++ late) (front ++ rest) e))
+    by (in_parts front rest early late (same_rest entry mine (early ++ late) (front ++ rest) e))
   where
     same : entry ≡ mine
     same = first_entry entry mine (early ++ late) (front ++ rest) e

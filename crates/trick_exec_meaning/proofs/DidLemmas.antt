@@ -2,8 +2,9 @@
 use Rattle.std.proofs.Common.{◌≡◌, ◌∙◌, List, [], ◌++◌, false, Err, IsOk, ap, refl, subst, sym}
 use Rattle.std.proofs.lemmas.Bool.{false_from_ne_true}
 use Rattle.std.specs.Prelude.{Result, IsErrOf}
+use Rattle.trick_base.proofs.Results.{not_ok}
 use Rattle.trick_outside.proofs.CallLemmas.{ends-append, fails-late, part_of_early, part_of_late}
-use Rattle.trick_outside.proofs.DoesLemmas.{Joins, handed_on, not_ok, ok_not_fault, went_none, went_then}
+use Rattle.trick_outside.proofs.DoesLemmas.{Joins, handed_on, ok_not_fault, went_none, went_then}
 use Rattle.trick_outside.specs.Calls.{Call, fails}
 use Rattle.trick_outside.specs.Does.{Does, IsPartOf}
 use Rattle.trick_outside.specs.declared.shelf.Shelf.{Ghosts}

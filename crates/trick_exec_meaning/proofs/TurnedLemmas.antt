@@ -1,6 +1,7 @@
 -- What a turn did, by its parts.
 use Rattle.std.proofs.Common.{◌≡◌, ◌∙◌, List, [], ◌++◌, not, Err, IsOk, ap, append_assoc, inl, inr, refl, subst, sym}
 use Rattle.std.specs.Prelude.{filter, Result}
+use Rattle.trick_base.proofs.Results.{not_ok}
 use Rattle.trick_base.specs.Files.{Write}
 use Rattle.trick_model.specs.Files.{note, turn_writes}
 use Rattle.trick_model.specs.Journal.{is_of_session}
@@ -9,7 +10,7 @@ use Rattle.trick_model.specs.Session.{samples}
 use Rattle.trick_model.specs.State.{World}
 use Rattle.trick_model.specs.Turn.{Hearing, begun, replies, turn}
 use Rattle.trick_model.specs.declared.entry.Entry.{Entry}
-use Rattle.trick_outside.proofs.DoesLemmas.{does_err, does_then, not_ok}
+use Rattle.trick_outside.proofs.DoesLemmas.{does_err, does_then}
 use Rattle.trick_outside.specs.Does.{Does, IsPartOf}
 use Rattle.trick_outside.specs.declared.stop.Stop.{Stop}
 use Rattle.trick_exec_meaning.proofs.DidLemmas.{did_err, did_of, did_then}

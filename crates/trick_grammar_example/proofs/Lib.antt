@@ -2,5 +2,3 @@
 pub mod Predictive
 -- the trees of chains are what the grammar makes
 pub mod Chains
--- the tokens before the rest
-pub mod Fronts

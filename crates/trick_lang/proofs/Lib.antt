@@ -13,5 +13,6 @@ pub mod SyntaxLists
 pub mod Tests
 pub mod TreeLists
 mod ValidExamples
+pub mod Variables
 pub mod WrapLaw
 pub mod Wraps

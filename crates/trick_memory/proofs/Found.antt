@@ -175,10 +175,6 @@ of_found (Some n) cell h =
     let number : Option Cell → ℕ = λ (o : Option Cell). elim o [ None ↦ 0 | Some c ↦ c.0 ] in
     ap (λ (k : ℕ). Some k) (ap number h)
 
-length_names : (cells : List Variable) → length (cell_names cells) ≡ length cells
-length_names [] = refl
-length_names (v ∷ vs) = ap suc (length_names vs)
-
 pub cells_found : (cells : List Variable) (cell : Cell) → IsTrue (are_apart of_one_name cells) → cell.0 < length cells
     → cell_of (cell_name cells cell.0) (cell_names cells) ≡ Some cell
 cells_found cells cell apart there =

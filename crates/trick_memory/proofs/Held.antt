@@ -1,13 +1,14 @@
 -- What is held as bytes, at first and after a store.
 use Rattle.std.proofs.Common.{◌≡◌, ◌∙◌, ◌+◌, ◌<◌, ◌≤◌, ◌++◌, ◌∷◌, [], ℕ, ℤ, pos, List, length, take, drop, replicate, slice_index_or, slice_set, arith, subst, sym, ap, ap₂, refl}
 use Rattle.std.proofs.lemmas.List.{get_or_read, length-replicate, length-set, length-take, replicate-append-replicate, take_all, take_at}
+use Rattle.trick_lang.proofs.Variables.{scalars_length}
 use Rattle.trick_lang.specs.Effect.{scalars_of}
 use Rattle.trick_lang.specs.Wrap.{AreInRange, IsOf, scalar_at}
 use Rattle.trick_lang.specs.declared.scalar.Scalar.{Scalar}
 use Rattle.trick_lang.specs.declared.scalar.Scalar.TheVariants as the
 use Rattle.trick_lang.specs.declared.variable.Variable.{Variable}
 use Rattle.trick_memory.proofs.Packs.{bytes_set, length_bytes, length_numbers, length_offsets, number_there, numbers_told, offset_at, offsets_push, room_few, room_push, room_there, zero_bytes}
-use Rattle.trick_memory.proofs.Stores.{length_scalars, stays_in_range, zeros_in_range, zeros_stored}
+use Rattle.trick_memory.proofs.Stores.{stays_in_range, zeros_in_range, zeros_stored}
 use Rattle.trick_memory.specs.Packed.{bytes_of, numbers_of, offsets_from, packed, room_of, unpacked, width}
 use Rattle.trick_memory.specs.Stored.{IsHeld, IsStored, Stored, zeros}
 use Rattle.trick_model.specs.Valid.{cell_names}
@@ -16,7 +17,7 @@ use Rattle.trick_model.specs.Valid.{cell_names}
 
 pub few_bytes : (cells : List Variable) (i : ℕ) → length cells ≤ 65536 → room_of (scalars_of (take i cells)) ≤ 524288
 few_bytes cells i few =
-    omega (arith, few, room_few (scalars_of (take i cells)), length_scalars (take i cells), length-take i cells)
+    omega (arith, few, room_few (scalars_of (take i cells)), scalars_length (take i cells), length-take i cells)
 
 -- zeros go on
 pub zeros_more : (bytes : List ℕ) (ss more : List Scalar) (s : Scalar) (n k : ℕ) → bytes ≡ replicate (room_of ss) 0 → more ≡ ss ++ s ∷ []
@@ -45,7 +46,7 @@ pub zeros_held : (cells : List Variable) → length cells ≤ 65536
 zeros_held cells few =
     let ss = scalars_of cells in
     let told : numbers_of ss (replicate (room_of ss) 0) ≡ replicate (length cells) (pos 0) =
-    zeros_told ss ∙ ap (λ (n : ℕ). replicate n (pos 0)) (length_scalars cells) in
+    zeros_told ss ∙ ap (λ (n : ℕ). replicate n (pos 0)) (scalars_length cells) in
     record {
       stored = subst (λ (ns : List ℤ). IsStored (cell_names cells) ss ns) (sym told) (zeros_stored cells few);
       whole = sym (ap (bytes_of ss) (zeros_told ss) ∙ zero_bytes ss);
@@ -70,7 +71,7 @@ module _ (cells : List Variable) (names : List (List ℕ)) (ss : List Scalar) (o
   pub parts_seen : seen names ss (numbers_of ss bytes) ≡ zeros cells
   parts_seen =
       let told : numbers_of ss bytes ≡ replicate (length cells) (pos 0) =
-      ap (numbers_of ss) zeroed ∙ (zeros_told ss ∙ ap (λ (n : ℕ). replicate n (pos 0)) (ap length typed ∙ length_scalars cells)) in
+      ap (numbers_of ss) zeroed ∙ (zeros_told ss ∙ ap (λ (n : ℕ). replicate n (pos 0)) (ap length typed ∙ scalars_length cells)) in
       ap (λ (numbers : List ℤ). seen names ss numbers) told
       ∙ (ap (λ (scalars : List Scalar). seen names scalars (replicate (length cells) (pos 0))) typed
       ∙ ap (λ (ns : List (List ℕ)). seen ns (scalars_of cells) (replicate (length cells) (pos 0))) named)

@@ -2,13 +2,13 @@
 use Rattle.std.proofs.Common.{◌≡◌, ◌∙◌, ◌+◌, ◌++◌, ◌∷◌, [], ◌<◌, ◌≤◌, inl, inr, ℕ, zero, suc, ℤ, pos, List, length, take, replicate, slice_index_or, slice_set, arith, subst, sym, ap, refl}
 use Rattle.std.proofs.lemmas.Bool.{cases_order}
 use Rattle.std.proofs.lemmas.List.{get_or-set_other, get_or-set_same, length-replicate, length-set}
-use Rattle.std.specs.Int.{int_wrap}
+use Rattle.trick_lang.proofs.Variables.{scalars_length, zero_of}
 use Rattle.trick_lang.specs.Effect.{scalars_of}
-use Rattle.trick_lang.specs.Wrap.{AreInRange, IsInRange, IsOf, scalar_at}
+use Rattle.trick_lang.specs.Wrap.{AreInRange, IsInRange, scalar_at}
 use Rattle.trick_lang.specs.declared.scalar.Scalar.{Scalar}
-use Rattle.trick_lang.specs.declared.scalar.Scalar.TheVariants as the
 use Rattle.trick_lang.specs.declared.variable.Variable.{Variable}
 use Rattle.trick_memory.specs.Stored.{IsStored}
+use Rattle.trick_model.proofs.Lengths.{names_length}
 use Rattle.trick_model.specs.Valid.{cell_names}
 
 more : (i : ℕ) → suc (i + 1) ≡ suc i + 1
@@ -55,34 +55,15 @@ zero_at zero j = refl
 zero_at (suc n) zero = refl
 zero_at (suc n) (suc j) = zero_at n j
 
-zero_stays : (scalar : Scalar) → IsOf scalar (pos 0)
-unfolding int_wrap
-zero_stays the.Bool = refl
-zero_stays the.Char = refl
-zero_stays the.UChar = refl
-zero_stays the.Short = refl
-zero_stays the.UShort = refl
-zero_stays the.Int = refl
-zero_stays the.UInt = refl
-zero_stays the.Long = refl
-
 -- 0 is a number of each type
 pub zeros_in_range : (scalars : List Scalar) (n : ℕ) → AreInRange scalars (replicate n (pos 0))
-zeros_in_range scalars n j fits = subst (IsInRange scalars j) (sym (zero_at n j)) (zero_stays (scalar_at scalars j))
-
-pub length_names : (cells : List Variable) → length (cell_names cells) ≡ length cells
-length_names [] = refl
-length_names (v ∷ vs) = ap suc (length_names vs)
-
-pub length_scalars : (cells : List Variable) → length (scalars_of cells) ≡ length cells
-length_scalars [] = refl
-length_scalars (v ∷ vs) = ap suc (length_scalars vs)
+zeros_in_range scalars n j fits = subst (IsInRange scalars j) (sym (zero_at n j)) (zero_of (scalar_at scalars j))
 
 -- the memory of cells, with zeros
 pub zeros_stored : (cells : List Variable) → length cells ≤ 65536 → IsStored (cell_names cells) (scalars_of cells) (replicate (length cells) (pos 0))
 zeros_stored cells few = record {
-  named = length_names cells ∙ sym (length_scalars cells);
-  numbered = length-replicate (length cells) (pos 0) ∙ sym (length_scalars cells);
-  few = subst (λ (n : ℕ). n ≤ 65536) (sym (length_scalars cells)) few;
+  named = names_length cells ∙ sym (scalars_length cells);
+  numbered = length-replicate (length cells) (pos 0) ∙ sym (scalars_length cells);
+  few = subst (λ (n : ℕ). n ≤ 65536) (sym (scalars_length cells)) few;
   in_range = zeros_in_range (scalars_of cells) (length cells);
 }

@@ -22,6 +22,8 @@ pub mod Idle
 pub mod Sessions
 -- Runs, cut in two, and under a journal.
 pub mod Runs
+-- Lists that are as long as those that they are made of.
+pub mod Lengths
 -- A turn keeps the lengths of all lists of a state.
 pub mod Sizes
 -- No two jobs of a program have one key.

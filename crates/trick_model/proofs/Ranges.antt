@@ -1,14 +1,13 @@
 -- Lists whose entries keep what their places ask for; numbers that stay in the ranges of their cells.
 use Rattle.std.proofs.Common.{◌≡◌, ℕ, zero, suc, ◌+◌, ◌<◌, ◌≤◌, ℤ, pos, List, [], ◌∷◌, ◌++◌, length, map, Bool, true, false, cond, Option, Some, None, refl, sym, subst}
-use Rattle.std.specs.Int.{int_wrap}
 use Rattle.std.specs.List.{slice_index_or}
 use Rattle.std.specs.Prelude.{filter, flat_map, replicate, slice_set}
+use Rattle.trick_lang.proofs.Variables.{zero_of}
 use native.Mathlib.Omega.{arith}
 use Rattle.trick_lang.specs.Effect.{overwritten}
-use Rattle.trick_lang.specs.Wrap.{IsInRange, IsOf, scalar_at}
+use Rattle.trick_lang.specs.Wrap.{IsInRange, scalar_at}
 use Rattle.trick_lang.specs.declared.job.Job.{Job}
 use Rattle.trick_lang.specs.declared.scalar.Scalar.{Scalar}
-use Rattle.trick_lang.specs.declared.scalar.Scalar.TheVariants as scalar
 use Rattle.trick_model.specs.Beside.{replaced, spread}
 use Rattle.trick_model.specs.Order.{in_key_order, precedes, put_in}
 use Rattle.trick_model.specs.Plan.{job_numbers, numbers_from}
@@ -39,17 +38,6 @@ map_each P none (x ∷ xs) each zero = each zero
 map_each P none (x ∷ xs) each (suc k) = map_each (λ i. P (suc i)) none xs (λ i. each (suc i)) k
 
 -- ---- numbers
-
-zero_of : (type : Scalar) → IsOf type (pos 0)
-unfolding int_wrap
-zero_of scalar.Bool = refl
-zero_of scalar.Char = refl
-zero_of scalar.UChar = refl
-zero_of scalar.Short = refl
-zero_of scalar.UShort = refl
-zero_of scalar.Int = refl
-zero_of scalar.UInt = refl
-zero_of scalar.Long = refl
 
 -- 0 is in the range of every cell
 pub zero_in_range : (scalars : List Scalar) (cell : ℕ) → IsInRange scalars cell (pos 0)

@@ -1,7 +1,7 @@
 -- A turn keeps the lengths of all lists of a state.
 use Rattle.std.specs.Prelude.{slice_set}
 use Rattle.std.proofs.Common.{◌≡◌, ℕ, zero, suc, ◌+◌, ◌==◌, nat_lt, ℤ, List, [], ◌∷◌, length, Bool, true, false, ◌&&◌, Option, Some, None, Result, Ok, Err, refl, ap, ◌∙◌, length-set}
-use Rattle.trick_lang.specs.Effect.{overwritten}
+use Rattle.trick_lang.proofs.Overwrites.{overwritten_length}
 use Rattle.trick_lang.specs.declared.class.Class.{Class}
 use Rattle.trick_lang.specs.declared.class.Class.TheVariants as class
 use Rattle.trick_lang.specs.declared.fault.StatementFault.{StatementFault}
@@ -33,11 +33,6 @@ use Rattle.trick_model.specs.declared.thread.Process.TheVariants as process
 use Rattle.trick_model.specs.declared.thread.Thread.{Thread}
 
 -- ---- jobs
-
-overwritten_length : (stored : List (Option ℤ)) (memory : List ℤ) → length (overwritten stored memory) ≡ length memory
-overwritten_length stored [] = refl
-overwritten_length [] (n ∷ ns) = refl
-overwritten_length (v ∷ stored) (n ∷ ns) = ap suc (overwritten_length stored ns)
 
 outcome_length : (tic k : ℕ) (memory : List ℤ) (effect : Result (List (Option ℤ)) StatementFault) → length (outcome tic k memory effect).memory ≡ length memory
 outcome_length tic k memory (Ok stored) = overwritten_length stored memory
@@ -106,9 +101,9 @@ events_keep tic k (event ∷ events) a =
 
 -- ---- beside the tics
 
-pub replaced_keeps : (chosen : ℕ → Bool) (cell : ℕ) (numbers ns : List ℤ) → length (replaced chosen cell numbers ns) ≡ length ns
-replaced_keeps chosen cell numbers [] = refl
-replaced_keeps chosen cell numbers (n ∷ ns) = ap suc (replaced_keeps chosen (cell + 1) numbers ns)
+pub replaced_length : (chosen : ℕ → Bool) (cell : ℕ) (numbers ns : List ℤ) → length (replaced chosen cell numbers ns) ≡ length ns
+replaced_length chosen cell numbers [] = refl
+replaced_length chosen cell numbers (n ∷ ns) = ap suc (replaced_length chosen (cell + 1) numbers ns)
 
 pub taken_keeps : (s : State) (place : ℕ) (taken : Taken) → sizes (record s { taken = slice_set s.taken place taken }) ≡ sizes s
 taken_keeps s place taken =
@@ -121,7 +116,7 @@ publish_keeps p place thread tic s =
     pick sizes taken.held _ s _
     (taken_keeps after place nothing_taken
     ∙ settled_keeps (published p thread s.jobs tic taken s.memory) s
-    (replaced_keeps (may_write p (work p thread s.jobs tic)) 0 (held_work p thread s.jobs tic taken).memory s.memory))
+    (replaced_length (may_write p (work p thread s.jobs tic)) 0 (held_work p thread s.jobs tic taken).memory s.memory))
     refl
 
 threads_keep : (step : ℕ → Thread → State → State) → ((place : ℕ) (thread : Thread) (s : State) → sizes (step place thread s) ≡ sizes s)

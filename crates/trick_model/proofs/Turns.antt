@@ -10,7 +10,7 @@ use Rattle.trick_lang.specs.declared.cells.Cell.{Cell}
 use Rattle.trick_lang.specs.declared.class.Class.TheVariants as class
 use Rattle.trick_lang.specs.declared.scalar.Scalar.{Scalar}
 use Rattle.trick_model.proofs.Ranges.{Below, filter_below, flat_below, jobs_below, map_each, numbers_of_cells, order_below, replaced_each, replicate_each, set_each, spread_each, zero_in_range}
-use Rattle.trick_model.proofs.Sizes.{last_keeps, replaced_keeps}
+use Rattle.trick_model.proofs.Sizes.{last_keeps, replaced_length}
 use Rattle.trick_model.proofs.States.{IsAfter, IsFound, action_found, by_test, class_right, deed_right, due_right, enter_right, fire_right, jobs_right, leave_right, settled_right, with_last, with_memory, with_mode, with_taken, with_tic, with_turn}
 use Rattle.trick_model.specs.Access.{may_write, scope}
 use Rattle.trick_model.specs.Beside.{each_thread, ends_at, find_thread, flag_in, has_round, held_work, must_finish, one_later, publish, publish_round, published, spread, start_round, take, taken_from, tics_from, where_ends, work, zeros}
@@ -99,7 +99,7 @@ publish_right p sound place thread tic s fits right good =
     by_test p taken.held _ s
     (λ held. with_taken p (settled after s) place nothing_taken (λ d there. nothing_right p _)
     (settled_right p after s (published_right p sound thread s.jobs tic taken s.memory fits (right.cells held) good.memory)
-    (replaced_keeps (may_write p (work p thread s.jobs tic)) 0 (held_work p thread s.jobs tic taken).memory s.memory) good))
+    (replaced_length (may_write p (work p thread s.jobs tic)) 0 (held_work p thread s.jobs tic taken).memory s.memory) good))
     (λ none. good)
 
 taken_right : (p : Plan) (thread : Thread) (s : State) → IsStateOf p s → IsRecord p thread (taken_from p thread s)

@@ -3,6 +3,7 @@ use Rattle.std.proofs.Common.{◌≡◌, ◌∙◌, inl, inr, ℕ, ◌-◌, ◌<
 use Rattle.std.proofs.lemmas.Bool.{cases_Bool}
 use Rattle.std.proofs.lemmas.Bool.Decides.{nat_tests}
 use Rattle.std.specs.Prelude.{filter, flat_map}
+use Rattle.trick_lang.proofs.Overwrites.{overwritten_length}
 use Rattle.trick_lang.specs.declared.class.Class.{Class}
 use Rattle.trick_lang.specs.declared.fault.StatementFault.{StatementFault}
 use Rattle.trick_model.specs.Access.{IsReached, Passed, Source, may_write, writes_cell}
@@ -16,7 +17,7 @@ use Rattle.trick_model.specs.declared.thread.Process.{Process}
 use Rattle.trick_model.specs.declared.thread.Process.TheVariants as process
 use Rattle.trick_model.specs.declared.thread.Thread.{Thread}
 use Rattle.trick_model_publications.proofs.Members.{Every, filter_every, flat_every, jobs_every, order_every}
-use Rattle.trick_model_publications.proofs.Memories.{over_length, over_other, over_same}
+use Rattle.trick_model_publications.proofs.Memories.{over_other, over_same}
 use Rattle.trick_model_publications.proofs.Steady.{IsSteady}
 use Rattle.trick_model_publications.specs.Publications.{AgreeOutside}
 
@@ -63,7 +64,7 @@ module _ (p : Plan) (steady : IsSteady p) where
   not_both false none some = cc some
 
   outcome_length : (tic k : ℕ) (m : List ℤ) (e : Result (List (Option ℤ)) StatementFault) → length (outcome tic k m e).memory ≡ length m
-  outcome_length tic k m (Ok stored) = over_length stored m
+  outcome_length tic k m (Ok stored) = overwritten_length stored m
   outcome_length tic k m (Err stop) = refl
 
   -- a cell that the job does not write

@@ -3,6 +3,7 @@ use Rattle.std.proofs.Common.{◌≡◌, ◌∙◌, ℕ, zero, suc, ◌+◌, ℤ
 use Rattle.std.specs.List.{slice_index_or}
 use Rattle.std.specs.Prelude.{slice_set}
 use Rattle.trick_lang.specs.Effect.{overwritten}
+use Rattle.trick_model.proofs.Sizes.{replaced_length}
 use Rattle.trick_model.specs.Access.{IsReached}
 use Rattle.trick_model.specs.Beside.{replaced, spread}
 use Rattle.trick_model.specs.Plan.{Plan}
@@ -89,11 +90,6 @@ agree_spread p m n (cell ∷ cells) into other h g =
 
 -- ---- memories that are overwritten
 
-pub over_length : (stored : List (Option ℤ)) (m : List ℤ) → length (overwritten stored m) ≡ length m
-over_length stored [] = refl
-over_length [] (n ∷ ns) = refl
-over_length (v ∷ stored) (n ∷ ns) = ap suc (over_length stored ns)
-
 -- a cell that both have the same number in, by one effect
 pub over_same : (stored : List (Option ℤ)) (m n : List ℤ) (cell : ℕ) → length m ≡ length n → number_at m cell ≡ number_at n cell
     → number_at (overwritten stored m) cell ≡ number_at (overwritten stored n) cell
@@ -114,10 +110,6 @@ over_other (Some v ∷ stored) (n ∷ ns) zero out = absurd (out v refl)
 over_other (v ∷ stored) (n ∷ ns) (suc cell) out = over_other stored ns cell out
 
 -- ---- memories in which chosen cells are replaced
-
-replaced_length : (chosen : ℕ → Bool) (cell : ℕ) (others ns : List ℤ) → length (replaced chosen cell others ns) ≡ length ns
-replaced_length chosen cell others [] = refl
-replaced_length chosen cell others (n ∷ ns) = ap suc (replaced_length chosen (cell + 1) others ns)
 
 choose_both : (b : Bool) (x y v w : ℤ) → x ≡ y → v ≡ w → cond b x v ≡ cond b y w
 choose_both true x y v w e f = e

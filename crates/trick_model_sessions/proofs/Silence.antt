@@ -4,6 +4,7 @@ use Rattle.std.proofs.Math.Bool.{or-true}
 use Rattle.std.proofs.lemmas.Bool.{and_from, and_parts, eqb-true, or_parts}
 use Rattle.std.proofs.lemmas.List.Elements.{All-head, All-tail}
 use Rattle.std.specs.Prelude.{◌||◌, All, cond, map}
+use Rattle.trick_base.proofs.ListLemmas.{same_rest}
 use Rattle.trick_model_sessions.proofs.Numbers.{leave_numbers, not_again, numbers_push, rises_above, rises_front, rises_later, said_number, said_numbers, turns_rise}
 use Rattle.trick_model_sessions.specs.Silence.{AbsentAreSilent, IsSilent, LeavingIsSilent, LeftAreGone, StrangersAreSilent, entries_of, is_of, is_there, newcomers, numbers_of}
 use Rattle.trick_model.specs.Files.{messages_to, turns_said}
@@ -392,9 +393,6 @@ marked_goes number (session ∷ sessions) rise =
 none_last : (some : List Entry) (e : Entry) → [] ≡ some ++ e ∷ [] → ⊥
 none_last [] e is = cc
 none_last (first ∷ some) e is = cc
-
-same_rest : (a b : Entry) (xs ys : List Entry) → a ∷ xs ≡ b ∷ ys → xs ≡ ys
-same_rest a b xs ys is = cc
 
 left_last : (p : Plan) (number : ℕ) (cause : Cause) (before entries : List Entry) (h : Hearing) → entries_of number entries ≡ before ++ Leave number cause ∷ []
     → rises (numbers_of h.sessions ++ newcomers entries) ≡ true → all_pass goes number (heard p entries h).sessions ≡ true

@@ -2,6 +2,7 @@
 use Rattle.std.proofs.Common.{inl, inr, ◌≡◌, List, [], ◌∷◌, ◌++◌, refl, sym, ◌∙◌, ap, subst, Ok, Err, IsOk, false}
 use Rattle.std.proofs.lemmas.Bool.{false_from_ne_true}
 use Rattle.std.specs.Prelude.{Result, IsErrOf}
+use Rattle.trick_base.proofs.Results.{not_ok}
 use Rattle.trick_outside.proofs.CallLemmas.{calls_none, calls_then, ends-append, fails-late, part_of_early, part_of_late}
 use Rattle.trick_outside.specs.Calls.{Call, Done, Put, Stopped, fails, write_call}
 use Rattle.trick_outside.specs.Does.{Does, IsPartOf, Went}
@@ -15,10 +16,6 @@ use Rattle.trick_outside.specs.declared.stop.Stop.{Stop}
 -- the law `called_join` of a shelf
 abbrev pub Joins : {S : Type 0} → Ghosts S → Type 0
 Joins {S = S} shelf = (first second third : S) (early late : List Call) → shelf.called first early second → shelf.called second late third → shelf.called first (early ++ late) third
-
-pub not_ok : {T : Type 0} (result : Result T Stop) (e : Stop) → result ≡ Err e → IsOk result → ⊥
-not_ok (Ok x) e is ok = cc
-not_ok (Err f) e is ok = cc
 
 pub ok_not_fault : {T : Type 0} (result : Result T Stop) → IsOk result → IsErrOf result Shelf → ⊥
 ok_not_fault (Ok x) ok is = cc

@@ -3,6 +3,7 @@ use Rattle.std.proofs.Common.{◌≡◌, ◌∙◌, ℕ, ◌<◌, ◌≤◌, ◌
 use Rattle.trick_cycle.specs.Due.{IsDue, is_due_at}
 use Rattle.trick_cycle.specs.declared.Due.{Due}
 use Rattle.trick_lang.specs.declared.job.JobId.{JobId}
+use Rattle.trick_model.proofs.Lengths.{ids_length}
 use Rattle.trick_model.specs.Order.{jobs_at}
 use Rattle.trick_model.specs.PlanOf.{plan_of}
 use Rattle.trick_base.specs.Time.{tic_limit}
@@ -11,7 +12,7 @@ use Rattle.trick_model.specs.declared.flags.Flags.{Flags}
 use Rattle.trick_model.specs.declared.plan.Plan.{Plan as PlanValue}
 use Rattle.trick_queue.proofs.Answered.{filter_none, not_due_at}
 use Rattle.trick_queue.proofs.Orders.{queue_due}
-use Rattle.trick_queue.proofs.Queued.{all_scheduled, ids_at, ids_length, times_in_range}
+use Rattle.trick_queue.proofs.Queued.{all_scheduled, ids_at, times_in_range}
 use Rattle.trick_queue.specs.Line.{id_at, no_id, queue_of, times_at}
 
 -- the jobs of numbers

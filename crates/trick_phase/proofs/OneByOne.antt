@@ -4,6 +4,7 @@ use Rattle.std.proofs.lemmas.List.{drop_more, take-append-drop, take_all, take_m
 use Rattle.std.specs.List.{slice_index_or}
 use Rattle.std.specs.Option.{IfSome, MatchOption}
 use Rattle.std.specs.Prelude.{cond}
+use Rattle.trick_model.proofs.Lengths.{ids_length}
 use Rattle.trick_phase_board.specs.Answers.{ComesTo, IsLeftBy, open_count}
 use Rattle.trick_phase_board.specs.Board.{BoardView, IsBoardOf, IsOpenOf, IsOpenedWith, Opened, tic_at}
 use Rattle.trick_lang.specs.declared.job.JobId.{JobId}
@@ -108,10 +109,6 @@ ids_at : (due : List JobId) (i : ℕ) (d : JobId) → i < length due → slice_i
 ids_at [] i d less = absurd (omega arith)
 ids_at (job ∷ due) zero d less = refl
 ids_at (job ∷ due) (suc i) d less = ids_at due i d (omega arith)
-
-pub ids_length : (due : List JobId) → length (ids due) ≡ length due
-ids_length [] = refl
-ids_length (job ∷ due) = ap suc (ids_length due)
 
 -- a job more is taken and committed
 pub steps_more : (due : List JobId) (i : ℕ) (job : JobId) → i < length due → (slice_index_or due i job) ≡ job

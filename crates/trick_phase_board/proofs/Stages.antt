@@ -4,12 +4,13 @@ use Rattle.std.proofs.lemmas.Bool.{cases_eq, cases_lt}
 use Rattle.std.proofs.lemmas.List.{get_or-set_other, get_or-set_same, length-replicate, set_past}
 use Rattle.std.specs.Prelude.{filter, replicate, slice_set}
 use Rattle.trick_lang.specs.declared.job.JobId.{JobId}
+use Rattle.trick_model.proofs.Lengths.{ids_length}
 use Rattle.trick_model.specs.Laws.{is_among}
 use Rattle.trick_model.specs.Order.{is_due as is_due_at_tic, jobs_at}
 use Rattle.trick_model.specs.Plan.{Plan, is_on_scheduled, job_numbers}
 use Rattle.trick_model.specs.Valid.{ids}
 use Rattle.trick_model.specs.declared.flags.Flags.{Flags}
-use Rattle.trick_queue.proofs.Queued.{filter_few, ids_length, numbers_length, order_length}
+use Rattle.trick_queue.proofs.Queued.{filter_few, numbers_length, order_length}
 use Rattle.trick_phase_schedules.proofs.Due.{due_there}
 use Rattle.trick_phase_schedules.proofs.History.{waiting_at}
 use Rattle.trick_phase_schedules.specs.Play.{first_stages, is_due, stage_at}

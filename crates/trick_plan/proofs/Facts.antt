@@ -1,10 +1,11 @@
 -- What a plan keeps, of its parts.
-use Rattle.std.proofs.Common.{◌≡◌, ◌∙◌, ◌+◌, ◌≤◌, ◌++◌, ◌∷◌, [], ℕ, suc, ℤ, List, Option, Some, None, All, IsTrue, length, map, slice_get, refl, sym, ap, subst, arith}
+use Rattle.std.proofs.Common.{◌≡◌, ◌∙◌, ◌+◌, ◌≤◌, ◌++◌, ◌∷◌, [], ℕ, ℤ, List, Option, Some, None, All, IsTrue, length, map, slice_get, refl, sym, ap, subst, arith}
 use Rattle.std.proofs.lemmas.List.Elements.{All-cons, All-get_or, All-head, All-map, All-tail, All-weaker}
 use Rattle.std.proofs.lemmas.List.{length-map}
 use Rattle.std.proofs.lemmas.Option.{get_or_from_slice_get, slice_get-map, slice_get_within}
 use Rattle.std.specs.Option.{option_map, option_to_list}
 use Rattle.trick_base.proofs.ListLemmas.{all_unmapped}
+use Rattle.trick_lang.proofs.Variables.{scalars_length}
 use Rattle.trick_plan_draft.specs.Cells.{only_names}
 use Rattle.trick_plan_draft.specs.Drafts.{names_of}
 use Rattle.trick_plan_draft.specs.Jobs.{jobs_of}
@@ -163,16 +164,12 @@ module _ (known : model.Names) (cells : ℕ) (drafts : List EventDraft) (names :
 
 -- ---- cells
 
-as_many_scalars : (cells : List Variable) → length (scalars_of cells) ≡ length cells
-as_many_scalars [] = refl
-as_many_scalars (cell ∷ cells) = ap suc (as_many_scalars cells)
-
 right_assigns : (cells : List Variable) (scalars : List Scalar) (assigns : List (Cell × ℤ)) → scalars ≡ scalars_of cells
     → All (IsSet scalars) assigns → All (IsAssignment cells) assigns
 right_assigns cells scalars assigns same all =
     All-weaker (IsSet (scalars_of cells)) (IsAssignment cells)
     (λ assign is. record {
-      there = subst (λ (n : ℕ). IsCell n assign.0) (as_many_scalars cells) is.there;
+      there = subst (λ (n : ℕ). IsCell n assign.0) (scalars_length cells) is.there;
       in_range = is.in_range;
     })
     assigns (subst (λ (all : List Scalar). All (IsSet all) assigns) same all)
@@ -275,7 +272,7 @@ right p d s parts mirrors draft threads frame limit are queues = record {
     all_threads = subst (AreThreads p.jobs) (sym are.threads) threads
 
     as_many : length p.cells ≡ length d.cells.scalars
-    as_many = sym (ap (λ (all : List Scalar). length all) mirrors.scalars ∙ as_many_scalars p.cells)
+    as_many = sym (ap (λ (all : List Scalar). length all) mirrors.scalars ∙ scalars_length p.cells)
 
     of_groups : group_names parts.groups ≡ only_names d.added_groups
     of_groups = names_of_plan_groups (length d.cells.scalars) d.groups d.added_groups parts.groups are.groups draft.added_groups

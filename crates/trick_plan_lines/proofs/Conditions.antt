@@ -1,6 +1,5 @@
 -- What a text is as a condition, by what the reader of conditions answers.
 use Rattle.std.proofs.Common.{◌≡◌, ◌≢◌, ℕ, List, Option, Some, None, Result, Ok, Err, refl, sym, ap, arith, inl, inr}
-use Rattle.std.specs.Prelude.{IfOk}
 use Rattle.trick_body.specs.Answers.{IsCondition, IsRead, condition, fault_of_text}
 use Rattle.trick_body.specs.Expressions.{Of}
 use Rattle.trick_body.specs.Lexemes.{lexemes_of}
@@ -99,8 +98,3 @@ module _ (exact : ConditionsAreExact) (one : OneCut) (text : List ℕ) where
       → IsConditionOf text None
   reads_none fault not (inl h) = unread h.0 h.1 fault h.2 not h.3
   reads_none fault not (inr h) = uncut fault h.0 not h.1 h.2
-
--- what holds of an answer, where something holds of it that says so
-pub if_ok : {A E : Type 0} {P Q : A → Type 0} (r : Result A E) → ((a : A) → P a → Q a) → IfOk r P → IfOk r Q
-if_ok (Ok a) f h = f a h
-if_ok (Err e) f h = h

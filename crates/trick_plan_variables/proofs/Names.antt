@@ -1,5 +1,5 @@
 -- The names of the cells of a declaration differ, and are new where its name is free.
-use Rattle.std.proofs.Common.{◌≡◌, ◌∙◌, ◌*◌, ◌^◌, ◌<◌, ◌≤◌, ◌++◌, ◌∷◌, [], ℕ, zero, suc, List, Bool, true, false, not, ◌||◌, ◌==◌, codes, decimal, drop, slice_index_or, refl, sym, ap, subst, arith, append_assoc, append-nil, if◌then◌else◌}
+use Rattle.std.proofs.Common.{◌≡◌, ◌∙◌, ◌*◌, ◌^◌, ◌<◌, ◌≤◌, ◌++◌, ◌∷◌, [], ℕ, zero, suc, List, Bool, true, false, not, ◌||◌, ◌==◌, codes, decimal, drop, refl, sym, ap, subst, arith, append_assoc, append-nil, if◌then◌else◌}
 use Rattle.std.proofs.Math.Nat.{le-mul_of_pos_right, mul_comm}
 use Rattle.std.proofs.lemmas.Bool.{and_from, or_parts}
 use Rattle.std.proofs.lemmas.Fmt.{decimal_injective, decimal_is_IsNumeral}
@@ -9,6 +9,7 @@ use Rattle.std.specs.Char.{digit_value}
 use Rattle.std.specs.List.{list_all, list_any}
 use Rattle.std.specs.Str.{bytes_eq}
 use Rattle.std.specs.Str.Parse.{AllDigits}
+use Rattle.trick_base.proofs.ListLemmas.{same_first}
 use Rattle.trick_plan_variables.proofs.Apart.{all_and_last, all_of_both, apart_and_last}
 use Rattle.trick_plan_variables.specs.Cells.{begins_with, cells_named, cells_of, count_of, element, elements, first_name, full_names, row_elements}
 use Rattle.trick_plan_variables.specs.declared.declaration.Declaration.{Declaration}
@@ -17,9 +18,6 @@ use Rattle.trick_lang.specs.declared.scalar.Scalar.{Scalar}
 use Rattle.trick_lang.specs.declared.variable.Variable.{Variable}
 
 -- ---- indexes
-
-head : (x y : ℕ) (xs ys : List ℕ) → x ∷ xs ≡ y ∷ ys → x ≡ y
-head x y xs ys h = ap (λ (ns : List ℕ). slice_index_or ns 0 0) h
 
 tail : (x y : ℕ) (xs ys : List ℕ) → x ∷ xs ≡ y ∷ ys → xs ≡ ys
 tail x y xs ys h = ap (λ (ns : List ℕ). drop 1 ns) h
@@ -30,10 +28,10 @@ no_digit d digit is = let no : digit_value 93 < 10 = subst (λ (b : ℕ). digit_
 -- the digits in front of a `]`
 same_digits : (ds es s t : List ℕ) → AllDigits 10 ds → AllDigits 10 es → ds ++ 93 ∷ s ≡ es ++ 93 ∷ t → ds ≡ es
 same_digits [] [] s t a b h = refl
-same_digits [] (e ∷ es) s t a b h = absurd (no_digit e b.0 (sym (head 93 e s (es ++ 93 ∷ t) h)))
-same_digits (d ∷ ds) [] s t a b h = absurd (no_digit d a.0 (head d 93 (ds ++ 93 ∷ s) t h))
+same_digits [] (e ∷ es) s t a b h = absurd (no_digit e b.0 (sym (same_first 93 e s (es ++ 93 ∷ t) h)))
+same_digits (d ∷ ds) [] s t a b h = absurd (no_digit d a.0 (same_first d 93 (ds ++ 93 ∷ s) t h))
 same_digits (d ∷ ds) (e ∷ es) s t a b h =
-    let first = head d e (ds ++ 93 ∷ s) (es ++ 93 ∷ t) h in
+    let first = same_first d e (ds ++ 93 ∷ s) (es ++ 93 ∷ t) h in
     let rest = same_digits ds es s t a.1 b.1 (tail d e (ds ++ 93 ∷ s) (es ++ 93 ∷ t) h) in
     ap (λ (x : ℕ). x ∷ ds) first ∙ ap (λ (xs : List ℕ). e ∷ xs) rest
 

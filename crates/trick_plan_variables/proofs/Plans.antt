@@ -3,6 +3,7 @@ use Rattle.std.proofs.Common.{◌≡◌, ◌∙◌, ◌+◌, ◌<◌, ◌≤◌,
 use Rattle.std.proofs.lemmas.Bool.Decides.{nat_tests}
 use Rattle.std.proofs.lemmas.Bool.{and_from, and_parts}
 use Rattle.std.proofs.lemmas.List.{length-append}
+use Rattle.trick_lang.proofs.Variables.{scalars_length}
 use Rattle.trick_lang.specs.Effect.{scalars_of}
 use Rattle.trick_lang.specs.Tree.{Term, Number, Local, Cell, Prefixed, Chain, Choose, Links, NoLink, Link, Choices, Last, Choice, Spot, spot}
 use Rattle.trick_lang.specs.TreeOf.{term_of}
@@ -12,6 +13,7 @@ use Rattle.trick_lang.specs.declared.job.Job.{Job}
 use Rattle.trick_lang.specs.declared.scalar.Scalar.{Scalar}
 use Rattle.trick_lang.specs.declared.tree.Expr.{Expr}
 use Rattle.trick_lang.specs.declared.variable.Variable.{Variable}
+use Rattle.trick_model.proofs.Lengths.{names_length}
 use Rattle.trick_model.specs.Condition.{are_all_conditions, are_conditions, has_no_step, is_condition, is_condition_of, is_plain_place, is_safe}
 use Rattle.trick_model.specs.Names.{Names}
 use Rattle.trick_lang.specs.Names.{job_name}
@@ -114,10 +116,6 @@ scalars_append : (xs ys : List Variable) → scalars_of (xs ++ ys) ≡ scalars_o
 scalars_append [] ys = refl
 scalars_append (x ∷ xs) ys = ap (λ (ss : List Scalar). x.scalar ∷ ss) (scalars_append xs ys)
 
-length_scalars : (xs : List Variable) → length (scalars_of xs) ≡ length xs
-length_scalars [] = refl
-length_scalars (x ∷ xs) = ap suc (length_scalars xs)
-
 length_more : (xs ys : List Variable) → length xs ≤ length (xs ++ ys)
 length_more [] ys = omega arith
 length_more (x ∷ xs) ys = let rest = length_more xs ys in omega (arith, rest)
@@ -129,7 +127,7 @@ assignment_more cells more assign h = record {
       let scalars = scalars_of cells in
       let same : scalar_at (scalars_of (cells ++ more)) (assign.0).0 ≡ scalar_at scalars (assign.0).0 =
       ap (λ (ss : List Scalar). scalar_at ss (assign.0).0) (scalars_append cells more)
-      ∙ scalar_stays scalars (scalars_of more) (assign.0).0 (subst (λ (n : ℕ). (assign.0).0 < n) (sym (length_scalars cells)) h.there) in
+      ∙ scalar_stays scalars (scalars_of more) (assign.0).0 (subst (λ (n : ℕ). (assign.0).0 < n) (sym (scalars_length cells)) h.there) in
       subst (λ (s : Scalar). IsOf s assign.1) (sym same) h.in_range;
 }
 
@@ -139,10 +137,6 @@ names_append : (xs ys : List Variable) → cell_names (xs ++ ys) ≡ cell_names 
 names_append [] ys = refl
 names_append (x ∷ xs) ys = ap (λ (ns : List (List ℕ)). x.name ∷ ns) (names_append xs ys)
 
-length_names : (xs : List Variable) → length (cell_names xs) ≡ length xs
-length_names [] = refl
-length_names (x ∷ xs) = ap suc (length_names xs)
-
 -- the names of a program with more cells
 names_more : (old new : Program) (more : List Variable) (groups : List Group) (events : List Event) → new.cells ≡ old.cells ++ more → KeepsRest old new
     → HasMore (names_in old groups events) (names_in new groups events)
@@ -151,7 +145,7 @@ names_more old new more groups events cells rest = record {
   scalars = scalars_of more;
   cells = ap cell_names cells ∙ names_append old.cells more;
   types = ap scalars_of cells ∙ scalars_append old.cells more;
-  as_many = length_names old.cells ∙ sym (length_scalars old.cells);
+  as_many = names_length old.cells ∙ sym (scalars_length old.cells);
   job_names =
       ap (λ (objects : List Object). map (job_name objects new.methods) new.jobs) rest.objects
       ∙ (ap (λ (methods : List Method). map (job_name old.objects methods) new.jobs) rest.methods

@@ -38,7 +38,9 @@ capped : (n count top : ℕ) → min (n + count) top ≤ min (min n top + count)
 capped n count top = by_order (cases_lt n top)
   where
     by_order : (n < top) ⊎ (top ≤ n) → min (n + count) top ≤ min (min n top + count) top
-    by_order (inl below) = subst (λ (m : ℕ). min (n + count) top ≤ min (m + count) top) (sym (min-eq_left (le_of_lt below))) (le_refl (min (n + count) top))
+    by_order (inl below) =
+        subst (λ (m : ℕ). min (n + count) top ≤ min (m + count) top) (sym (min-eq_left (le_of_lt below)))
+        (le_refl (min (n + count) top))
     by_order (inr above) =
         subst (λ (m : ℕ). min (n + count) top ≤ min (m + count) top) (sym (min-eq_right above))
         (le-min (le_trans (min-le_right (n + count) top) (le-add_right top count)) (min-le_right (n + count) top))

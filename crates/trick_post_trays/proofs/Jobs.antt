@@ -11,6 +11,7 @@ use Rattle.trick_lang.specs.declared.class.Class.TheVariants as class
 use Rattle.trick_lang.specs.declared.job.Job.{Job}
 use Rattle.trick_lang.specs.declared.job.JobId.{JobId}
 use Rattle.trick_model.proofs.Keys.{key_order_is_one}
+use Rattle.trick_model.proofs.Lengths.{ids_length}
 use Rattle.trick_model.proofs.Ranges.{Below, filter_below, jobs_below}
 use Rattle.trick_model.specs.Acceptance.{IsAccepted, IsNamedRight}
 use Rattle.trick_model.specs.Access.{may_read, may_write, scope}
@@ -33,7 +34,7 @@ use Rattle.trick_post_work.specs.Work.{CanStart, IsKindOf, found_or_none, jobs_a
 use Rattle.trick_post_work.specs.declared.posts.Job1.{Job1}
 use Rattle.trick_post_work.specs.declared.posts.Job1.TheVariants as work
 use Rattle.trick_queue.proofs.Orders.{among_filter, filter_both, filter_order, filter_same, jobs_kept, numbers_are}
-use Rattle.trick_queue.proofs.Queued.{filter_few, ids_length, numbers_length, order_length}
+use Rattle.trick_queue.proofs.Queued.{filter_few, numbers_length, order_length}
 use Rattle.trick_queue.proofs.Trees.{below_or, past}
 use Rattle.trick_queue.specs.Line.{AreScheduled, id_at, no_id, times_at}
 

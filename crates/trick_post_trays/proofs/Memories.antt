@@ -10,6 +10,7 @@ use Rattle.trick_lang.specs.Effect.{effect, overwritten, writes}
 use Rattle.trick_lang.specs.Laws.{WritesOnly}
 use Rattle.trick_lang.specs.declared.fault.JobFault.{JobFault}
 use Rattle.trick_lang.specs.declared.fault.StatementFault.{StatementFault}
+use Rattle.trick_model.proofs.Sizes.{replaced_length}
 use Rattle.trick_model.specs.Access.{may_read, may_write, scope}
 use Rattle.trick_model.specs.Beside.{replaced, spread}
 use Rattle.trick_model.specs.FaultList.{FaultList, with_fault, with_faults}
@@ -26,10 +27,6 @@ use Rattle.trick_queue.proofs.Orders.{among_filter}
 use Rattle.trick_queue.proofs.Trees.{same_or}
 
 -- ---- what is written
-
-replaced_length : (chosen : ℕ → Bool) (cell : ℕ) (others ns : List ℤ) → length (replaced chosen cell others ns) ≡ length ns
-replaced_length chosen cell others [] = refl
-replaced_length chosen cell others (n ∷ ns) = ap suc (replaced_length chosen (cell + 1) others ns)
 
 replaced_at : (chosen : ℕ → Bool) (cell : ℕ) (others ns : List ℤ) (c : ℕ) → c < length ns
     → number_at (replaced chosen cell others ns) c ≡ cond (chosen (cell + c)) (number_at others (cell + c)) (number_at ns c)

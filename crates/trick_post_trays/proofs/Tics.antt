@@ -8,13 +8,14 @@ use Rattle.trick_cycle.specs.declared.Due.{Due}
 use Rattle.trick_lang.specs.declared.job.Job.{Job}
 use Rattle.trick_lang.specs.declared.job.JobId.{JobId}
 use Rattle.trick_base.specs.Time.{tic_limit}
+use Rattle.trick_model.proofs.Lengths.{ids_length}
 use Rattle.trick_model.specs.Valid.{ids}
 use Rattle.trick_post_trays.proofs.Lists.{any_tic, next_first, no_tic, nothing_left}
 use Rattle.trick_post_trays.specs.Calendars.{due_of, line_work}
 use Rattle.trick_post_work.specs.Work.{tics_between}
 use Rattle.trick_post_work.specs.declared.posts.Job1.TheVariants as work
 use Rattle.trick_queue.proofs.Answered.{filter_none, not_due_at}
-use Rattle.trick_queue.proofs.Queued.{ids_at, ids_length}
+use Rattle.trick_queue.proofs.Queued.{ids_at}
 use Rattle.trick_queue.proofs.Trees.{below_or}
 use Rattle.trick_queue.specs.Calendar.{IsNext}
 use Rattle.trick_queue.specs.Line.{AreKnown, AreNext, id_at, no_id, times_at}

@@ -154,10 +154,6 @@ taken_scalar (x ∷ xs) (suc i) v there is =
     ap (λ (scalars : List Scalar). x.scalar ∷ scalars) (taken_scalar xs i v (omega (arith, there)) is)
     ∙ ap (λ (k : ℕ). scalars_of (take k (x ∷ xs))) (more i)
 
-pub scalars_length : (cells : List Variable) → length (scalars_of cells) ≡ length cells
-scalars_length [] = refl
-scalars_length (v ∷ cells) = ap suc (scalars_length cells)
-
 -- ---- flags
 
 -- one flag more, in front

@@ -8,6 +8,7 @@ use Rattle.trick_cycle.specs.Least.{FindsLeast}
 use Rattle.trick_cycle.specs.declared.Due.{Due}
 use Rattle.trick_lang.specs.declared.job.Job.{Job}
 use Rattle.trick_lang.specs.declared.job.JobId.{JobId}
+use Rattle.trick_model.proofs.Lengths.{ids_length}
 use Rattle.trick_model.specs.Laws.{is_among}
 use Rattle.trick_model.specs.Order.{jobs_at}
 use Rattle.trick_model.specs.PlanOf.{plan_of}
@@ -17,7 +18,7 @@ use Rattle.trick_model.specs.declared.plan.Plan.{Plan as PlanValue}
 use Rattle.trick_queue.proofs.Grouping.{filter_push, same_is, true≢false}
 use Rattle.trick_queue.proofs.Merged.{among_times}
 use Rattle.trick_queue.proofs.Orders.{queue_due}
-use Rattle.trick_queue.proofs.Queued.{all_scheduled, ids_at, ids_length, times_in_range}
+use Rattle.trick_queue.proofs.Queued.{all_scheduled, ids_at, times_in_range}
 use Rattle.trick_queue.proofs.Trees.{below_or}
 use Rattle.trick_queue.specs.Calendar.{FindsLeastOf, no_times, times_in}
 use Rattle.trick_queue.specs.Groups.{AreGroups, are_same, below, is_one_of, times_by, times_of}

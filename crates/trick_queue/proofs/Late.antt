@@ -5,11 +5,12 @@ use Rattle.std.proofs.lemmas.Bool.Decides.{nat_tests}
 use Rattle.std.specs.Prelude.{cond, filter, not, nat_le}
 use Rattle.trick_cycle.specs.Due.{IsDue, is_due_at}
 use Rattle.trick_cycle.specs.declared.Due.{Due}
+use Rattle.trick_model.proofs.Lengths.{ids_length}
 use Rattle.trick_model.specs.PlanOf.{plan_of}
 use Rattle.trick_model.specs.Valid.{ids}
 use Rattle.trick_model.specs.declared.plan.Plan.{Plan as PlanValue}
 use Rattle.trick_queue.proofs.Grouping.{same_is, same_self, true≢false}
-use Rattle.trick_queue.proofs.Queued.{ids_at, ids_length}
+use Rattle.trick_queue.proofs.Queued.{ids_at}
 use Rattle.trick_queue.proofs.Trees.{same_or}
 use Rattle.trick_queue.specs.Calendar.{no_times, times_in}
 use Rattle.trick_queue.specs.Groups.{AreApart, are_same, is_one_of, times_by}

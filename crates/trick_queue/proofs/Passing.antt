@@ -9,8 +9,9 @@ use Rattle.trick_cycle.specs.declared.Due.{Due}
 use Rattle.trick_lang.specs.declared.job.Job.{Job}
 use Rattle.trick_lang.specs.declared.job.JobId.{JobId}
 use Rattle.trick_base.specs.Time.{tic_limit}
+use Rattle.trick_model.proofs.Lengths.{ids_length}
 use Rattle.trick_model.specs.Valid.{ids}
-use Rattle.trick_queue.proofs.Queued.{ids_at, ids_length, ids_more}
+use Rattle.trick_queue.proofs.Queued.{ids_at, ids_more}
 use Rattle.trick_queue.proofs.Trees.{below_or, same_or}
 use Rattle.trick_queue.specs.Calendar.{IsNext}
 use Rattle.trick_queue.specs.Line.{AreKnown, AreNext, IsKnown, IsPassed, id_at, no_id, times_at}

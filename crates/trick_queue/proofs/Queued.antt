@@ -10,6 +10,7 @@ use Rattle.trick_lang.specs.declared.class.Class.{Class}
 use Rattle.trick_lang.specs.declared.class.Class.TheVariants as class
 use Rattle.trick_lang.specs.declared.job.Job.{Job}
 use Rattle.trick_lang.specs.declared.job.JobId.{JobId}
+use Rattle.trick_model.proofs.Lengths.{ids_length}
 use Rattle.trick_model.specs.Order.{in_key_order, is_of_class, jobs_in, precedes, put_in, rank}
 use Rattle.trick_model.specs.Plan.{Plan, is_on_scheduled, job_at, job_numbers, no_job, numbers_from}
 use Rattle.trick_model.specs.Valid.{ids}
@@ -127,10 +128,6 @@ order_length jobs (k ∷ ks) = put_length jobs k (in_key_order jobs ks) ∙ ap s
 pub numbers_length : {A : Type 0} (k : ℕ) (xs : List A) → length (numbers_from k xs) ≡ length xs
 numbers_length k [] = refl
 numbers_length k (x ∷ xs) = ap suc (numbers_length (suc k) xs)
-
-pub ids_length : (all : List JobId) → length (ids all) ≡ length all
-ids_length [] = refl
-ids_length (job ∷ all) = ap suc (ids_length all)
 
 pub few_jobs : (p : Plan) (all : List JobId) → ids all ≡ queue_of p → length all ≤ length p.jobs
 few_jobs p all is =

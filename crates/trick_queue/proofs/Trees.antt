@@ -3,6 +3,7 @@ use Rattle.std.proofs.Common.{◌≡◌, ◌≢◌, ℕ, zero, suc, ◌+◌, ◌
 use Rattle.std.proofs.lemmas.Bool.Decides.{nat_tests}
 use Rattle.std.proofs.lemmas.List.{get_or-replicate, length-set, get_or-set_same, get_or-set_other}
 use Rattle.std.specs.Prelude.{◌⊎◌, min, nat_lt, cond, replicate}
+use Rattle.trick_base.proofs.Numbers.{at_most_itself}
 use Rattle.trick_queue.specs.Tree.{AreLater, AreRight, AreRightBut, IsChild, IsFirst, IsLeast, IsPower, IsRight, IsShaped, IsTree, low_of, never, one, twice}
 
 -- ---- numbers
@@ -124,9 +125,6 @@ all_right lows tics node none shaped but = record { shaped = shaped; right = λ 
 
 -- ---- the root
 
-no_more : (n : ℕ) → n ≤ n
-no_more n = omega arith
-
 left_less : (a h x y i : ℕ) → a ≤ h → h ≡ min x y → i ≡ x → a ≤ i
 left_less a h x y i le is e = omega arith
 
@@ -143,7 +141,7 @@ above lows tics right (suc n) i le some less = elim (below_or 1 i) [
         | inl e ↦ left_less _ _ _ _ _ up is (ap (low_of lows tics) e)
         | inr e ↦ right_less _ _ _ _ _ up is (ap (low_of lows tics) e)
       ]
-  | inr first ↦ let e : 1 ≡ i = omega arith in subst (λ k. low_of lows tics 1 ≤ low_of lows tics k) e (no_more (low_of lows tics 1))
+  | inr first ↦ let e : 1 ≡ i = omega arith in subst (λ k. low_of lows tics 1 ≤ low_of lows tics k) e (at_most_itself (low_of lows tics 1))
 ]
 
 root_below : (lows tics : List ℕ) → IsTree lows tics → (place : ℕ) → place < length tics → low_of lows tics 1 ≤ get_or tics place never

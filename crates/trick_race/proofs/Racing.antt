@@ -7,6 +7,7 @@ use Rattle.trick_base.proofs.Truths.{first_holds, second_holds}
 use Rattle.trick_lang.specs.declared.class.Class.TheVariants as class
 use Rattle.trick_lang.specs.declared.job.Job.{Job}
 use Rattle.trick_lang.specs.declared.job.JobId.{JobId}
+use Rattle.trick_model.proofs.Lengths.{ids_length}
 use Rattle.trick_model.specs.Acceptance.{IsFine, MayRace}
 use Rattle.trick_model.specs.Laws.{AreInKeyOrder, AreJobs, IsBefore, KeyOrderIsOne, is_among}
 use Rattle.trick_model.specs.Order.{is_below, is_of_class, jobs_in, key, precedes}
@@ -150,10 +151,6 @@ pub first_once : (jobs : List Job) (a b : ℕ) → IsTrue (precedes jobs a b) �
 first_once jobs a b h g = below_once (key (job_at jobs a)) (key (job_at jobs b)) h g
 
 -- ---- the queue of scheduled jobs
-
-ids_length : (js : List JobId) → length (ids js) ≡ length js
-ids_length [] = refl
-ids_length (j ∷ js) = ap suc (ids_length js)
 
 ids_at : (js : List JobId) (i : ℕ) (d : JobId) → i < length js → get_or (ids js) i 0 ≡ (get_or js i d).0
 ids_at [] i d there = absurd (omega arith)

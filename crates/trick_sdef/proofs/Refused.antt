@@ -1,12 +1,12 @@
 -- The answers of the reader, from what reading gives.
-use Rattle.std.proofs.Common.{◌≡◌, ◌≢◌, ◌⊎◌, ℕ, ◌-◌, List, [], ◌∷◌, ◌++◌, ◌<◌, ◌≤◌, All, length, take, map, slice_get, Option, Some, None, Result, Ok, Err, refl, sym, ap, ◌∙◌, subst, arith, length-append}
-use Rattle.std.proofs.Math.Seq.{take-append_seam}
+use Rattle.std.proofs.Common.{◌≡◌, ◌≢◌, ◌⊎◌, ℕ, ◌-◌, List, [], ◌∷◌, ◌<◌, ◌≤◌, All, length, take, map, slice_get, Option, Some, None, Result, Ok, Err, refl, sym, ap, ◌∙◌, subst, arith}
 use Rattle.trick_body.specs.Lexemes.{lexemes_of}
 use Rattle.trick_body.specs.Limits.{list_limit, method_levels}
 use Rattle.trick_body.specs.Symbols.{number_of, spelled, Token}
 use Rattle.trick_body.specs.Told.{told, told_line}
 use Rattle.trick_grammar.proofs.Cut.{first}
 use Rattle.trick_grammar.proofs.Exact.{exact}
+use Rattle.trick_grammar.proofs.Fronts.{front_is}
 use Rattle.trick_grammar.specs.Cut.{at_token, IsFirst}
 use Rattle.trick_grammar.specs.Gives.{class_of}
 use Rattle.trick_grammar.specs.Reading.{Refused}
@@ -30,12 +30,6 @@ use Rattle.trick_text.specs.declared.fault.TimeFault.{TimeFault}
 use Rattle.trick_text.specs.declared.token.Token as cut
 use Rattle.trick_text.specs.declared.token.TokenKind.{TokenKind}
 use Rattle.trick_text.specs.declared.token.TokenKind.TheVariants.{Whole, Decimal}
-
--- what stands before the rest
-front_is : {A : Type 0} (ts front rest : List A) → ts ≡ front ++ rest → take (length ts - length rest) ts ≡ front
-front_is ts front rest is =
-    let n : length ts - length rest ≡ length front = omega (arith, ap length is, length-append front rest) in
-    ap (λ k. take k ts) n ∙ ap (λ (us : List _). take (length front) us) is ∙ take-append_seam front rest
 
 module _ (text : List ℕ) (ts : List cut.Token) where
   abbrev lexed : List Token

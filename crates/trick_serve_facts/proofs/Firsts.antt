@@ -2,6 +2,7 @@
 use Rattle.std.proofs.Common.{◌≡◌, ◌∙◌, ℕ, zero, suc, ◌+◌, true, false, List, [], ◌∷◌, ◌++◌, Option, Some, None, ap, length, map, refl, sym}
 use Rattle.std.proofs.lemmas.Bool.{and_parts, false≢true}
 use Rattle.std.specs.List.{filter}
+use Rattle.trick_base.proofs.ListLemmas.{same_first}
 use Rattle.trick_model_sessions.specs.Silence.{newcomers}
 use Rattle.trick_model.specs.Journal.{is_of_session}
 use Rattle.trick_model.specs.Plan.{Plan}
@@ -93,15 +94,12 @@ none_come (Publish thread ∷ entries) s away come none = none_come entries s aw
 
 -- ---- the law
 
-first_number : (n m : ℕ) (ns ms : List ℕ) → n ∷ ns ≡ m ∷ ms → n ≡ m
-first_number n m ns ms is = cc
-
 no_number : (n : ℕ) (ns : List ℕ) → n ∷ ns ≡ [] → ⊥
 no_number n ns is = cc
 
 begins_at_one : (count n : ℕ) (ns : List ℕ) → n ∷ ns ≡ numbers_from 1 count → n ≡ 1
 begins_at_one zero n ns is = absurd (no_number n ns is)
-begins_at_one (suc count) n ns is = first_number n 1 ns (numbers_from (1 + 1) count) is
+begins_at_one (suc count) n ns is = same_first n 1 ns (numbers_from (1 + 1) count) is
 
 joins_by : (entries : List Entry) (later : List ℕ) (count : ℕ) → newcomers entries ++ later ≡ numbers_from 1 count
     → (newcomers entries ≡ [] → ⊥) → (joins : List ℕ) → newcomers entries ≡ joins → (others : List ℕ) × (newcomers entries ≡ 1 ∷ others)

@@ -5,6 +5,7 @@ use Rattle.std.proofs.lemmas.Bool.Decides.{eqb_tells, nat_tests}
 use Rattle.std.proofs.lemmas.List.{append_cancel_left}
 use Rattle.std.proofs.lemmas.List.Concat.{flat_map-append}
 use Rattle.std.specs.Prelude.{nat_lt}
+use Rattle.trick_base.proofs.ListLemmas.{same_rest}
 use Rattle.trick_base.proofs.Numbers.{zero_at_most}
 use Rattle.trick_model_sessions.proofs.Silence.{absent, leaving, left_gone}
 use Rattle.trick_model_sessions.specs.Silence.{all_newcomers, entries_of as entries_to, is_there, newcomers}
@@ -390,9 +391,6 @@ entry_none entry entries is = cc
 rest_none : (entry other : Entry) (entries : List Entry) → entry ∷ entries ≡ other ∷ [] → entries ≡ []
 rest_none entry other entries is = cc
 
-tails : (a b : Entry) (xs ys : List Entry) → a ∷ xs ≡ b ∷ ys → xs ≡ ys
-tails a b xs ys is = cc
-
 right_none : (xs ys : List Entry) → xs ++ ys ≡ [] → ys ≡ []
 right_none [] ys is = is
 right_none (x ∷ xs) ys is = absurd (entry_none x (xs ++ ys) is)
@@ -401,7 +399,7 @@ right_none (x ∷ xs) ys is = absurd (entry_none x (xs ++ ys) is)
 ends_split : (xs ys zs : List Entry) (e : Entry) → xs ++ ys ≡ zs ++ e ∷ [] → (ys ≡ []) ⊎ ((before : List Entry) × (ys ≡ before ++ e ∷ []))
 ends_split [] ys zs e is = inr (zs, is)
 ends_split (x ∷ xs) ys [] e is = inl (right_none xs ys (rest_none x e (xs ++ ys) is))
-ends_split (x ∷ xs) ys (z ∷ zs) e is = ends_split xs ys zs e (tails x z (xs ++ ys) (zs ++ e ∷ []) is)
+ends_split (x ∷ xs) ys (z ∷ zs) e is = ends_split xs ys zs e (same_rest x z (xs ++ ys) (zs ++ e ∷ []) is)
 
 own_more : (n : ℕ) (lists : List (List Entry)) (entries : List Entry) → own n (all_entries (lists ++ entries ∷ [])) ≡ own n (all_entries lists) ++ own n entries
 own_more n lists entries =

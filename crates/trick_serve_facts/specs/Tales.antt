@@ -28,8 +28,8 @@ module _ {I O : Type 0} where
 
   -- What is said of the end of a session whose seat has this side: its threads handed back what they promise, and the
   -- count of its second link has not fallen since.
-  pub record IsEndOf (input : InGhosts I) (output : OutGhosts O) (arrival : Arrival I O) (past : Past I O) (ended : SessionEnd I O) (s : Side)
-      : Type 0 where
+  pub record IsEndOf (input : InGhosts I) (output : OutGhosts O) (arrival : Arrival I O) (past : Past I O)
+      (ended : SessionEnd I O) (s : Side) : Type 0 where
     pub is_past : IsPast input output arrival past
     pub heard : HasHeard (input.holds arrival.input.value)
         (Rose (input.failures arrival.input.value) (input.failures ended.input)) s.heard

@@ -1,8 +1,8 @@
 -- Programs with the same parts have the same answers and the same plans.
-use Rattle.std.proofs.Common.{◌≡◌, ◌∙◌, ◌∷◌, ℕ, pos, true, List, [], None, Result, Ok, ap, length, map, refl, replicate, subst, sym}
+use Rattle.std.proofs.Common.{◌≡◌, ◌∙◌, ℕ, pos, true, List, [], None, Result, Ok, ap, length, map, refl, replicate, subst, sym}
 use Rattle.std.specs.List.{slice_get, slice_index_or}
+use Rattle.trick_check_blocks.proofs.Rows.{bodies_many, codes_are}
 use Rattle.trick_check_blocks.specs.Bodies.{Body}
-use Rattle.trick_check_blocks.specs.Held.{bodies_of}
 use Rattle.trick_check_blocks.specs.Kept.{codes_in}
 use Rattle.trick_plan_draft.specs.Cells.{known_cells, only_names}
 use Rattle.trick_plan_draft.specs.Drafts.{with_items}
@@ -18,13 +18,12 @@ use Rattle.trick_lang.specs.Names.{job_name}
 use Rattle.trick_lang.specs.Numbers.{and_then}
 use Rattle.trick_lang.specs.Run.{State, block_runs}
 use Rattle.trick_lang.specs.Tree.{Code}
-use Rattle.trick_lang.specs.TreeOf.{code_list, codes_of}
+use Rattle.trick_lang.specs.TreeOf.{codes_of}
 use Rattle.trick_lang.specs.Valid.{block_of, method_of}
 use Rattle.trick_lang.specs.declared.job.Job.{Job}
 use Rattle.trick_lang.specs.declared.method.Method.{Method}
 use Rattle.trick_lang.specs.declared.object.Object.{Object}
 use Rattle.trick_lang.specs.declared.program.Program.{Program}
-use Rattle.trick_lang.specs.declared.tree.Block.{Block}
 use Rattle.trick_lang.specs.declared.variable.EnumItem.{EnumItem}
 use Rattle.trick_lang.specs.declared.variable.Variable.{Variable}
 use Rattle.trick_plan_lines.specs.Drafted.{Drafted}
@@ -72,14 +71,6 @@ answered_same p q same calls answer has =
     (subst (λ items. AnsweredBy p.objects p.methods p.jobs p.cells items calls answer) same.items has))))
 
 -- ---- plans
-
-codes_held : (blocks : List Block) → codes_in (bodies_of blocks) ≡ codes_of blocks
-codes_held [] = refl
-codes_held (b ∷ bs) = ap (λ (rest : List (List Code)). code_list b.statements ∷ rest) (codes_held bs)
-
-count_held : (blocks : List Block) → length (bodies_of blocks) ≡ length blocks
-count_held [] = refl
-count_held (b ∷ bs) = simp (count_held bs)
 
 abbrev first_by : List Object → List Job → ℕ → ℕ
 first_by objects jobs k = first_of (object_of objects (slice_get jobs k))
@@ -129,11 +120,11 @@ by_same p q same codes count s d =
     ∙ ap (λ slots. plan_by q.objects q.methods q.jobs slots codes count s d) same.slots
 
 codes_same : (p q : Program) → AreSame p q → codes_of p.blocks ≡ codes_of q.blocks
-codes_same p q same = sym (codes_held p.blocks) ∙ ap (λ (bodies : List Body). codes_in bodies) same.blocks ∙ codes_held q.blocks
+codes_same p q same = sym (codes_are p.blocks) ∙ ap (λ (bodies : List Body). codes_in bodies) same.blocks ∙ codes_are q.blocks
 
 count_same : (p q : Program) → AreSame p q → length p.blocks ≡ length q.blocks
 count_same p q same =
-    sym (count_held p.blocks) ∙ ap (λ (bodies : List Body). length bodies) same.blocks ∙ count_held q.blocks
+    sym (bodies_many p.blocks) ∙ ap (λ (bodies : List Body). length bodies) same.blocks ∙ bodies_many q.blocks
 
 pub said_same : (p q : Program) → AreSame p q → (s : Settings) (d : Draft) → plan_said p s d ≡ plan_said q s d
 said_same p q same s d =

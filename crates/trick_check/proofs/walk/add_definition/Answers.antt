@@ -1,6 +1,6 @@
 use Rattle.std.proofs.Common.{ap, sym, ◌∙◌}
+use Rattle.trick_base.proofs.Results.{on_ok}
 use Rattle.trick_check_bodies.specs.Classes.{made}
-use Rattle.trick_check.proofs.Lists.{on_ok}
 use Rattle.trick_check.proofs.walk.add_definition.Goals as goal
 use Rattle.trick_check.specs.Parts.{order_at, parts_at}
 use Rattle.trick_check.specs.Walk.{with_class_if}

@@ -1,9 +1,10 @@
 use Rattle.std.proofs.Common.{◌≡◌, ◌<◌, [], get_or, length, true, ap, sym, ◌∙◌, subst, arith}
 use Rattle.std.proofs.lemmas.List.{get_or_default}
+use Rattle.trick_base.proofs.Results.{on_ok}
 use Rattle.trick_check_bodies.specs.Classes.{made}
 use Rattle.trick_check_blocks.specs.Kept.{is_one_of}
 use Rattle.trick_check.proofs.Joining.{order_takes}
-use Rattle.trick_check.proofs.Lists.{definitions_many, on_ok, parts_many}
+use Rattle.trick_check.proofs.Lists.{definitions_many, parts_many}
 use Rattle.trick_check.proofs.Walked.{class_made}
 use Rattle.trick_check.proofs.walk.add_used.Goals as goal
 use Rattle.trick_check.specs.Parts.{order_at, parts_at}

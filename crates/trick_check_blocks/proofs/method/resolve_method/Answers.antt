@@ -1,5 +1,5 @@
 use Rattle.std.proofs.Common.{◌≡◌, ◌+◌, ◌-◌, length, take, drop, ap, sym, ◌∙◌}
-use Rattle.trick_check_blocks.proofs.Rows.{as_many, codes_new, take_rest}
+use Rattle.trick_check_blocks.proofs.Rows.{bodies_many, codes_new, take_rest}
 use Rattle.trick_check_blocks.proofs.method.resolve_method.Goals as goal
 use Rattle.trick_check_blocks.specs.Bodies.{with_bodies}
 use Rattle.trick_check_blocks.specs.Codes.{all_count}
@@ -28,4 +28,4 @@ returns c =
     ap (λ q. progress (record w { methods = q; slots = c.in_ok-slots.slots }) (bodies_of new)) methods
     ∙ (ap (λ q. progress (record w { methods = with_name m.name (n + all_count m.body) w.methods; slots = q }) (bodies_of new)) slots
     ∙ (ap (progress (world_with m w n)) blocks
-    ∙ ap (λ k. progress (world_with m w k) (with_bodies w.class (body_blocks m.body w k) (bodies_of old))) (sym (as_many old))))
+    ∙ ap (λ k. progress (world_with m w k) (with_bodies w.class (body_blocks m.body w k) (bodies_of old))) (sym (bodies_many old))))

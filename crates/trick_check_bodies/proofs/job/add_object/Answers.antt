@@ -1,5 +1,6 @@
 use Rattle.std.proofs.Common.{◌≡◌, ◌++◌, [], ap, sym, ◌∙◌}
-use Rattle.trick_check_bodies.proofs.Rows.{numbers_in, numbers_past, on_ok}
+use Rattle.trick_base.proofs.Results.{on_ok}
+use Rattle.trick_check_bodies.proofs.Rows.{numbers_in, numbers_past}
 use Rattle.trick_check_bodies.specs.Jobs.{numbers_at, object_jobs}
 use Rattle.trick_lang.specs.Syntax.{jobs_of}
 use Rattle.trick_check_bodies.proofs.job.add_object.Goals as goal

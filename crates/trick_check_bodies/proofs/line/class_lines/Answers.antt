@@ -1,5 +1,6 @@
 use Rattle.std.proofs.Common.{◌≡◌, ◌+◌, ap, drop, sym, ◌∙◌}
-use Rattle.trick_check_bodies.proofs.Rows.{if_false, if_true, parts_next}
+use Rattle.trick_base.proofs.Truths.{if_false, if_true}
+use Rattle.trick_check_bodies.proofs.Rows.{parts_next}
 use Rattle.trick_check_bodies.proofs.line.class_lines.Goals as goal
 use Rattle.trick_check_bodies.specs.Jobs.{class_lines, is_constructor, part_lines}
 use Rattle.trick_lang.specs.Syntax.{class_part_of, class_parts_of}

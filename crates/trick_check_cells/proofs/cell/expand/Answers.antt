@@ -1,5 +1,6 @@
 use Rattle.std.proofs.Common.{◌≡◌, ◌++◌, ap, sym, ◌∙◌}
-use Rattle.trick_check_cells.proofs.Waits.{no_cells, on_ok}
+use Rattle.trick_base.proofs.Results.{on_ok}
+use Rattle.trick_check_cells.proofs.Waits.{no_cells}
 use Rattle.trick_check_cells.specs.Cells.{under}
 use Rattle.trick_check_cells.specs.Counts.{base_count, counts}
 use Rattle.trick_check_cells.specs.Waits.{stack_cells, waiting_cells}

@@ -1,12 +1,13 @@
 use Rattle.std.proofs.Common.{◌≡◌, ◌+◌, ◌++◌, ◌∷◌, [], ◌<◌, length, take, rules, arith, refl, subst, sym, ap, ◌∙◌, w64, to_z, of_z}
 use Rattle.std.proofs.lemmas.List.{take_more_set}
 use Rattle.std.specs.Prelude.{pos, ℤ}
-use Rattle.trick_chkpt.proofs.Within.{in_range_at, length-scalars}
+use Rattle.trick_chkpt.proofs.Within.{in_range_at}
 use Rattle.trick_chkpt.proofs.read_cells.read_memory.Goals as goal
 use Rattle.trick_chkpt.specs.CheckpointLines.{memory_of}
 use Rattle.trick_chkpt.specs.Ranges.{range_of}
 use Rattle.trick_codes.proofs.Each.{lines_go_on, lines_start}
 use Rattle.trick_codes.specs.Named.{integer_line}
+use Rattle.trick_lang.proofs.Variables.{scalars_length}
 use Rattle.trick_lang.specs.Effect.{scalars_of}
 use Rattle.trick_lang.specs.Wrap.{IsInRange}
 use Rattle.trick_lang.specs.declared.variable.Variable.{Variable}
@@ -15,7 +16,7 @@ pub loop-i-init : goal.loop-i-init
 unfolding memory_of
 loop-i-init g c =
     let cells = c.args.plan.now.program.cells in
-    let all : length (g.M.Cells.scalars c.args.memory) ≡ length cells = ap length c.requires ∙ length-scalars cells in
+    let all : length (g.M.Cells.scalars c.args.memory) ≡ length cells = ap length c.requires ∙ scalars_length cells in
     record {
       count = c.len-count.ensures.scalars ∙ all;
       size = sym c.len-count.ensures.numbers ∙ c.len-count.ensures.scalars ∙ all;

@@ -1,5 +1,6 @@
-use Rattle.std.proofs.Common.{Result, Ok, Err, ap, length, subst, sym, ◌≡◌, ◌∙◌}
+use Rattle.std.proofs.Common.{ap, length, subst, sym, ◌≡◌, ◌∙◌}
 use Rattle.std.specs.Prelude.{IfOk}
+use Rattle.trick_base.proofs.Results.{if_ok}
 use Rattle.trick_command.proofs.Words.{refused_command, tokens_command}
 use Rattle.trick_command.specs.Lexemes.{lexemes_of}
 use Rattle.trick_model.specs.Commands.{command_in, command_of}
@@ -7,10 +8,6 @@ use Rattle.trick_model.specs.declared.command.Command as model
 use Rattle.trick_text.proofs.Unique.{all_are}
 use Rattle.trick_text.specs.declared.token.Style.TheVariants.{Command}
 use Rattle.trick_command.proofs.reader.command.Goals as goal
-
-if_ok : {A E : Type 0} {P Q : A → Type 0} (r : Result A E) → ((a : A) → P a → Q a) → IfOk r P → IfOk r Q
-if_ok (Ok a) f h = f a h
-if_ok (Err e) f h = h
 
 pub read_line-requires : goal.read_line-requires
 read_line-requires c = rw c.deref.ensures.value (all_are Command c.as_slice-text.result.now 0 (length c.as_slice-text.result.now) c.in-Ok.found.items c.in-Ok.ensures.found.1)

@@ -2,7 +2,7 @@ use Rattle.std.proofs.Common.{◌≡◌, ◌∙◌, List, ap, refl, subst, sym}
 use Rattle.std.proofs.lemmas.Result.{err_from_is_err_and}
 use Rattle.std.specs.List.{list_any}
 use Rattle.std.specs.Prelude.{◌==◌, All, IsTrue}
-use Rattle.trick_exec.proofs.SendLemmas.{not_ok}
+use Rattle.trick_base.proofs.Results.{not_ok}
 use Rattle.trick_exec.proofs.SessionLemmas.{samples_reach}
 use Rattle.trick_exec.proofs.rest.send_samples.Goals as goal
 use Rattle.trick_exec_entries.specs.Hearing.{said_of}

@@ -2,7 +2,8 @@ use Rattle.std.proofs.Common.{ℕ, List, [], ◌∷◌, ◌+◌, ap, drop, subst
 use Rattle.std.proofs.lemmas.List.{drop_all}
 use Rattle.std.proofs.lemmas.Result.{err_from_is_err_and}
 use Rattle.std.specs.Prelude.{IsTrue}
-use Rattle.trick_exec.proofs.SendLemmas.{next_message, not_ok, of_message}
+use Rattle.trick_base.proofs.Results.{not_ok}
+use Rattle.trick_exec.proofs.SendLemmas.{next_message, of_message}
 use Rattle.trick_exec.proofs.sending.send_all.Goals as goal
 use Rattle.trick_exec_entries.specs.Hearing.{message_of, said_of}
 use Rattle.trick_model.specs.Session.{Message as MessageOf}

@@ -1,11 +1,7 @@
-use Rattle.std.proofs.Common.{◌≡◌, ◌≤◌, length, Result, Ok, Err, arith, sym}
-use Rattle.std.specs.Prelude.{IfOk}
+use Rattle.std.proofs.Common.{◌≡◌, ◌≤◌, length, arith, sym}
+use Rattle.trick_base.proofs.Results.{if_ok}
 use Rattle.trick_exec_entries.proofs.lines.answer.Goals as goal
 use Rattle.trick_model.specs.declared.session.Session.{Session}
-
-if_ok : {A E : Type 0} {P Q : A → Type 0} (r : Result A E) → ((a : A) → P a → Q a) → IfOk r P → IfOk r Q
-if_ok (Ok a) f h = f a h
-if_ok (Err e) f h = h
 
 pub returns-in-Some-clause-answer : goal.returns-in-Some-clause-answer
 returns-in-Some-clause-answer c =

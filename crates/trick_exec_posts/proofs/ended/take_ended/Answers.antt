@@ -1,4 +1,5 @@
-use Rattle.std.proofs.Common.{◌≡◌, ◌<◌, ◌≤◌, IsTrue, arith, false, length, refl, subst, sym, ℕ}
+use Rattle.std.proofs.Common.{◌≡◌, ◌<◌, ◌≤◌, IsTrue, false, length, refl, subst, sym, ℕ}
+use Rattle.trick_base.proofs.Numbers.{at_most_itself}
 use Rattle.trick_exec_posts.proofs.Loops.{asks_none, asks_then, hold_rest}
 use Rattle.trick_exec_posts.proofs.Seats.{seat_of, stations_many}
 use Rattle.trick_exec_posts.proofs.Steps.{none_left, one_more}
@@ -29,9 +30,6 @@ take_end-requires-clause-seat g c =
     subst (λ (plan : PlanValue). IsSeat (plan_of plan) k c.index-stations-place.result) (sym c.loop-place.invariant.asks.plan)
     (seat_of (plan_of (g.P.Posts.plan c.args.posts.now)) stations k c.index-stations-place.result c.requires.stations less c.index-stations-place.is)
 
-at_most : (n : ℕ) → n ≤ n
-at_most n = omega arith
-
 pub take_end-requires-clause-empty : goal.take_end-requires-clause-empty
 take_end-requires-clause-empty g c =
     let k = c.loop-place.place in
@@ -40,7 +38,7 @@ take_end-requires-clause-empty g c =
     let less : k < length stations = c.loop-place-test.true in
     let seat : IsSeat p k c.index-stations-place.result = seat_of p stations k c.index-stations-place.result c.requires.stations less c.index-stations-place.is in
     subst (λ (t : Thread). IsTrue (ends_at c.args.tic t) → (taken_at (seen g.M.Cells.numbers c.loop-place.state) k).held ≡ false) (sym seat.thread)
-    (c.loop-place.invariant.hold k (at_most k) seat.there)
+    (c.loop-place.invariant.hold k (at_most_itself k) seat.there)
 
 pub returns-in_err-take_end-clause-asks : goal.returns-in_err-take_end-clause-asks
 returns-in_err-take_end-clause-asks g c = asks_then g.met.P.Posts.asked_join c.loop-place.invariant.asks c.take_end.ensures.asks

@@ -1,4 +1,5 @@
-use Rattle.std.proofs.Common.{◌≡◌, ◌<◌, ◌≤◌, None, arith, length, subst, sym, ℕ}
+use Rattle.std.proofs.Common.{◌≡◌, ◌<◌, None, length, subst, sym}
+use Rattle.trick_base.proofs.Numbers.{at_most_itself}
 use Rattle.trick_exec_posts.proofs.HeldLemmas.{starts_more}
 use Rattle.trick_exec_posts.proofs.Loops.{asks_then}
 use Rattle.trick_exec_posts.proofs.Seats.{seat_of}
@@ -8,9 +9,6 @@ use Rattle.trick_exec_posts.specs.Stations.{IsSeat}
 use Rattle.trick_model.specs.PlanOf.{plan_of}
 use Rattle.trick_model.specs.declared.thread.Thread.{Thread}
 
-at_most : (n : ℕ) → n ≤ n
-at_most n = omega arith
-
 pub start_seat-requires-clause-free : goal.start_seat-requires-clause-free
 start_seat-requires-clause-free g c =
     let p = plan_of (g.P.Posts.plan c.args.posts.now) in
@@ -19,7 +17,7 @@ start_seat-requires-clause-free g c =
     let less : k < length stations = c.loop-place-test.true in
     let seat : IsSeat p k c.index-stations-place.result = seat_of p stations k c.index-stations-place.result c.requires.stations less c.index-stations-place.is in
     subst (λ (t : Thread). g.P.Posts.in_flight c.loop-place.posts t.number ≡ None) (sym seat.thread)
-    (c.loop-place.invariant.started.free k (at_most k) seat.there)
+    (c.loop-place.invariant.started.free k (at_most_itself k) seat.there)
 
 pub loop-place-preserved : goal.loop-place-preserved
 loop-place-preserved g c =

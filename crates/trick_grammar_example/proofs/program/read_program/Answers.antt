@@ -1,11 +1,11 @@
 use Rattle.std.proofs.Common.{refl, subst, ap, ◌∙◌}
 use Rattle.trick_grammar.proofs.Exact.{exact}
+use Rattle.trick_grammar.proofs.Fronts.{front_is}
 use Rattle.trick_grammar.specs.Gives.{class_of}
 use Rattle.trick_grammar.specs.Text.{IsExact}
 use Rattle.trick_grammar_example.specs.Statements.{program}
 use Rattle.trick_grammar_example.specs.Told.{told_line}
 use Rattle.trick_grammar_example.specs.Words.{number_of, spelled}
-use Rattle.trick_grammar_example.proofs.Fronts.{front_is}
 use Rattle.trick_grammar_example.proofs.Predictive.{program_test}
 use Rattle.trick_grammar_example.proofs.program.read_program.Goals as goal
 

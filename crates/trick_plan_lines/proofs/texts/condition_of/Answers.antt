@@ -1,8 +1,9 @@
 use Rattle.std.proofs.Common.{List, ℕ, Option, Ok, Err, option_map, subst, sym}
+use Rattle.trick_base.proofs.Results.{if_ok}
 use Rattle.trick_body.specs.Answers.{IsCondition}
 use Rattle.trick_lang.specs.Syntax.{expression_of}
 use Rattle.trick_lang.specs.declared.syntax.expression.Expr.{Expr}
-use Rattle.trick_plan_lines.proofs.Conditions.{if_ok, reads, reads_none}
+use Rattle.trick_plan_lines.proofs.Conditions.{reads, reads_none}
 use Rattle.trick_plan_lines.proofs.texts.condition_of.Goals as goal
 use Rattle.trick_plan_lines.specs.Texts.{IsConditionOf}
 

@@ -1,10 +1,10 @@
 use Rattle.std.proofs.Common.{◌≡◌, ◌∙◌, List, ap, length, refl, subst, sym}
 use Rattle.std.proofs.lemmas.Result.{err_from_is_err_and}
 use Rattle.std.specs.Prelude.{All}
+use Rattle.trick_base.proofs.Results.{not_ok}
 use Rattle.trick_exec_posts.proofs.Loops.{asks_none}
 use Rattle.trick_exec.proofs.RestLemmas.{right_sessions}
 use Rattle.trick_exec.proofs.SaidLemmas.{said_all, said_half, said_stops, unsaid}
-use Rattle.trick_exec.proofs.SendLemmas.{not_ok}
 use Rattle.trick_exec.proofs.lent.Run.finish.Goals as goal
 use Rattle.trick_exec_entries.specs.Hearing.{said_of}
 use Rattle.trick_exec_entries.specs.Sessions.{numbers_of}

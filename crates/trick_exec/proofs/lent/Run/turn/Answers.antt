@@ -1,10 +1,10 @@
 use Rattle.std.proofs.Common.{◌≡◌, ◌∙◌, ◌++◌, ℕ, List, Err, Ok, ap, arith, drop, length, refl, subst, sym, take}
 use Rattle.std.proofs.lemmas.Result.{IfOk-weaker, err_from_is_err_and}
 use Rattle.std.specs.Prelude.{Result, cond}
+use Rattle.trick_base.proofs.Results.{not_ok}
 use Rattle.trick_exec_posts.proofs.Seats.{stations_many}
 use Rattle.trick_exec_posts.specs.Flight.{GoesWith}
 use Rattle.trick_exec_frame.proofs.ChoiceLemmas.{goes_as_is}
-use Rattle.trick_exec.proofs.SendLemmas.{not_ok}
 use Rattle.trick_exec.proofs.TurnLemmas.{apart_of, asks_of, came_late, came_short, came_so, heard_goes, line_entries, line_known, line_reached, line_replies, line_sessions, made, worlds_so, written_back}
 use Rattle.trick_exec.proofs.lent.Run.turn.Goals as goal
 use Rattle.trick_exec.specs.CameTo.{HasGiven}

@@ -1,9 +1,10 @@
 use Rattle.std.proofs.Common.{rules, ◌≡◌, ◌∙◌, ◌<◌, ap, pos, List, replicate, sym, subst, take, length, slice_index_or, arith}
 use Rattle.std.proofs.lemmas.List.{take_all}
 use Rattle.std.specs.Prelude.{ℤ}
+use Rattle.trick_lang.proofs.Variables.{scalars_length}
 use Rattle.trick_lang.specs.Effect.{scalars_of}
 use Rattle.trick_lang.specs.declared.scalar.Scalar.{Scalar}
-use Rattle.trick_post_trays.proofs.Writes.{scalars_length, taken_scalar, zeros_stored}
+use Rattle.trick_post_trays.proofs.Writes.{taken_scalar, zeros_stored}
 use Rattle.trick_post_trays.specs.Scratch.{AreStored}
 use Rattle.trick_post_trays.proofs.scratch.Scratch.new.Goals as goal
 
