@@ -1,11 +1,11 @@
 -- The answers of the whole readers, from what reading gives.
 use Rattle.std.proofs.Common.{◌≡◌, ◌≢◌, ◌⊎◌, ℕ, ◌+◌, ◌-◌, ◌≤◌, ◌<◌, List, [], ◌∷◌, ◌++◌, All, length, take, Option, Some, None, Ok, Err, refl, sym, ap, ◌∙◌, subst, arith}
 use Rattle.trick_body.specs.Answers.{IsBody, IsRead, IsToldBy, condition, fault_of, method}
-use Rattle.trick_body.specs.Limits.{list_limit, nesting_limit, method_levels}
-use Rattle.trick_body.specs.Symbols.{number_of, spelled, Token}
-use Rattle.trick_body.specs.Told.{told, told_line}
-use Rattle.trick_body.proofs.ExpressionTests.{expression_test}
-use Rattle.trick_body.proofs.MethodTests.{method_test}
+use Rattle.trick_body_symbols.specs.Limits.{list_limit, nesting_limit, method_levels}
+use Rattle.trick_body_symbols.specs.Symbols.{number_of, spelled, Token}
+use Rattle.trick_body_symbols.specs.Told.{told, told_line}
+use Rattle.trick_body_statements.proofs.ExpressionTests.{expression_test}
+use Rattle.trick_body_statements.proofs.MethodTests.{method_test}
 use Rattle.trick_grammar.proofs.Cut.{first}
 use Rattle.trick_grammar.proofs.Exact.{exact, exact_front}
 use Rattle.trick_grammar.proofs.Fronts.{front_is}

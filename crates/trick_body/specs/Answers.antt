@@ -1,11 +1,11 @@
 -- What the readers of bodies and conditions answer.
 use Rattle.std.specs.Prelude.{◌≡◌, ◌≢◌, ℕ, ◌+◌, List, [], ◌++◌, length, Option, Some, None, Result, Ok, Err, ◌⊎◌}
-use Rattle.trick_body.specs.Expressions.{Of}
-use Rattle.trick_body.specs.Lexemes.{lexemes_of}
-use Rattle.trick_body.specs.Limits.{list_limit, nesting_limit, method_levels}
-use Rattle.trick_body.specs.Methods as grammar
-use Rattle.trick_body.specs.Symbols.{number_of, spelled, Token}
-use Rattle.trick_body.specs.Told.{told, told_line}
+use Rattle.trick_body_symbols.specs.Expressions.{Of}
+use Rattle.trick_body_symbols.specs.Lexemes.{lexemes_of}
+use Rattle.trick_body_symbols.specs.Limits.{list_limit, nesting_limit, method_levels}
+use Rattle.trick_body_symbols.specs.Methods as grammar
+use Rattle.trick_body_symbols.specs.Symbols.{number_of, spelled, Token}
+use Rattle.trick_body_symbols.specs.Told.{told, told_line}
 use Rattle.trick_body.specs.declared.fault.BodyFault.{BodyFault}
 use Rattle.trick_body.specs.declared.fault.BodyFault.TheVariants as faults
 use Rattle.trick_grammar.specs.Cut.{IsFirst}

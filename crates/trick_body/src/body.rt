@@ -2,38 +2,24 @@
 
 ghost use Rattle.std.specs.Prelude.{◌≡◌, ◌≤◌, ◌<◌, ◌+◌, ◌-◌, ◌^◌, All, Err, drop, length, take};
 ghost use Rattle.trick_body.specs.Answers.{IsBody, IsCondition, IsRead, condition, fault_of, fault_of_text};
-ghost use Rattle.trick_body.specs.Lexemes.{lexemes_of};
-ghost use Rattle.trick_body.specs.Symbols.{number_of};
-ghost use Rattle.trick_body.specs.Told.{told, told_line};
+ghost use Rattle.trick_body_symbols.specs.Lexemes.{lexemes_of};
+ghost use Rattle.trick_body_symbols.specs.Symbols.{number_of};
+ghost use Rattle.trick_body_symbols.specs.Told.{told, told_line};
 ghost use Rattle.trick_grammar.specs.Gives.{Gives, class_of};
 ghost use Rattle.trick_grammar.specs.Text.{read_all};
 ghost use Rattle.trick_lang.specs.Syntax.{expression_of};
 ghost use Rattle.trick_text.specs.Tokens.{IsCut, ReadsAsToken, last_line};
 ghost use Rattle.trick_text.specs.declared.token.Style.TheVariants.{Command};
 
-use crate::expressions::read_expression;
 use crate::fault::BodyFault;
-use crate::lexer::lexemes;
-use crate::methods::read_method;
-use crate::source::Source;
-use crate::symbol::{Symbol, Token};
-use crate::telling::{told, told_line};
 use std::alloc::Global;
+use trick_body_statements::{read_expression, read_method};
+use trick_body_symbols::{
+    LIST_LIMIT, METHOD_LEVELS, NESTING_LIMIT, Source, Symbol, Token, lexemes, told, told_line,
+};
 use trick_grammar::{GrammarStop, Refusal};
 use trick_lang::syntax::{Expr, Method};
 use trick_text::{FirstFault, Style, TextFault, cut, last_line};
-
-/// How many items a list may have.
-pub const LIST_LIMIT: usize = 4096;
-
-/// The largest phase of a job.
-pub const PHASE_LIMIT: u64 = 65_534;
-
-/// How many levels may nest in a condition, and in a file.
-pub const NESTING_LIMIT: usize = 64;
-
-/// How many levels may nest in the braces of a method, inside those of its class.
-pub const METHOD_LEVELS: usize = 62;
 
 /// The fault of a refusal, with its limit.
 fn fault_of(reason: Refusal, line: u32) -> BodyFault

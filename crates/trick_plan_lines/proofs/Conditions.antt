@@ -1,11 +1,11 @@
 -- What a text is as a condition, by what the reader of conditions answers.
 use Rattle.std.proofs.Common.{◌≡◌, ◌≢◌, ℕ, List, Option, Some, None, Result, Ok, Err, refl, sym, ap, arith, inl, inr}
 use Rattle.trick_body.specs.Answers.{IsCondition, IsRead, condition, fault_of_text}
-use Rattle.trick_body.specs.Expressions.{Of}
-use Rattle.trick_body.specs.Lexemes.{lexemes_of}
+use Rattle.trick_body_symbols.specs.Expressions.{Of}
+use Rattle.trick_body_symbols.specs.Lexemes.{lexemes_of}
 use Rattle.trick_body.specs.Promises.{ConditionsAreExact}
-use Rattle.trick_body.specs.Symbols.{Token, number_of, spelled}
-use Rattle.trick_body.specs.Limits.{list_limit, nesting_limit}
+use Rattle.trick_body_symbols.specs.Symbols.{Token, number_of, spelled}
+use Rattle.trick_body_symbols.specs.Limits.{list_limit, nesting_limit}
 use Rattle.trick_body.specs.declared.fault.BodyFault.{BodyFault}
 use Rattle.trick_body.specs.declared.fault.BodyFault.TheVariants as faults
 use Rattle.trick_plan_variables.specs.Grammar.{read_or_none}

@@ -1,8 +1,8 @@
 -- What the texts of lines read as.
 use Rattle.std.specs.Prelude.{◌≡◌, ℕ, List, Option, None, option_map, ◌⊎◌}
 use Rattle.trick_body.specs.Answers.{condition}
-use Rattle.trick_body.specs.Lexemes.{lexemes_of}
-use Rattle.trick_body.specs.Symbols.{number_of}
+use Rattle.trick_body_symbols.specs.Lexemes.{lexemes_of}
+use Rattle.trick_body_symbols.specs.Symbols.{number_of}
 use Rattle.trick_plan_variables.specs.Grammar.{Declares, declaration_in, read_or_none}
 use Rattle.trick_plan_variables.specs.declared.declaration.Declaration.{Declaration}
 use Rattle.trick_grammar.specs.Gives.{class_of}

@@ -3,13 +3,13 @@ use Rattle.std.proofs.Common.{◌≡◌, ℕ, zero, suc, true, Bool, List, [], �
 use Rattle.std.proofs.lemmas.Bool.{and_from, and_parts}
 use Rattle.std.specs.Fmt.{decimal}
 use Rattle.std.specs.List.{list_all}
-use Rattle.trick_body.proofs.Tokens.{IsSeenIn, each_is_seen, name_is}
-use Rattle.trick_body.proofs.Words.{word_is_spelled}
-use Rattle.trick_body.proofs.Yields.{Yields, yields}
-use Rattle.trick_body.specs.Expressions.{name_of, names}
-use Rattle.trick_body.specs.Lexemes.{lexemes_of}
-use Rattle.trick_body.specs.Statements.{basic_body}
-use Rattle.trick_body.specs.Symbols.{Token, number_of, spelled}
+use Rattle.trick_body_symbols.proofs.Tokens.{IsSeenIn, each_is_seen, name_is}
+use Rattle.trick_body_symbols.proofs.Words.{word_is_spelled}
+use Rattle.trick_body_symbols.proofs.Yields.{Yields, yields}
+use Rattle.trick_body_symbols.specs.Expressions.{name_of, names}
+use Rattle.trick_body_symbols.specs.Lexemes.{lexemes_of}
+use Rattle.trick_body_symbols.specs.Statements.{basic_body}
+use Rattle.trick_body_symbols.specs.Symbols.{Token, number_of, spelled}
 use Rattle.trick_plan_variables.proofs.Apart.{all_of_both}
 use Rattle.trick_plan_variables.specs.Cells.{cells_named, cells_of, element, elements, full_names, row_elements}
 use Rattle.trick_plan_variables.specs.Grammar.{declaration, declaration_of, read_or_none}

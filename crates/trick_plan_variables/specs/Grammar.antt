@@ -1,11 +1,11 @@
 -- The grammar of a declaration, and what a text declares.
 use Rattle.std.specs.Prelude.{◌≡◌, ℕ, List, [], ◌∷◌, Option, Some, None, Result, Ok, Err, ◌⊎◌}
-use Rattle.trick_body.specs.Expressions.{Of, name_of, names}
-use Rattle.trick_body.specs.Lexemes.{lexemes_of}
-use Rattle.trick_body.specs.Statements.{basic}
-use Rattle.trick_body.specs.Symbols.{Token, number_of}
-use Rattle.trick_body.specs.declared.symbol.Symbol.{Symbol}
-use Rattle.trick_body.specs.declared.symbol.Symbol.TheVariants as the
+use Rattle.trick_body_symbols.specs.Expressions.{Of, name_of, names}
+use Rattle.trick_body_symbols.specs.Lexemes.{lexemes_of}
+use Rattle.trick_body_symbols.specs.Statements.{basic}
+use Rattle.trick_body_symbols.specs.Symbols.{Token, number_of}
+use Rattle.trick_body_symbols.specs.declared.symbol.Symbol.{Symbol}
+use Rattle.trick_body_symbols.specs.declared.symbol.Symbol.TheVariants as the
 use Rattle.trick_plan_variables.specs.declared.declaration.Declaration.{Declaration}
 use Rattle.trick_plan_variables.specs.declared.spelled.SpelledDeclaration.{SpelledDeclaration}
 use Rattle.trick_grammar.specs.Gives.{class_of}

@@ -1,6 +1,6 @@
 -- Laws of declarations.
 use Rattle.std.specs.Prelude.{◌≡◌, ℕ, List, Option}
-use Rattle.trick_body.specs.Symbols.{Token, number_of, spelled}
+use Rattle.trick_body_symbols.specs.Symbols.{Token, number_of, spelled}
 use Rattle.trick_plan_variables.specs.Grammar.{Declares, declaration}
 use Rattle.trick_plan_variables.specs.declared.declaration.Declaration.{Declaration}
 use Rattle.trick_grammar.specs.Gives.{class_of}

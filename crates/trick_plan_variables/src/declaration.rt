@@ -1,6 +1,6 @@
 ghost use Rattle.std.specs.Prelude.{◌≡◌, IfOk, None, Some, [], List, ℕ};
-ghost use Rattle.trick_body.specs.Lexemes.{lexemes_of};
-ghost use Rattle.trick_body.specs.Symbols.{number_of};
+ghost use Rattle.trick_body_symbols.specs.Lexemes.{lexemes_of};
+ghost use Rattle.trick_body_symbols.specs.Symbols.{number_of};
 ghost use Rattle.trick_plan_variables.specs.Grammar.{declaration, declaration_in, declaration_of, length, lengths, read_or_none};
 ghost use Rattle.trick_grammar.specs.Gives.{Gives, class_of};
 ghost use Rattle.trick_grammar.specs.Reading.{read};

@@ -1,9 +1,9 @@
 -- The answers of the reader, from what reading gives.
 use Rattle.std.proofs.Common.{◌≡◌, ◌≢◌, ◌⊎◌, ℕ, ◌-◌, List, [], ◌∷◌, ◌<◌, ◌≤◌, All, length, take, map, slice_get, Option, Some, None, Result, Ok, Err, refl, sym, ap, ◌∙◌, subst, arith}
-use Rattle.trick_body.specs.Lexemes.{lexemes_of}
-use Rattle.trick_body.specs.Limits.{list_limit, method_levels}
-use Rattle.trick_body.specs.Symbols.{number_of, spelled, Token}
-use Rattle.trick_body.specs.Told.{told, told_line}
+use Rattle.trick_body_symbols.specs.Lexemes.{lexemes_of}
+use Rattle.trick_body_symbols.specs.Limits.{list_limit, method_levels}
+use Rattle.trick_body_symbols.specs.Symbols.{number_of, spelled, Token}
+use Rattle.trick_body_symbols.specs.Told.{told, told_line}
 use Rattle.trick_grammar.proofs.Cut.{first}
 use Rattle.trick_grammar.proofs.Exact.{exact}
 use Rattle.trick_grammar.proofs.Fronts.{front_is}
@@ -17,11 +17,12 @@ use Rattle.trick_lang.specs.SDefineOf.{sdefine_of}
 use Rattle.trick_lang.specs.Syntax.{definition_of, definitions_of}
 use Rattle.trick_lang.specs.declared.syntax.definition.Definition.{Definition}
 use Rattle.trick_lang.specs.declared.syntax.definition.SDefine.{SDefine}
-use Rattle.trick_sdef.proofs.Files.{file_test}
-use Rattle.trick_sdef.proofs.Lists.{definitions_are}
-use Rattle.trick_sdef.specs.Answers.{IsAnswer, IsRead, IsToldBy, bad_time, fault_of, file, number_told, time_told, told_behind}
+use Rattle.trick_sdef.specs.Answers.{IsRead, IsToldBy, bad_time, fault_of, number_told, time_told, told_behind}
 use Rattle.trick_sdef.specs.declared.fault.SdefFault.{SdefFault}
 use Rattle.trick_sdef.specs.declared.fault.SdefFault.TheVariants as faults
+use Rattle.trick_sdef_classes.proofs.Files.{file_test}
+use Rattle.trick_sdef_classes.proofs.Lists.{definitions_are}
+use Rattle.trick_sdef_classes.specs.Profile.{IsAnswer, file}
 use Rattle.trick_text.proofs.Unique.{all_are}
 use Rattle.trick_text.specs.Tokens.{IsCut, ReadsAsToken, last_line, spelling}
 use Rattle.trick_text.specs.declared.token.Style.{Style}

@@ -1,22 +1,21 @@
 -- What `read_sdef` answers.
 use Rattle.std.specs.Prelude.{◌≡◌, ◌≢◌, ℕ, List, [], ◌∷◌, ◌++◌, length, slice_get, Option, Some, None, Result, Ok, Err, ◌⊎◌}
-use Rattle.trick_body.specs.Expressions.{Of}
-use Rattle.trick_body.specs.Lexemes.{lexemes_of}
-use Rattle.trick_body.specs.Limits.{list_limit, nesting_limit, method_levels}
-use Rattle.trick_body.specs.Symbols.{number_of, spelled, Token}
-use Rattle.trick_body.specs.Told.{told, told_line}
+use Rattle.trick_body_symbols.specs.Lexemes.{lexemes_of}
+use Rattle.trick_body_symbols.specs.Limits.{list_limit, nesting_limit}
+use Rattle.trick_body_symbols.specs.Symbols.{number_of, spelled, Token}
+use Rattle.trick_body_symbols.specs.Told.{told, told_line}
 use Rattle.trick_grammar.specs.Cut.{IsFirst}
 use Rattle.trick_grammar.specs.Gives.{class_of}
 use Rattle.trick_grammar.specs.Reading.{Refused}
-use Rattle.trick_grammar.specs.Text.{IsExact, read_all}
+use Rattle.trick_grammar.specs.Text.{read_all}
 use Rattle.trick_grammar.specs.declared.refusal.Refusal.{Refusal}
 use Rattle.trick_grammar.specs.declared.refusal.Refusal.TheVariants.{Expected, NotInProfile, TooLong, TooDeep, BadHeader, BadLoop, BadName, BadTime}
 use Rattle.trick_lang.specs.SDefineOf.{sdefine_of}
 use Rattle.trick_lang.specs.SyntaxTree as tree
 use Rattle.trick_lang.specs.declared.syntax.definition.SDefine.{SDefine}
-use Rattle.trick_sdef.specs.Files as grammar
 use Rattle.trick_sdef.specs.declared.fault.SdefFault.{SdefFault}
 use Rattle.trick_sdef.specs.declared.fault.SdefFault.TheVariants as faults
+use Rattle.trick_sdef_classes.specs.Profile.{IsAnswer, file}
 use Rattle.trick_text.specs.Seconds.{seconds_of}
 use Rattle.trick_text.specs.Tokens.{IsCut, IsUncut, last_line, spelling}
 use Rattle.trick_text.specs.declared.fault.FirstFault.{FirstFault}
@@ -70,14 +69,6 @@ IsToldBy text ts z fault = (front : List Token) × (lexemes_of text ts ≡ front
     × (fault ≡ told_behind text ts front z)
 
 -- ---- simulation definitions
-
--- the grammar of a file, with the limits of the profile
-abbrev pub file : List ℕ → Of tree.SDefine
-file text = grammar.file text list_limit method_levels
-
--- what this is of the language of files, by the tokens
-abbrev pub IsAnswer : List ℕ → List cut.Token → Result tree.SDefine (Refused Token) → Type 0
-IsAnswer text ts answer = IsExact number_of class_of spelled (file text) (lexemes_of text ts) answer
 
 -- From the tokens before the first fault of the text, and from that fault: all of the tokens are the
 -- one simulation definition, and there is no fault; or reading refuses the first token with which none

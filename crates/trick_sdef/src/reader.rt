@@ -1,16 +1,16 @@
 //! Simulation definitions, read whole.
 
 ghost use Rattle.std.specs.Prelude.{◌≡◌, ◌≤◌, ◌-◌, All, Err, None, Ok, length, map, slice_get, take};
-ghost use Rattle.trick_body.specs.Lexemes.{lexemes_of};
-ghost use Rattle.trick_body.specs.Symbols.{number_of};
+ghost use Rattle.trick_body_symbols.specs.Lexemes.{lexemes_of};
+ghost use Rattle.trick_body_symbols.specs.Symbols.{number_of};
 ghost use Rattle.trick_grammar.specs.Gives.{Gives, class_of};
 ghost use Rattle.trick_grammar.specs.Text.{read_all};
 ghost use Rattle.trick_lang.specs.Syntax.{definition_of};
-ghost use Rattle.trick_sdef.specs.Answers.{IsRead, IsSDefine, bad_time, fault_of, fault_of_text, file, number_told, time_told, told_behind};
+ghost use Rattle.trick_sdef.specs.Answers.{IsRead, IsSDefine, bad_time, fault_of, fault_of_text, number_told, time_told, told_behind};
+ghost use Rattle.trick_sdef_classes.specs.Profile.{file};
 ghost use Rattle.trick_text.specs.Tokens.{IsCut, ReadsAsToken, last_line, spelling};
 ghost use Rattle.trick_text.specs.declared.token.Style.TheVariants as style;
 
-use crate::definitions::read_file;
 use crate::fault::SdefFault;
 use std::alloc::Global;
 use trick_base::Items;
@@ -19,6 +19,7 @@ use trick_body::{
 };
 use trick_grammar::{GrammarStop, Refusal};
 use trick_lang::syntax::{Definition, SDefine};
+use trick_sdef_classes::read_file;
 use trick_text::{FirstFault, Style, TextFault, TimeFault, TokenKind, cut, last_line, seconds};
 
 // The fault of a number of seconds.

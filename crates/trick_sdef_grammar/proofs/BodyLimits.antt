@@ -1,18 +1,18 @@
 -- The grammars with larger limits: which refusals come of a limit.
 use Rattle.std.proofs.Common.{◌≡◌, ℕ, zero, suc, ◌-◌, ◌<◌, ◌≤◌, true, false, refl, List, [], ◌∷◌, arith}
-use Rattle.trick_body.specs.Expressions.{Of, binary, levels, choice, expression_body, step_body, place_body, operand_body, place, operand, expression, step, some_steps, or, nested, nested_body, nested_first}
-use Rattle.trick_body.specs.Methods.{void_inside, void_inside_body, void_rest, void_body, int_inside, int_inside_body, int_rest, int_body, return_body, method, method_body, condition}
-use Rattle.trick_body.specs.Statements as statements
-use Rattle.trick_body.specs.Statements.{basic_body, loop_step_body, loop_test_body, header_body, value, value_body, call, call_body, operation, operation_body, free_change, free_change_body, bound_change, bound_change_body, named, named_body, by_name, by_name_body, free_steps_body, bound_steps_body, counted, counted_body, declaration, declaration_body, simple, simple_body, block_body, block, test_body, test, else_body, else_link, choice_body, loop_body, unbranched_body, unbranched, unblocked_body, unblocked, statement_body, statement, branch_body, branch, otherwise}
-use Rattle.trick_body.specs.Symbols.{number_of, spelled, Token}
-use Rattle.trick_body.specs.declared.nested.Nested.{Nested}
-use Rattle.trick_body.specs.declared.nested.Nested.TheVariants.{Prefixed, Parenthesized, Indexed, Chosen}
-use Rattle.trick_body.specs.declared.statements.Level.{Level}
-use Rattle.trick_body.specs.declared.statements.Level.TheVariants.{Block, If, For}
-use Rattle.trick_body.specs.declared.symbol.Symbol.{Symbol}
-use Rattle.trick_body.specs.declared.symbol.Symbol.TheVariants as the
-use Rattle.trick_body.proofs.ExpressionTests.{expression_test}
-use Rattle.trick_body.proofs.MethodTests.{method_test}
+use Rattle.trick_body_symbols.specs.Expressions.{Of, binary, levels, choice, expression_body, step_body, place_body, operand_body, place, operand, expression, step, some_steps, or, nested, nested_body, nested_first}
+use Rattle.trick_body_symbols.specs.Methods.{void_inside, void_inside_body, void_rest, void_body, int_inside, int_inside_body, int_rest, int_body, return_body, method, method_body, condition}
+use Rattle.trick_body_symbols.specs.Statements as statements
+use Rattle.trick_body_symbols.specs.Statements.{basic_body, loop_step_body, loop_test_body, header_body, value, value_body, call, call_body, operation, operation_body, free_change, free_change_body, bound_change, bound_change_body, named, named_body, by_name, by_name_body, free_steps_body, bound_steps_body, counted, counted_body, declaration, declaration_body, simple, simple_body, block_body, block, test_body, test, else_body, else_link, choice_body, loop_body, unbranched_body, unbranched, unblocked_body, unblocked, statement_body, statement, branch_body, branch, otherwise}
+use Rattle.trick_body_symbols.specs.Symbols.{number_of, spelled, Token}
+use Rattle.trick_body_symbols.specs.declared.nested.Nested.{Nested}
+use Rattle.trick_body_symbols.specs.declared.nested.Nested.TheVariants.{Prefixed, Parenthesized, Indexed, Chosen}
+use Rattle.trick_body_symbols.specs.declared.level.Level.{Level}
+use Rattle.trick_body_symbols.specs.declared.level.Level.TheVariants.{Block, If, For}
+use Rattle.trick_body_symbols.specs.declared.symbol.Symbol.{Symbol}
+use Rattle.trick_body_symbols.specs.declared.symbol.Symbol.TheVariants as the
+use Rattle.trick_body_statements.proofs.ExpressionTests.{expression_test}
+use Rattle.trick_body_statements.proofs.MethodTests.{method_test}
 use Rattle.trick_grammar.proofs.Limits.{limits}
 use Rattle.trick_grammar.proofs.Takes.{takes_token, takes_sequence, takes_choice, takes_rule, takes_act, takes_after, opens_sequence, opens_rule, opens_act, opens_then}
 use Rattle.trick_grammar.specs.Gives.{class_of}

@@ -2,18 +2,18 @@
 use Rattle.std.proofs.Common.{◌≡◌, ◌⊎◌, ℕ, zero, suc, ◌-◌, Bool, true, false, not, ◌||◌, List, [], ◌∷◌, Option, Some, None, refl, sym, ap, ◌∙◌, inl, inr, subst, arith}
 use Rattle.std.specs.List.{list_any}
 use Rattle.std.specs.Str.{bytes_eq}
-use Rattle.trick_body.specs.Expressions as read
-use Rattle.trick_body.specs.Expressions.{Of, Step, name_of, names, member, index, parts_of, choices_of, choose_of, choice, expression_body, nested_body, operand_body, or, place_body, step_body}
-use Rattle.trick_body.specs.Methods as methods
-use Rattle.trick_body.specs.Methods.{int_body, int_inside_body, method_body, method_of, return_body, void_body, void_inside_body}
+use Rattle.trick_body_symbols.specs.Expressions as read
+use Rattle.trick_body_symbols.specs.Expressions.{Of, Step, name_of, names, member, index, parts_of, choices_of, choose_of, choice, expression_body, nested_body, operand_body, or, place_body, step_body}
+use Rattle.trick_body_symbols.specs.Methods as methods
+use Rattle.trick_body_symbols.specs.Methods.{int_body, int_inside_body, method_body, method_of, return_body, void_body, void_inside_body}
 use Rattle.trick_sdef_grammar.specs.BodyProductions.{BodiesHaveProductions, Same, assignment, call, counted_before, counted_behind, declaration, line_of_path, deeper, part, place, operand, chain, choices, choices_with, chosen_value, expression, read_choices, branches_after, choosing, header, loop_step, looping, method, return_line, scope_names, spares, statement}
-use Rattle.trick_body.specs.Statements as body
-use Rattle.trick_body.specs.Statements.{AfterName, Branch, Header, change_of, counting, counting_of, declares, calls, changes, bound_of, branches_of, named_of, basic_body, block_body, bound_change_body, bound_steps_body, branch_body, by_name_body, call_body, choice_body, counted_body, declaration_body, else_body, free_change_body, free_steps_body, header_body, loop_body, loop_step_body, loop_test_body, named_body, operation_body, simple_body, statement_body, statements_of, test_body, unblocked_body, unbranched_body, value_body}
-use Rattle.trick_body.specs.Symbols.{Token, number_of}
-use Rattle.trick_body.specs.declared.statements.Level.TheVariants as level
-use Rattle.trick_body.specs.declared.nested.Nested.TheVariants.{Chosen}
-use Rattle.trick_body.specs.declared.symbol.Symbol.{Symbol}
-use Rattle.trick_body.specs.declared.symbol.Symbol.TheVariants as the
+use Rattle.trick_body_symbols.specs.Statements as body
+use Rattle.trick_body_symbols.specs.Statements.{AfterName, Branch, Header, change_of, counting, counting_of, declares, calls, changes, bound_of, branches_of, named_of, basic_body, block_body, bound_change_body, bound_steps_body, branch_body, by_name_body, call_body, choice_body, counted_body, declaration_body, else_body, free_change_body, free_steps_body, header_body, loop_body, loop_step_body, loop_test_body, named_body, operation_body, simple_body, statement_body, statements_of, test_body, unblocked_body, unbranched_body, value_body}
+use Rattle.trick_body_symbols.specs.Symbols.{Token, number_of}
+use Rattle.trick_body_symbols.specs.declared.level.Level.TheVariants as level
+use Rattle.trick_body_symbols.specs.declared.nested.Nested.TheVariants.{Chosen}
+use Rattle.trick_body_symbols.specs.declared.symbol.Symbol.{Symbol}
+use Rattle.trick_body_symbols.specs.declared.symbol.Symbol.TheVariants as the
 use Rattle.trick_grammar.specs.Gives.{class_of, is_in_scope, text_of}
 use Rattle.trick_grammar.specs.Grammar.{Link, onward, last, token, alone, optional, sequence, nearest, one, repetition, any_number, act, first_of, ◌⨾◌, ◌∣◌}
 use Rattle.trick_grammar.specs.StartsWith.{Repeats, StartsWith, Links}

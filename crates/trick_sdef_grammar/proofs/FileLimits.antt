@@ -1,10 +1,10 @@
 -- The grammar of files with larger limits: which refusals come of a limit.
 use Rattle.std.proofs.Common.{◌≡◌, ◌⊎◌, ℕ, ◌-◌, ◌<◌, ◌≤◌, true, false, refl, sym, ap, ◌∙◌, subst, List, [], ◌∷◌, ◌++◌, length, Ok, Err, inl, inr, arith, append_assoc, length-append}
-use Rattle.trick_body.specs.Expressions.{Of, names}
-use Rattle.trick_body.specs.Statements.{basic, basic_body}
-use Rattle.trick_body.specs.Symbols.{number_of, spelled, Token}
-use Rattle.trick_body.specs.declared.symbol.Symbol.{Symbol}
-use Rattle.trick_body.specs.declared.symbol.Symbol.TheVariants as the
+use Rattle.trick_body_symbols.specs.Expressions.{Of, names}
+use Rattle.trick_body_symbols.specs.Statements.{basic, basic_body}
+use Rattle.trick_body_symbols.specs.Symbols.{number_of, spelled, Token}
+use Rattle.trick_body_symbols.specs.declared.symbol.Symbol.{Symbol}
+use Rattle.trick_body_symbols.specs.declared.symbol.Symbol.TheVariants as the
 use Rattle.trick_sdef_grammar.proofs.BodyLimits.{void_grows, int_grows, int_inside_grows}
 use Rattle.trick_grammar.proofs.Exact.{exact}
 use Rattle.trick_grammar.proofs.Takes.{takes_token, takes_sequence, takes_choice, takes_rule, takes_act}
@@ -16,11 +16,11 @@ use Rattle.trick_grammar.specs.Separated.{separated_body}
 use Rattle.trick_grammar.specs.Text.{IsExact, IsRefusedAt, IsText, GoesOn, at_end, read_all}
 use Rattle.trick_grammar.specs.declared.refusal.Refusal.TheVariants.{NotInProfile}
 use Rattle.trick_lang.specs.SyntaxTree.{SDefine}
-use Rattle.trick_sdef.specs.Files.{AfterInt, does, is_member, AfterName, constructs, has_members, include_body, class_head_body, other_type, other_type_body, constructor_rest, constructor_body, int_member, int_part_of, after_name, after_name_body, named_part_of, basic_part, named_part, object, object_body, after_int, after_int_body, trick_method, int_part, int_part_body, void_method, part, part_body, class, class_body, definition, definition_body, file, file_body}
-use Rattle.trick_sdef.specs.Jobs.{thread, thread_body, thread_of, phase, phase_body, phase_of, time_body, cycle_body, scheduled_class_body, other_class_body, times_body, timed_body, every_body, called_body, job, job_body}
+use Rattle.trick_sdef_classes.specs.Files.{AfterInt, does, is_member, AfterName, constructs, has_members, include_body, class_head_body, other_type, other_type_body, constructor_rest, constructor_body, int_member, int_part_of, after_name, after_name_body, named_part_of, basic_part, named_part, object, object_body, after_int, after_int_body, trick_method, int_part, int_part_body, void_method, part, part_body, class, class_body, definition, definition_body, file, file_body}
+use Rattle.trick_sdef_jobs.specs.Jobs.{thread, thread_body, thread_of, phase, phase_body, phase_of, time_body, cycle_body, scheduled_class_body, other_class_body, times_body, timed_body, every_body, called_body, job, job_body}
 use Rattle.trick_sdef_grammar.specs.Larger.{outside, TellsLimits}
-use Rattle.trick_sdef.specs.Members.{free_name_body, item_body, item_value_body, items, enum, enum_body, length_body, lengths_body, declarator_body, next_declarator, more_declarators, more_declarators_body, declarators, declarators_body, member, member_body, struct, struct_body}
-use Rattle.trick_sdef.proofs.Files.{file_test}
+use Rattle.trick_sdef_classes.specs.Members.{free_name_body, item_body, item_value_body, items, enum, enum_body, length_body, lengths_body, declarator_body, next_declarator, more_declarators, more_declarators_body, declarators, declarators_body, member, member_body, struct, struct_body}
+use Rattle.trick_sdef_classes.proofs.Files.{file_test}
 use Rattle.trick_sdef_grammar.proofs.Growing.{Growing, Grows, TakesBut, grows_larger, grows_sequence, grows_choice, grows_rule, grows_act, grows_items, grows_behind, but_takes, but_rule, but_act, but_refuse, but_optional}
 
 abbrev Wider : {A : Type 0} → Of A → Of A → Type 1

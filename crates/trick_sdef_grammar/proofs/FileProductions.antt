@@ -1,13 +1,13 @@
 -- The parts of the grammar of files have the texts of their productions.
 use Rattle.std.proofs.Common.{◌≡◌, ◌⊎◌, ℕ, zero, suc, ◌-◌, Bool, true, List, [], ◌∷◌, Option, Some, None, refl, sym, ap, ◌∙◌, inl, inr, subst, arith}
 use Rattle.trick_sdef_grammar.proofs.BodyProductions.{Has, repeats_same}
-use Rattle.trick_body.specs.Expressions.{Of, names, wholes, name_of}
-use Rattle.trick_body.specs.Methods as methods
-use Rattle.trick_body.specs.Methods.{int_body, method_body, method_of}
-use Rattle.trick_body.specs.Statements.{basic, basic_body, scalar_of, scalars}
-use Rattle.trick_body.specs.Symbols.{Token, number_of}
-use Rattle.trick_body.specs.declared.symbol.Symbol.{Symbol}
-use Rattle.trick_body.specs.declared.symbol.Symbol.TheVariants as the
+use Rattle.trick_body_symbols.specs.Expressions.{Of, names, wholes, name_of}
+use Rattle.trick_body_symbols.specs.Methods as methods
+use Rattle.trick_body_symbols.specs.Methods.{int_body, method_body, method_of}
+use Rattle.trick_body_symbols.specs.Statements.{basic, basic_body, scalar_of, scalars}
+use Rattle.trick_body_symbols.specs.Symbols.{Token, number_of}
+use Rattle.trick_body_symbols.specs.declared.symbol.Symbol.{Symbol}
+use Rattle.trick_body_symbols.specs.declared.symbol.Symbol.TheVariants as the
 use Rattle.trick_grammar.proofs.Tests.{subset_one_of}
 use Rattle.trick_grammar.specs.Classes.{is_one_of}
 use Rattle.trick_grammar.specs.Gives.{class_of}
@@ -17,12 +17,12 @@ use Rattle.trick_grammar.specs.StartsWith.{StartsWith}
 use Rattle.trick_lang.specs.SyntaxTree as tree
 use Rattle.trick_lang.specs.SyntaxTree.{Declarator, Definition, EnumItem, JobLine, Members, Part}
 use Rattle.trick_lang.specs.declared.scalar.Scalar.TheVariants as scalar
-use Rattle.trick_sdef.specs.Files as read
-use Rattle.trick_sdef.specs.Files.{after_int_body, after_name_body, class_body, class_head_body, constructor_body, constructs, definition_body, does, file_body, has_members, include_body, int_part_body, int_part_of, is_member, named_part_of, object_body, other_type_body, part_body}
-use Rattle.trick_sdef.specs.Jobs as jobs
-use Rattle.trick_sdef.specs.Jobs.{Times, called_body, cycle_body, every_body, job_body, job_of, other_class_body, phase_body, phase_of, scheduled, scheduled_class_body, span_of, thread_body, thread_of, tics_of, time_body, timed_body, times_body}
-use Rattle.trick_sdef.specs.Members as members
-use Rattle.trick_sdef.specs.Members.{declarator_body, declarator_of, declarators_body, enum_body, free_name_body, free_names, item_body, item_value_body, length_body, lengths_body, lengths_of, member_body, more_declarators_body, struct_body}
+use Rattle.trick_sdef_classes.specs.Files as read
+use Rattle.trick_sdef_classes.specs.Files.{after_int_body, after_name_body, class_body, class_head_body, constructor_body, constructs, definition_body, does, file_body, has_members, include_body, int_part_body, int_part_of, is_member, named_part_of, object_body, other_type_body, part_body}
+use Rattle.trick_sdef_jobs.specs.Jobs as jobs
+use Rattle.trick_sdef_jobs.specs.Jobs.{Times, called_body, cycle_body, every_body, job_body, job_of, other_class_body, phase_body, phase_of, scheduled, scheduled_class_body, span_of, thread_body, thread_of, tics_of, time_body, timed_body, times_body}
+use Rattle.trick_sdef_classes.specs.Members as members
+use Rattle.trick_sdef_classes.specs.Members.{declarator_body, declarator_of, declarators_body, enum_body, free_name_body, free_names, item_body, item_value_body, length_body, lengths_body, lengths_of, member_body, more_declarators_body, struct_body}
 use Rattle.trick_sdef_grammar.specs.FileProductions.{FilesHaveProductions, class, declarator, enum, include, item, item_value, job, length, member, object, part, signed, struct, timed, times}
 
 optional_map : {A : Type 0} (e : List Token) (a b : Of A)

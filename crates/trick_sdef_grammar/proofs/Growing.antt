@@ -2,9 +2,9 @@
 -- steps for one grammar after the other.
 use Rattle.std.proofs.Common.{◌≡◌, ◌⊎◌, ℕ, zero, suc, ◌<◌, Bool, true, false, cond, List, [], ◌∷◌, ◌++◌, length, Option, Some, None, Ok, Err, refl, sym, ap, ◌∙◌, inl, inr, subst, arith}
 use Rattle.std.proofs.lemmas.List.{append-nil}
-use Rattle.trick_body.specs.Expressions.{Of}
-use Rattle.trick_body.specs.Symbols.{number_of, Token}
-use Rattle.trick_body.specs.declared.symbol.Symbol.{Symbol}
+use Rattle.trick_body_symbols.specs.Expressions.{Of}
+use Rattle.trick_body_symbols.specs.Symbols.{number_of, Token}
+use Rattle.trick_body_symbols.specs.declared.symbol.Symbol.{Symbol}
 use Rattle.trick_grammar.proofs.Larger.{Grown, grown}
 use Rattle.trick_grammar.proofs.Short.{leaves, leaves_then}
 use Rattle.trick_grammar.proofs.Tests.{one_of-append, subset_one_of}

@@ -1,8 +1,8 @@
 -- The worked conflicts are those that are named.
 use Rattle.std.proofs.Common.{refl}
 use Rattle.trick_sdef_grammar.specs.Named.{AreNamed}
-use Rattle.trick_sdef.specs.Jobs.{other_class_body, scheduled_class_body, time_body, timed_body}
-use Rattle.trick_sdef.specs.Members.{declarator_body, free_name_body, length_body, lengths_body}
+use Rattle.trick_sdef_jobs.specs.Jobs.{other_class_body, scheduled_class_body, time_body, timed_body}
+use Rattle.trick_sdef_classes.specs.Members.{declarator_body, free_name_body, length_body, lengths_body}
 
 pub are_named : AreNamed
 unfolding other_class_body scheduled_class_body time_body timed_body declarator_body free_name_body length_body lengths_body

@@ -5,16 +5,16 @@
 use Rattle.std.specs.List.{list_any}
 use Rattle.std.specs.Prelude.{◌≡◌, ◌↔◌, ℕ, zero, suc, Bool, true, false, not, List, [], ◌∷◌, Option, Some, None, map}
 use Rattle.std.specs.Str.{bytes_eq}
-use Rattle.trick_body.specs.Expressions as read
-use Rattle.trick_body.specs.Expressions.{Of, names, wholes, prefixes, name_of, Step, member, index, parts_of, operator_of, prefix_of, marks_of, chain_of, choices_of, enclosed, whole_literal, truth_literal, or, choice}
-use Rattle.trick_body.specs.Methods as method_parts
-use Rattle.trick_body.specs.Methods.{method_of}
-use Rattle.trick_body.specs.Statements as body
-use Rattle.trick_body.specs.Statements.{Header, assignments, bound_of, bounds, change_of, counting, counting_of, statements_of, the_name, basic}
-use Rattle.trick_body.specs.Symbols.{Token, number_of}
-use Rattle.trick_body.specs.declared.nested.Nested.TheVariants.{Chosen}
-use Rattle.trick_body.specs.declared.statements.Level.TheVariants as level
-use Rattle.trick_body.specs.declared.symbol.Symbol.TheVariants as the
+use Rattle.trick_body_symbols.specs.Expressions as read
+use Rattle.trick_body_symbols.specs.Expressions.{Of, names, wholes, prefixes, name_of, Step, member, index, parts_of, operator_of, prefix_of, marks_of, chain_of, choices_of, enclosed, whole_literal, truth_literal, or, choice}
+use Rattle.trick_body_symbols.specs.Methods as method_parts
+use Rattle.trick_body_symbols.specs.Methods.{method_of}
+use Rattle.trick_body_symbols.specs.Statements as body
+use Rattle.trick_body_symbols.specs.Statements.{Header, assignments, bound_of, bounds, change_of, counting, counting_of, statements_of, the_name, basic}
+use Rattle.trick_body_symbols.specs.Symbols.{Token, number_of}
+use Rattle.trick_body_symbols.specs.declared.nested.Nested.TheVariants.{Chosen}
+use Rattle.trick_body_symbols.specs.declared.level.Level.TheVariants as level
+use Rattle.trick_body_symbols.specs.declared.symbol.Symbol.TheVariants as the
 use Rattle.trick_grammar.specs.Gives.{class_of, text_of}
 use Rattle.trick_grammar.specs.Grammar.{last, token, refuse, repetition, nearest, scope, alone, act, one, optional, any_number, ◌⨾◌, ◌∣◌}
 use Rattle.trick_grammar.specs.StartsWith.{StartsWith}

@@ -2,19 +2,19 @@
 -- the parts of the grammar that is read. That grammar decides each step by one token ahead and names
 -- reasons for refusals; here each production stands alone, and what is refused has no production.
 use Rattle.std.specs.Prelude.{ℕ, suc, ℤ, pos, ◌-ℤ◌, List, [], ◌∷◌, ◌++◌, Option, Some, None}
-use Rattle.trick_body.specs.Expressions.{Of, names, wholes, name_of}
-use Rattle.trick_body.specs.Methods as methods
+use Rattle.trick_body_symbols.specs.Expressions.{Of, names, wholes, name_of}
+use Rattle.trick_body_symbols.specs.Methods as methods
 use Rattle.trick_sdef_grammar.specs.BodyProductions.{Same, type_name}
-use Rattle.trick_body.specs.Symbols.{Token}
-use Rattle.trick_body.specs.declared.symbol.Symbol.TheVariants as the
+use Rattle.trick_body_symbols.specs.Symbols.{Token}
+use Rattle.trick_body_symbols.specs.declared.symbol.Symbol.TheVariants as the
 use Rattle.trick_grammar.specs.Grammar.{token, repetition, act, one, optional, ◌⨾◌, ◌∣◌}
 use Rattle.trick_lang.specs.SyntaxTree as tree
 use Rattle.trick_lang.specs.SyntaxTree.{Declarator, Definition, EnumItem, JobLine, Members, Part}
-use Rattle.trick_sdef.specs.Files as read
-use Rattle.trick_sdef.specs.Jobs as jobs
-use Rattle.trick_sdef.specs.Jobs.{Times, job_of, other_classes, phase_of, positive_times, scheduled, span_of, thread_of, tics_of, unscheduled, zero_times}
-use Rattle.trick_sdef.specs.Members as members
-use Rattle.trick_sdef.specs.Members.{declarator_of, free_names, lengths_of}
+use Rattle.trick_sdef_classes.specs.Files as read
+use Rattle.trick_sdef_jobs.specs.Jobs as jobs
+use Rattle.trick_sdef_jobs.specs.Jobs.{Times, job_of, other_classes, phase_of, positive_times, scheduled, span_of, thread_of, tics_of, unscheduled, zero_times}
+use Rattle.trick_sdef_classes.specs.Members as members
+use Rattle.trick_sdef_classes.specs.Members.{declarator_of, free_names, lengths_of}
 
 -- ---- enums
 

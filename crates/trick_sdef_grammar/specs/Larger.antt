@@ -1,9 +1,9 @@
 -- Which refusals come of a limit.
 use Rattle.std.specs.Prelude.{◌≡◌, ◌⊎◌, true, false, List, [], ◌∷◌, ◌++◌, Result, Ok, Err}
-use Rattle.trick_body.specs.Expressions.{Of}
-use Rattle.trick_body.specs.Symbols.{number_of, Token}
-use Rattle.trick_body.specs.declared.symbol.Symbol.{Symbol}
-use Rattle.trick_body.specs.declared.symbol.Symbol.TheVariants as the
+use Rattle.trick_body_symbols.specs.Expressions.{Of}
+use Rattle.trick_body_symbols.specs.Symbols.{number_of, Token}
+use Rattle.trick_body_symbols.specs.declared.symbol.Symbol.{Symbol}
+use Rattle.trick_body_symbols.specs.declared.symbol.Symbol.TheVariants as the
 use Rattle.trick_grammar.specs.Classes.{is_one_of}
 use Rattle.trick_grammar.specs.Gives.{class_of}
 use Rattle.trick_grammar.specs.Larger.{is_limit}

@@ -1,15 +1,15 @@
 -- Parts of the grammars of bodies and simulation definitions, put together so that the next token does not decide:
 -- the first conflict, with a class that the rule round it begins with, why it is one, and a class.
 use Rattle.std.specs.Prelude.{◌≡◌, true, [], ◌∷◌, Option, Some, None}
-use Rattle.trick_body.specs.Expressions.{Of, names}
-use Rattle.trick_body.specs.Symbols.{Token, number_of}
-use Rattle.trick_body.specs.declared.symbol.Symbol.{Symbol}
-use Rattle.trick_body.specs.declared.symbol.Symbol.TheVariants as the
+use Rattle.trick_body_symbols.specs.Expressions.{Of, names}
+use Rattle.trick_body_symbols.specs.Symbols.{Token, number_of}
+use Rattle.trick_body_symbols.specs.declared.symbol.Symbol.{Symbol}
+use Rattle.trick_body_symbols.specs.declared.symbol.Symbol.TheVariants as the
 use Rattle.trick_grammar.specs.Conflicts.{Why, first_conflict, both_begin, would_go_on, is_barred, not_in_first, not_in_more, not_in_barred, wrong_outline, empty_part, no_text}
 use Rattle.trick_grammar.specs.Grammar.{Link, Outline, last, act, alone, after, hint, nearest, nothing, one, outline, refuse, repetition, rule, scope, token, ◌⨾◌, ◌∣◌}
 use Rattle.trick_grammar.specs.declared.refusal.Refusal.TheVariants.{BadHeader, Expected, NotInProfile}
-use Rattle.trick_sdef.specs.Jobs.{other_class, scheduled_class, span, time}
-use Rattle.trick_sdef.specs.Members.{declarator, free_name, lengths}
+use Rattle.trick_sdef_jobs.specs.Jobs.{other_class, scheduled_class, span, time}
+use Rattle.trick_sdef_classes.specs.Members.{declarator, free_name, lengths}
 
 -- the first conflict of a grammar of tokens
 abbrev pub conflict : {A : Type 0} → Of A → Option (Option Symbol × Why × Option Symbol)

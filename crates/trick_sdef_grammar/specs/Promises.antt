@@ -1,11 +1,11 @@
 -- The promises on limits: which refusals come of one.
 use Rattle.std.specs.Prelude.{ℕ, ◌≤◌, ◌<◌, List}
-use Rattle.trick_body.specs.Methods.{method, condition}
-use Rattle.trick_body.specs.Symbols.{number_of, Token}
+use Rattle.trick_body_symbols.specs.Methods.{method, condition}
+use Rattle.trick_body_symbols.specs.Symbols.{number_of, Token}
 use Rattle.trick_grammar.specs.Gives.{class_of}
 use Rattle.trick_grammar.specs.Larger.{Tells}
 use Rattle.trick_grammar.specs.Text.{read_all}
-use Rattle.trick_sdef.specs.Files.{file}
+use Rattle.trick_sdef_classes.specs.Files.{file}
 use Rattle.trick_sdef_grammar.specs.Larger.{TellsLimits}
 
 -- A refusal for a limit is at a token with which a text goes on where lists may be longer and more may

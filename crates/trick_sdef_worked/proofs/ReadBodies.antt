@@ -1,8 +1,8 @@
 -- The worked texts, as reading computes.
 use Rattle.std.proofs.Common.{refl}
-use Rattle.trick_body.specs.Expressions.{expression_body, step_body, place_body, operand_body, nested_body as expressions_nested}
+use Rattle.trick_body_symbols.specs.Expressions.{expression_body, step_body, place_body, operand_body, nested_body as expressions_nested}
 use Rattle.trick_sdef_worked.specs.ReadBodies.{BodiesAreRead, FallingPrecedence, RisingPrecedence, Products, Sums, Shifts, Orders, Equalities, Prefixes, PrefixBeforeProduct, Parentheses, Choices, ChoiceInside, Literals, Steps, Changes, ChangesOfBits, Counting, SignedTypes, UnsignedTypes, CallsAndBlocks, ElseOfTheNearest, ElseIfs, LoopBelow, LoopUpTo, LoopByOne, LoopInALoop, OtherName, OuterName, LargeBound, Assigned, AssignedInside, CountedBehind, CountedBefore, NotCounted, LocalOfThatName}
-use Rattle.trick_body.specs.Statements.{basic_body, loop_step_body, loop_test_body, header_body, value_body, call_body, operation_body, free_change_body, bound_change_body, named_body, by_name_body, free_steps_body, bound_steps_body, counted_body, declaration_body, simple_body, block_body, test_body, else_body, choice_body, loop_body, unbranched_body, unblocked_body, statement_body, branch_body, nested_body as statements_nested}
+use Rattle.trick_body_symbols.specs.Statements.{basic_body, loop_step_body, loop_test_body, header_body, value_body, call_body, operation_body, free_change_body, bound_change_body, named_body, by_name_body, free_steps_body, bound_steps_body, counted_body, declaration_body, simple_body, block_body, test_body, else_body, choice_body, loop_body, unbranched_body, unblocked_body, statement_body, branch_body, nested_body as statements_nested}
 
 falling_precedence_text : FallingPrecedence
 unfolding expression_body step_body place_body operand_body expressions_nested basic_body loop_step_body loop_test_body header_body value_body call_body operation_body free_change_body bound_change_body named_body by_name_body free_steps_body bound_steps_body counted_body declaration_body simple_body block_body test_body else_body choice_body loop_body unbranched_body unblocked_body statement_body branch_body statements_nested

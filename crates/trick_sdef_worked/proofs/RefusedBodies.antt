@@ -1,11 +1,11 @@
 -- The worked texts are refused, as reading computes.
 use Rattle.std.proofs.Common.{◌≡◌, [], ◌∷◌, Some, None, refl}
-use Rattle.trick_body.specs.declared.symbol.Symbol.TheVariants as the
+use Rattle.trick_body_symbols.specs.declared.symbol.Symbol.TheVariants as the
 use Rattle.trick_grammar.specs.declared.refusal.Refusal.TheVariants.{Expected, NotInProfile, TooLong, TooDeep, BadHeader}
 use Rattle.trick_sdef_worked.specs.RefusedBodies.{refusal, BodiesAreRefused}
-use Rattle.trick_body.specs.Expressions.{expression_body, step_body, place_body, operand_body, nested_body as expressions_nested}
-use Rattle.trick_body.specs.Statements.{basic_body, loop_step_body, loop_test_body, header_body, value_body, call_body, operation_body, free_change_body, bound_change_body, named_body, by_name_body, free_steps_body, bound_steps_body, counted_body, declaration_body, simple_body, block_body, test_body, else_body, choice_body, loop_body, unbranched_body, unblocked_body, statement_body, branch_body, nested_body as statements_nested}
-use Rattle.trick_body.specs.Methods.{return_body, void_inside_body, int_inside_body, void_body, int_body, method_body}
+use Rattle.trick_body_symbols.specs.Expressions.{expression_body, step_body, place_body, operand_body, nested_body as expressions_nested}
+use Rattle.trick_body_symbols.specs.Statements.{basic_body, loop_step_body, loop_test_body, header_body, value_body, call_body, operation_body, free_change_body, bound_change_body, named_body, by_name_body, free_steps_body, bound_steps_body, counted_body, declaration_body, simple_body, block_body, test_body, else_body, choice_body, loop_body, unbranched_body, unblocked_body, statement_body, branch_body, nested_body as statements_nested}
+use Rattle.trick_body_symbols.specs.Methods.{return_body, void_inside_body, int_inside_body, void_body, int_body, method_body}
 
 missing_end_text : refusal (the.Void ∷ the.Name ∷ the.OpenParen ∷ the.CloseParen ∷ the.OpenBrace ∷ the.Name ∷ the.Assign ∷ the.Name ∷ the.Semicolon ∷ []) ≡ Some (Expected, None)
 unfolding expression_body step_body place_body operand_body expressions_nested basic_body loop_step_body loop_test_body header_body value_body call_body operation_body free_change_body bound_change_body named_body by_name_body free_steps_body bound_steps_body counted_body declaration_body simple_body block_body test_body else_body choice_body loop_body unbranched_body unblocked_body statement_body branch_body statements_nested return_body void_inside_body int_inside_body void_body int_body method_body

@@ -1,41 +1,41 @@
 -- The worked texts are refused, as reading computes.
 use Rattle.std.proofs.Common.{◌≡◌, [], ◌∷◌, Some, refl}
-use Rattle.trick_body.specs.declared.symbol.Symbol.TheVariants as the
+use Rattle.trick_body_symbols.specs.declared.symbol.Symbol.TheVariants as the
 use Rattle.trick_grammar.specs.declared.refusal.Refusal.TheVariants.{Expected, NotInProfile, TooLong, BadTime}
 use Rattle.trick_sdef_worked.specs.RefusedFiles.{refusal, FilesAreRefused}
-use Rattle.trick_sdef.specs.Members.{free_name_body}
-use Rattle.trick_sdef.specs.Members.{item_value_body}
-use Rattle.trick_sdef.specs.Members.{item_body}
-use Rattle.trick_sdef.specs.Members.{enum_body}
-use Rattle.trick_sdef.specs.Members.{length_body}
-use Rattle.trick_sdef.specs.Members.{lengths_body}
-use Rattle.trick_sdef.specs.Members.{declarator_body}
-use Rattle.trick_sdef.specs.Members.{more_declarators_body}
-use Rattle.trick_sdef.specs.Members.{declarators_body}
-use Rattle.trick_sdef.specs.Members.{member_body}
-use Rattle.trick_sdef.specs.Members.{struct_body}
-use Rattle.trick_sdef.specs.Jobs.{time_body}
-use Rattle.trick_sdef.specs.Jobs.{cycle_body}
-use Rattle.trick_sdef.specs.Jobs.{scheduled_class_body}
-use Rattle.trick_sdef.specs.Jobs.{other_class_body}
-use Rattle.trick_sdef.specs.Jobs.{times_body}
-use Rattle.trick_sdef.specs.Jobs.{thread_body}
-use Rattle.trick_sdef.specs.Jobs.{phase_body}
-use Rattle.trick_sdef.specs.Jobs.{job_body}
-use Rattle.trick_sdef.specs.Files.{include_body}
-use Rattle.trick_sdef.specs.Files.{constructor_body}
-use Rattle.trick_sdef.specs.Files.{other_type_body}
-use Rattle.trick_sdef.specs.Files.{after_int_body}
-use Rattle.trick_sdef.specs.Files.{int_part_body}
-use Rattle.trick_sdef.specs.Files.{part_body}
-use Rattle.trick_sdef.specs.Files.{after_name_body, class_body, class_head_body}
-use Rattle.trick_sdef.specs.Jobs.{timed_body, every_body, called_body}
-use Rattle.trick_sdef.specs.Files.{object_body}
-use Rattle.trick_sdef.specs.Files.{definition_body, file_body}
+use Rattle.trick_sdef_classes.specs.Members.{free_name_body}
+use Rattle.trick_sdef_classes.specs.Members.{item_value_body}
+use Rattle.trick_sdef_classes.specs.Members.{item_body}
+use Rattle.trick_sdef_classes.specs.Members.{enum_body}
+use Rattle.trick_sdef_classes.specs.Members.{length_body}
+use Rattle.trick_sdef_classes.specs.Members.{lengths_body}
+use Rattle.trick_sdef_classes.specs.Members.{declarator_body}
+use Rattle.trick_sdef_classes.specs.Members.{more_declarators_body}
+use Rattle.trick_sdef_classes.specs.Members.{declarators_body}
+use Rattle.trick_sdef_classes.specs.Members.{member_body}
+use Rattle.trick_sdef_classes.specs.Members.{struct_body}
+use Rattle.trick_sdef_jobs.specs.Jobs.{time_body}
+use Rattle.trick_sdef_jobs.specs.Jobs.{cycle_body}
+use Rattle.trick_sdef_jobs.specs.Jobs.{scheduled_class_body}
+use Rattle.trick_sdef_jobs.specs.Jobs.{other_class_body}
+use Rattle.trick_sdef_jobs.specs.Jobs.{times_body}
+use Rattle.trick_sdef_jobs.specs.Jobs.{thread_body}
+use Rattle.trick_sdef_jobs.specs.Jobs.{phase_body}
+use Rattle.trick_sdef_jobs.specs.Jobs.{job_body}
+use Rattle.trick_sdef_classes.specs.Files.{include_body}
+use Rattle.trick_sdef_classes.specs.Files.{constructor_body}
+use Rattle.trick_sdef_classes.specs.Files.{other_type_body}
+use Rattle.trick_sdef_classes.specs.Files.{after_int_body}
+use Rattle.trick_sdef_classes.specs.Files.{int_part_body}
+use Rattle.trick_sdef_classes.specs.Files.{part_body}
+use Rattle.trick_sdef_classes.specs.Files.{after_name_body, class_body, class_head_body}
+use Rattle.trick_sdef_jobs.specs.Jobs.{timed_body, every_body, called_body}
+use Rattle.trick_sdef_classes.specs.Files.{object_body}
+use Rattle.trick_sdef_classes.specs.Files.{definition_body, file_body}
 use Rattle.trick_grammar.specs.Separated.{separated_body, behind_item}
-use Rattle.trick_body.specs.Expressions.{expression_body, step_body, place_body, operand_body, nested_body as expressions_nested}
-use Rattle.trick_body.specs.Statements.{basic_body, loop_step_body, loop_test_body, header_body, value_body, call_body, operation_body, free_change_body, bound_change_body, named_body, by_name_body, free_steps_body, bound_steps_body, counted_body, declaration_body, simple_body, block_body, test_body, else_body, choice_body, loop_body, unbranched_body, unblocked_body, statement_body, branch_body, nested_body as statements_nested}
-use Rattle.trick_body.specs.Methods.{return_body, void_inside_body, int_inside_body, void_body, int_body, method_body}
+use Rattle.trick_body_symbols.specs.Expressions.{expression_body, step_body, place_body, operand_body, nested_body as expressions_nested}
+use Rattle.trick_body_symbols.specs.Statements.{basic_body, loop_step_body, loop_test_body, header_body, value_body, call_body, operation_body, free_change_body, bound_change_body, named_body, by_name_body, free_steps_body, bound_steps_body, counted_body, declaration_body, simple_body, block_body, test_body, else_body, choice_body, loop_body, unbranched_body, unblocked_body, statement_body, branch_body, nested_body as statements_nested}
+use Rattle.trick_body_symbols.specs.Methods.{return_body, void_inside_body, int_inside_body, void_body, int_body, method_body}
 
 other_file_text : refusal (the.Hash ∷ the.Include ∷ the.Text ∷ []) ≡ Some (NotInProfile, (Some 2))
 unfolding expression_body step_body place_body operand_body expressions_nested basic_body loop_step_body loop_test_body header_body value_body call_body operation_body free_change_body bound_change_body named_body by_name_body free_steps_body bound_steps_body counted_body declaration_body simple_body block_body test_body else_body choice_body loop_body unbranched_body unblocked_body statement_body branch_body statements_nested return_body void_inside_body int_inside_body void_body int_body method_body free_name_body item_value_body item_body enum_body length_body lengths_body declarator_body more_declarators_body declarators_body member_body struct_body time_body cycle_body scheduled_class_body other_class_body times_body timed_body every_body called_body thread_body phase_body job_body include_body constructor_body other_type_body after_int_body int_part_body after_name_body part_body class_head_body class_body object_body definition_body file_body separated_body behind_item

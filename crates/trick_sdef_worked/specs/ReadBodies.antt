@@ -3,11 +3,11 @@
 -- with the reason and how many tokens of the statements stand before the refused one.
 use Rattle.std.specs.List.{list_any}
 use Rattle.std.specs.Prelude.{◌≡◌, ℕ, ◌+◌, ◌-◌, List, [], ◌∷◌, length, codes, Option, Some, None, Result, Ok, Err, nat_eq, Bool, true, false, ◌&&◌, not, if◌then◌else◌}
-use Rattle.trick_body.specs.Methods.{condition}
-use Rattle.trick_body.specs.Statements.{statement}
-use Rattle.trick_body.specs.Symbols.{number_of, symbol_of, is_number, Token}
-use Rattle.trick_body.specs.declared.symbol.Symbol.{Symbol}
-use Rattle.trick_body.specs.declared.symbol.Symbol.TheVariants as the
+use Rattle.trick_body_symbols.specs.Methods.{condition}
+use Rattle.trick_body_symbols.specs.Statements.{statement}
+use Rattle.trick_body_symbols.specs.Symbols.{number_of, symbol_of, is_number, Token}
+use Rattle.trick_body_symbols.specs.declared.symbol.Symbol.{Symbol}
+use Rattle.trick_body_symbols.specs.declared.symbol.Symbol.TheVariants as the
 use Rattle.trick_grammar.specs.Gives.{class_of, text_of}
 use Rattle.trick_grammar.specs.Grammar.{repetition}
 use Rattle.trick_grammar.specs.Reading.{Refused}
@@ -22,7 +22,7 @@ use Rattle.trick_lang.specs.declared.operator.Comparison.TheVariants as comparis
 use Rattle.trick_lang.specs.declared.operator.Operator.TheVariants.{Arithmetic, Comparison, And, Or}
 use Rattle.trick_lang.specs.declared.operator.Prefix.TheVariants as prefix
 use Rattle.trick_lang.specs.declared.scalar.Scalar.TheVariants as scalar
-use Rattle.trick_body.specs.Statements.{statements_of}
+use Rattle.trick_body_symbols.specs.Statements.{statements_of}
 use Rattle.trick_text.specs.Numbers.{whole_value}
 
 -- the number that the bytes of a whole number stand for, 0 for other bytes

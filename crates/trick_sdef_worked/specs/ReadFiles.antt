@@ -2,8 +2,8 @@
 -- file, each type, each class of jobs, each form of times, and each default.
 use Rattle.std.specs.List.{list_any, slice_index_or}
 use Rattle.std.specs.Prelude.{◌≡◌, ℕ, ◌+◌, ℤ, pos, ◌-ℤ◌, List, [], ◌∷◌, ◌++◌, length, codes, Option, Some, None, Ok, Err, nat_eq, Bool, true, ◌&&◌, ◌||◌, not, if◌then◌else◌}
-use Rattle.trick_body.specs.Lexemes.{lexemes_of, symbol_as}
-use Rattle.trick_body.specs.Symbols.{number_of, symbol_of}
+use Rattle.trick_body_symbols.specs.Lexemes.{lexemes_of, symbol_as}
+use Rattle.trick_body_symbols.specs.Symbols.{number_of, symbol_of}
 use Rattle.trick_grammar.specs.Gives.{class_of}
 use Rattle.trick_grammar.specs.Text.{read_all}
 use Rattle.trick_lang.specs.SyntaxTree as tree
@@ -11,8 +11,8 @@ use Rattle.trick_lang.specs.SyntaxTree.{Declarator, EnumItem, JobLine, Members, 
 use Rattle.trick_lang.specs.declared.class.Class.{Class}
 use Rattle.trick_lang.specs.declared.class.Class.TheVariants as class
 use Rattle.trick_lang.specs.declared.scalar.Scalar.TheVariants as scalar
-use Rattle.trick_sdef.specs.Files.{file}
-use Rattle.trick_sdef.specs.Jobs.{Times}
+use Rattle.trick_sdef_classes.specs.Files.{file}
+use Rattle.trick_sdef_jobs.specs.Jobs.{Times}
 use Rattle.trick_base.specs.Time.{tic_limit}
 use Rattle.trick_text.specs.Tokens.{spelling}
 use Rattle.trick_text.specs.declared.token.Token.{Token}

@@ -1,10 +1,10 @@
 -- What a grammar refuses of symbols alone, with the reason that is told and the place of the refused token,
 -- counted from 0; no place is the end of the text.
 use Rattle.std.specs.Prelude.{ℕ, ◌+◌, List, [], ◌∷◌, Option, Some, None, Result, Ok, Err}
-use Rattle.trick_body.specs.Expressions.{Of}
-use Rattle.trick_body.specs.Symbols.{number_of, Token}
-use Rattle.trick_body.specs.Told.{told}
-use Rattle.trick_body.specs.declared.symbol.Symbol.{Symbol}
+use Rattle.trick_body_symbols.specs.Expressions.{Of}
+use Rattle.trick_body_symbols.specs.Symbols.{number_of, Token}
+use Rattle.trick_body_symbols.specs.Told.{told}
+use Rattle.trick_body_symbols.specs.declared.symbol.Symbol.{Symbol}
 use Rattle.trick_grammar.specs.Gives.{class_of}
 use Rattle.trick_grammar.specs.Reading.{Refused}
 use Rattle.trick_grammar.specs.Text.{read_all}

@@ -2,11 +2,11 @@
 -- counted from 0; no place is the end of the text. Lists have 4 items at most, and 3 levels may nest
 -- in the braces of a method.
 use Rattle.std.specs.Prelude.{◌≡◌, ℕ, List, [], ◌∷◌, Option, Some, None}
-use Rattle.trick_body.specs.declared.symbol.Symbol.{Symbol}
-use Rattle.trick_body.specs.declared.symbol.Symbol.TheVariants as the
+use Rattle.trick_body_symbols.specs.declared.symbol.Symbol.{Symbol}
+use Rattle.trick_body_symbols.specs.declared.symbol.Symbol.TheVariants as the
 use Rattle.trick_grammar.specs.declared.refusal.Refusal.{Refusal}
 use Rattle.trick_grammar.specs.declared.refusal.Refusal.TheVariants.{Expected, NotInProfile, TooLong, BadTime}
-use Rattle.trick_sdef.specs.Files.{file}
+use Rattle.trick_sdef_classes.specs.Files.{file}
 use Rattle.trick_sdef_worked.specs.Refusals.{refusal_by}
 
 -- what these symbols are refused for, and where

@@ -1,8 +1,8 @@
 -- Worked trees: for each test one that just passes it and one that just fails.
 use Rattle.std.specs.List.{list_all, list_any}
 use Rattle.std.specs.Prelude.{◌≡◌, ℕ, ℤ, pos, negsuc, Bool, true, false, not, ◌||◌, List, [], ◌∷◌, codes, replicate, Option, Some, None}
-use Rattle.trick_body.specs.Expressions.{names}
-use Rattle.trick_body.specs.Symbols.{named_symbols, number_of}
+use Rattle.trick_body_symbols.specs.Expressions.{names}
+use Rattle.trick_body_symbols.specs.Symbols.{named_symbols, number_of}
 use Rattle.trick_grammar.specs.Classes.{is_one_of}
 use Rattle.trick_lang.specs.SyntaxTree as tree
 use Rattle.trick_lang.specs.SyntaxTree.{Declarator, EnumItem, JobLine, Members, Name, Part, SDefine, Statement}

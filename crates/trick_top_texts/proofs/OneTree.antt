@@ -2,8 +2,8 @@
 use Rattle.std.proofs.Common.{◌≡◌, ◌≢◌, ◌⊎◌, ◌∙◌, ◌∷◌, ◌++◌, ℕ, List, [], Option, Some, None, Result, Ok, Err, inl, inr}
 use Rattle.std.proofs.Common.{append_assoc, refl, subst, sym}
 use Rattle.std.proofs.lemmas.List.{append_cancel_right}
-use Rattle.trick_body.specs.Lexemes.{lexemes_of}
-use Rattle.trick_body.specs.Symbols.{number_of, spelled, Token}
+use Rattle.trick_body_symbols.specs.Lexemes.{lexemes_of}
+use Rattle.trick_body_symbols.specs.Symbols.{number_of, spelled, Token}
 use Rattle.trick_grammar.specs.Cut.{IsFirst}
 use Rattle.trick_grammar.specs.Gives.{class_of}
 use Rattle.trick_grammar.specs.Reading.{Refused}
@@ -13,7 +13,8 @@ use Rattle.trick_lang.specs.SyntaxTree as tree
 use Rattle.trick_lang.specs.declared.syntax.definition.SDefine.{SDefine}
 use Rattle.trick_top_texts.proofs.Uncut.{cut_and_uncut, uncut_once}
 use Rattle.trick_top_texts.specs.Readings.{HasOneTree}
-use Rattle.trick_sdef.specs.Answers.{IsAnswer, IsRead, IsSDefine, IsToldBy, fault_of_text, file, told_behind}
+use Rattle.trick_sdef.specs.Answers.{IsRead, IsSDefine, IsToldBy, fault_of_text, told_behind}
+use Rattle.trick_sdef_classes.specs.Profile.{IsAnswer, file}
 use Rattle.trick_sdef.specs.declared.fault.SdefFault.{SdefFault}
 use Rattle.trick_sdef.specs.declared.fault.SdefFault.TheVariants as faults
 use Rattle.trick_text.proofs.Unique.{one_cut}

@@ -1,5 +1,5 @@
 use Rattle.std.proofs.Common.{◌≡◌, ◌∙◌, List, Some, ap, sym}
-use Rattle.trick_body.specs.Symbols.{Token, number_of}
+use Rattle.trick_body_symbols.specs.Symbols.{Token, number_of}
 use Rattle.trick_plan_variables.proofs.Declared.{declared_spelled}
 use Rattle.trick_plan_variables.proofs.declaration.declaration_of.Goals as goal
 use Rattle.trick_plan_variables.specs.Grammar.{declaration, declaration_of, read_or_none}

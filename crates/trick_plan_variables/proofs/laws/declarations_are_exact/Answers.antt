@@ -1,5 +1,5 @@
 use Rattle.std.proofs.Common.{refl}
-use Rattle.trick_body.specs.Symbols.{number_of, spelled}
+use Rattle.trick_body_symbols.specs.Symbols.{number_of, spelled}
 use Rattle.trick_plan_variables.proofs.Declared.{predictive}
 use Rattle.trick_plan_variables.proofs.laws.declarations_are_exact.Goals as goal
 use Rattle.trick_plan_variables.specs.Grammar.{declaration}

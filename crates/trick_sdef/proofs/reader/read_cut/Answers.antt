@@ -1,11 +1,11 @@
 use Rattle.std.proofs.Common.{ap, ◌∙◌, refl, sym, subst}
-use Rattle.trick_body.specs.Symbols.{number_of}
+use Rattle.trick_body_symbols.specs.Symbols.{number_of}
 use Rattle.trick_grammar.specs.Gives.{class_of}
 use Rattle.trick_grammar.specs.Text.{read_all}
 use Rattle.trick_sdef.proofs.Refused.{all_read, fault_behind, file_read}
 use Rattle.trick_text.specs.Tokens.{IsCut}
 use Rattle.trick_text.specs.declared.token.Style.TheVariants as style
-use Rattle.trick_sdef.specs.Answers.{file}
+use Rattle.trick_sdef_classes.specs.Profile.{file}
 use Rattle.trick_sdef.proofs.reader.read_cut.Goals as goal
 
 pub returns-in-None : goal.returns-in-None

@@ -1,10 +1,11 @@
 use Rattle.std.proofs.Common.{inl, inr, ap, ◌∙◌, sym, ◌-◌, length, take}
-use Rattle.trick_body.specs.Symbols.{number_of, Token}
+use Rattle.trick_body_symbols.specs.Symbols.{number_of, Token}
 use Rattle.trick_grammar.specs.Reading.{Refused}
 use Rattle.trick_grammar.specs.Gives.{class_of}
 use Rattle.trick_grammar.specs.Text.{read_all}
 use Rattle.trick_sdef.proofs.Refused.{fault_at_end, file_refused, nil_of, not_nil}
-use Rattle.trick_sdef.specs.Answers.{file, told_behind}
+use Rattle.trick_sdef.specs.Answers.{told_behind}
+use Rattle.trick_sdef_classes.specs.Profile.{file}
 use Rattle.trick_sdef.proofs.reader.refused.Goals as goal
 
 pub returns-in-None : goal.returns-in-None

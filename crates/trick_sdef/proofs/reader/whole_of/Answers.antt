@@ -1,13 +1,13 @@
 use Rattle.std.proofs.Common.{Ok, List, ap, ◌∙◌, sym, subst, map}
-use Rattle.trick_body.specs.Symbols.{Token, number_of}
+use Rattle.trick_body_symbols.specs.Symbols.{Token, number_of}
 use Rattle.trick_grammar.specs.Gives.{class_of}
 use Rattle.trick_grammar.specs.Text.{read_all}
 use Rattle.trick_lang.specs.Syntax.{definition_of, definitions_of}
 use Rattle.trick_lang.specs.declared.syntax.definition.Definition.{Definition}
-use Rattle.trick_sdef.proofs.Holds as fact
+use Rattle.trick_sdef_classes.proofs.Holds as fact
 use Rattle.trick_sdef.proofs.Refused.{tree_read}
 use Rattle.trick_sdef.proofs.reader.whole_of.Goals as goal
-use Rattle.trick_sdef.specs.Answers.{IsAnswer, file}
+use Rattle.trick_sdef_classes.specs.Profile.{IsAnswer, file}
 
 pub invariant_of-result : goal.invariant_of-result
 invariant_of-result c =

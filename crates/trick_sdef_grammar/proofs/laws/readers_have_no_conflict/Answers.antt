@@ -1,11 +1,11 @@
-use Rattle.trick_body.proofs.ExpressionTests.{expression_test}
-use Rattle.trick_body.proofs.MethodTests.{method_test}
-use Rattle.trick_body.specs.Methods.{condition, method}
-use Rattle.trick_body.specs.Symbols.{number_of}
+use Rattle.trick_body_statements.proofs.ExpressionTests.{expression_test}
+use Rattle.trick_body_statements.proofs.MethodTests.{method_test}
+use Rattle.trick_body_symbols.specs.Methods.{condition, method}
+use Rattle.trick_body_symbols.specs.Symbols.{number_of}
 use Rattle.trick_sdef_grammar.proofs.Conflicts.{no_conflict}
 use Rattle.trick_sdef_grammar.proofs.laws.readers_have_no_conflict.Goals as goal
-use Rattle.trick_sdef.proofs.Files.{file_test}
-use Rattle.trick_sdef.specs.Files.{file}
+use Rattle.trick_sdef_classes.proofs.Files.{file_test}
+use Rattle.trick_sdef_classes.specs.Files.{file}
 
 pub returns : goal.returns
 returns c = record {

@@ -1,0 +1,2 @@
+-- the trees that values of the readers hold
+pub mod Trees

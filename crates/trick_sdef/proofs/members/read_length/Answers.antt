@@ -1,7 +1,0 @@
-use Rattle.std.proofs.Common.{rules}
-use Rattle.trick_sdef.proofs.members.read_length.Goals as goal
-use Rattle.trick_sdef.specs.Members.{length_body}
-
-pub returns : goal.returns
-unfolding length_body
-returns c = search rules

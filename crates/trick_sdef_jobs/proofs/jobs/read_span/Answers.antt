@@ -1,0 +1,5 @@
+use Rattle.std.proofs.Common.{rules}
+use Rattle.trick_sdef_jobs.proofs.jobs.read_span.Goals as goal
+
+pub returns : goal.returns
+returns c = search rules
