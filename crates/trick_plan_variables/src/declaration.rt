@@ -11,7 +11,7 @@ ghost use Rattle.trick_text.specs.declared.token.Style.TheVariants.{Command};
 use crate::SpelledDeclaration;
 use std::alloc::{AllocError, Global};
 use trick_base::{Items, Word};
-use trick_body::{NAMES, Symbol, Token, lexemes, name_of, read_basic};
+use trick_body_symbols::{NAMES, Symbol, Token, lexemes, name_of, read_basic};
 use trick_grammar::{GrammarStop, next_is, take, take_one_of};
 use trick_lang::Scalar;
 use trick_text::{Style, TextFault, tokens};

@@ -14,7 +14,7 @@ ghost use Rattle.trick_text.specs.declared.token.Style.TheVariants as style;
 use crate::fault::SdefFault;
 use std::alloc::Global;
 use trick_base::Items;
-use trick_body::{
+use trick_body_symbols::{
     LIST_LIMIT, METHOD_LEVELS, NESTING_LIMIT, Source, Symbol, Token, lexemes, told, told_line,
 };
 use trick_grammar::{GrammarStop, Refusal};

@@ -16,9 +16,9 @@ use crate::members::{read_declarators, read_lengths, read_more_declarators, take
 use crate::names::{FREE_NAMES, take_free_name};
 use std::alloc::{AllocError, Global};
 use trick_base::Items;
-use trick_body::{
-    NAMES, Source, Symbol, Token, UNSIGNED, name_of, read_int_inside, read_int_rest,
-    read_void_rest, scalar_of, take_hinted, unsigned_of,
+use trick_body_statements::{read_int_inside, read_int_rest, read_void_rest};
+use trick_body_symbols::{
+    NAMES, Source, Symbol, Token, UNSIGNED, name_of, scalar_of, take_hinted, unsigned_of,
 };
 use trick_grammar::{GrammarStop, Refusal, next_is, next_is_one_of, reason_at, take, take_one_of};
 use trick_lang::Scalar;

@@ -13,7 +13,7 @@ use crate::enums::read_enum;
 use crate::members::read_struct;
 use crate::names::take_free_name;
 use std::alloc::Global;
-use trick_body::{NAMES, Source, Symbol, Token, name_of};
+use trick_body_symbols::{NAMES, Source, Symbol, Token, name_of};
 use trick_grammar::{GrammarStop, Refusal, next_is, next_is_one_of, reason_at, take, take_one_of};
 use trick_lang::syntax::Definition;
 

@@ -17,7 +17,7 @@ use crate::members::take_closing;
 use crate::names::take_free_name;
 use std::alloc::{AllocError, Global};
 use trick_base::Items;
-use trick_body::{NAMES, Source, Symbol, Token, WHOLES, name_of};
+use trick_body_symbols::{NAMES, Source, Symbol, Token, WHOLES, name_of};
 use trick_grammar::{GrammarStop, Refusal, next_is, next_is_one_of, take, take_one_of};
 use trick_lang::syntax::{Definition, EnumItem};
 

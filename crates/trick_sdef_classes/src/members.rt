@@ -13,7 +13,7 @@ ghost use Rattle.trick_sdef_classes.specs.Trees.{declarator_of};
 use crate::names::take_free_name;
 use std::alloc::{AllocError, Global};
 use trick_base::Items;
-use trick_body::{NAMES, Source, Symbol, Token, name_of, read_basic};
+use trick_body_symbols::{NAMES, Source, Symbol, Token, name_of, read_basic};
 use trick_grammar::{GrammarStop, Refusal, next_is, next_is_one_of, reason_at, take, take_one_of};
 use trick_lang::syntax::{Declarator, Definition, Members, TypeName};
 

@@ -6,7 +6,7 @@ ghost use Rattle.trick_grammar.specs.Gives.{Gives, class_of};
 ghost use Rattle.trick_grammar.specs.Reading.{read};
 ghost use Rattle.trick_sdef_classes.specs.Members.{free_name};
 
-use trick_body::{Symbol, Token};
+use trick_body_symbols::{Symbol, Token};
 use trick_grammar::{GrammarStop, Refusal, next_is, reason_at, take_one_of};
 
 // The symbols of names other than `trick`.

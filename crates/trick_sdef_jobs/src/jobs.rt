@@ -10,7 +10,7 @@ ghost use Rattle.trick_sdef_jobs.specs.Trees.{job_line_of, times_of};
 
 use std::alloc::Global;
 use trick_base::TIC_LIMIT;
-use trick_body::{NAMES, PHASE_LIMIT, Source, Symbol, Token, name_of};
+use trick_body_symbols::{NAMES, PHASE_LIMIT, Source, Symbol, Token, name_of};
 use trick_grammar::{GrammarStop, Refusal, next_is, next_is_one_of, reason_at, take, take_one_of};
 use trick_lang::Class;
 use trick_lang::syntax::JobLine;
