@@ -540,9 +540,6 @@ spared_name : (loops : List (List ℕ)) (line at : ℕ) (name : List ℕ) (chang
     → list_any (λ u. bytes_eq u name) loops ≡ true → ⊥
 spared_name loops line at name change h p = absurd cc
 
-not_empty : {A : Type 0} (x : A) (xs : List A) → x ∷ xs ≡ [] → ⊥
-not_empty x xs p = absurd cc
-
 either : (b : Bool) → (b ≡ true) ⊎ (b ≡ false)
 either true = inl refl
 either false = inr refl
@@ -558,7 +555,7 @@ module _ (text : List ℕ) (m : ℕ) where
       let less : suc m - 1 ≡ m = omega arith in (
         subst (λ ys. Has e (repetition (suc m) (read.step text (suc m) n)) ts ys rest) is
             (mid, first, subst (λ k. Has e (repetition k (read.step text (suc m) n)) mid v.1 rest) less more),
-        λ none. not_empty v.0 v.1 (is ∙ none),
+        λ none. cc (is ∙ none),
       )
 
   some_from : (n : ℕ) (e ts : List Token) (x : Step) (xs : List Step) (rest : List Token)
