@@ -1,19 +1,17 @@
 -- Trees of lists: what the readers collect is what the grammar makes.
-use Rattle.std.proofs.Common.{◌≡◌, ℕ, zero, suc, ◌-◌, nat_eq, ◌<◌, true, false, List, [], ◌∷◌, ◌++◌, length, map, Some, None, Ok, Err, Box, Global, refl, sym, ap, ◌∙◌, arith}
+use Rattle.std.proofs.Common.{◌≡◌, ℕ, zero, suc, ◌-◌, nat_eq, ◌<◌, true, false, List, [], ◌∷◌, ◌++◌, length, map, Some, None, Ok, Err, Box, Global, refl, sym, ap, ◌∙◌}
 use Rattle.std.proofs.lemmas.List.{append-nil}
 use Rattle.std.specs.declared.vec.Vec.{Vec}
 use Rattle.trick_body_symbols.specs.Expressions as grammar
 use Rattle.trick_body_symbols.specs.Statements as statements
 use Rattle.trick_body_symbols.specs.Symbols.{number_of, Token}
 use Rattle.trick_body_statements.specs.Trees.{step_of, link_of, branch_of}
-use Rattle.trick_grammar.proofs.Loops.{items_left, items_stops, many_end, many_next}
+use Rattle.trick_grammar.proofs.Loops.{many_end, many_next}
 use Rattle.trick_grammar.proofs.Short.{token_leaves}
-use Rattle.trick_grammar.specs.Gives.{class_of, Stops}
+use Rattle.trick_grammar.specs.Gives.{class_of}
 use Rattle.trick_grammar.specs.Grammar.{act, any_number, first_of}
 use Rattle.trick_grammar.specs.Reading.{Reading, ◌>>=◌, read}
 use Rattle.trick_grammar.specs.StartsWith.{next_in}
-use Rattle.trick_body_symbols.specs.declared.symbol.Symbol.{Symbol}
-use Rattle.trick_grammar.specs.declared.stop.GrammarStop.{GrammarStop}
 use Rattle.trick_lang.specs.Syntax.{expression_of, parts_of_list, links_of_list, choices_of_list, statement_of, statements_of_list, branches_of_list}
 use Rattle.trick_lang.specs.SyntaxTree
 use Rattle.trick_lang.specs.SyntaxTree.{Expression, Choices, Statement}
@@ -34,12 +32,6 @@ parts_are (Index e ∷ ps) = ap (SyntaxTree.Index (expression_of e)) (parts_are 
 pub some_items : (n : ℕ) → nat_eq n 0 ≡ false → n ≡ 0 → ⊥
 some_items zero h e = absurd cc
 some_items (suc n) h e = absurd cc
-
--- a loop that counts down what may still come stops where an item does
-module _ {X Y : Type 0} (number : Symbol → ℕ) (view : X → Y) (cs : List Symbol) (r : List Token → Reading Token Y) where
-  pub items_halt : (left : ℕ) (found : List X) (stop : GrammarStop Symbol) (rest : List Token) (total : Reading Token (List Y)) → 0 < left → next_in number class_of cs rest ≡ true → Stops stop (r rest) → items_left number view cs r left found rest ≡ total → Stops stop total
-  items_halt left found stop rest total lt on p so_far =
-      let none : left - 0 ≡ left = omega arith in items_stops number view cs r left 0 found stop rest total lt on p (ap (λ n. items_left number view cs r n found rest) none ∙ so_far)
 
 -- ---- chains of operators
 

@@ -4,3 +4,5 @@ pub mod Yields
 pub mod Words
 -- what is known of the tokens of a text, by their symbols
 pub mod Tokens
+-- loops that count down what may still come
+pub mod Countdown

@@ -5,7 +5,7 @@ ghost use Rattle.trick_access.specs.Accesses.{AreAccessesOf};
 ghost use Rattle.trick_model.specs.Acceptance.{IsAccepted};
 ghost use Rattle.trick_model.specs.PlanOf.{plan_of};
 
-use crate::Plan;
+use crate::{Candidate, Plan};
 use trick_access::Access;
 use trick_base::Items;
 
@@ -20,12 +20,12 @@ pub struct Accepted {
 }
 
 impl Accepted {
-    /// An accepted plan, with what each of its jobs may read and write.
-    pub fn of(plan: Plan, accesses: Items<Access>) -> Self
-        requires accepted { ∥ IsAccepted (plan_of plan) ∥₁ }
-        requires accesses { AreAccessesOf plan.program accesses }
-        ensures { result.plan ≡ plan }
+    /// The plan of a candidate that meets acceptance.
+    pub fn of(candidate: Candidate) -> Self
+        requires { ∥ IsAccepted (plan_of candidate.plan) ∥₁ }
+        ensures { result.plan ≡ candidate.plan }
     {
+        let Candidate { plan, accesses } = candidate;
         Accepted { plan, accesses }
     }
 

@@ -4,6 +4,7 @@
 
 mod accepted;
 mod action;
+mod candidate;
 mod command;
 mod deed;
 mod depends;
@@ -29,6 +30,7 @@ mod world;
 
 pub use accepted::Accepted;
 pub use action::Action;
+pub use candidate::Candidate;
 pub use command::Command;
 pub use deed::Deed;
 pub use depends::Depends;

@@ -13,17 +13,24 @@ use crate::recorded::{async_event, async_recorded};
 use crate::threads::{backwards, class_on_child, no_thread};
 use crate::writers::shared_writer;
 use std::alloc::Global;
-use trick_access::{Access, accesses};
-use trick_base::Items;
-use trick_model::{Accepted, Plan};
+use trick_access::Access;
+use trick_model::{Accepted, Candidate, Plan};
 
-/// Judges a plan: it is accepted, and the answer is what each of its jobs may read and write, or the
-/// first case is named of the first condition that does not hold.
+/// Judges a plan: it is accepted, or the first case is named of the first condition that does not hold.
 ///
 /// Its time grows with the pairs of jobs, times the ranges of cells that they may read and write.
-pub fn judge(alloc: Global, plan: &Plan) -> Result<Items<Access>, PlanFault>
+pub fn judge(alloc: Global, candidate: &Candidate) -> Result<(), PlanFault>
+    ensures accepted { OnOk result (IsAccepted (plan_of candidate.now.plan)) }
+    ensures before { IfErr result (HoldsBefore (plan_of candidate.now.plan)) }
+    ensures first { IfErr result (NamesFirst (plan_of candidate.now.plan)) }
+{
+    judge_plan(alloc, candidate.plan(), candidate.accesses())
+}
+
+// Judges a plan by what its jobs may read and write.
+fn judge_plan(alloc: Global, plan: &Plan, accesses: &[Access]) -> Result<(), PlanFault>
+    requires { AreAccessesOf plan.now.program accesses.now }
     ensures accepted { OnOk result (IsAccepted (plan_of plan.now)) }
-    ensures accesses { IfOk result (AreAccessesOf plan.now.program) }
     ensures before { IfErr result (HoldsBefore (plan_of plan.now)) }
     ensures first { IfErr result (NamesFirst (plan_of plan.now)) }
 {
@@ -41,9 +48,7 @@ pub fn judge(alloc: Global, plan: &Plan) -> Result<Items<Access>, PlanFault>
             depended: pair.depended,
         });
     }
-    let accesses = accesses(alloc, &plan.program)?;
-    judge_cells(alloc, plan, accesses.as_slice())?;
-    Ok(accesses)
+    judge_cells(alloc, plan, accesses)
 }
 
 // Judges what the jobs may read and write, where the conditions before hold.
@@ -83,6 +88,7 @@ pub fn accept(alloc: Global, plan: Plan) -> Result<Accepted, PlanFault>
     ensures before { IfErr result (HoldsBefore (plan_of plan)) }
     ensures first { IfErr result (NamesFirst (plan_of plan)) }
 {
-    let accesses = judge(alloc, &plan)?;
-    Ok(Accepted::of(plan, accesses))
+    let candidate = Candidate::of(alloc, plan)?;
+    judge(alloc, &candidate)?;
+    Ok(Accepted::of(candidate))
 }

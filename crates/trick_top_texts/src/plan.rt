@@ -13,7 +13,7 @@ use crate::Unready;
 use std::alloc::Global;
 use trick_input::Call;
 use trick_lang::Program;
-use trick_model::{Accepted, Plan};
+use trick_model::{Accepted, Candidate, Plan};
 use trick_plan::{JoinFault, plan};
 use trick_race::{PlanFault, judge};
 use trick_top_refusals::{join_line, plan_line};
@@ -60,8 +60,11 @@ pub(crate) fn accept(alloc: Global, plan: Plan) -> Result<Accepted, Unready>
     ensures refused { (s_define input : List ℕ) → HavePlan s_define input plan
         → IfErr result (IsUnready s_define input) }
 {
-    match judge(alloc, &plan) {
-        Ok(accesses) => Ok(Accepted::of(plan, accesses)),
-        Err(fault) => Err(unaccepted(alloc, &plan, fault)),
+    let Ok(candidate) = Candidate::of(alloc, plan) else {
+        return Err(Unready::OutOfMemory);
+    };
+    match judge(alloc, &candidate) {
+        Ok(()) => Ok(Accepted::of(candidate)),
+        Err(fault) => Err(unaccepted(alloc, candidate.plan(), fault)),
     }
 }

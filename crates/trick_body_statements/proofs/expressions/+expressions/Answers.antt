@@ -6,7 +6,8 @@ use Rattle.trick_body_statements.specs.Trees.{link_of, step_of}
 use Rattle.trick_body_symbols.specs.declared.nested.Nested.TheVariants.{Chosen}
 use Rattle.trick_body_symbols.specs.declared.symbol.Symbol.TheVariants.{Dot, OpenBracket}
 use Rattle.trick_body_statements.proofs.ExpressionTests.{choice_shrinks}
-use Rattle.trick_body_statements.proofs.Lists.{chain_made, chosen, chosen_next, choose_made, folded_end, folded_next, items_halt, link_begins, link_shrinks, some_items}
+use Rattle.trick_body_symbols.proofs.Countdown.{items_halt}
+use Rattle.trick_body_statements.proofs.Lists.{chain_made, chosen, chosen_next, choose_made, folded_end, folded_next, link_begins, link_shrinks, some_items}
 use Rattle.trick_grammar.proofs.Loops.{items_down, items_end, many_next}
 use Rattle.trick_grammar.specs.Gives.{class_of}
 use Rattle.trick_grammar.specs.Reading.{read}

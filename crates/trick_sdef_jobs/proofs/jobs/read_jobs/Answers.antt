@@ -1,6 +1,6 @@
 use Rattle.std.proofs.Common.{arith, sym, [], ◌∷◌, ◌++◌}
 use Rattle.std.proofs.lemmas.Result.{err_from_is_err_and}
-use Rattle.trick_body_statements.proofs.Lists.{items_halt}
+use Rattle.trick_body_symbols.proofs.Countdown.{items_halt}
 use Rattle.trick_body_symbols.specs.Expressions.{names}
 use Rattle.trick_body_symbols.specs.Statements.{basic_first}
 use Rattle.trick_body_symbols.specs.Symbols.{number_of}
