@@ -2,14 +2,6 @@
 //! port that the words name, handed to the top call. All that matters is decided there.
 #![tactic(auto)]
 
-#[cfg(test)]
-mod deep;
-mod folder;
-mod open_files;
-mod standard_output;
-
-use crate::folder::Folder;
-use crate::standard_output::StandardOutput;
 use std::alloc::Global;
 use std::process::ExitCode;
 use std::rt::{Env, Files};
@@ -18,6 +10,7 @@ use std::thread::Threads;
 use std::{env, fs, io};
 use trick_base::Word;
 use trick_outside::{Door, EndedDoor, MemoryOut, NoGate, ScriptIn, Shelf, Sink, ThreadSpawner};
+use trick_outside_folder::{Folder, StandardOutput};
 use trick_outside_tcp::TcpDoor;
 use trick_top::{port_wanted, tricks};
 use trick_top_alone::print_out_of_memory;

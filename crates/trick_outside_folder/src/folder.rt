@@ -1,3 +1,5 @@
+//! The folder that the program is run in.
+
 ghost use Rattle.std.specs.Prelude.{◌≡◌};
 ghost use Rattle.trick_outside.specs.Causes.{HasCause};
 
@@ -19,7 +21,7 @@ const FILE_LIMIT: u64 = 2_147_483_648;
 /// waits for nobody. A file to which is appended stays open for the next append; each append is one
 /// write, so what was appended is there for others to see.
 #[derive(Drop)]
-pub(crate) struct Folder<'a, R: Files> {
+pub struct Folder<'a, R: Files> {
     rt: &'a R,
     alloc: Global,
     faults: u64,
@@ -76,7 +78,8 @@ fn open_at_end<R: Files>(rt: &R, name: &Word) -> io::Result<R::File> {
 }
 
 impl<'a, R: Files> Folder<'a, R> {
-    pub(crate) fn new(rt: &'a R, alloc: Global) -> Self {
+    /// The folder, of which no file is open yet.
+    pub fn new(rt: &'a R, alloc: Global) -> Self {
         Folder {
             rt,
             alloc,
@@ -178,129 +181,5 @@ impl<R: Files> Shelf for Folder<'_, R> {
 
     fn faults(&self) -> u64 {
         self.faults
-    }
-}
-
-#[cfg(test)]
-mod tests {
-    use super::*;
-    use std::fs::File;
-    use std::os::fd::AsRawFd;
-    use std::process::Abort;
-    use std::test::Fail;
-
-    #[test]
-    fn a_folder_holds_files(rt: HostRuntime) -> Result<(), Fail> {
-        let alloc = rt.alloc();
-        let mut folder = Folder::new(&rt, rt.alloc());
-        let name = Word::from_bytes(alloc, b"a.chk")?;
-        assert!(rt; matches!(folder.get(alloc, &name), Got::Missing));
-        assert_eq!(rt; folder.create(&name), Wrote::Done);
-        assert_eq!(rt; folder.append(&name, b"one;\n"), Wrote::Done);
-        assert_eq!(rt; folder.append(&name, b"two;\n"), Wrote::Done);
-        assert!(rt;
-            matches!(folder.get(alloc, &name), Got::Found(bytes) if bytes.as_slice() == b"one;\ntwo;\n".as_slice())
-        );
-        assert_eq!(rt; folder.create(&name), Wrote::Done);
-        assert!(rt; matches!(folder.get(alloc, &name), Got::Found(bytes) if bytes.is_empty()));
-        assert_eq!(rt; folder.faults(), 0);
-
-        // A name is a path, from here or from the root. These have no file.
-        fs::create_dir(&rt, "b")?;
-        for other in ["b/a.chk", "./b/a.chk"] {
-            let other = Word::from_bytes(alloc, other.as_bytes())?;
-            assert_eq!(rt; folder.append(&other, b"one;\n"), Wrote::Done);
-        }
-        let path = Word::from_bytes(alloc, b"b/../b/a.chk")?;
-        assert!(rt;
-            matches!(folder.get(alloc, &path), Got::Found(bytes) if bytes.as_slice() == b"one;\none;\n".as_slice())
-        );
-        for other in ["", "c", "b/c", "a.chk/c", "/no such folder/c"] {
-            let other = Word::from_bytes(alloc, other.as_bytes())?;
-            assert!(rt; matches!(folder.get(alloc, &other), Got::Missing));
-        }
-        assert_eq!(rt; folder.faults(), 0);
-        Ok(())
-    }
-
-    const FOUR_LINES: &[u8] = b"one\ntwo\nthree\nfour\n";
-
-    #[test]
-    fn files_stay_open(rt: HostRuntime) -> Result<(), Fail> {
-        let alloc = rt.alloc();
-        let mut folder = Folder::new(&rt, alloc);
-        // more files than are kept open, each appended to again after the others
-        for line in ["one\n", "two\n"] {
-            for number in 0..200 {
-                let name = Word::from_vec(format!(in alloc; "log_{number}.csv")?.into_bytes());
-                assert_eq!(rt; folder.append(&name, line.as_bytes()), Wrote::Done);
-            }
-        }
-        for number in [0, 1, 71, 72, 73, 127, 128, 199] {
-            let name = Word::from_vec(format!(in alloc; "log_{number}.csv")?.into_bytes());
-            assert!(rt;
-                matches!(folder.get(alloc, &name), Got::Found(bytes) if bytes.as_slice() == b"one\ntwo\n".as_slice())
-            );
-        }
-        // A file under two names, and one that is made anew while it is open, whoever does it.
-        let name = Word::from_bytes(alloc, b"log_199.csv")?;
-        let other = Word::from_bytes(alloc, b"./log_199.csv")?;
-        assert_eq!(rt; folder.append(&other, b"three\n"), Wrote::Done);
-        assert_eq!(rt; folder.append(&name, b"four\n"), Wrote::Done);
-        assert!(rt;
-            matches!(folder.get(alloc, &name), Got::Found(bytes) if bytes.as_slice() == FOUR_LINES)
-        );
-        fs::remove_file(&rt, "log_199.csv")?;
-        assert_eq!(rt; folder.create(&name), Wrote::Done);
-        assert_eq!(rt; folder.append(&name, b"five\n"), Wrote::Done);
-        assert!(rt;
-            matches!(folder.get(alloc, &name), Got::Found(bytes) if bytes.as_slice() == b"five\n".as_slice())
-        );
-        assert_eq!(rt; folder.faults(), 0);
-        Ok(())
-    }
-
-    /// Each call fails at once, and adds one to the count.
-    fn fails_at_once(
-        rt: &(impl Abort + AllocGlobal + Files),
-        folder: &mut Folder<impl Files>,
-        path: &str,
-    ) -> Result<(), Fail> {
-        let faults = folder.faults();
-        let name = Word::from_bytes(rt.alloc(), path.as_bytes())?;
-        assert!(rt;
-            matches!(folder.get(rt.alloc(), &name), Got::Failed),
-            "{path}"
-        );
-        assert_eq!(rt; folder.create(&name), Wrote::Failed, "{path}");
-        assert_eq!(rt; folder.append(&name, b"one"), Wrote::Failed, "{path}");
-        assert_eq!(rt; folder.faults().checked_sub(faults), Some(3), "{path}");
-        Ok(())
-    }
-
-    #[test]
-    fn what_is_no_file_fails_at_once(rt: HostRuntime) -> Result<(), Fail> {
-        let alloc = rt.alloc();
-        let mut folder = Folder::new(&rt, rt.alloc());
-        fs::create_dir(&rt, "d")?;
-        // A pipe of which one end is open and nothing comes: to open or to read it would wait.
-        let (reader, _writer) = io::pipe(&rt)?;
-        let pipe = format!(in alloc; "/proc/self/fd/{}", reader.as_raw_fd())?;
-        for path in [
-            "d",
-            ".",
-            "/",
-            "/dev/null",
-            "/dev/zero",
-            "a\0",
-            pipe.as_str(),
-        ] {
-            fails_at_once(&rt, &mut folder, path)?;
-        }
-        // A file may have so many bytes and no more.
-        File::create(&rt, "large")?.set_len(FILE_LIMIT + 1)?;
-        let large = Word::from_bytes(alloc, b"large")?;
-        assert!(rt; matches!(folder.get(alloc, &large), Got::Failed));
-        Ok(())
     }
 }
