@@ -18,6 +18,3 @@ pub use pass::Pass;
 pub use sleep::Bell;
 pub use turn::Turn;
 pub use view::View;
-
-#[cfg(test)]
-mod tests;

@@ -16,4 +16,6 @@ pub use hall::{gather, make_hall};
 pub use hand::{Hand, Stored};
 
 #[cfg(test)]
+mod count;
+#[cfg(test)]
 mod tests;

@@ -2,13 +2,11 @@
 //! one, a client that does not read, links that fail, and a caller that does not listen for a while.
 #![tactic(auto)]
 
+#[cfg(test)]
 mod caller;
+#[cfg(test)]
 mod held_out;
+#[cfg(test)]
 mod session;
-
-pub use caller::{Caller, Ends};
-pub use held_out::{HeldOut, Hold};
-pub use session::{Served, serve};
-
 #[cfg(test)]
 mod tests;

@@ -5,7 +5,7 @@ ghost use Rattle.trick_outside.specs.Causes.{Rose};
 ghost use Rattle.trick_wire.specs.Ends.{taken_by};
 ghost use Rattle.trick_wire.specs.HasHeard.{HasHeard};
 
-use crate::{Caller, Ends};
+use crate::caller::{Caller, Ends};
 use std::alloc::{AllocError, Global};
 use std::rt::Clock;
 use std::sync::{Arc, Wait};

@@ -3,8 +3,9 @@
 ghost use Rattle.std.specs.Prelude.{◌≡◌};
 ghost use Rattle.trick_wire.specs.Ends.{IsSamePutter, IsSameTaker};
 
-use crate::session::ROOM;
-use crate::{Caller, Ends, HeldOut, Hold, serve};
+use crate::caller::{Caller, Ends};
+use crate::held_out::{HeldOut, Hold};
+use crate::session::{ROOM, serve};
 use std::alloc::{AllocError, Global};
 use std::rt::Clock;
 use std::sync::{Arc, Wait};

@@ -6,5 +6,3 @@
 mod drive;
 #[cfg(test)]
 mod tests;
-
-fn main() {}

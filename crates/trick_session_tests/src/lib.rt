@@ -6,5 +6,3 @@
 mod listener;
 #[cfg(test)]
 mod rows;
-
-fn main() {}

@@ -29,5 +29,3 @@ mod served;
 mod thread_plans;
 #[cfg(test)]
 mod threads;
-
-fn main() {}

@@ -2,10 +2,10 @@
 ghost use Rattle.std.specs.Prelude.{◌≡◌};
 ghost use Rattle.trick_turn.specs.Passes.{IsPassOf, Rests, number_of};
 
-use crate::{Claim, Keeps, Nothing, Pass, TurnLock};
 use std::marker::Brand;
 use std::sync::Wait;
 use std::test::Fail;
+use trick_turn::{Claim, Keeps, Nothing, Pass, TurnLock};
 
 #[derive(Drop)]
 struct Count {
