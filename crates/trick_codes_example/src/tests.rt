@@ -2,7 +2,6 @@
 
 use super::*;
 use std::alloc::{AllocError, Global};
-use std::test::Fail;
 use trick_base::Word;
 use trick_codes::{LoadFault, Range};
 
@@ -153,11 +152,14 @@ fn fault(alloc: Global, line: usize, text: &[u8]) -> Result<Option<LoadFault>, A
 }
 
 #[test]
-fn loads_the_file_and_refuses_others(rt: HostRuntime) -> Result<(), Fail> {
+fn loads_the_file_and_refuses_others(rt: HostRuntime) {
     let alloc = rt.alloc();
-    assert!(rt; loads_the_whole(alloc)?);
+    assert!(rt; loads_the_whole(alloc).expect(&rt, "memory"));
     for (line, text, want) in OTHERS {
-        assert_eq!(rt; fault(alloc, line, text)?, Some(want), "{text:?}");
+        assert_eq!(rt;
+            fault(alloc, line, text).expect(&rt, "memory"),
+            Some(want),
+            "{text:?}"
+        );
     }
-    Ok(())
 }

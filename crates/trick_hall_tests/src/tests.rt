@@ -12,7 +12,6 @@ use std::alloc::{AllocError, Global};
 use std::marker::Brand;
 use std::process::Abort;
 use std::sync::Wait;
-use std::test::Fail;
 use std::thread::Threads;
 use trick_hall::{Chief, Hall, Hand};
 use trick_lang::{Cell, Cells};
@@ -69,37 +68,33 @@ fn memory_of(alloc: Global, accepted: &Accepted) -> Result<Memory, AllocError>
 }
 
 // Opens tic 0 with a memory of zeros.
-fn open<P: Planned, R: Wait>(
+fn open<P: Planned, R: Wait + Abort>(
     rt: &R,
     alloc: Global,
     accepted: &Accepted,
     chief: &mut Chief<Memory, P>,
-) -> Result<(), AllocError>
+)
     requires plan { P.plan ≡ Some accepted.now.plan }
     requires closed { opened_at (own chief.old.pass) ≡ None }
     requires not_shut { has_shut (own chief.old.pass) ≡ false }
-    ensures { IfOk result (λ _. IsSome (opened_at (own chief.new.pass))) }
+    ensures { IsSome (opened_at (own chief.new.pass)) }
 {
-    let memory = memory_of(alloc, accepted)?;
-    let queues = queues_of(alloc, accepted)?;
+    let memory = memory_of(alloc, accepted).expect(rt, "memory");
+    let queues = queues_of(alloc, accepted).expect(rt, "memory");
     chief.open(rt, accepted, memory, &accepted.plan().jobs, queues.due(), 0);
-    Ok(())
 }
 
-// The three workers of a hall with three hands.
-fn workers_of<P: Planned>(
+// The worker of a hand.
+fn worker_of<P: Planned, R: Abort>(
+    rt: &R,
     alloc: Global,
     accepted: &Accepted,
-    mut hands: Vec<Hand<Memory, P>>,
-) -> Result<(Worker<P>, Worker<P>, Worker<P>), Fail>
-    ensures first { IfOk result (λ w. IsBenchFor accepted.now.plan.program w.0.bench.parts) }
-    ensures second { IfOk result (λ w. IsBenchFor accepted.now.plan.program w.1.bench.parts) }
-    ensures third { IfOk result (λ w. IsBenchFor accepted.now.plan.program w.2.bench.parts) }
+    hands: &mut Vec<Hand<Memory, P>>,
+) -> Worker<P>
+    ensures { IsBenchFor accepted.now.plan.program result.bench.parts }
 {
-    let third = Worker::new(alloc, accepted, hands.pop().ok_or("three hands")?)?;
-    let second = Worker::new(alloc, accepted, hands.pop().ok_or("two hands")?)?;
-    let first = Worker::new(alloc, accepted, hands.pop().ok_or("one hand")?)?;
-    Ok((first, second, third))
+    let hand = hands.pop().expect(rt, "a hand");
+    Worker::new(alloc, accepted, hand).expect(rt, "memory")
 }
 
 // The numbers of a memory, by cell.
@@ -111,41 +106,43 @@ fn numbers_of(alloc: Global, memory: &Memory) -> Result<Vec<i64>, AllocError> {
     Ok(numbers)
 }
 
-// Opens a hall, drives it by three threads, and tells the numbers that the close gives.
-fn driven<P: Planned + Send, R: Threads + Wait + Sync>(
+// Opens a hall, drives it by three threads, and tells the numbers that the close gives, where it gives a memory.
+fn driven<P: Planned + Send, R: Threads + Wait + Sync + Abort>(
     rt: &R,
     alloc: Global,
     accepted: &Accepted,
     done: &mut Done,
-) -> Result<Vec<i64>, Fail>
+) -> Option<Vec<i64>>
     requires plan { P.plan ≡ Some accepted.now.plan }
 {
-    let (mut chief, hands) = Hall::new::<Memory, P>(alloc, accepted, 3)?;
-    let workers = workers_of(alloc, accepted, hands)?;
-    let mut faults = Faults::new(alloc)?;
-    open(rt, alloc, accepted, &mut chief)?;
-    *done = drive(rt, accepted, workers);
+    let (mut chief, mut hands) = Hall::new::<Memory, P>(alloc, accepted, 3).expect(rt, "memory");
+    let third = worker_of(rt, alloc, accepted, &mut hands);
+    let second = worker_of(rt, alloc, accepted, &mut hands);
+    let first = worker_of(rt, alloc, accepted, &mut hands);
+    let mut faults = Faults::new(alloc).expect(rt, "memory");
+    open(rt, alloc, accepted, &mut chief);
+    *done = drive(rt, accepted, (first, second, third));
     match chief.close(rt, accepted, &mut faults) {
         Closed::Memory(memory) => {
             chief.shut(rt);
-            Ok(numbers_of(alloc, &memory)?)
+            numbers_of(alloc, &memory).ok()
         }
-        Closed::Left { count: _ } => Err(Fail::from("no job is left")),
+        Closed::Left { count: _ } => None,
     }
 }
 
 #[test]
-fn three_threads_give_the_fold(rt: HostRuntime) -> Result<(), Fail> {
+fn three_threads_give_the_fold(rt: HostRuntime) {
     let accepted = ready(rt.alloc(), S_DEFINE.as_bytes(), INPUT.as_bytes())
         .ok()
-        .ok_or("an accepted plan")?;
+        .expect(&rt, "an accepted plan");
     let mut done = Done {
         committed: false,
         was_busy: false,
     };
-    let numbers = driven::<Brand, _>(&rt, rt.alloc(), &accepted, &mut done)?;
+    let numbers = driven::<Brand, _>(&rt, rt.alloc(), &accepted, &mut done);
+    let numbers = numbers.expect(&rt, "no job is left");
     assert!(rt; done.committed, "each job is committed");
     assert!(rt; done.was_busy, "some call was busy");
     assert_eq!(rt; numbers.as_slice(), [1, 10, -1].as_slice());
-    Ok(())
 }

@@ -2,7 +2,6 @@
 //! thread.
 
 use std::alloc::{AllocError, Global};
-use std::test::Fail;
 use std::thread;
 use trick_base::Word;
 use trick_outside::{MemoryShelf, MemorySink};
@@ -109,11 +108,10 @@ fn run_deep(alloc: Global) -> Result<Ended, AllocError> {
 }
 
 #[test]
-fn calls_take_no_stack(rt: HostRuntime) -> Result<(), Fail> {
+fn calls_take_no_stack(rt: HostRuntime) {
     let alloc = rt.alloc();
-    let worker = thread::spawn(&rt, move || run_deep(alloc))?;
-    let ended = worker.join(&rt)?;
+    let worker = thread::spawn(&rt, move || run_deep(alloc)).expect(&rt, "a thread");
+    let ended = worker.join(&rt).expect(&rt, "memory");
     assert_eq!(rt; ended.status, 0);
     assert!(rt; ended.counted);
-    Ok(())
 }

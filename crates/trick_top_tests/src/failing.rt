@@ -10,7 +10,6 @@ use std::collections::VecDeque;
 use std::process::Abort;
 use std::rt::Clock;
 use std::sync::Wait;
-use std::test::Fail;
 use std::thread::Threads;
 use trick_outside::{MemoryOut, MemorySink, ScriptDoor, ScriptIn};
 
@@ -114,13 +113,13 @@ fn seen_of(alloc: Global, came: &Came) -> Result<Seen, AllocError> {
 }
 
 // A run of which these calls fail.
-fn run_with<R: Threads + Wait + Clock + AllocGlobal + Copy + Send + Sync + Drop + 'static>(
+fn run_with<R: Threads + Wait + Clock + Abort + AllocGlobal + Copy + Send + Sync + Drop + 'static>(
     rt: R,
     failing: Failing,
-) -> Result<Seen, AllocError> {
+) -> Seen {
     let alloc = rt.alloc();
-    let came = serve(rt, FROZEN, outside(alloc, failing)?)?;
-    seen_of(alloc, &came)
+    let came = serve(rt, FROZEN, outside(alloc, failing).expect(&rt, "memory"));
+    seen_of(alloc, &came).expect(&rt, "memory")
 }
 
 // This call, and all that might come after it.
@@ -133,39 +132,36 @@ fn all_from(alloc: Global, call: u64) -> Result<Vec<u64>, AllocError> {
 }
 
 #[test]
-fn each_call_of_the_shelf_fails(rt: HostRuntime) -> Result<(), Fail> {
+fn each_call_of_the_shelf_fails(rt: HostRuntime) {
     let alloc = rt.alloc();
     for call in 0..MOST_CALLS {
         let mut failing = Failing::nothing(alloc);
-        failing.shelf = all_from(alloc, call)?;
-        let seen = run_with(rt, failing)?;
+        failing.shelf = all_from(alloc, call).expect(&rt, "memory");
+        let seen = run_with(rt, failing);
         assert!(rt; seen.wrong == RIGHT, "call {call}: {}", seen.wrong);
         if seen.failed.shelf == 0 {
             // The two texts are got; five files are made and added to, the log four times more, and the journal for the
             // lines and for its end.
             assert!(rt; call >= 18 && seen.status == 0, "all calls");
-            return Ok(());
+            return;
         }
     }
-    Ok(())
 }
 
 // What is seen of a run whose client's link gives so many bytes a read at most, and fails at this read.
-fn after_read<R: Threads + Wait + Clock + AllocGlobal + Copy + Send + Sync + Drop + 'static>(
-    rt: R,
-    call: u64,
-    most: usize,
-) -> Result<Seen, AllocError> {
+fn after_read<
+    R: Threads + Wait + Clock + Abort + AllocGlobal + Copy + Send + Sync + Drop + 'static,
+>(rt: R, call: u64, most: usize) -> Seen {
     let mut failing = Failing::nothing(rt.alloc());
-    failing.reads = vec![in rt.alloc(); call]?;
+    failing.reads = vec![in rt.alloc(); call].expect(&rt, "memory");
     failing.most = most;
     run_with(rt, failing)
 }
 
 #[test]
-fn each_read_of_a_client_fails(rt: HostRuntime) -> Result<(), Fail> {
+fn each_read_of_a_client_fails(rt: HostRuntime) {
     for call in 0..=SAID.len() {
-        let seen = after_read(rt, call as u64, 1)?;
+        let seen = after_read(rt, call as u64, 1);
         assert!(rt; seen.wrong == RIGHT, "read {call}: {}", seen.wrong);
         // A line counts once its line feed is read.
         assert!(rt;
@@ -174,14 +170,13 @@ fn each_read_of_a_client_fails(rt: HostRuntime) -> Result<(), Fail> {
         );
     }
     for call in 0..2 {
-        let seen = after_read(rt, call, 1000)?;
+        let seen = after_read(rt, call, 1000);
         assert!(rt; seen.wrong == RIGHT, "read {call}: {}", seen.wrong);
         assert!(rt;
             seen.status == 0 && seen.ran == (call == 1),
             "read {call} of all lines"
         );
     }
-    Ok(())
 }
 
 // A door with two clients. The first one watches the counter, and its link fails at this read.
@@ -196,13 +191,13 @@ fn door_of_two(alloc: Global, call: u64) -> Result<ScriptDoor<TestIn, MemoryOut>
 }
 
 // What is wrong with a run of two clients, of which the first one's link fails at this read.
-fn beside<R: Threads + Wait + Clock + AllocGlobal + Copy + Send + Sync + Drop + 'static>(
+fn beside<R: Threads + Wait + Clock + Abort + AllocGlobal + Copy + Send + Sync + Drop + 'static>(
     rt: R,
     call: u64,
 ) -> Result<&'static str, AllocError> {
     let alloc = rt.alloc();
     let outside = Outside::at(alloc, door_of_two(alloc, call)?);
-    let came = serve(rt, FROZEN, outside)?;
+    let came = serve(rt, FROZEN, outside);
     if came.status != 0 || !replays(alloc, FROZEN, &came)? {
         return Ok("its end");
     }
@@ -220,32 +215,30 @@ fn beside<R: Threads + Wait + Clock + AllocGlobal + Copy + Send + Sync + Drop + 
 }
 
 #[test]
-fn a_link_that_fails_ends_its_session_alone(rt: HostRuntime) -> Result<(), Fail> {
+fn a_link_that_fails_ends_its_session_alone(rt: HostRuntime) {
     for call in 0..2 {
-        let wrong = beside(rt, call)?;
+        let wrong = beside(rt, call).expect(&rt, "memory");
         assert!(rt; wrong == RIGHT, "read {call}: {wrong}");
     }
-    Ok(())
 }
 
 #[test]
-fn each_write_to_a_client_fails(rt: HostRuntime) -> Result<(), Fail> {
+fn each_write_to_a_client_fails(rt: HostRuntime) {
     let alloc = rt.alloc();
     for call in 0..=WATCHED.len() {
         let mut failing = Failing::nothing(alloc);
-        failing.writes = all_from(alloc, call as u64)?;
-        let seen = run_with(rt, failing)?;
+        failing.writes = all_from(alloc, call as u64).expect(&rt, "memory");
+        let seen = run_with(rt, failing);
         assert!(rt; seen.wrong == RIGHT, "write {call}: {}", seen.wrong);
         assert!(rt;
             seen.status == 0 && seen.ran && seen.sent == call,
             "write {call}"
         );
     }
-    Ok(())
 }
 
 #[test]
-fn each_call_of_the_door_fails(rt: HostRuntime) -> Result<(), Fail> {
+fn each_call_of_the_door_fails(rt: HostRuntime) {
     let alloc = rt.alloc();
     // The call that fails, those before it at which no client has come, and whether a client is served before. Then the
     // run may be over before that call; else it waits for the door.
@@ -259,11 +252,11 @@ fn each_call_of_the_door_fails(rt: HostRuntime) -> Result<(), Fail> {
     ];
     for (call, idle, is_served) in cases {
         let mut failing = Failing::nothing(alloc);
-        failing.door = all_from(alloc, call)?;
+        failing.door = all_from(alloc, call).expect(&rt, "memory");
         for number in 0..idle {
-            failing.idle.push(number)?;
+            failing.idle.push(number).expect(&rt, "memory");
         }
-        let seen = run_with(rt, failing)?;
+        let seen = run_with(rt, failing);
         assert!(rt; seen.wrong == RIGHT, "call {call}: {}", seen.wrong);
         assert!(rt;
             seen.status == 0 && seen.ran == is_served,
@@ -276,25 +269,23 @@ fn each_call_of_the_door_fails(rt: HostRuntime) -> Result<(), Fail> {
             "call {call} is not made"
         );
     }
-    Ok(())
 }
 
 #[test]
-fn a_sink_that_fails_costs_no_file(rt: HostRuntime) -> Result<(), Fail> {
+fn a_sink_that_fails_costs_no_file(rt: HostRuntime) {
     let alloc = rt.alloc();
     for fails in [true, false] {
         let mut failing = Failing::nothing(alloc);
         if fails {
-            failing.sink = all_from(alloc, 0)?;
+            failing.sink = all_from(alloc, 0).expect(&rt, "memory");
         }
-        let seen = run_with(rt, failing)?;
+        let seen = run_with(rt, failing);
         assert!(rt; seen.wrong == RIGHT, "{}", seen.wrong);
         assert!(rt;
             seen.status == if fails { 8 } else { 0 } && seen.ran,
             "its status"
         );
     }
-    Ok(())
 }
 
 // A number that looks like chance, below another one.
@@ -316,11 +307,10 @@ fn by_chance(alloc: Global, run: u64) -> Result<Failing, AllocError> {
 }
 
 #[test]
-fn calls_of_all_forms_fail_by_chance(rt: HostRuntime) -> Result<(), Fail> {
+fn calls_of_all_forms_fail_by_chance(rt: HostRuntime) {
     let alloc = rt.alloc();
     for run in 0..RUNS {
-        let seen = run_with(rt, by_chance(alloc, run)?)?;
+        let seen = run_with(rt, by_chance(alloc, run).expect(&rt, "memory"));
         assert!(rt; seen.wrong == RIGHT, "run {run}: {}", seen.wrong);
     }
-    Ok(())
 }

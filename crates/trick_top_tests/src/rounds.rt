@@ -8,7 +8,6 @@ use std::alloc::{AllocError, Global};
 use std::process::Abort;
 use std::rt::Clock;
 use std::sync::{Arc, Wait};
-use std::test::Fail;
 use std::thread::Threads;
 
 /// Runs under a gate that shakes.
@@ -21,40 +20,39 @@ fn is_published(alloc: Global, came: &Came, turn: u64) -> Result<bool, AllocErro
 }
 
 // A run whose clerk of thread 1 is held, and whether it was held while the run went on.
-fn held<R>(rt: R) -> Result<(Came, bool), AllocError>
+fn held<R>(rt: R) -> (Came, bool)
 where
-    R: Threads + Wait + Clock + AllocGlobal + Copy + Send + Sync + Drop + 'static,
+    R: Threads + Wait + Clock + Abort + AllocGlobal + Copy + Send + Sync + Drop + 'static,
 {
     let alloc = rt.alloc();
-    let gate = Arc::new(alloc, Holding::new())?;
-    let trial = Trial::Hold(Arc::try_clone(&gate)?);
-    let came = serve(rt, HELD, without_clients(alloc, trial, Vec::new(alloc)))?;
+    let gate = Arc::new(alloc, Holding::new()).expect(&rt, "memory");
+    let trial = Trial::Hold(Arc::try_clone(&gate).expect(&rt, "memory"));
+    let came = serve(rt, HELD, without_clients(alloc, trial, Vec::new(alloc)));
     let was_held = gate.was_held();
-    Ok((came, was_held))
+    (came, was_held)
 }
 
 #[test]
-fn a_clerk_that_is_held_publishes_later(rt: HostRuntime) -> Result<(), Fail> {
+fn a_clerk_that_is_held_publishes_later(rt: HostRuntime) {
     let alloc = rt.alloc();
-    let (came, was_held) = held(rt)?;
+    let (came, was_held) = held(rt);
     assert!(rt; came.status == 0 && was_held, "the run goes on meanwhile");
     for turn in 0..HELD_FRAMES {
-        let is_early = is_published(alloc, &came, turn)?;
+        let is_early = is_published(alloc, &came, turn).expect(&rt, "memory");
         assert!(rt; !is_early, "nothing is published in turn {turn}");
     }
     assert!(rt; came.notes(b" publish 1\n"), "it is published later");
-    let is_same = replays(alloc, HELD, &came)?;
+    let is_same = replays(alloc, HELD, &came).expect(&rt, "memory");
     assert!(rt; is_same, "its journal gives its files");
-    Ok(())
 }
 
 #[test]
-fn every_run_with_rounds_is_the_run_of_its_journal(rt: HostRuntime) -> Result<(), Fail> {
+fn every_run_with_rounds_is_the_run_of_its_journal(rt: HostRuntime) {
     let alloc = rt.alloc();
-    let wanted = by_one_thread(alloc, ROUNDS)?;
+    let wanted = by_one_thread(alloc, ROUNDS).expect(&rt, "memory");
     assert!(rt; wanted.status == 0, "no job faults");
     for run in 0..RUNS {
-        let seen = shake(rt, ROUNDS, run)?;
+        let seen = shake(rt, ROUNDS, run);
         assert!(rt;
             seen.came.status == 0 && seen.came.failed.starts == 0 && seen.is_over,
             "the threads of run {run}"
@@ -63,8 +61,7 @@ fn every_run_with_rounds_is_the_run_of_its_journal(rt: HostRuntime) -> Result<()
             Some(seen.came.file(b"log_g.csv")) == wanted.file(b"log_g.csv"),
             "the logs of run {run} are those of one thread"
         );
-        let is_same = replays(alloc, ROUNDS, &seen.came)?;
+        let is_same = replays(alloc, ROUNDS, &seen.came).expect(&rt, "memory");
         assert!(rt; is_same, "the journal of run {run} gives its files");
     }
-    Ok(())
 }

@@ -5,6 +5,7 @@ use crate::links::TestIn;
 use crate::plans::Texts;
 use std::alloc::{AllocError, Global};
 use std::collections::VecDeque;
+use std::process::Abort;
 use std::rt::Clock;
 use std::sync::Wait;
 use std::thread::Threads;
@@ -232,9 +233,9 @@ pub(crate) fn door_of(
 }
 
 /// A run of a plan by threads, with the clients of its door.
-pub(crate) fn serve<R>(rt: R, texts: Texts, outside: Outside<R>) -> Result<Came, AllocError>
+pub(crate) fn serve<R>(rt: R, texts: Texts, outside: Outside<R>) -> Came
 where
-    R: Threads + Wait + Clock + AllocGlobal + Copy + Send + Sync + Drop + 'static,
+    R: Threads + Wait + Clock + Abort + AllocGlobal + Copy + Send + Sync + Drop + 'static,
 {
     let alloc = rt.alloc();
     let Outside {
@@ -244,27 +245,27 @@ where
         starts,
         gate,
     } = outside;
-    let words = words(alloc, &[b"run", b"s", b"i"])?;
-    let mut shelf = with_texts(MemoryShelf::failing(alloc, shelf), texts)?;
+    let words = words(alloc, &[b"run", b"s", b"i"]).expect(&rt, "memory");
+    let mut shelf = with_texts(MemoryShelf::failing(alloc, shelf), texts).expect(&rt, "memory");
     let mut sink = MemorySink::failing(alloc, sink);
     let spawner = ListSpawner::refusing(starts);
     let finished = tricks(
         rt, alloc, &words, &mut shelf, &mut sink, door, spawner, gate,
     );
-    let printed = Vec::from_slice(alloc, sink.bytes())?;
+    let printed = Vec::from_slice(alloc, sink.bytes()).expect(&rt, "memory");
     let failed = Failures {
         shelf: shelf.faults(),
         sink: sink.faults(),
         door: finished.door.faults(),
         starts: finished.spawner.faults(),
     };
-    Ok(Came {
+    Came {
         status: finished.status,
         printed,
         failed,
         shelf,
         door: finished.door,
-    })
+    }
 }
 
 /// What one thread came to.

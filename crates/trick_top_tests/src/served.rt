@@ -9,7 +9,6 @@ use std::collections::VecDeque;
 use std::process::Abort;
 use std::rt::Clock;
 use std::sync::{Arc, Wait};
-use std::test::Fail;
 use std::thread::Threads;
 use trick_outside::{MemoryOut, ScriptDoor, ScriptIn};
 use trick_top::port_wanted;
@@ -48,23 +47,23 @@ struct Talk<'a> {
 }
 
 // What is wrong with a run with one client, or that nothing is. Starts of these numbers are refused.
-fn talked<R: Threads + Wait + Clock + AllocGlobal + Copy + Send + Sync + Drop + 'static>(
+fn talked<R: Threads + Wait + Clock + Abort + AllocGlobal + Copy + Send + Sync + Drop + 'static>(
     rt: R,
     talk: Talk<'_>,
     refused: Vec<u64>,
     wants: &Wants<'_>,
-) -> Result<&'static str, AllocError> {
+) -> &'static str {
     let alloc = rt.alloc();
-    let input = TestIn::of(link(alloc, talk.said, talk.most)?);
-    let door = door_of(alloc, input)?;
+    let input = TestIn::of(link(alloc, talk.said, talk.most).expect(&rt, "memory"));
+    let door = door_of(alloc, input).expect(&rt, "memory");
     let mut outside = Outside::at(alloc, door);
     outside.starts = refused;
-    let came = serve(rt, talk.texts, outside)?;
-    judged(alloc, talk.texts, &came, wants)
+    let came = serve(rt, talk.texts, outside);
+    judged(alloc, talk.texts, &came, wants).expect(&rt, "memory")
 }
 
 #[test]
-fn a_client_watches_a_run(rt: HostRuntime) -> Result<(), Fail> {
+fn a_client_watches_a_run(rt: HostRuntime) {
     let wants = Wants {
         sent: WATCHED,
         in_journal: b"\n0 join 1\n",
@@ -78,14 +77,13 @@ fn a_client_watches_a_run(rt: HostRuntime) -> Result<(), Fail> {
             said: WATCHES,
             most,
         };
-        let wrong = talked(rt, talk, Vec::new(rt.alloc()), &wants)?;
+        let wrong = talked(rt, talk, Vec::new(rt.alloc()), &wants);
         assert!(rt; wrong == RIGHT, "{most} bytes a read: {wrong}");
     }
-    Ok(())
 }
 
 #[test]
-fn refused_threads_serve_nobody(rt: HostRuntime) -> Result<(), Fail> {
+fn refused_threads_serve_nobody(rt: HostRuntime) {
     let alloc = rt.alloc();
     let wants = Wants {
         sent: b"",
@@ -99,17 +97,16 @@ fn refused_threads_serve_nobody(rt: HostRuntime) -> Result<(), Fail> {
         said: WATCHES,
         most: 100,
     };
-    let all = vec![in alloc; 0, 1, 2, 3, 4, 5, 6, 7]?;
+    let all = vec![in alloc; 0, 1, 2, 3, 4, 5, 6, 7].expect(&rt, "memory");
     for starts in [
-        vec![in alloc; 0]?,
-        vec![in alloc; 1]?,
-        vec![in alloc; 2]?,
+        vec![in alloc; 0].expect(&rt, "memory"),
+        vec![in alloc; 1].expect(&rt, "memory"),
+        vec![in alloc; 2].expect(&rt, "memory"),
         all,
     ] {
-        let wrong = talked(rt, talk, starts, &wants)?;
+        let wrong = talked(rt, talk, starts, &wants);
         assert!(rt; wrong == RIGHT, "{wrong}");
     }
-    Ok(())
 }
 
 // A line of so many letters, and then that the run may go on.
@@ -124,7 +121,7 @@ fn long_line(alloc: Global, length: usize) -> Result<Vec<u8>, AllocError> {
 }
 
 #[test]
-fn lines_are_as_long_as_they_may_be(rt: HostRuntime) -> Result<(), Fail> {
+fn lines_are_as_long_as_they_may_be(rt: HostRuntime) {
     let alloc = rt.alloc();
     let heard = Wants {
         sent: BAD,
@@ -141,17 +138,16 @@ fn lines_are_as_long_as_they_may_be(rt: HostRuntime) -> Result<(), Fail> {
         printed: b"ended ",
     };
     for length in 4094..4099 {
-        let said = long_line(alloc, length)?;
+        let said = long_line(alloc, length).expect(&rt, "memory");
         let wants = if length <= 4096 { heard } else { too_long };
         let talk = Talk {
             texts: FROZEN,
             said: &said,
             most: 1000,
         };
-        let wrong = talked(rt, talk, Vec::new(alloc), &wants)?;
+        let wrong = talked(rt, talk, Vec::new(alloc), &wants);
         assert!(rt; wrong == RIGHT, "a line of {length}: {wrong}");
     }
-    Ok(())
 }
 
 // A thousand empty lines, bytes that are no text, alone and in lines that are right but for them, and that the run may
@@ -169,9 +165,9 @@ fn odd_lines(alloc: Global) -> Result<Vec<u8>, AllocError> {
 }
 
 #[test]
-fn odd_lines_do_nothing(rt: HostRuntime) -> Result<(), Fail> {
+fn odd_lines_do_nothing(rt: HostRuntime) {
     let alloc = rt.alloc();
-    let said = odd_lines(alloc)?;
+    let said = odd_lines(alloc).expect(&rt, "memory");
     let wants = Wants {
         sent: ODD,
         in_journal: b" cmd 1 trick.exec_run()\n",
@@ -184,9 +180,8 @@ fn odd_lines_do_nothing(rt: HostRuntime) -> Result<(), Fail> {
         said: &said,
         most: 1000,
     };
-    let wrong = talked(rt, talk, Vec::new(alloc), &wants)?;
+    let wrong = talked(rt, talk, Vec::new(alloc), &wants);
     assert!(rt; wrong == RIGHT, "{wrong}");
-    Ok(())
 }
 
 // A line of each byte but the line feed, and then that the run may go on.
@@ -212,11 +207,11 @@ fn bad_lines(alloc: Global, count: u32) -> Result<Vec<u8>, AllocError> {
 }
 
 #[test]
-fn no_byte_is_a_line(rt: HostRuntime) -> Result<(), Fail> {
+fn no_byte_is_a_line(rt: HostRuntime) {
     let alloc = rt.alloc();
-    let said = byte_lines(alloc)?;
+    let said = byte_lines(alloc).expect(&rt, "memory");
     // All but the space, the tab and the carriage return, which say nothing.
-    let sent = bad_lines(alloc, 252)?;
+    let sent = bad_lines(alloc, 252).expect(&rt, "memory");
     let wants = Wants {
         sent: &sent,
         in_journal: b" cmd 1 trick.exec_run()\n",
@@ -229,13 +224,12 @@ fn no_byte_is_a_line(rt: HostRuntime) -> Result<(), Fail> {
         said: &said,
         most: 1000,
     };
-    let wrong = talked(rt, talk, Vec::new(alloc), &wants)?;
+    let wrong = talked(rt, talk, Vec::new(alloc), &wants);
     assert!(rt; wrong == RIGHT, "{wrong}");
-    Ok(())
 }
 
 #[test]
-fn a_client_of_the_first_call_joins_in_turn_0(rt: HostRuntime) -> Result<(), Fail> {
+fn a_client_of_the_first_call_joins_in_turn_0(rt: HostRuntime) {
     let wants = Wants {
         sent: b"",
         in_journal: b"\n0 join 1\n",
@@ -248,64 +242,64 @@ fn a_client_of_the_first_call_joins_in_turn_0(rt: HostRuntime) -> Result<(), Fai
         said: b"",
         most: 1,
     };
-    let wrong = talked(rt, talk, Vec::new(rt.alloc()), &wants)?;
+    let wrong = talked(rt, talk, Vec::new(rt.alloc()), &wants);
     assert!(rt; wrong == RIGHT, "{wrong}");
-    Ok(())
 }
 
 // Whether the line of a run whose door fails at its first call says so.
-fn tells_of_its_door<R: Threads + Wait + Clock + AllocGlobal + Copy + Send + Sync + Drop + 'static>(
-    rt: R,
-) -> Result<bool, AllocError> {
+fn tells_of_its_door<
+    R: Threads + Wait + Clock + Abort + AllocGlobal + Copy + Send + Sync + Drop + 'static,
+>(rt: R) -> bool {
     let alloc = rt.alloc();
     let door: ScriptDoor<TestIn, MemoryOut> = ScriptDoor::failing(
         alloc,
         VecDeque::new(alloc),
-        vec![in alloc; 0]?,
+        vec![in alloc; 0].expect(&rt, "memory"),
     );
-    let came = serve(rt, RECORDED, Outside::at(alloc, door))?;
-    Ok(came.has_printed(b"ended turns=4 tic=3000001 faults=0 sessions=0 door=failed\n"))
+    let came = serve(rt, RECORDED, Outside::at(alloc, door));
+    came.has_printed(b"ended turns=4 tic=3000001 faults=0 sessions=0 door=failed\n")
 }
 
 #[test]
-fn a_door_that_fails_is_told(rt: HostRuntime) -> Result<(), Fail> {
-    let is_told = tells_of_its_door(rt)?;
+fn a_door_that_fails_is_told(rt: HostRuntime) {
+    let is_told = tells_of_its_door(rt);
     assert!(rt; is_told, "its line");
-    Ok(())
 }
 
 #[test]
-fn a_port_is_wanted_where_words_name_one(rt: HostRuntime) -> Result<(), Fail> {
+fn a_port_is_wanted_where_words_name_one(rt: HostRuntime) {
     let alloc = rt.alloc();
-    let named = words(alloc, &[b"run", b"s", b"i", b"--port", b"7000"])?;
-    let wanted = port_wanted(alloc, &named)?;
+    let named = words(alloc, &[b"run", b"s", b"i", b"--port", b"7000"]).expect(&rt, "memory");
+    let wanted = port_wanted(alloc, &named).expect(&rt, "memory");
     assert!(rt; wanted == Some(7000), "the port that is named");
-    let wrong = words(alloc, &[b"run", b"s", b"i", b"--port", b"0"])?;
-    let wanted = port_wanted(alloc, &wrong)?;
+    let wrong = words(alloc, &[b"run", b"s", b"i", b"--port", b"0"]).expect(&rt, "memory");
+    let wanted = port_wanted(alloc, &wrong).expect(&rt, "memory");
     assert!(rt; wanted.is_none(), "0 is no port");
-    Ok(())
 }
 
 // What is wrong with a run whose client's lines come while the job of tic 0 is at work.
-fn met<R: Threads + Wait + Clock + AllocGlobal + Copy + Send + Sync + Drop + 'static>(
+fn met<R: Threads + Wait + Clock + Abort + AllocGlobal + Copy + Send + Sync + Drop + 'static>(
     rt: R,
     wants: &Wants<'_>,
-) -> Result<&'static str, AllocError> {
+) -> &'static str {
     let alloc = rt.alloc();
-    let signals = Arc::new(alloc, Signals::new())?;
+    let signals = Arc::new(alloc, Signals::new()).expect(&rt, "memory");
     let said = b"counter.n = 100\ntrick.var_exists(\"counter.n\")\n";
-    let input = TestIn::waiting(link(alloc, said, 1000)?, Arc::try_clone(&signals)?);
-    let mut outside = Outside::at(alloc, door_of(alloc, input)?);
-    outside.gate = Trial::Wait(Arc::try_clone(&signals)?);
-    let came = serve(rt, BESIDE, outside)?;
+    let input = TestIn::waiting(
+        link(alloc, said, 1000).expect(&rt, "memory"),
+        Arc::try_clone(&signals).expect(&rt, "memory"),
+    );
+    let mut outside = Outside::at(alloc, door_of(alloc, input).expect(&rt, "memory"));
+    outside.gate = Trial::Wait(Arc::try_clone(&signals).expect(&rt, "memory"));
+    let came = serve(rt, BESIDE, outside);
     if !signals.have_met() {
-        return Ok("the job and the link do not meet");
+        return "the job and the link do not meet";
     }
-    judged(alloc, BESIDE, &came, wants)
+    judged(alloc, BESIDE, &came, wants).expect(&rt, "memory")
 }
 
 #[test]
-fn lines_come_while_a_job_is_at_work(rt: HostRuntime) -> Result<(), Fail> {
+fn lines_come_while_a_job_is_at_work(rt: HostRuntime) {
     let wants = Wants {
         sent: b"1\t1\n",
         in_journal: b"\n0 join 1\n1 cmd 1 counter.n = 100\n1 cmd 1 trick.var_exists(\"counter.n\")\n",
@@ -313,7 +307,6 @@ fn lines_come_while_a_job_is_at_work(rt: HostRuntime) -> Result<(), Fail> {
         log: b"",
         printed: b"ended turns=4 tic=3000001 faults=0 sessions=1\n",
     };
-    let wrong = met(rt, &wants)?;
+    let wrong = met(rt, &wants);
     assert!(rt; wrong == RIGHT, "{wrong}");
-    Ok(())
 }

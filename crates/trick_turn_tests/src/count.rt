@@ -4,7 +4,6 @@ ghost use Rattle.trick_turn.specs.Passes.{IsPassOf, Rests, number_of};
 
 use std::marker::Brand;
 use std::sync::Wait;
-use std::test::Fail;
 use trick_turn::{Claim, Keeps, Nothing, Pass, TurnLock};
 
 #[derive(Drop)]
@@ -69,10 +68,10 @@ fn count_turn<R: Wait>(rt: &R, lock: &TurnLock<Count>, pass: &mut Pass<Count>) -
 }
 
 #[test]
-fn the_second_pass_is_busy_until_the_release(rt: HostRuntime) -> Result<(), Fail> {
-    let (lock, mut passes) = TurnLock::new(rt.alloc(), Count { turns: 0 }, 2)?;
-    let mut second = passes.pop().ok_or("two passes")?;
-    let mut first = passes.pop().ok_or("one pass")?;
+fn the_second_pass_is_busy_until_the_release(rt: HostRuntime) {
+    let (lock, mut passes) = TurnLock::new(rt.alloc(), Count { turns: 0 }, 2).expect(&rt, "memory");
+    let mut second = passes.pop().expect(&rt, "two passes");
+    let mut first = passes.pop().expect(&rt, "one pass");
     assert_eq!(rt; (first.number(), second.number()), (1, 2));
     let mark = lock.mark();
     assert_eq!(rt; tries(&lock, &mut first, &mut second), (1, true));
@@ -84,5 +83,4 @@ fn the_second_pass_is_busy_until_the_release(rt: HostRuntime) -> Result<(), Fail
     assert_eq!(rt; count_turn(&rt, &lock, &mut second), 2);
     lock.join(&mut first, second);
     assert_eq!(rt; count_turn(&rt, &lock, &mut first), 3);
-    Ok(())
 }

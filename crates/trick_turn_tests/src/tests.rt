@@ -9,7 +9,6 @@ use std::snapshot::Snapshot;
 use std::sync::atomic::Ordering::SeqCst;
 use std::sync::atomic::{AtomicBool, AtomicU64};
 use std::sync::{Arc, Wait};
-use std::test::Fail;
 use std::thread;
 use std::thread::Promise;
 use std::time::Duration;
@@ -141,23 +140,29 @@ fn code(stored: Stored) -> u64 {
 }
 
 #[test]
-fn a_close_gives_what_two_threads_stored(rt: HostRuntime) -> Result<(), Fail> {
+fn a_close_gives_what_two_threads_stored(rt: HostRuntime) {
     let row = Row {
-        items: vec![in rt.alloc(); 10, 20, 30]?,
+        items: vec![in rt.alloc(); 10, 20, 30].expect(&rt, "memory"),
     };
-    let (mut chief, mut left, right) = make_hall(rt.alloc())?;
+    let (mut chief, mut left, right) = make_hall(rt.alloc()).expect(&rt, "memory");
     assert_eq!(rt; code(left.try_store(2, 5)), 100);
     let signals = Signals {
         is_ready: AtomicBool::new(false),
         holder: AtomicU64::new(0),
     };
-    let signals = Arc::new(rt.alloc(), signals)?;
-    let for_left = Arc::try_clone(&signals)?;
-    let for_right = Arc::try_clone(&signals)?;
+    let signals = Arc::new(rt.alloc(), signals).expect(&rt, "memory");
+    let for_left = Arc::try_clone(&signals).expect(&rt, "memory");
+    let for_right = Arc::try_clone(&signals).expect(&rt, "memory");
     let same_left = SameHand(Snapshot::of(&left));
     let same_right = SameHand(Snapshot::of(&right));
-    let one = thread::spawn_with(&rt, same_left, move || work_left(&rt, left, &for_left))?;
-    let two = thread::spawn_with(&rt, same_right, move || work_right(&rt, right, &for_right))?;
+    let one = thread::spawn_with(&rt, same_left, move || work_left(&rt, left, &for_left)).expect(
+        &rt, "a thread",
+    );
+    let two = thread::spawn_with(
+        &rt,
+        same_right,
+        move || work_right(&rt, right, &for_right),
+    ).expect(&rt, "a thread");
     thread::sleep(&rt, Duration::from_millis(NAP));
     open(&rt, &mut chief, row);
     let mut left = one.join(&rt);
@@ -167,5 +172,4 @@ fn a_close_gives_what_two_threads_stored(rt: HostRuntime) -> Result<(), Fail> {
     let row = chief.close(&rt);
     assert_eq!(rt; signals.holder.load(SeqCst), 2);
     assert_eq!(rt; row.items.as_slice(), [TURNS - 1, TURNS - 1, 6].as_slice());
-    Ok(())
 }

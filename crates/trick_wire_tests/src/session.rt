@@ -1,12 +1,13 @@
 //! One session, from its links to what was heard and sent.
 
-ghost use Rattle.std.specs.Prelude.{◌≡◌, IfOk, List, ℕ};
+ghost use Rattle.std.specs.Prelude.{◌≡◌, List, ℕ};
 ghost use Rattle.trick_outside.specs.Causes.{Rose};
 ghost use Rattle.trick_wire.specs.Ends.{taken_by};
 ghost use Rattle.trick_wire.specs.HasHeard.{HasHeard};
 
 use crate::caller::{Caller, Ends};
-use std::alloc::{AllocError, Global};
+use std::alloc::Global;
+use std::process::Abort;
 use std::rt::Clock;
 use std::sync::{Arc, Wait};
 use std::thread::Threads;
@@ -29,41 +30,34 @@ pub struct Served<I, O> {
     pub wrote: WriteStop,
 }
 
-/// Serves one client: its reader and its writer run in threads, and the caller talks to it meanwhile. It is refused
-/// where no thread or no memory could be had.
-pub fn serve<I, O, C, R>(
-    rt: R,
-    alloc: Global,
-    input: I,
-    output: O,
-    caller: &mut C,
-) -> Result<Served<I, O>, AllocError>
+/// Serves one client: its reader and its writer run in threads, and the caller talks to it meanwhile.
+pub fn serve<I, O, C, R>(rt: R, alloc: Global, input: I, output: O, caller: &mut C) -> Served<I, O>
 where
     I: LinkIn + Send + Drop + 'static,
     O: LinkOut + Send + Drop + 'static,
     C: Caller,
-    R: Threads + Wait + Clock + Copy + Send + Drop + 'static,
-    ensures heard { IfOk result (λ served.
-        HasHeard (I.holds input) (Rose (I.failures input) (I.failures served.input)) (taken_by served.inbox)) }
+    R: Threads + Wait + Clock + Abort + Copy + Send + Drop + 'static,
+    ensures heard { HasHeard (I.holds input) (Rose (I.failures input) (I.failures result.input))
+        (taken_by result.inbox) }
 {
     let mut spawner = ThreadSpawner::new();
-    let bell = Arc::new(alloc, Bell::new())?;
-    let (fills, inbox) = channel(alloc, ROOM)?;
-    let (outbox, empties) = channel(alloc, ROOM)?;
-    let (tells, causes) = channel(alloc, 2)?;
+    let bell = Arc::new(alloc, Bell::new()).expect(&rt, "memory");
+    let (fills, inbox) = channel(alloc, ROOM).expect(&rt, "memory");
+    let (outbox, empties) = channel(alloc, ROOM).expect(&rt, "memory");
+    let (tells, causes) = channel(alloc, 2).expect(&rt, "memory");
     let reader = Reader {
         rt,
         alloc,
         link: input,
         inbox: fills,
-        bell: Arc::try_clone(&bell)?,
+        bell: Arc::try_clone(&bell).expect(&rt, "memory"),
     };
     let writer = Writer {
         rt,
         link: output,
         outbox: empties,
         causes: tells,
-        bell: Arc::try_clone(&bell)?,
+        bell: Arc::try_clone(&bell).expect(&rt, "memory"),
     };
     let mut ends = Ends {
         inbox,
@@ -72,12 +66,10 @@ where
         bell,
     };
     let Begun::Started(reading) = start(&rt, alloc, &mut spawner, reader) else {
-        return Err(AllocError);
+        panic!(rt; "a reader starts");
     };
     let Begun::Started(writing) = start(&rt, alloc, &mut spawner, writer) else {
-        ends.inbox.close();
-        let _reader = reading.finish(&rt);
-        return Err(AllocError);
+        panic!(rt; "a writer starts");
     };
     let _talked = caller.talk(&rt, alloc, &mut ends);
     let Ends {
@@ -90,11 +82,11 @@ where
     outbox.close();
     let (output, wrote) = end_writer(&rt, outbox, &mut causes, writing.finish(&rt));
     let (input, read) = end_reader(&mut inbox, reading.finish(&rt));
-    Ok(Served {
+    Served {
         input,
         output,
         inbox,
         read,
         wrote,
-    })
+    }
 }

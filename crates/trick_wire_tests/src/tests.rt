@@ -9,7 +9,6 @@ use crate::session::{ROOM, serve};
 use std::alloc::{AllocError, Global};
 use std::rt::Clock;
 use std::sync::{Arc, Wait};
-use std::test::Fail;
 use std::thread;
 use std::time::Duration;
 use trick_base::Items;
@@ -125,29 +124,28 @@ fn lines(alloc: Global, line: &[u8], count: u64) -> Result<Vec<u8>, AllocError> 
 }
 
 #[test]
-fn lines_and_messages_go_byte_by_byte(rt: HostRuntime) -> Result<(), Fail> {
-    let mut bytes = lines(rt.alloc(), b"x = 1\r\n", LINES)?;
-    bytes.extend_from_slice(b"no line")?;
+fn lines_and_messages_go_byte_by_byte(rt: HostRuntime) {
+    let mut bytes = lines(rt.alloc(), b"x = 1\r\n", LINES).expect(&rt, "memory");
+    bytes.extend_from_slice(b"no line").expect(&rt, "memory");
     let input = ScriptIn::new(rt.alloc(), bytes).with_most(1);
     let output = MemoryOut::new(MemorySink::taking(rt.alloc(), 1));
     let mut echo = Echo { lines: 0, bytes: 0 };
-    let served = serve(rt, rt.alloc(), input, output, &mut echo)?;
+    let served = serve(rt, rt.alloc(), input, output, &mut echo);
     assert_eq!(rt; echo.lines, LINES);
     assert_eq!(rt; echo.bytes, 5 * LINES);
-    let all = lines(rt.alloc(), b"x = 1", LINES)?;
+    let all = lines(rt.alloc(), b"x = 1", LINES).expect(&rt, "memory");
     assert_eq!(rt; served.output.bytes(), all.as_slice());
     assert_eq!(rt; served.output.is_hung_up(), true);
     assert_eq!(rt; served.read, ReadStop::End);
     assert_eq!(rt; served.wrote, WriteStop::Closed);
-    Ok(())
 }
 
 #[test]
-fn a_client_that_does_not_read_is_slow(rt: HostRuntime) -> Result<(), Fail> {
+fn a_client_that_does_not_read_is_slow(rt: HostRuntime) {
     let input = ScriptIn::new(rt.alloc(), Vec::new(rt.alloc()));
-    let hold = Arc::new(rt.alloc(), Hold::new())?;
+    let hold = Arc::new(rt.alloc(), Hold::new()).expect(&rt, "memory");
     let mut flood = Flood {
-        hold: Arc::try_clone(&hold)?,
+        hold: Arc::try_clone(&hold).expect(&rt, "memory"),
         sent: 0,
     };
     let output = HeldOut {
@@ -155,41 +153,43 @@ fn a_client_that_does_not_read_is_slow(rt: HostRuntime) -> Result<(), Fail> {
         link: MemoryOut::new(MemorySink::new(rt.alloc())),
         hold,
     };
-    let served = serve(rt, rt.alloc(), input, output, &mut flood)?;
+    let served = serve(rt, rt.alloc(), input, output, &mut flood);
     assert_eq!(rt; flood.sent, ROOM as u64 + 1);
-    let all = lines(rt.alloc(), b"frame\n", flood.sent)?;
+    let all = lines(rt.alloc(), b"frame\n", flood.sent).expect(&rt, "memory");
     assert_eq!(rt; served.output.link.bytes(), all.as_slice());
     assert_eq!(rt; served.wrote, WriteStop::Closed);
-    Ok(())
 }
 
 #[test]
-fn a_long_line_comes_after_the_lines_before_it(rt: HostRuntime) -> Result<(), Fail> {
-    let mut bytes = lines(rt.alloc(), b"x", 4096)?;
-    bytes.push(b'\n')?;
-    let long = lines(rt.alloc(), b"y", 4097)?;
-    bytes.extend_from_slice(long.as_slice())?;
+fn a_long_line_comes_after_the_lines_before_it(rt: HostRuntime) {
+    let mut bytes = lines(rt.alloc(), b"x", 4096).expect(&rt, "memory");
+    bytes.push(b'\n').expect(&rt, "memory");
+    let long = lines(rt.alloc(), b"y", 4097).expect(&rt, "memory");
+    bytes
+        .extend_from_slice(long.as_slice())
+        .expect(&rt, "memory");
     let input = ScriptIn::new(rt.alloc(), bytes);
     let output = MemoryOut::new(MemorySink::new(rt.alloc()));
     let mut echo = Echo { lines: 0, bytes: 0 };
-    let served = serve(rt, rt.alloc(), input, output, &mut echo)?;
+    let served = serve(rt, rt.alloc(), input, output, &mut echo);
     assert_eq!(rt; echo.lines, 1);
     assert_eq!(rt; echo.bytes, 4096);
     assert_eq!(rt; served.read, ReadStop::LongLine);
-    Ok(())
 }
 
 #[test]
-fn links_that_fail_end_both_threads(rt: HostRuntime) -> Result<(), Fail> {
+fn links_that_fail_end_both_threads(rt: HostRuntime) {
     let mut calls = Vec::new(rt.alloc());
-    calls.push(1)?;
-    let input = ScriptIn::failing(lines(rt.alloc(), b"x\n", 3)?, calls.clone()?);
+    calls.push(1).expect(&rt, "memory");
+    let input = ScriptIn::failing(
+        lines(rt.alloc(), b"x\n", 3).expect(&rt, "memory"),
+        calls.clone().expect(&rt, "memory"),
+    );
     let output = MemoryOut::new(MemorySink::failing(rt.alloc(), calls));
     let mut echo = Echo { lines: 0, bytes: 0 };
-    let served = serve(rt, rt.alloc(), input, output, &mut echo)?;
+    let served = serve(rt, rt.alloc(), input, output, &mut echo);
     assert_eq!(rt; echo.lines, 3);
     assert_eq!(rt; served.read, ReadStop::LinkFault);
     assert_eq!(rt; served.wrote, WriteStop::LinkFault);
     assert_eq!(rt; served.output.bytes(), b"x".as_slice());
-    Ok(())
 }
