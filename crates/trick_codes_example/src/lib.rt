@@ -1,5 +1,5 @@
 //! A small line file, printed and loaded by the helpers of `trick_codes`: an example of how a printer and
-//! a loader are written and proved, and a test of the helpers.
+//! a loader are written and proved, and a trial of the helpers.
 #![tactic(auto)]
 
 mod file;
@@ -10,6 +10,3 @@ mod printer;
 pub use file::{Gauge, Mode, Readings};
 pub use loader::load;
 pub use printer::print;
-
-#[cfg(test)]
-mod tests;

@@ -10,6 +10,3 @@ mod standard_output;
 
 pub use folder::Folder;
 pub use standard_output::StandardOutput;
-
-#[cfg(test)]
-mod tests;

@@ -8,7 +8,4 @@ mod tcp_door;
 mod tcp_links;
 
 pub use tcp_door::TcpDoor;
-pub use tcp_links::{TcpIn, TcpOut};
-
-#[cfg(test)]
-mod tests;
+pub use tcp_links::{TcpIn, TcpOut, links_of};

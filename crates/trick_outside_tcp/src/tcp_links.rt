@@ -28,8 +28,9 @@ pub struct TcpOut {
     faults: u64,
 }
 
-/// The two links over a connection, whose writes wait so long at the most. Small messages go at once.
-pub(crate) fn links_of(stream: TcpStream, wait: Duration) -> io::Result<(TcpIn, TcpOut)> {
+/// The two links over a connection, whose writes wait so long at the most. Small messages go at once. It fails where the
+/// system takes none of that.
+pub fn links_of(stream: TcpStream, wait: Duration) -> io::Result<(TcpIn, TcpOut)> {
     stream.set_nodelay(true)?;
     stream.set_write_timeout(Some(wait))?;
     let output = TcpOut {

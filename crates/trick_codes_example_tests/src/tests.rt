@@ -1,9 +1,9 @@
 //! The file of a panel, which is loaded and printed again, and files that differ from it.
 
-use super::*;
 use std::alloc::{AllocError, Global};
 use trick_base::Word;
 use trick_codes::{LoadFault, Range};
+use trick_codes_example::{Gauge, Mode, Readings, load, print};
 
 const LINES: [&[u8]; 10] = [
     b"panel = 1;",

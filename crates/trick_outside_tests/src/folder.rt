@@ -1,6 +1,5 @@
 //! A folder of files, and standard output.
 
-use crate::{Folder, StandardOutput};
 use std::fs::{self, File};
 use std::io;
 use std::os::fd::AsRawFd;
@@ -8,6 +7,7 @@ use std::process::Abort;
 use std::rt::Files;
 use trick_base::Word;
 use trick_outside::{Got, Shelf, Sink, Taken1, Wrote};
+use trick_outside_folder::{Folder, StandardOutput};
 
 /// More bytes than a file may have, which are two to the power of 31.
 const TOO_MANY: u64 = 2_147_483_649;

@@ -1,13 +1,12 @@
 //! Connections with both ends in this process.
 
-use crate::tcp_links::links_of;
-use crate::{TcpDoor, TcpIn, TcpOut};
 use std::io::{Read, Write};
 use std::net::{Ipv4Addr, Shutdown, TcpListener, TcpStream};
 use std::rt::Clock;
 use std::thread;
 use std::time::Duration;
 use trick_outside::{Came, Door, LinkIn, LinkOut, Read1, Taken1};
+use trick_outside_tcp::{TcpDoor, TcpIn, TcpOut, links_of};
 
 /// The next client of a door, for which it is asked for some seconds at the most.
 fn client_of<R: Clock>(door: &mut TcpDoor<R>) -> Option<(TcpIn, TcpOut)> {
