@@ -4,7 +4,3 @@ pub mod One
 pub mod Names
 -- A plan means what the lines have said.
 pub mod Meaning
--- Items at places, read or taken out one by one.
-pub mod Taking
--- What a plan keeps, of its parts.
-pub mod Facts

@@ -7,8 +7,8 @@ use Rattle.trick_plan_draft.specs.Kept.{IsMirrored, Mirrors}
 use Rattle.trick_plan_draft.specs.declared.draft.Draft.{Draft}
 use Rattle.trick_plan_draft.specs.declared.event.EventDraft.{EventDraft}
 use Rattle.trick_plan_draft.specs.declared.group.GroupDraft.{GroupDraft}
-use Rattle.trick_plan.specs.Added.{added}
-use Rattle.trick_plan.specs.Ending.{AreParts, EventTree, draft_tree, event_tree, parts_of, plan_group}
+use Rattle.trick_plan_ending.specs.Added.{added}
+use Rattle.trick_plan_ending.specs.Ending.{AreParts, EventTree, draft_tree, event_tree, parts_of, plan_group}
 use Rattle.trick_input.specs.declared.call.Call.{Call}
 use Rattle.trick_lang.specs.Access.{block_reads, block_writes}
 use Rattle.trick_lang.specs.Effect.{first_of, object_of, scalars_of}

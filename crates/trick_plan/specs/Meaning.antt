@@ -5,8 +5,8 @@ use Rattle.trick_plan_draft.specs.Cells.{only_names}
 use Rattle.trick_plan_draft.specs.declared.draft.Draft.{Draft}
 use Rattle.trick_plan_draft.specs.declared.event.EventDraft.{EventDraft}
 use Rattle.trick_plan_draft.specs.declared.group.GroupDraft.{GroupDraft}
-use Rattle.trick_plan.specs.Added.{added}
-use Rattle.trick_plan.specs.Ending.{plan_group}
+use Rattle.trick_plan_ending.specs.Added.{added}
+use Rattle.trick_plan_ending.specs.Ending.{plan_group}
 use Rattle.trick_lang.specs.Access.{term_reads}
 use Rattle.trick_lang.specs.Effect.{base_of, body_of, reads, writes}
 use Rattle.trick_lang.specs.Names.{job_name}

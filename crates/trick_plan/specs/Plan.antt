@@ -5,7 +5,7 @@ use Rattle.trick_plan_draft.specs.Drafts.{begun, names_of}
 use Rattle.trick_plan_draft.specs.Jobs.{jobs_of}
 use Rattle.trick_plan_draft.specs.Kept.{Mirrors}
 use Rattle.trick_plan_draft.specs.declared.draft.Draft.{Draft}
-use Rattle.trick_plan.specs.Ending.{AreParts, parts_of}
+use Rattle.trick_plan_ending.specs.Ending.{AreParts, parts_of}
 use Rattle.trick_input.specs.declared.call.Call.{Call}
 use Rattle.trick_lang.specs.declared.program.Program.{Program}
 use Rattle.trick_plan_lines.specs.Drafted.{Answers, Drafted}

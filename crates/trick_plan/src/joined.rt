@@ -2,11 +2,11 @@
 
 ghost use Rattle.trick_plan.specs.Plan.{IsPlan};
 
-use crate::end;
 use std::alloc::Global;
 use trick_input::Call;
 use trick_lang::Program;
 use trick_model::Plan;
+use trick_plan_ending::end;
 use trick_plan_lines::{JoinFault, draft};
 use trick_plan_settings::settings_in;
 

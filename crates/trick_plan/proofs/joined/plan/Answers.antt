@@ -4,7 +4,7 @@ use Rattle.trick_plan_variables.specs.Cells.{KeepsRest}
 use Rattle.trick_plan_draft.specs.Drafts.{begun}
 use Rattle.trick_plan_draft.specs.Jobs.{jobs_of}
 use Rattle.trick_plan_draft.specs.Kept.{Mirrors}
-use Rattle.trick_plan.specs.Ending.{AreParts, parts_of}
+use Rattle.trick_plan_ending.specs.Ending.{AreParts, parts_of}
 use Rattle.trick_lang.specs.declared.job.Job.{Job}
 use Rattle.trick_lang.specs.declared.program.Program.{Program}
 use Rattle.trick_plan_lines.specs.Deeds.{DeedsStay}

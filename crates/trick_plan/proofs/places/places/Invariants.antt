@@ -1,7 +1,0 @@
-use Rattle.std.proofs.Common.{◌≡◌, ◌++◌, drop}
-use Rattle.trick_plan.proofs.places.places.Given as goal
-use Rattle.trick_plan.specs.Added.{places_of}
-
--- the places so far and those that are left
-abbrev pub invariant-loop-at : goal.invariant-loop-at
-invariant-loop-at l = l.places.items ++ places_of (drop l.at l.names) ≡ places_of l.names
