@@ -6,10 +6,10 @@ use Rattle.std.specs.Fmt.{decimal}
 use Rattle.std.specs.List.{enumerate_from, list_all, slice_index_or, zip}
 use Rattle.std.specs.Prelude.{All, codes, cond, filter, ℤ, pos, ◌==◌}
 use Rattle.trick_chkpt.proofs.JobTexts.{one_line, texts_apart}
-use Rattle.trick_chkpt.specs.CheckpointLines.{Held, cells_of, checkpoint, flag_at, flag_line, flag_place, flags_of, group_of, groups_of, head_lines, held_behind, held_of, job_flags_of, last_line, last_of, memory_of, mode_at, mode_line, mode_place, mode_words, record_name, record_of, record_words, records_of, scope_cells, taken_by, taken_parts, thread_jobs}
-use Rattle.trick_chkpt.specs.Faults.{fault_code, fault_line, faults_lines, faults_of, job_text, job_texts, kind_place, kind_word_at, kind_words, no_fault}
+use Rattle.trick_chkpt_lines.specs.CheckpointLines.{Held, cells_of, checkpoint, flag_at, flag_line, flag_place, flags_of, group_of, groups_of, head_lines, held_behind, held_of, job_flags_of, last_line, last_of, memory_of, mode_at, mode_line, mode_place, mode_words, record_name, record_of, record_words, records_of, scope_cells, taken_by, taken_parts, thread_jobs}
+use Rattle.trick_chkpt_lines.specs.Faults.{fault_code, fault_line, faults_lines, faults_of, job_text, job_texts, kind_place, kind_word_at, kind_words, no_fault}
 use Rattle.trick_chkpt.proofs.Plain.{HasInstances, HasWords, instances_fit, names_are_words}
-use Rattle.trick_chkpt.specs.Ranges.{full_name, range_at, range_of, ranges_at}
+use Rattle.trick_chkpt_lines.specs.Ranges.{full_name, range_at, range_of, ranges_at}
 use Rattle.trick_codes.proofs.IsSound.{end_line_sound, indexed_one_line, integer_line_sound, named_one_line, named_sound, none_or_one_line, none_or_sound, number_line_sound, number_one_line, numbered_sound, one_line-append, one_of_lines, row_one_line, row_sound, row_start, word_line_sound}
 use Rattle.trick_codes.proofs.Words.{prefix_free}
 use Rattle.trick_codes.specs.Code.{ArePrefixFree, Fits, Sound, largest, spell}

@@ -6,7 +6,7 @@ use Rattle.std.proofs.lemmas.Slice.Eq.{bytes_eq-Decides}
 use Rattle.std.specs.Fmt.{decimal}
 use Rattle.std.specs.List.{list_all}
 use Rattle.std.specs.Prelude.{nat_eq, codes, slice_get}
-use Rattle.trick_chkpt.specs.Faults.{job_text, job_texts}
+use Rattle.trick_chkpt_lines.specs.Faults.{job_text, job_texts}
 use Rattle.trick_chkpt.proofs.Plain.{HasInstances, HasWords, is_word}
 use Rattle.trick_codes.proofs.Codes.{back}
 use Rattle.trick_codes.proofs.IsSound.{one_line-append, number_one_line}

@@ -6,9 +6,5 @@ pub mod JobTexts
 pub mod IsSound
 -- the lines of a checkpoint spell its text
 pub mod Text
--- reading the parts one after the other
-pub mod Reading
--- numbers that are read are in the ranges of their cells
-pub mod Within
 -- faults that are counted
 pub mod Counting

@@ -8,9 +8,9 @@ use Rattle.std.specs.List.{enumerate_from, slice_index_or, zip}
 use Rattle.std.specs.Prelude.{codes, ℤ, pos}
 use Rattle.trick_chkpt.proofs.JobTexts.{length_map}
 use Rattle.trick_chkpt_printer.proofs.Rows.{row_with_commas}
-use Rattle.trick_chkpt.specs.CheckpointLines.{cells_of, checkpoint, flag_line, flags_of, group_of, groups_of, head_lines, held_behind, held_of, job_flags_of, last_line, last_of, memory_of, mode_line, record_name, record_of, record_words, records_of, scope_cells, thread_jobs}
-use Rattle.trick_chkpt.specs.Faults.{fault_code, fault_line, faults_lines, faults_of, job_text, job_texts, kind_place, kind_words, no_fault}
-use Rattle.trick_chkpt.specs.Ranges.{full_name, range_at, range_of, ranges_at}
+use Rattle.trick_chkpt_lines.specs.CheckpointLines.{cells_of, checkpoint, flag_line, flags_of, group_of, groups_of, head_lines, held_behind, held_of, job_flags_of, last_line, last_of, memory_of, mode_line, record_name, record_of, record_words, records_of, scope_cells, thread_jobs}
+use Rattle.trick_chkpt_lines.specs.Faults.{fault_code, fault_line, faults_lines, faults_of, job_text, job_texts, kind_place, kind_words, no_fault}
+use Rattle.trick_chkpt_lines.specs.Ranges.{full_name, range_at, range_of, ranges_at}
 use Rattle.trick_codes.proofs.IsSound.{length-each, length-numbered, length-row, row_spelled}
 use Rattle.trick_codes.specs.Code.{spell}
 use Rattle.trick_codes.specs.Lines.{Holds, and_then, each, no_line, numbered, text}

@@ -1,7 +1,7 @@
 -- The fields of a fault, as a reader in code gives them.
 use Rattle.std.proofs.Common.{Bor}
 use Rattle.std.specs.Prelude.{◌≡◌, ℕ, List, Option, Some, None, Ok, Err}
-use Rattle.trick_chkpt.specs.Faults.{Fields}
+use Rattle.trick_chkpt_lines.specs.Faults.{Fields}
 use Rattle.trick_chkpt.specs.declared.fault_kind.FaultFields.{FaultFields}
 use Rattle.trick_codes.specs.Code.{Told}
 

@@ -1,6 +1,6 @@
 -- Laws of checkpoints.
 use Rattle.std.specs.Prelude.{◌≡◌, ℕ, List, [], ◌++◌}
-use Rattle.trick_chkpt.specs.CheckpointLines.{checkpoint}
+use Rattle.trick_chkpt_lines.specs.CheckpointLines.{checkpoint}
 use Rattle.trick_codes.specs.Lines.{Holds, text}
 use Rattle.trick_model.specs.Checkpoint.{checkpoint_text}
 use Rattle.trick_model.specs.PlanOf.{plan_of}

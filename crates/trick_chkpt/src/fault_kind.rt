@@ -3,7 +3,7 @@
 ghost use Rattle.std.specs.List.{list_any};
 ghost use Rattle.std.specs.Prelude.{◌≡◌, List, ℕ};
 ghost use Rattle.std.specs.Str.{bytes_eq};
-ghost use Rattle.trick_chkpt.specs.Faults.{are_spelled, fault_kind as fault_kind_of, field_at, fields_kind as fields_kind_of, fields_of};
+ghost use Rattle.trick_chkpt_lines.specs.Faults.{are_spelled, fault_kind as fault_kind_of, field_at, fields_kind as fields_kind_of, fields_of};
 ghost use Rattle.trick_chkpt.specs.Fields.{field_seen, fields_seen, fields_where};
 ghost use Rattle.trick_codes.specs.Gives.{bytes_of};
 ghost use Rattle.trick_codes.specs.Lines.{first_line as first_line_of};

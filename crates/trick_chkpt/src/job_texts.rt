@@ -1,7 +1,7 @@
 //! The jobs of a plan, as they stand in faults.
 
 ghost use Rattle.std.specs.Prelude.{◌≡◌, ◌<◌, IfOk, length};
-ghost use Rattle.trick_chkpt.specs.Faults.{job_text as job_text_of, job_texts as job_texts_of};
+ghost use Rattle.trick_chkpt_lines.specs.Faults.{job_text as job_text_of, job_texts as job_texts_of};
 ghost use Rattle.trick_codes.specs.Gives.{bytes_of};
 ghost use Rattle.trick_lang.specs.Names.{job_name};
 ghost use Rattle.trick_model.specs.Plan.{job_at};

@@ -6,10 +6,7 @@ mod fault_kind;
 mod job_texts;
 pub mod laws;
 mod loader;
-mod ranges;
-mod read_cells;
 mod read_faults;
-mod read_groups;
 mod read_records;
 
 pub use loader::load;

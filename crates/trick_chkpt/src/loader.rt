@@ -1,19 +1,18 @@
 //! Loading.
 
 ghost use Rattle.std.specs.Prelude.{◌≡◌, IfOk};
-ghost use Rattle.trick_chkpt.specs.CheckpointLines.{checkpoint, head_lines, mode_at, mode_line};
+ghost use Rattle.trick_chkpt_lines.specs.CheckpointLines.{checkpoint, head_lines, mode_at, mode_line};
 ghost use Rattle.trick_codes.specs.Gives.{beside, Gives};
 ghost use Rattle.trick_codes.specs.Lines.{read_lines};
 ghost use Rattle.trick_codes.specs.Loads.{Loads};
 ghost use Rattle.trick_lang.specs.Effect.{scalars_of};
 ghost use Rattle.trick_model.specs.State.{seen};
 
-use crate::read_cells::{read_events, read_jobs, read_memory};
 use crate::read_faults::read_faults;
-use crate::read_groups::read_groups;
 use crate::read_records::read_records;
 use std::alloc::Global;
 use trick_base::TIC_LIMIT;
+use trick_chkpt_lines::{read_events, read_groups, read_jobs, read_memory};
 use trick_codes::{LineStop, LoadFault, end_line, number_line, whole, word_line};
 use trick_lang::Cells;
 use trick_model::{LAST_TURN, Mode, Plan, State};
@@ -31,7 +30,7 @@ fn mode_of_word(place: usize) -> Mode
     }
 }
 
-#[tactic(auto, unfolding(crate::specs::CheckpointLines::mode_line))]
+#[tactic(auto, unfolding(trick_chkpt_lines::specs::CheckpointLines::mode_line))]
 fn read_mode(rest: &[u8]) -> Result<(Mode, &[u8]), LineStop>
     ensures { Gives beside result (read_lines mode_line rest.now) }
 {
@@ -48,7 +47,7 @@ struct Head {
     mode: Mode,
 }
 
-#[tactic(auto, unfolding(crate::specs::CheckpointLines::head_lines))]
+#[tactic(auto, unfolding(trick_chkpt_lines::specs::CheckpointLines::head_lines))]
 fn read_head(rest: &[u8]) -> Result<(Head, &[u8]), LineStop>
     ensures { Gives (λ x. ((x.0.turn, (x.0.tic, (x.0.limit, x.0.mode))), x.1.now)) result
         (read_lines head_lines rest.now) }
@@ -68,7 +67,7 @@ fn read_head(rest: &[u8]) -> Result<(Head, &[u8]), LineStop>
 }
 
 // Reads a checkpoint from the front of a text.
-#[tactic(auto, unfolding(crate::specs::CheckpointLines::checkpoint))]
+#[tactic(auto, unfolding(trick_chkpt_lines::specs::CheckpointLines::checkpoint))]
 fn read_state<'a, M: Cells + Drop>(
     alloc: Global,
     plan: &Plan,

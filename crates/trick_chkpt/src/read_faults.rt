@@ -1,7 +1,7 @@
 //! Reading the lines of faults.
 
 ghost use Rattle.std.specs.Prelude.{◌≡◌, ◌≤◌, ◌<◌, IfOk, length, min};
-ghost use Rattle.trick_chkpt.specs.Faults.{fault_code, fault_line, faults_lines, faults_of, job_code, job_texts as job_texts_of, kind_code, kind_word_at, most_faults, no_fault};
+ghost use Rattle.trick_chkpt_lines.specs.Faults.{fault_code, fault_line, faults_lines, faults_of, job_code, job_texts as job_texts_of, kind_code, kind_word_at, most_faults, no_fault};
 ghost use Rattle.trick_codes.specs.Code.{number as number_code, read};
 ghost use Rattle.trick_codes.specs.Gives.{beside, bytes_of, Gives, Reads};
 ghost use Rattle.trick_codes.specs.Lines.{fed, numbered, read_lines};
@@ -83,7 +83,7 @@ fn fault_bytes<'a>(
 }
 
 // Reads the line of a fault, by its index; the name is written in place of `name`.
-#[tactic(auto, unfolding(crate::specs::Faults::fault_line))]
+#[tactic(auto, unfolding(trick_chkpt_lines::specs::Faults::fault_line))]
 fn read_fault<'a>(
     name: &mut Vec<u8>,
     words: &[&[u8]],
@@ -139,7 +139,7 @@ fn count_all(mut faults: Faults, count: u64) -> Faults
 }
 
 // Reads the lines of so many faults, of which 1,000 are kept.
-#[tactic(auto, unfolding(crate::specs::Faults::faults_of))]
+#[tactic(auto, unfolding(trick_chkpt_lines::specs::Faults::faults_of))]
 fn read_kept<'a>(
     alloc: Global,
     words: &[&[u8]],
@@ -164,7 +164,7 @@ fn most(words: &[&[u8]]) -> u64
 }
 
 // Reads the count of the faults and their lines, where these are the jobs.
-#[tactic(auto, unfolding(crate::specs::Faults::faults_lines))]
+#[tactic(auto, unfolding(trick_chkpt_lines::specs::Faults::faults_lines))]
 fn read_faults_of<'a>(
     alloc: Global,
     words: &[&[u8]],

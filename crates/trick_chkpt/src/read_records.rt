@@ -1,13 +1,13 @@
 //! Reading the records of threads.
 
 ghost use Rattle.std.specs.Prelude.{◌≡◌, ◌++◌, IfOk, true};
-ghost use Rattle.trick_chkpt.specs.CheckpointLines.{held_of, record_name as record_name_of, record_of, records_of, scope_cells, thread_jobs};
+ghost use Rattle.trick_chkpt_lines.specs.CheckpointLines.{held_of, record_name as record_name_of, record_of, records_of, scope_cells, thread_jobs};
 ghost use Rattle.trick_codes.specs.Gives.{beside, Gives};
 ghost use Rattle.trick_codes.specs.Lines.{read_lines};
 
-use crate::read_cells::{read_cells, read_job_flags};
 use std::alloc::{AllocError, Global};
 use trick_base::Items;
+use trick_chkpt_lines::{read_cells, read_job_flags};
 use trick_chkpt_printer::{jobs_of, scope, threads_beside};
 use trick_codes::{LineStop, set_indexed, word_line};
 use trick_lang::{Cell, JobId};
@@ -36,7 +36,7 @@ fn jobs_in(alloc: Global, plan: &Plan, thread: Thread) -> Result<Vec<JobId>, All
 }
 
 // Reads what is held for a thread, under the name of its record.
-#[tactic(auto, unfolding(crate::specs::CheckpointLines::held_of))]
+#[tactic(auto, unfolding(trick_chkpt_lines::specs::CheckpointLines::held_of))]
 fn read_held<'a>(
     alloc: Global,
     plan: &Plan,
@@ -62,7 +62,7 @@ fn read_held<'a>(
 }
 
 // Reads the record of a thread. Its scope is not looked for where nothing is held.
-#[tactic(auto, unfolding(crate::specs::CheckpointLines::record_of, crate::specs::CheckpointLines::held_behind))]
+#[tactic(auto, unfolding(trick_chkpt_lines::specs::CheckpointLines::record_of, trick_chkpt_lines::specs::CheckpointLines::held_behind))]
 fn read_record<'a>(
     alloc: Global,
     plan: &Plan,
@@ -88,7 +88,7 @@ fn read_record<'a>(
 }
 
 /// Reads the records of all threads beside the tics.
-#[tactic(auto, unfolding(crate::specs::CheckpointLines::records_of))]
+#[tactic(auto, unfolding(trick_chkpt_lines::specs::CheckpointLines::records_of))]
 pub(crate) fn read_records<'a>(
     alloc: Global,
     plan: &Plan,

@@ -3,7 +3,7 @@ use Rattle.std.proofs.Common.{◌≡◌, ◌∙◌, ℕ, List, [], ◌∷◌, �
 use Rattle.std.proofs.lemmas.List.{length-map}
 use Rattle.std.specs.List.{slice_index_or}
 use Rattle.std.specs.Prelude.{IfOk, Result, length, map, if◌then◌else◌}
-use Rattle.trick_chkpt.specs.CheckpointLines.{checkpoint}
+use Rattle.trick_chkpt_lines.specs.CheckpointLines.{checkpoint}
 use Rattle.trick_chkpt.specs.Laws.{NoPrefix, OneText}
 use Rattle.trick_codes.specs.Lines.{Holds, first_line, text}
 use Rattle.trick_codes.specs.Loads.{IsRefusedAt, Loads}

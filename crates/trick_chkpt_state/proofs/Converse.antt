@@ -4,10 +4,10 @@ use Rattle.std.proofs.lemmas.List.{length-map}
 use Rattle.std.specs.List.{enumerate_from, slice_index_or, zip}
 use Rattle.std.specs.Prelude.{All, IsTrue, codes, map}
 use Rattle.trick_base.proofs.Numbers.{at_most_itself, zero_at_most}
-use Rattle.trick_chkpt.proofs.Reading.{firsts_of, seconds_of}
-use Rattle.trick_chkpt.specs.CheckpointLines.{cells_of, checkpoint, flag_line, flags_of, group_of, groups_of, head_lines, held_behind, held_of, job_flags_of, last_line, last_of, memory_of, mode_at, mode_line, mode_place, record_name, record_of, records_of, scope_cells, taken_by, taken_parts, thread_jobs}
-use Rattle.trick_chkpt.specs.Faults.{fault_line, faults_lines, faults_of, job_text, job_texts, kind_place, kind_word_at, most_faults, no_fault}
-use Rattle.trick_chkpt.specs.Ranges.{range_at, range_of, ranges_at}
+use Rattle.trick_chkpt_lines.proofs.Reading.{firsts_of, seconds_of}
+use Rattle.trick_chkpt_lines.specs.CheckpointLines.{cells_of, checkpoint, flag_line, flags_of, group_of, groups_of, head_lines, held_behind, held_of, job_flags_of, last_line, last_of, memory_of, mode_at, mode_line, mode_place, record_name, record_of, records_of, scope_cells, taken_by, taken_parts, thread_jobs}
+use Rattle.trick_chkpt_lines.specs.Faults.{fault_line, faults_lines, faults_of, job_text, job_texts, kind_place, kind_word_at, most_faults, no_fault}
+use Rattle.trick_chkpt_lines.specs.Ranges.{range_at, range_of, ranges_at}
 use Rattle.trick_codes.specs.Code.{Fits}
 use Rattle.trick_codes.specs.Lines.{Holds, Lines, each, no_line}
 use Rattle.trick_codes.specs.Named.{each_code, indexed, integer_line, number_line, row, row_number}

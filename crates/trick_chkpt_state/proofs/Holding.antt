@@ -2,7 +2,7 @@
 use Rattle.std.proofs.Common.{◌≡◌, ◌∙◌, ℕ, zero, suc, ◌+◌, ◌<◌, ◌≤◌, ℤ, pos, negsuc, List, [], ◌∷◌, length, ap, arith, get_or, refl, subst, sym}
 use Rattle.std.proofs.lemmas.Int.{ints}
 use Rattle.std.specs.List.{slice_index_or}
-use Rattle.trick_chkpt.specs.Ranges.{range_of}
+use Rattle.trick_chkpt_lines.specs.Ranges.{range_of}
 use Rattle.trick_codes.specs.Code.{IsWithin}
 use Rattle.trick_codes.specs.Lines.{Holds, Lines, each, numbered, split_first}
 use Rattle.trick_lang.proofs.WrapLaw.{wraps_right}

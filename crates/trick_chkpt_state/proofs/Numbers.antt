@@ -3,9 +3,9 @@ use Rattle.std.proofs.Common.{◌≡◌, ◌∙◌, ℕ, zero, suc, ◌<◌, ◌
 use Rattle.std.proofs.lemmas.List.{length-map}
 use Rattle.std.specs.List.{slice_index_or}
 use Rattle.std.specs.Prelude.{◌⊎◌, codes, map}
-use Rattle.trick_chkpt.proofs.Within.{in_range_of, of_type}
-use Rattle.trick_chkpt.specs.CheckpointLines.{cells_of, memory_of}
-use Rattle.trick_chkpt.specs.Ranges.{range_at, range_of, ranges_at}
+use Rattle.trick_chkpt_lines.proofs.Within.{in_range_of, of_type}
+use Rattle.trick_chkpt_lines.specs.CheckpointLines.{cells_of, memory_of}
+use Rattle.trick_chkpt_lines.specs.Ranges.{range_at, range_of, ranges_at}
 use Rattle.trick_codes.specs.Code.{Fits, IsWithin}
 use Rattle.trick_codes.specs.Lines.{Holds, split_first}
 use Rattle.trick_codes.specs.Named.{each_code, integer_line, row, row_number}

@@ -3,9 +3,9 @@ use Rattle.std.proofs.Common.{◌≡◌, ◌∙◌, ℕ, zero, suc, ◌+◌, ◌
 use Rattle.std.proofs.lemmas.List.{length-map}
 use Rattle.std.specs.List.{enumerate_from, slice_index_or}
 use Rattle.std.specs.Prelude.{All, IsTrue, codes, map}
-use Rattle.trick_chkpt.specs.CheckpointLines.{flag_line, group_of, held_behind, held_of, job_flags_of, last_line, last_of, record_name, record_of, scope_cells, taken_by, taken_parts, thread_jobs}
-use Rattle.trick_chkpt.specs.Faults.{fault_line, faults_lines, faults_of, job_texts, most_faults, no_fault}
-use Rattle.trick_chkpt.specs.Ranges.{ranges_at}
+use Rattle.trick_chkpt_lines.specs.CheckpointLines.{flag_line, group_of, held_behind, held_of, job_flags_of, last_line, last_of, record_name, record_of, scope_cells, taken_by, taken_parts, thread_jobs}
+use Rattle.trick_chkpt_lines.specs.Faults.{fault_line, faults_lines, faults_of, job_texts, most_faults, no_fault}
+use Rattle.trick_chkpt_lines.specs.Ranges.{ranges_at}
 use Rattle.trick_codes.specs.Lines.{Holds, each, no_line}
 use Rattle.trick_codes.specs.Named.{indexed}
 use Rattle.trick_lang.specs.Effect.{scalars_of}

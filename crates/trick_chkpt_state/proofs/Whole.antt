@@ -3,7 +3,7 @@ use Rattle.std.proofs.Common.{◌≡◌, ◌∙◌, ℕ, zero, suc, ◌<◌, ◌
 use Rattle.std.proofs.lemmas.List.{length-map}
 use Rattle.std.specs.List.{enumerate_from, slice_index_or, zip}
 use Rattle.std.specs.Prelude.{codes, map}
-use Rattle.trick_chkpt.specs.CheckpointLines.{checkpoint, flag_line, flags_of, group_of, groups_of, head_lines, last_of, mode_line, record_of, records_of, state_at, values_of}
+use Rattle.trick_chkpt_lines.specs.CheckpointLines.{checkpoint, flag_line, flags_of, group_of, groups_of, head_lines, last_of, mode_line, record_of, records_of, state_at, values_of}
 use Rattle.trick_codes.specs.Lines.{Holds, each}
 use Rattle.trick_codes.specs.Named.{indexed}
 use Rattle.trick_lang.specs.Effect.{scalars_of}

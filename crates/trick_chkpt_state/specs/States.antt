@@ -1,6 +1,6 @@
 -- Which states have a checkpoint.
 use Rattle.std.specs.Prelude.{◌≤◌, All}
-use Rattle.trick_chkpt.specs.CheckpointLines.{checkpoint}
+use Rattle.trick_chkpt_lines.specs.CheckpointLines.{checkpoint}
 use Rattle.trick_codes.specs.Lines.{Holds}
 use Rattle.trick_lang.specs.declared.fault.JobFault.{JobFault}
 use Rattle.trick_model.specs.PlanOf.{plan_of}

@@ -1,7 +1,7 @@
 //! The state of a checkpoint.
 
 ghost use Rattle.std.specs.Prelude.{IfOk};
-ghost use Rattle.trick_chkpt.specs.CheckpointLines.{checkpoint};
+ghost use Rattle.trick_chkpt_lines.specs.CheckpointLines.{checkpoint};
 ghost use Rattle.trick_codes.specs.Loads.{Loads};
 ghost use Rattle.trick_phase_jobs.specs.Belongs.{IsMemoryOf};
 ghost use Rattle.trick_model.specs.State.{State as StateOf, seen};

@@ -5,7 +5,7 @@ use Rattle.trick_crew.specs.declared.clerks.Clerks.{Clerks}
 use Rattle.trick_crew.specs.declared.clerks.Clerks.TheVariants as clerks
 use Rattle.trick_crew_clerks.specs.Staffs.{HasEnded, IsTakenIn}
 use Rattle.trick_crew_clerks.specs.declared.yard.Yard.{Yard}
-use Rattle.trick_post.specs.Histories.{has_shut}
+use Rattle.trick_post_places.specs.Histories.{has_shut}
 use Rattle.trick_post.specs.declared.shut_post.ShutPost.{ShutPost}
 use Rattle.trick_model.specs.declared.planned.Planned.{Ghosts}
 use Rattle.trick_turn.specs.Passes.{own, seen}

@@ -3,7 +3,7 @@ use Rattle.std.specs.Arc.{arc_value}
 use Rattle.std.specs.Prelude.{ℕ, Option, None}
 use Rattle.trick_crew.specs.declared.clerks.Clerks.{Clerks}
 use Rattle.trick_crew.specs.declared.clerks.Clerks.TheVariants as clerks
-use Rattle.trick_post.specs.Histories.{started_in}
+use Rattle.trick_post_places.specs.Histories.{started_in}
 use Rattle.trick_model.specs.declared.plan.Plan.{Plan as PlanValue}
 use Rattle.trick_model.specs.declared.planned.Planned.{Ghosts}
 use Rattle.trick_post_work.specs.Work.{Started}

@@ -2,7 +2,7 @@
 use denote.Param.Send.{sendable}
 use Rattle.std.proofs.Crossing.{crosses}
 use Rattle.std.proofs.marker.PhantomData.TheSendSync as phantom
-use Rattle.trick_post.proofs.places.Places.TheSendSync as places
+use Rattle.trick_post_places.proofs.places.Places.TheSendSync as places
 use Rattle.trick_model.proofs.Crossings.{shared_send}
 use Rattle.trick_post_trays.proofs.outputs.Parcel.TheSendSync as parcel
 use Rattle.trick_post_trays.proofs.worker.Worker.TheSendSync as worker

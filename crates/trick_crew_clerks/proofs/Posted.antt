@@ -11,9 +11,9 @@ use Rattle.trick_crew_clerks.specs.Serving.{HasServed}
 use Rattle.trick_crew_clerks.specs.Staffs.{AreOfPost, AreShared, RunsAtPost}
 use Rattle.trick_crew_clerks.specs.Tending.{AreTended}
 use Rattle.trick_crew_clerks.specs.declared.shift.Shift.{Shift}
-use Rattle.trick_post.specs.Places.{PostView}
+use Rattle.trick_post_places.specs.Places.{PostView}
 use Rattle.trick_post.specs.declared.clerk.Clerk.{Clerk}
-use Rattle.trick_post.specs.declared.event.Event.{Event}
+use Rattle.trick_post_places.specs.declared.event.Event.{Event}
 use Rattle.trick_model.specs.declared.planned.Planned.{Ghosts}
 use Rattle.trick_outside.specs.declared.work.Running.{Running}
 use Rattle.trick_turn.specs.declared.lock.TurnLock.{TurnLock}

@@ -1,13 +1,13 @@
 -- What a clerk adds to the history of its post.
 use Rattle.std.proofs.Common.{◌≡◌, ◌∙◌, ℕ, suc, List, [], ◌∷◌, ◌++◌, ap, append_assoc, append-nil, subst, sym}
 use Rattle.trick_crew_clerks.specs.Serving.{errands, errand}
-use Rattle.trick_post.specs.Histories.{after, clerk_seat, stage_of}
-use Rattle.trick_post.specs.declared.event.Event.{Event}
-use Rattle.trick_post.specs.declared.event.Event.TheVariants.{Back, Pick}
-use Rattle.trick_post.specs.declared.picked.Picked.{Picked}
-use Rattle.trick_post.specs.declared.picked.Picked.TheVariants as picked
-use Rattle.trick_post.specs.declared.stage.Stage.{Stage}
-use Rattle.trick_post.specs.declared.stage.Stage.TheVariants as stage
+use Rattle.trick_post_places.specs.Histories.{after, clerk_seat, stage_of}
+use Rattle.trick_post_places.specs.declared.event.Event.{Event}
+use Rattle.trick_post_places.specs.declared.event.Event.TheVariants.{Back, Pick}
+use Rattle.trick_post_places.specs.declared.picked.Picked.{Picked}
+use Rattle.trick_post_places.specs.declared.picked.Picked.TheVariants as picked
+use Rattle.trick_post_places.specs.declared.stage.Stage.{Stage}
+use Rattle.trick_post_places.specs.declared.stage.Stage.TheVariants as stage
 
 -- it picked something, and put it back
 pub errand_got : (n m seat : ℕ) (before mid now : List Event) → m ≡ n → seat ≡ clerk_seat n → mid ≡ before ++ Pick seat n ∷ []

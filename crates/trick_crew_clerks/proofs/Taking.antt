@@ -11,11 +11,11 @@ use Rattle.trick_crew_clerks.proofs.Lists.{all_left, all_right, prefix_of_prefix
 use Rattle.trick_crew_clerks.specs.Serving.{HasServed}
 use Rattle.trick_crew_clerks.specs.Staffs.{AreOfPost, HasEnded, IsTakenIn, RunsAtPost}
 use Rattle.trick_crew_clerks.specs.declared.shift.Shift.{Shift}
-use Rattle.trick_post.specs.Histories.{has_shut}
-use Rattle.trick_post.specs.Places.{PostView}
+use Rattle.trick_post_places.specs.Histories.{has_shut}
+use Rattle.trick_post_places.specs.Places.{PostView}
 use Rattle.trick_post.specs.declared.clerk.Clerk.{Clerk}
-use Rattle.trick_post.specs.declared.event.Event.{Event}
-use Rattle.trick_post.specs.declared.event.Event.TheVariants.{Back, Finish, Pick, Shut, Start}
+use Rattle.trick_post_places.specs.declared.event.Event.{Event}
+use Rattle.trick_post_places.specs.declared.event.Event.TheVariants.{Back, Finish, Pick, Shut, Start}
 use Rattle.trick_model.specs.declared.planned.Planned.{Ghosts}
 use Rattle.trick_outside.specs.Works.{Runs}
 use Rattle.trick_outside.specs.declared.work.Running.{Running}

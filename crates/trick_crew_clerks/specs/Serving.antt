@@ -1,13 +1,13 @@
 -- What a clerk leaves at the end of its shift, and when nothing waits for it.
 use Rattle.std.specs.Prelude.{◌≡◌, ◌≢◌, ◌⊎◌, ℕ, zero, suc, true, List, [], ◌∷◌, ◌++◌}
 use Rattle.trick_crew_clerks.specs.declared.shift.Shift.{Shift}
-use Rattle.trick_post.specs.Histories.{after, clerk_seat, has_shut, stage_of}
+use Rattle.trick_post_places.specs.Histories.{after, clerk_seat, has_shut, stage_of}
 use Rattle.trick_post.specs.declared.clerk.Clerk.{Clerk}
-use Rattle.trick_post.specs.declared.event.Event.{Event}
-use Rattle.trick_post.specs.declared.event.Event.TheVariants.{Back, Pick}
-use Rattle.trick_post.specs.declared.picked.Picked.{Picked}
-use Rattle.trick_post.specs.declared.picked.Picked.TheVariants as picked
-use Rattle.trick_post.specs.declared.stage.Stage.TheVariants as stage
+use Rattle.trick_post_places.specs.declared.event.Event.{Event}
+use Rattle.trick_post_places.specs.declared.event.Event.TheVariants.{Back, Pick}
+use Rattle.trick_post_places.specs.declared.picked.Picked.{Picked}
+use Rattle.trick_post_places.specs.declared.picked.Picked.TheVariants as picked
+use Rattle.trick_post_places.specs.declared.stage.Stage.TheVariants as stage
 use Rattle.trick_model.specs.declared.planned.Planned.{Ghosts}
 use Rattle.trick_turn.specs.Passes.{own, seen}
 

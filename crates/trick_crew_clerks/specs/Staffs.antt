@@ -4,9 +4,9 @@ use Rattle.std.specs.Prelude.{◌≡◌, ◌⊎◌, ℕ, Bool, true, false, All,
 use mathlib.Core.List.{IsPrefix}
 use Rattle.trick_crew_clerks.specs.Serving.{HasServed}
 use Rattle.trick_crew_clerks.specs.declared.shift.Shift.{Shift}
-use Rattle.trick_post.specs.Places.{PostView}
+use Rattle.trick_post_places.specs.Places.{PostView}
 use Rattle.trick_post.specs.declared.clerk.Clerk.{Clerk}
-use Rattle.trick_post.specs.declared.event.Event.{Event}
+use Rattle.trick_post_places.specs.declared.event.Event.{Event}
 use Rattle.trick_model.specs.declared.planned.Planned.{Ghosts}
 use Rattle.trick_outside.specs.Works.{Runs}
 use Rattle.trick_outside.specs.declared.work.Running.{Running}

@@ -1,8 +1,8 @@
 //! The shift of a clerk: what the clerk does until the post is shut.
 ghost use Rattle.std.specs.Prelude.{◌≡◌, ◌++◌, IfOk, true};
 ghost use Rattle.trick_crew_clerks.specs.Serving.{IsIdle, HasServedFrom, errand};
-ghost use Rattle.trick_post.specs.Histories.{has_shut};
-ghost use Rattle.trick_post.specs.declared.picked.Picked.TheVariants as picked;
+ghost use Rattle.trick_post_places.specs.Histories.{has_shut};
+ghost use Rattle.trick_post_places.specs.declared.picked.Picked.TheVariants as picked;
 ghost use Rattle.trick_turn.specs.Passes.{own, seen};
 
 use std::alloc::{AllocError, Global};

@@ -2,7 +2,7 @@
 ghost use Rattle.std.specs.Arc.{arc_value};
 ghost use Rattle.std.specs.Prelude.{◌≡◌, All, true};
 ghost use Rattle.trick_crew_clerks.specs.Staffs.{AreOfPost, HasEnded, IsTakenIn, RunsAtPost};
-ghost use Rattle.trick_post.specs.Histories.{has_shut};
+ghost use Rattle.trick_post_places.specs.Histories.{has_shut};
 ghost use Rattle.trick_turn.specs.Passes.{own, seen};
 ghost use mathlib.Core.List.{IsPrefix};
 
@@ -61,7 +61,7 @@ impl<
     ghost use Rattle.std.specs.Arc.{arc_value};
     ghost use Rattle.std.specs.Prelude.{◌≡◌};
     ghost use Rattle.trick_crew_clerks.specs.Tending.{AreTended, WasAsked, tended_join, tended_none};
-    ghost use Rattle.trick_post.specs.Histories.{started_in};
+    ghost use Rattle.trick_post_places.specs.Histories.{started_in};
     ghost use Rattle.trick_post.specs.Lateness.{counts_join, late_through, rose_counted};
     ghost use Rattle.trick_turn.specs.Passes.{own};
     ghost use Rattle.std.proofs.Common.{refl};

@@ -7,11 +7,11 @@ use Rattle.std.specs.Option.{IfSome}
 use Rattle.std.specs.Prelude.{IsSome, Option, slice_set, vec_capacity}
 use Rattle.trick_base.proofs.Numbers.{equal_to_itself}
 use mathlib.Core.List.{IsPrefix}
-use Rattle.trick_post.proofs.Entries.{started_more}
-use Rattle.trick_post.specs.Answers.{AsksAt, HasTakenBack}
-use Rattle.trick_post.specs.Histories.{started_in}
-use Rattle.trick_post.specs.declared.event.Event.{Event}
-use Rattle.trick_post.specs.declared.event.Event.TheVariants.{Finish, Start}
+use Rattle.trick_post_places.proofs.Entries.{started_more}
+use Rattle.trick_post_places.specs.Answers.{AsksAt, HasTakenBack}
+use Rattle.trick_post_places.specs.Histories.{started_in}
+use Rattle.trick_post_places.specs.declared.event.Event.{Event}
+use Rattle.trick_post_places.specs.declared.event.Event.TheVariants.{Finish, Start}
 use Rattle.trick_lang.specs.declared.cells.Cell.{Cell}
 use Rattle.trick_model.specs.Access.{scope}
 use Rattle.trick_model.specs.PlanOf.{plan_of}

@@ -1,7 +1,3 @@
--- one entry more, and what a pass knows by its own entries
-pub mod Entries
--- the post after a turn
-pub mod PostLemmas
 -- what a turn adds to what a pass knows
 pub mod Passes
 -- how far the count of late rounds rises
@@ -10,7 +6,5 @@ pub mod Lateness
 pub mod Clerks
 -- what a desk knows of what it started, and what it publishes
 pub mod Desks
--- a post as it is made
-pub mod Making
 -- where the work of a thread begins
 pub mod Beginnings

@@ -6,18 +6,18 @@ use Rattle.std.proofs.lemmas.List.{get_or-set_other, get_or-set_same, length-set
 use Rattle.std.specs.Option.{IfSome, option_map}
 use Rattle.std.specs.Prelude.{IsSome, length, slice_set}
 use mathlib.Core.List.{IsPrefix}
-use Rattle.trick_post.proofs.Entries.{after_join, after_more, held_own, idle_of, legal_rest, open_own, ready_of, shut_is, shut_more, stays_working, waiting_of}
-use Rattle.trick_post.proofs.PostLemmas.{has_place, shut_at, returned_holds, returned_own, some_place, stands_at, stands_more, stands_same, swapped_at}
-use Rattle.trick_post.specs.Answers.{AsksAt, HasAddedTo, HasNothing, HasSeen, HasTakenBack, IsAtWork, PicksAt, posted_of, was_got}
-use Rattle.trick_post.specs.Histories.{Account, Idle, IsLegal, Ready, Standing, Waiting, Working, after, clerk_seat, desk_seat, fresh, has_shut, held_by, picked, put_back, started_in, seat_of, stage_of, step, with_standing}
-use Rattle.trick_post.specs.Places.{Holds, IsPostAt, IsSwapped, PostView, Stands, StandsAt, is_ready, pick_of}
-use Rattle.trick_post.specs.declared.event.Event.{Event}
-use Rattle.trick_post.specs.declared.event.Event.TheVariants.{Back, Finish, Pick, Shut, Start}
-use Rattle.trick_post.specs.declared.picked.Picked.{Picked}
-use Rattle.trick_post.specs.declared.picked.Picked.TheVariants as answer
-use Rattle.trick_post.specs.declared.places.Place.{Place}
-use Rattle.trick_post.specs.declared.stage.Stage.{Stage}
-use Rattle.trick_post.specs.declared.stage.Stage.TheVariants as stage
+use Rattle.trick_post_places.proofs.Entries.{after_join, after_more, held_own, idle_of, legal_rest, open_own, ready_of, shut_is, shut_more, stays_working, waiting_of}
+use Rattle.trick_post_places.proofs.PostLemmas.{has_place, shut_at, returned_holds, returned_own, some_place, stands_at, stands_more, stands_same, swapped_at}
+use Rattle.trick_post_places.specs.Answers.{AsksAt, HasAddedTo, HasNothing, HasSeen, HasTakenBack, IsAtWork, PicksAt, posted_of, was_got}
+use Rattle.trick_post_places.specs.Histories.{Account, Idle, IsLegal, Ready, Standing, Waiting, Working, after, clerk_seat, desk_seat, fresh, has_shut, held_by, picked, put_back, started_in, seat_of, stage_of, step, with_standing}
+use Rattle.trick_post_places.specs.Places.{Holds, IsPostAt, IsSwapped, PostView, Stands, StandsAt, is_ready, pick_of}
+use Rattle.trick_post_places.specs.declared.event.Event.{Event}
+use Rattle.trick_post_places.specs.declared.event.Event.TheVariants.{Back, Finish, Pick, Shut, Start}
+use Rattle.trick_post_places.specs.declared.picked.Picked.{Picked}
+use Rattle.trick_post_places.specs.declared.picked.Picked.TheVariants as answer
+use Rattle.trick_post_places.specs.declared.places.Place.{Place}
+use Rattle.trick_post_places.specs.declared.stage.Stage.{Stage}
+use Rattle.trick_post_places.specs.declared.stage.Stage.TheVariants as stage
 use Rattle.trick_model.specs.declared.plan.Plan.{Plan as PlanValue}
 use Rattle.trick_model.specs.PlanOf.{plan_of}
 use Rattle.trick_model.specs.declared.taken.Taken.{Taken}

@@ -1,6 +1,6 @@
 -- The threads that have a clerk, and the passes that the clerks are dealt.
 use Rattle.std.specs.Prelude.{◌≡◌, ℕ, Bool, List, [], ◌∷◌, filter}
-use Rattle.trick_post.specs.Histories.{clerk_seat}
+use Rattle.trick_post_places.specs.Histories.{clerk_seat}
 use Rattle.trick_model.specs.Plan.{is_beside, process_in}
 use Rattle.trick_model.specs.declared.plan.Plan.{Plan as PlanValue}
 use Rattle.trick_turn.specs.Passes.{IsPassOf, Rests, number_of}

@@ -1,18 +1,18 @@
 //! The desk, which hands work to clerks and publishes what comes of it.
 ghost use Rattle.std.specs.Arc.{arc_value};
 ghost use Rattle.std.specs.Prelude.{◌≡◌, ◌≤◌, IsSome};
-ghost use Rattle.trick_post.specs.Answers.{AsksAt, HasAdded};
-ghost use Rattle.trick_post.specs.Histories.{desk_seat, started_in};
+ghost use Rattle.trick_post_places.specs.Answers.{AsksAt, HasAdded};
+ghost use Rattle.trick_post_places.specs.Histories.{desk_seat, started_in};
 ghost use Rattle.trick_post.specs.Lateness.{late_after};
 ghost use Rattle.trick_post_trays.specs.Trays.{IsWorkerOf};
 ghost use Rattle.trick_turn.specs.Passes.{own};
 
-use crate::event::Event;
 use crate::rack::Rack;
 use crate::shut_post::ShutPost;
 use std::sync::Wait;
 use trick_lang::Cells;
 use trick_model::{Faults, Planned, Taken};
+use trick_post_places::Event;
 use trick_post_trays::Worker;
 use trick_post_work::{Job1, Posted, Posts};
 
@@ -74,7 +74,7 @@ impl<P: Planned, R: Wait + Drop> Posts for Desk<P, R> {
     ghost use Rattle.std.proofs.Common.{◌∙◌, refl};
     ghost use Rattle.std.specs.Arc.{arc_value};
     ghost use Rattle.std.specs.Prelude.{◌≡◌};
-    ghost use Rattle.trick_post.specs.Histories.{started_in};
+    ghost use Rattle.trick_post_places.specs.Histories.{started_in};
     ghost use Rattle.trick_post.specs.Lateness.{counts_join, late_through, rose_counted};
     ghost use Rattle.trick_turn.specs.Passes.{own};
 

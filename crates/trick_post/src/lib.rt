@@ -4,24 +4,17 @@
 
 mod clerk;
 mod desk;
-mod event;
 mod held;
-mod picked;
-mod places;
 mod post;
 mod rack;
 mod shut_post;
-mod stage;
 mod turns;
 
 pub use clerk::Clerk;
 pub use desk::Desk;
-pub use event::Event;
 pub use held::Held;
-pub use picked::Picked;
-pub use places::{Place, Places};
 pub use post::Post;
 pub use rack::Rack;
 pub use shut_post::ShutPost;
-pub use stage::Stage;
+pub use trick_post_places::Picked;
 pub use trick_post_work::{Job1, Posted, Posts};

@@ -8,11 +8,11 @@ ghost use Rattle.trick_turn.specs.Passes.{own};
 use crate::clerk::Clerk;
 use crate::desk::Desk;
 use crate::held::Held;
-use crate::places::Places;
 use crate::rack::Rack;
 use std::alloc::{AllocError, Global};
 use std::sync::{Arc, Wait};
 use trick_model::{Plan, Planned, process_of};
+use trick_post_places::Places;
 use trick_post_trays::{Parcel, Worker};
 use trick_turn::{Pass, TurnLock};
 

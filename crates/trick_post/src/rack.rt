@@ -2,24 +2,22 @@
 ghost use Rattle.std.specs.Arc.{arc_value};
 ghost use Rattle.std.specs.List.{slice_index_or};
 ghost use Rattle.std.specs.Prelude.{◌≡◌, ◌<◌, IsSome, None, Some, false, true};
-ghost use Rattle.trick_post.specs.Answers.{AsksAt, HasAdded, HasNothing, HasTakenBack, posted_of};
-ghost use Rattle.trick_post.specs.Histories.{desk_seat, has_shut, started_in};
+ghost use Rattle.trick_post_places.specs.Answers.{AsksAt, HasAdded, HasNothing, HasTakenBack, posted_of};
+ghost use Rattle.trick_post_places.specs.Histories.{desk_seat, has_shut, started_in};
 ghost use Rattle.trick_model.specs.PlanOf.{plan_of};
 ghost use Rattle.trick_post_work.specs.Work.{CanStart};
 ghost use Rattle.trick_post_trays.specs.Outputs.{AreParcelsOf};
 ghost use Rattle.trick_post_trays.specs.Trays.{held_in};
 ghost use Rattle.trick_turn.specs.Passes.{IsPassOf, Rests, number_of, own};
 
-use crate::event::Event;
 use crate::held::Held;
-use crate::places::Places;
 use crate::shut_post::ShutPost;
-use crate::stage::Stage;
 use crate::turns::{end_start, end_turn};
 use std::alloc::Global;
 use std::marker::Brand;
 use std::sync::{Arc, Wait};
 use trick_model::{Planned, Taken};
+use trick_post_places::{Event, Places, Stage};
 use trick_post_trays::Parcel;
 use trick_post_work::{Job1, Posted};
 use trick_turn::{Nothing, Pass, TurnLock};

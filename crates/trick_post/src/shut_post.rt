@@ -1,15 +1,15 @@
 //! A post that was shut.
 ghost use Rattle.std.specs.Arc.{arc_value};
 ghost use Rattle.std.specs.Prelude.{◌≡◌};
-ghost use Rattle.trick_post.specs.Histories.{desk_seat};
+ghost use Rattle.trick_post_places.specs.Histories.{desk_seat};
 ghost use Rattle.trick_turn.specs.Passes.{IsPassOf, Rests, number_of, own, seen};
 ghost use mathlib.Core.List.{IsPrefix};
 
 use crate::clerk::Clerk;
-use crate::places::Places;
 use std::alloc::Global;
 use std::sync::Arc;
 use trick_model::Planned;
+use trick_post_places::Places;
 use trick_turn::{Pass, TurnLock};
 
 /// A post that its desk has shut. The clerks are taken in here once they have ended.

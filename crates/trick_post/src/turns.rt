@@ -1,15 +1,14 @@
 //! How a turn at a post ends.
 ghost use Rattle.std.specs.Option.{IfSome};
 ghost use Rattle.std.specs.Prelude.{◌≡◌, ◌++◌, ◌∷◌, [], None, Some, cond};
-ghost use Rattle.trick_post.specs.Histories.{desk_seat, seat_of};
-ghost use Rattle.trick_post.specs.Places.{Stands};
+ghost use Rattle.trick_post_places.specs.Histories.{desk_seat, seat_of};
+ghost use Rattle.trick_post_places.specs.Places.{Stands};
 ghost use Rattle.trick_turn.specs.Passes.{Releases, number_of, seen};
 ghost use Rattle.trick_turn.specs.Turns.{IsTurn, pass_left, pass_of, value_of};
 ghost use Rattle.trick_turn.specs.Views.{entries_told};
 
-use crate::event::Event;
-use crate::places::Places;
 use trick_model::{Planned, Taken};
+use trick_post_places::{Event, Places};
 use trick_post_work::Job1;
 use trick_turn::{Adds, Nothing, Turn};
 

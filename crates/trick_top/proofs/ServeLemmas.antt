@@ -4,7 +4,7 @@ use Rattle.std.specs.Prelude.{◌⊎◌}
 use Rattle.trick_codes.specs.Loads.{Refuses}
 use Rattle.trick_codes.specs.declared.load_fault.LoadFault.TheVariants as load_fault
 use Rattle.trick_codes.specs.declared.load_fault.LoadFault.{LoadFault}
-use Rattle.trick_chkpt.specs.CheckpointLines.{checkpoint}
+use Rattle.trick_chkpt_lines.specs.CheckpointLines.{checkpoint}
 use Rattle.trick_model.specs.State.{State}
 use Rattle.trick_model.specs.declared.plan.Plan.{Plan}
 use Rattle.trick_top_texts.specs.Answers.{IsUnready}

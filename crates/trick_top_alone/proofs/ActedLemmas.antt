@@ -2,7 +2,7 @@
 use Rattle.std.proofs.Common.{◌≡◌, ◌≢◌, ◌∙◌, ℕ, List, [], Ok, Err, None, Option, Some, refl, sym, subst, ap, inl, inr}
 use Rattle.std.proofs.lemmas.Bool.{false_from_ne_true}
 use Rattle.std.specs.Prelude.{◌⊎◌, Result}
-use Rattle.trick_chkpt.specs.CheckpointLines.{checkpoint}
+use Rattle.trick_chkpt_lines.specs.CheckpointLines.{checkpoint}
 use Rattle.trick_codes.specs.Loads.{Refuses}
 use Rattle.trick_codes.specs.declared.load_fault.LoadFault.TheVariants as load_fault
 use Rattle.trick_codes.specs.declared.load_fault.LoadFault.{LoadFault}

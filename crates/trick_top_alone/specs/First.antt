@@ -1,6 +1,6 @@
 -- The state from which a run starts: that of the plan's start, or the one of which a text is the checkpoint.
 use Rattle.std.specs.Prelude.{◌≡◌, ◌≢◌, ℕ, List, Option, Some, None}
-use Rattle.trick_chkpt.specs.CheckpointLines.{checkpoint}
+use Rattle.trick_chkpt_lines.specs.CheckpointLines.{checkpoint}
 use Rattle.trick_codes.specs.Loads.{Refuses}
 use Rattle.trick_codes.specs.declared.load_fault.LoadFault.TheVariants as fault
 use Rattle.trick_codes.specs.declared.load_fault.LoadFault.{LoadFault}

@@ -1,6 +1,6 @@
 use Rattle.std.proofs.Common.{◌≡◌, map, take}
 use Rattle.trick_chkpt.proofs.job_texts.job_texts.Given as goal
-use Rattle.trick_chkpt.specs.Faults.{job_text}
+use Rattle.trick_chkpt_lines.specs.Faults.{job_text}
 use Rattle.trick_lang.specs.Names.{job_name}
 use Rattle.trick_lang.specs.declared.job.Job.{Job}
 

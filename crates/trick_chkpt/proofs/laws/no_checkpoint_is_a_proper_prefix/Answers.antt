@@ -2,7 +2,7 @@ use Rattle.std.proofs.Common.{List, ℕ, ◌++◌, sym, ap, ◌∙◌}
 use Rattle.trick_chkpt.proofs.IsSound.{checkpoint_sound}
 use Rattle.trick_chkpt.proofs.Text.{spells}
 use Rattle.trick_chkpt.proofs.laws.no_checkpoint_is_a_proper_prefix.Goals as goal
-use Rattle.trick_chkpt.specs.CheckpointLines.{checkpoint}
+use Rattle.trick_chkpt_lines.specs.CheckpointLines.{checkpoint}
 use Rattle.trick_codes.proofs.Lines.{no_front}
 
 pub returns : goal.returns

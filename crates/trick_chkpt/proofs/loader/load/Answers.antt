@@ -1,6 +1,6 @@
 use Rattle.trick_chkpt.proofs.IsSound.{checkpoint_sound}
 use Rattle.trick_chkpt.proofs.loader.load.Goals as goal
-use Rattle.trick_chkpt.specs.CheckpointLines.{checkpoint}
+use Rattle.trick_chkpt_lines.specs.CheckpointLines.{checkpoint}
 use Rattle.trick_codes.proofs.Loading.{loads}
 use Rattle.trick_model.specs.State.{seen}
 

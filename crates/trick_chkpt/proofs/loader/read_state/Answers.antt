@@ -1,5 +1,5 @@
 use Rattle.std.proofs.Common.{Ok, ap, ◌∙◌}
-use Rattle.trick_chkpt.proofs.Reading.{state_is, state_read}
+use Rattle.trick_chkpt_lines.proofs.Reading.{state_is, state_read}
 use Rattle.trick_chkpt.proofs.loader.read_state.Goals as goal
 
 pub returns-clause-told : goal.returns-clause-told

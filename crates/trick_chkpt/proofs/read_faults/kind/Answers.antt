@@ -1,7 +1,7 @@
 use Rattle.std.proofs.Common.{ℕ, Ok, ap}
 use Rattle.std.proofs.lemmas.Result.{err_from_is_err_and}
 use Rattle.trick_chkpt.proofs.read_faults.kind.Goals as goal
-use Rattle.trick_chkpt.specs.Faults.{kind_word_at}
+use Rattle.trick_chkpt_lines.specs.Faults.{kind_word_at}
 use Rattle.trick_codes.specs.Code.{Told, ◌>>=◌}
 
 pub returns-in_err-place : goal.returns-in_err-place

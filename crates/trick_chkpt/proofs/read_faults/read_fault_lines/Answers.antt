@@ -1,7 +1,7 @@
 use Rattle.std.proofs.Common.{◌≡◌, ◌<◌, ◌++◌, ◌∷◌, [], ap, ◌∙◌, arith}
 use Rattle.trick_chkpt.proofs.Counting.{count_added, first_added, size_added}
 use Rattle.trick_chkpt.proofs.read_faults.read_fault_lines.Goals as goal
-use Rattle.trick_chkpt.specs.Faults.{fault_line, no_fault}
+use Rattle.trick_chkpt_lines.specs.Faults.{fault_line, no_fault}
 use Rattle.trick_codes.proofs.Each.{numbered_go_on}
 use Rattle.trick_codes.specs.Gives.{bytes_of}
 use Rattle.trick_model.specs.FaultList.{FaultList, kept}

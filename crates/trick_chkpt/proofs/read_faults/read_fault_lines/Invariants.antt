@@ -1,6 +1,6 @@
 use Rattle.std.proofs.Common.{◌≡◌, ◌-◌, length}
 use Rattle.trick_chkpt.proofs.read_faults.read_fault_lines.Given as goal
-use Rattle.trick_chkpt.specs.Faults.{fault_line, no_fault}
+use Rattle.trick_chkpt_lines.specs.Faults.{fault_line, no_fault}
 use Rattle.trick_codes.proofs.Each.{numbered_left}
 use Rattle.trick_codes.specs.Gives.{bytes_of}
 use Rattle.trick_codes.specs.Lines.{numbered, read_lines}

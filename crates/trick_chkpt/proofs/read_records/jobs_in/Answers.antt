@@ -1,5 +1,5 @@
 use Rattle.std.proofs.lemmas.Result.{IfOk-weaker}
-use Rattle.trick_chkpt.proofs.Reading.{jobs_from}
+use Rattle.trick_chkpt_lines.proofs.Reading.{jobs_from}
 use Rattle.trick_chkpt.proofs.read_records.jobs_in.Goals as goal
 
 pub returns : goal.returns

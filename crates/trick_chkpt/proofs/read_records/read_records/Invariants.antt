@@ -1,6 +1,6 @@
 use Rattle.std.proofs.Common.{◌≡◌, drop}
 use Rattle.trick_chkpt.proofs.read_records.read_records.Given as goal
-use Rattle.trick_chkpt.specs.CheckpointLines.{record_of, records_of}
+use Rattle.trick_chkpt_lines.specs.CheckpointLines.{record_of, records_of}
 use Rattle.trick_codes.proofs.Each.{lines_left}
 use Rattle.trick_codes.specs.Lines.{read_lines}
 use Rattle.trick_model.specs.State.{nothing_taken}

@@ -1,5 +1,5 @@
 use Rattle.std.proofs.Common.{◌∙◌, List, ℕ, subst, sym}
-use Rattle.trick_chkpt.specs.CheckpointLines.{checkpoint}
+use Rattle.trick_chkpt_lines.specs.CheckpointLines.{checkpoint}
 use Rattle.trick_codes.specs.Loads.{Loads}
 use Rattle.trick_model.specs.State.{seen}
 use Rattle.trick_chkpt_state.proofs.Again.{checkpoint_if, loaded_as, memory_if}

@@ -1,7 +1,7 @@
 use Rattle.std.proofs.Common.{◌∙◌, append-nil, refl, sym}
 use Rattle.trick_crew_clerks.proofs.Serving.{errands_more}
 use Rattle.trick_crew_clerks.proofs.shift.serve.Goals as goal
-use Rattle.trick_post.specs.declared.picked.Picked.TheVariants as picked
+use Rattle.trick_post_places.specs.declared.picked.Picked.TheVariants as picked
 use Rattle.trick_turn.specs.Passes.{own}
 
 pub loop-init : goal.loop-init

@@ -1,6 +1,6 @@
 use Rattle.std.proofs.Common.{◌++◌, Option, subst, sym}
-use Rattle.trick_post.specs.Places.{Stands}
-use Rattle.trick_post.specs.declared.event.Event.{Event}
+use Rattle.trick_post_places.specs.Places.{Stands}
+use Rattle.trick_post_places.specs.declared.event.Event.{Event}
 use Rattle.trick_turn.specs.Passes.{seen}
 use Rattle.trick_turn.specs.Turns.{pass_of, value_of}
 use Rattle.trick_turn.specs.Views.{entries_told}

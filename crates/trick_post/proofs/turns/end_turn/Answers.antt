@@ -1,5 +1,5 @@
 use Rattle.std.proofs.Common.{◌++◌, Bool, None, cond, subst}
-use Rattle.trick_post.specs.Places.{Stands}
+use Rattle.trick_post_places.specs.Places.{Stands}
 use Rattle.trick_turn.specs.Passes.{seen}
 use Rattle.trick_turn.specs.Turns.{pass_of, value_of}
 use Rattle.trick_turn.specs.Views.{entries_told}

@@ -6,7 +6,7 @@ use Rattle.trick_crew_clerks.proofs.Lists.{prefix_of_prefix}
 use Rattle.trick_crew_clerks.proofs.Taking.{shut_last, still_in}
 use Rattle.trick_crew_clerks.proofs.yard.Yard.close.Goals as goal
 use Rattle.trick_crew_clerks.specs.Staffs.{AreOfPost, IsTakenIn, RunsAtPost}
-use Rattle.trick_post.specs.Histories.{desk_seat, has_shut}
+use Rattle.trick_post_places.specs.Histories.{desk_seat, has_shut}
 use Rattle.trick_turn.specs.Passes.{own, seen}
 
 pub take_each_in-requires : goal.take_each_in-requires

@@ -1,9 +1,9 @@
 use Rattle.std.proofs.Common.{◌≡◌, ◌∙◌, ◌<◌, List, arith, length, refl, subst, sym}
 use Rattle.std.specs.Arc.{arc_value}
 use Rattle.trick_post.proofs.Passes.{at_work, got_told, got_waits, names_told, pick_at, pick_own, pick_stands, picks, same_number}
-use Rattle.trick_post.specs.Places.{PostView, Stands}
-use Rattle.trick_post.specs.declared.event.Event.{Event}
-use Rattle.trick_post.specs.declared.event.Event.TheVariants.{Pick}
+use Rattle.trick_post_places.specs.Places.{PostView, Stands}
+use Rattle.trick_post_places.specs.declared.event.Event.{Event}
+use Rattle.trick_post_places.specs.declared.event.Event.TheVariants.{Pick}
 use Rattle.trick_turn.specs.Passes.{number_of, seen}
 use Rattle.trick_post.proofs.clerk.Clerk.pick.Goals as goal
 

@@ -1,11 +1,11 @@
 use Rattle.std.proofs.Common.{◌≡◌, ◌∙◌, ℕ, ◌<◌, List, ap, arith, length, subst, sym}
 use Rattle.std.specs.Arc.{arc_value}
 use Rattle.trick_post.proofs.Passes.{added_as, back_ready, back_stands, has_work_in, outcome_held, same_number, still_works}
-use Rattle.trick_post.proofs.PostLemmas.{returned_own}
-use Rattle.trick_post.specs.Histories.{after, clerk_seat}
-use Rattle.trick_post.specs.Places.{PostView, Stands}
-use Rattle.trick_post.specs.declared.event.Event.{Event}
-use Rattle.trick_post.specs.declared.event.Event.TheVariants.{Back}
+use Rattle.trick_post_places.proofs.PostLemmas.{returned_own}
+use Rattle.trick_post_places.specs.Histories.{after, clerk_seat}
+use Rattle.trick_post_places.specs.Places.{PostView, Stands}
+use Rattle.trick_post_places.specs.declared.event.Event.{Event}
+use Rattle.trick_post_places.specs.declared.event.Event.TheVariants.{Back}
 use Rattle.trick_model.specs.declared.accepted.Accepted.{Accepted}
 use Rattle.trick_model.specs.declared.plan.Plan.{Plan as PlanValue}
 use Rattle.trick_post_trays.specs.Outputs.{IsOutcome, IsParcelOf}

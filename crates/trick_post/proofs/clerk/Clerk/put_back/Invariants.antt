@@ -1,5 +1,5 @@
 use Rattle.std.proofs.Common.{Some}
-use Rattle.trick_post.specs.declared.event.Event.TheVariants.{Back}
+use Rattle.trick_post_places.specs.declared.event.Event.TheVariants.{Back}
 use Rattle.trick_turn.specs.Passes.{number_of}
 use Rattle.trick_post.proofs.clerk.Clerk.put_back.Given as goal
 

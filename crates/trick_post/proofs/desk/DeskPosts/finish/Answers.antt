@@ -5,7 +5,7 @@ use Rattle.std.specs.Prelude.{Option}
 use Rattle.std.specs.Option.{IfSome}
 use Rattle.trick_post.proofs.Desks.{comes_to, finishes, finishes_other, is_started}
 use Rattle.trick_post.proofs.Passes.{has_work_in}
-use Rattle.trick_post.specs.Histories.{desk_seat}
+use Rattle.trick_post_places.specs.Histories.{desk_seat}
 use Rattle.trick_phase_jobs.specs.Belongs.{IsMemoryOf}
 use Rattle.trick_model.specs.FaultList.{with_faults}
 use Rattle.trick_model.specs.PlanOf.{plan_of}

@@ -1,8 +1,8 @@
 use Rattle.std.proofs.Common.{List, ap}
 use Rattle.trick_post.proofs.Desks.{asks_none}
 use Rattle.trick_post.proofs.Lateness.{rose_not_yet}
-use Rattle.trick_post.specs.Histories.{started_in}
-use Rattle.trick_post.specs.declared.event.Event.{Event}
+use Rattle.trick_post_places.specs.Histories.{started_in}
+use Rattle.trick_post_places.specs.declared.event.Event.{Event}
 use Rattle.trick_post.proofs.desk.DeskPosts.poll.Goals as goal
 
 pub returns-clause-cause : goal.returns-clause-cause

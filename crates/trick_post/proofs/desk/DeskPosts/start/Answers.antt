@@ -1,5 +1,5 @@
 use Rattle.trick_post.proofs.Desks.{starts, starts_other}
-use Rattle.trick_post.specs.Histories.{desk_seat}
+use Rattle.trick_post_places.specs.Histories.{desk_seat}
 use Rattle.trick_turn.specs.Passes.{own}
 use Rattle.trick_post.proofs.desk.DeskPosts.start.Goals as goal
 

@@ -1,11 +1,11 @@
 use Rattle.std.proofs.Common.{◌≡◌, ◌∙◌, ap, subst, sym}
 use Rattle.std.specs.Arc.{arc_value}
 use Rattle.trick_post.proofs.Clerks.{dealt_first, others_dealt}
-use Rattle.trick_post.proofs.Making.{stands_made}
+use Rattle.trick_post_places.proofs.Making.{stands_made}
 use Rattle.trick_post.specs.Clerks.{AreClerkPasses, numbers}
-use Rattle.trick_post.specs.Histories.{fresh, has_shut}
-use Rattle.trick_post.specs.Places.{IsPostAt}
-use Rattle.trick_post.specs.declared.event.Event.{Event}
+use Rattle.trick_post_places.specs.Histories.{fresh, has_shut}
+use Rattle.trick_post_places.specs.Places.{IsPostAt}
+use Rattle.trick_post_places.specs.declared.event.Event.{Event}
 use Rattle.trick_model.specs.declared.accepted.Accepted.{Accepted}
 use Rattle.trick_model.specs.declared.plan.Plan.{Plan as PlanValue}
 use Rattle.trick_post_trays.specs.Outputs.{AreParcelsOf}

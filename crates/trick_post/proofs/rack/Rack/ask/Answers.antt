@@ -1,9 +1,9 @@
 use Rattle.std.proofs.Common.{◌<◌, List, length, subst, sym}
 use Rattle.std.specs.Arc.{arc_value}
 use Rattle.trick_post.proofs.Passes.{asks, ready_at, started_small, thread_there}
-use Rattle.trick_post.proofs.PostLemmas.{stands_same}
-use Rattle.trick_post.specs.Places.{PostView, StandsAt}
-use Rattle.trick_post.specs.declared.event.Event.{Event}
+use Rattle.trick_post_places.proofs.PostLemmas.{stands_same}
+use Rattle.trick_post_places.specs.Places.{PostView, StandsAt}
+use Rattle.trick_post_places.specs.declared.event.Event.{Event}
 use Rattle.trick_turn.specs.Passes.{number_of, own, seen}
 use Rattle.trick_post.proofs.rack.Rack.ask.Goals as goal
 

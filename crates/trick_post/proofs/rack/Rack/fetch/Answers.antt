@@ -1,7 +1,7 @@
 use Rattle.std.proofs.Common.{◌≡◌, subst}
 use Rattle.std.specs.Arc.{arc_value}
 use Rattle.trick_post.proofs.Desks.{still_started, taken_since}
-use Rattle.trick_post.specs.Answers.{HasTakenBack}
+use Rattle.trick_post_places.specs.Answers.{HasTakenBack}
 use Rattle.trick_model.specs.declared.plan.Plan.{Plan as PlanValue}
 use Rattle.trick_turn.specs.Passes.{own}
 use Rattle.trick_post.proofs.rack.Rack.fetch.Goals as goal

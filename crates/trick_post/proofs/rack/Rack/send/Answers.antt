@@ -2,11 +2,11 @@ use Rattle.std.proofs.Common.{rules, ◌≡◌, ◌∙◌, ◌<◌, List, Some, 
 use Rattle.std.specs.Arc.{arc_value}
 use Rattle.std.specs.List.{slice_index_or}
 use Rattle.trick_post.proofs.Passes.{parcels_set, same_number, start_stands, told_open}
-use Rattle.trick_post.proofs.PostLemmas.{returned_own}
-use Rattle.trick_post.specs.Histories.{after, desk_seat}
-use Rattle.trick_post.specs.Places.{PostView, Stands}
-use Rattle.trick_post.specs.declared.event.Event.{Event}
-use Rattle.trick_post.specs.declared.event.Event.TheVariants.{Start}
+use Rattle.trick_post_places.proofs.PostLemmas.{returned_own}
+use Rattle.trick_post_places.specs.Histories.{after, desk_seat}
+use Rattle.trick_post_places.specs.Places.{PostView, Stands}
+use Rattle.trick_post_places.specs.declared.event.Event.{Event}
+use Rattle.trick_post_places.specs.declared.event.Event.TheVariants.{Start}
 use Rattle.trick_post_trays.proofs.Trays.{thread_small}
 use Rattle.trick_post_trays.specs.Outputs.{IsParcelOf}
 use Rattle.trick_post_trays.specs.Trays.{held_in}

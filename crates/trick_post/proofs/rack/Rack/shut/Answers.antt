@@ -1,9 +1,9 @@
 use Rattle.std.proofs.Common.{◌∙◌}
 use Rattle.std.specs.Arc.{arc_value}
 use Rattle.trick_post.proofs.Passes.{shut_stands}
-use Rattle.trick_post.specs.Places.{PostView, Stands}
+use Rattle.trick_post_places.specs.Places.{PostView, Stands}
 use Rattle.std.proofs.Common.{List, subst, sym}
-use Rattle.trick_post.specs.declared.event.Event.{Event}
+use Rattle.trick_post_places.specs.declared.event.Event.{Event}
 use Rattle.trick_turn.specs.Passes.{number_of, seen}
 use Rattle.trick_post.proofs.rack.Rack.shut.Goals as goal
 

@@ -2,10 +2,10 @@ use Rattle.std.proofs.Common.{rules, ◌≡◌, ◌∙◌, ◌<◌, List, arith,
 use Rattle.std.specs.Arc.{arc_value}
 use Rattle.std.specs.List.{slice_index_or}
 use Rattle.trick_post.proofs.Passes.{finish_fits, finish_holds, finish_stands, has_nothing, names_told, parcels_kept, parcels_set, ready_at, same_number, set_holds, started_small, takes_back, thread_there, told_now, told_open}
-use Rattle.trick_post.specs.Histories.{Ready}
-use Rattle.trick_post.specs.Places.{PostView, Stands, StandsAt}
-use Rattle.trick_post.specs.declared.event.Event.{Event}
-use Rattle.trick_post.specs.declared.event.Event.TheVariants.{Finish}
+use Rattle.trick_post_places.specs.Histories.{Ready}
+use Rattle.trick_post_places.specs.Places.{PostView, Stands, StandsAt}
+use Rattle.trick_post_places.specs.declared.event.Event.{Event}
+use Rattle.trick_post_places.specs.declared.event.Event.TheVariants.{Finish}
 use Rattle.trick_post_trays.specs.Outputs.{IsParcelOf}
 use Rattle.trick_turn.specs.Passes.{number_of, own, seen}
 use Rattle.trick_post.proofs.rack.Rack.take_back.Goals as goal

@@ -1,6 +1,0 @@
-use Rattle.std.proofs.Common.{◌≡◌, take}
-use Rattle.trick_chkpt.proofs.ranges.ranges_at.Given as goal
-use Rattle.trick_chkpt.specs.Ranges.{ranges_at}
-
-abbrev pub invariant-loop-cell : goal.invariant-loop-cell
-invariant-loop-cell l = l.found.items ≡ ranges_at l.plan (take l.cell-index l.cells)
