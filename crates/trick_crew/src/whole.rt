@@ -9,7 +9,7 @@ ghost use Rattle.trick_crew.specs.Clerks.{AreStaffedBy, StayedAmong};
 ghost use Rattle.trick_crew.specs.Ends.{HaveEnded};
 ghost use Rattle.trick_crew.specs.InHand.{in_hand, plan_for};
 ghost use Rattle.trick_post.specs.Clerks.{clerked};
-ghost use Rattle.trick_hall.specs.Histories.{has_shut};
+ghost use Rattle.trick_hall_kept.specs.Histories.{has_shut};
 ghost use Rattle.trick_outside.specs.Causes.{HasCause};
 ghost use Rattle.trick_turn.specs.Passes.{own, seen};
 ghost use mathlib.Core.List.{IsPrefix};

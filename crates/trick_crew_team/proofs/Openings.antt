@@ -1,10 +1,10 @@
 -- What the chief's own entries say.
 use Rattle.std.proofs.Common.{◌≡◌, sym, subst, refl, true, Option, Some, None, List, [], ◌∷◌, ◌++◌}
 use Rattle.std.specs.Prelude.{IsSome}
-use Rattle.trick_hall.specs.Histories.{Opening, has_shut}
-use Rattle.trick_hall.specs.Openings.{opened_at}
-use Rattle.trick_hall.specs.declared.entry.Entry.{Entry}
-use Rattle.trick_hall.specs.declared.entry.Entry.TheVariants.{Close, Commit, Open, Shut, Take}
+use Rattle.trick_hall_kept.specs.Histories.{Opening, has_shut}
+use Rattle.trick_hall_kept.specs.Openings.{opened_at}
+use Rattle.trick_hall_kept.specs.declared.entry.Entry.{Entry}
+use Rattle.trick_hall_kept.specs.declared.entry.Entry.TheVariants.{Close, Commit, Open, Shut, Take}
 
 pub some_of : (o : Option Opening) → IsSome o → (x : Opening) × (o ≡ Some x)
 some_of (Some x) some = (x, refl)

@@ -13,8 +13,8 @@ use Rattle.trick_crew_team.specs.Hands.{AreOfHall, IsLeftBy, IsTakenIn}
 use Rattle.trick_crew_team.specs.Members.{AreMembers, IsMember}
 use Rattle.trick_crew_team.specs.Working.{HasWorked}
 use Rattle.trick_crew_team.specs.declared.worker.Worker.{Worker}
-use Rattle.trick_hall.specs.HallView.{HallView}
-use Rattle.trick_hall.specs.declared.entry.Entry.{Entry}
+use Rattle.trick_hall_kept.specs.HallView.{HallView}
+use Rattle.trick_hall_kept.specs.declared.entry.Entry.{Entry}
 use Rattle.trick_hall.specs.declared.hand.Hand.{Hand}
 use Rattle.trick_model.specs.declared.planned.Planned.{Ghosts}
 use Rattle.trick_outside.specs.declared.work.Begun.{Begun}

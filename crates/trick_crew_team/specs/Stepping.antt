@@ -3,11 +3,11 @@ use Rattle.std.specs.Prelude.{ℕ, Some}
 use Rattle.trick_crew_team.specs.declared.step.Stepped.{Stepped}
 use Rattle.trick_crew_team.specs.declared.step.Stepped.TheVariants.{Ends, Idles, Waits, Worked}
 use Rattle.trick_eval.specs.Bench.{BenchView, the_job}
-use Rattle.trick_hall.specs.Answers.{CommitsAt, TakesAt}
-use Rattle.trick_hall.specs.declared.answers.HandCommit.{HandCommit}
-use Rattle.trick_hall.specs.declared.answers.HandTook.{HandTook}
-use Rattle.trick_hall.specs.declared.answers.HandTook.TheVariants as taken
-use Rattle.trick_hall.specs.declared.entry.Entry.{Entry}
+use Rattle.trick_hall_kept.specs.Answers.{CommitsAt, TakesAt}
+use Rattle.trick_hall_kept.specs.declared.answers.HandCommit.{HandCommit}
+use Rattle.trick_hall_kept.specs.declared.answers.HandTook.{HandTook}
+use Rattle.trick_hall_kept.specs.declared.answers.HandTook.TheVariants as taken
+use Rattle.trick_hall_kept.specs.declared.entry.Entry.{Entry}
 use Rattle.trick_lang.specs.Effect.{effect}
 use Rattle.trick_lang.specs.declared.program.Program.{Program}
 use Rattle.trick_model.specs.declared.plan.Plan.{Plan}

@@ -1,7 +1,7 @@
 -- What a worker leaves.
 use Rattle.std.specs.Prelude.{◌≡◌, true}
 use Rattle.trick_crew_team.specs.declared.worker.Worker.{Worker}
-use Rattle.trick_hall.specs.Histories.{has_shut}
+use Rattle.trick_hall_kept.specs.Histories.{has_shut}
 use Rattle.trick_hall.specs.declared.hand.Hand.{Hand}
 use Rattle.trick_model.specs.declared.planned.Planned.{Ghosts}
 use Rattle.trick_turn.specs.Passes.{seen}

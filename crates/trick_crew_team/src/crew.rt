@@ -5,7 +5,7 @@ ghost use Rattle.trick_crew_team.specs.Children.{children};
 ghost use Rattle.trick_crew_team.specs.Hands.{IsTakenIn};
 ghost use Rattle.trick_crew_team.specs.Members.{AreFor, IsRefusedAny, refused};
 ghost use Rattle.trick_crew_team.specs.Working.{HasWorked};
-ghost use Rattle.trick_hall.specs.Histories.{has_shut};
+ghost use Rattle.trick_hall_kept.specs.Histories.{has_shut};
 ghost use Rattle.trick_outside.specs.Causes.{HasCause};
 ghost use Rattle.trick_turn.specs.Passes.{own, seen};
 ghost use mathlib.Core.List.{IsPrefix};

@@ -3,9 +3,9 @@ ghost use Rattle.std.specs.Arc.{arc_value};
 ghost use Rattle.std.specs.Prelude.{◌≡◌, IsSome, None, Some, false, is_some};
 ghost use Rattle.trick_crew_team.specs.Hands.{AreOfHall};
 ghost use Rattle.trick_eval.specs.Bench.{IsFor};
-ghost use Rattle.trick_hall.specs.Answers.{IsSerial};
-ghost use Rattle.trick_hall.specs.Histories.{Opening, has_shut};
-ghost use Rattle.trick_hall.specs.Openings.{opened_at};
+ghost use Rattle.trick_hall_kept.specs.Answers.{IsSerial};
+ghost use Rattle.trick_hall_kept.specs.Histories.{Opening, has_shut};
+ghost use Rattle.trick_hall_kept.specs.Openings.{opened_at};
 ghost use Rattle.trick_lang.specs.Effect.{scalars_of};
 ghost use Rattle.trick_turn.specs.Passes.{IsPassOf, own};
 

@@ -2,7 +2,7 @@
 ghost use Rattle.std.specs.Arc.{arc_value};
 ghost use Rattle.std.specs.Prelude.{◌≡◌, IfOk, Some, true};
 ghost use Rattle.trick_eval.specs.Bench.{IsFor};
-ghost use Rattle.trick_hall.specs.Histories.{has_shut};
+ghost use Rattle.trick_hall_kept.specs.Histories.{has_shut};
 ghost use Rattle.trick_turn.specs.Passes.{seen};
 
 use crate::held::Held;

@@ -4,13 +4,13 @@ use Rattle.std.specs.Prelude.{IsSome}
 use Rattle.trick_phase_board.specs.Answers.{IfMemory}
 use Rattle.trick_phase_board.specs.declared.answers.Closed.{Closed}
 use Rattle.trick_phase_board.specs.declared.answers.Closed.TheVariants.{Left, Memory}
-use Rattle.trick_hall.specs.Answers.{told_by_close}
-use Rattle.trick_hall.specs.HallView.{HallView}
-use Rattle.trick_hall.specs.Histories.{Account, Course, IsLegal, Opening, after, after_from, fresh, has_shut, seat_of, step, with_step}
-use Rattle.trick_hall.specs.Openings.{opened_at, opened_from}
-use Rattle.trick_hall.specs.Standing.{StandsAt}
-use Rattle.trick_hall.specs.declared.entry.Entry.{Entry}
-use Rattle.trick_hall.specs.declared.entry.Entry.TheVariants.{Open, Take, Commit, Close, Shut}
+use Rattle.trick_hall_kept.specs.Answers.{told_by_close}
+use Rattle.trick_hall_kept.specs.HallView.{HallView}
+use Rattle.trick_hall_kept.specs.Histories.{Account, Course, IsLegal, Opening, after, after_from, fresh, has_shut, seat_of, step, with_step}
+use Rattle.trick_hall_kept.specs.Openings.{opened_at, opened_from}
+use Rattle.trick_hall_kept.specs.Standing.{StandsAt}
+use Rattle.trick_hall_kept.specs.declared.entry.Entry.{Entry}
+use Rattle.trick_hall_kept.specs.declared.entry.Entry.TheVariants.{Open, Take, Commit, Close, Shut}
 use Rattle.trick_lang.specs.declared.job.JobId.{JobId}
 use Rattle.trick_model.specs.declared.flags.Flags.{Flags}
 use Rattle.trick_model.specs.declared.plan.Plan.{Plan as PlanValue}

@@ -2,15 +2,15 @@
 use Rattle.std.proofs.Common.{◌≡◌, ◌∙◌, ℕ, ℤ, Bool, true, false, List, Option, Some, None, [], ◌∷◌, ◌++◌, ap, sym, subst, append-nil, append_assoc}
 use mathlib.Core.List.{IsPrefix}
 use Rattle.std.specs.Option.{IfSome, option_map}
-use Rattle.trick_hall.specs.Answers.{ClosesAt, ClosesIn, CommitsAt, CommitsIn, TakesAt, TakesIn, close_if, job_committed, job_taken, told_by_close, told_by_commit, told_by_take}
-use Rattle.trick_hall.specs.HallView.{HallView}
-use Rattle.trick_hall.specs.Histories.{IsLegal, Opening, fresh, seat_of}
-use Rattle.trick_hall.specs.Standing.{StandsAt}
-use Rattle.trick_hall.specs.Telling.{HasAdded, HasLooked, HasTold}
-use Rattle.trick_hall.specs.declared.answers.HandCommit.{HandCommit}
-use Rattle.trick_hall.specs.declared.answers.HandTook.{HandTook}
-use Rattle.trick_hall.specs.declared.entry.Entry.{Entry}
-use Rattle.trick_hall.specs.declared.entry.Entry.TheVariants.{Commit, Take}
+use Rattle.trick_hall_kept.specs.Answers.{ClosesAt, ClosesIn, CommitsAt, CommitsIn, TakesAt, TakesIn, close_if, job_committed, job_taken, told_by_close, told_by_commit, told_by_take}
+use Rattle.trick_hall_kept.specs.HallView.{HallView}
+use Rattle.trick_hall_kept.specs.Histories.{IsLegal, Opening, fresh, seat_of}
+use Rattle.trick_hall_kept.specs.Standing.{StandsAt}
+use Rattle.trick_hall_kept.specs.Telling.{HasAdded, HasLooked, HasTold}
+use Rattle.trick_hall_kept.specs.declared.answers.HandCommit.{HandCommit}
+use Rattle.trick_hall_kept.specs.declared.answers.HandTook.{HandTook}
+use Rattle.trick_hall_kept.specs.declared.entry.Entry.{Entry}
+use Rattle.trick_hall_kept.specs.declared.entry.Entry.TheVariants.{Commit, Take}
 use Rattle.trick_phase_board.specs.declared.answers.Closed.{Closed}
 use Rattle.trick_eval.specs.Bench.{BenchView}
 use Rattle.trick_lang.specs.declared.job.JobId.{JobId}

@@ -5,9 +5,9 @@ ghost use Rattle.trick_turn.specs.Passes.{AreDealt, IsPassOf, Rests, own};
 
 use crate::chief::Chief;
 use crate::hand::Hand;
-use crate::kept::Kept;
 use std::alloc::{AllocError, Global};
 use std::sync::Arc;
+use trick_hall_kept::Kept;
 use trick_lang::Cells;
 use trick_model::{Accepted, Planned};
 use trick_turn::{Pass, TurnLock};

@@ -1,8 +1,8 @@
 //! A hall that three threads share.
 ghost use Rattle.std.specs.Prelude.{◌≡◌, IfOk, IsSome, None, Some, false};
 ghost use Rattle.trick_eval.specs.Bench.{IsFor as IsBenchFor};
-ghost use Rattle.trick_hall.specs.Histories.{has_shut};
-ghost use Rattle.trick_hall.specs.Openings.{opened_at};
+ghost use Rattle.trick_hall_kept.specs.Histories.{has_shut};
+ghost use Rattle.trick_hall_kept.specs.Openings.{opened_at};
 ghost use Rattle.trick_phase_jobs.specs.Belongs.{IsMemoryOf};
 ghost use Rattle.trick_queue.specs.Queue.{IsFor as IsQueueFor};
 ghost use Rattle.trick_turn.specs.Passes.{own};

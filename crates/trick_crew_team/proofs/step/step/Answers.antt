@@ -2,7 +2,7 @@ use Rattle.std.proofs.Common.{◌∙◌, ap, subst}
 use Rattle.trick_crew_team.proofs.step.step.Goals as goal
 use Rattle.trick_crew_team.specs.Stepping.{evaluated}
 use Rattle.trick_eval.specs.Bench.{BenchView}
-use Rattle.trick_hall.specs.Answers.{CommitsAt}
+use Rattle.trick_hall_kept.specs.Answers.{CommitsAt}
 use Rattle.trick_model.specs.declared.plan.Plan.{Plan}
 
 pub returns-in-Took-clause-answer : goal.returns-in-Took-clause-answer

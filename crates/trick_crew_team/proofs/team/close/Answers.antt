@@ -1,8 +1,8 @@
 use Rattle.std.proofs.Common.{◌∙◌, ap, append-nil, subst}
 use Rattle.trick_crew_team.proofs.Openings.{still_open}
 use Rattle.trick_crew_team.proofs.team.close.Goals as goal
-use Rattle.trick_hall.specs.Answers.{IsSerial}
-use Rattle.trick_hall.specs.Openings.{opened_at}
+use Rattle.trick_hall_kept.specs.Answers.{IsSerial}
+use Rattle.trick_hall_kept.specs.Openings.{opened_at}
 use Rattle.trick_model.specs.FaultList.{FaultList}
 use Rattle.trick_turn.specs.Passes.{own}
 

@@ -4,7 +4,7 @@ use Rattle.trick_crew_team.proofs.Lists.{prefix_of_prefix}
 use Rattle.trick_crew_team.proofs.Openings.{shut_last}
 use Rattle.trick_crew_team.proofs.TakingIn.{same_hall, share_is_of, still_of_hall}
 use Rattle.trick_crew_team.proofs.crew.Crew.finish.Goals as goal
-use Rattle.trick_hall.specs.Histories.{has_shut}
+use Rattle.trick_hall_kept.specs.Histories.{has_shut}
 use Rattle.trick_turn.specs.Passes.{IsPassOf, own, seen}
 use mathlib.Core.List.{IsPrefix}
 

@@ -1,13 +1,13 @@
 use Rattle.std.proofs.Common.{◌∙◌, sym, ap, subst, List, Option, ◌++◌}
-use Rattle.trick_hall.proofs.Entries.{stands_picked}
+use Rattle.trick_hall_kept.proofs.Entries.{stands_picked}
 use Rattle.trick_hall.proofs.Own.{closed_after, open_own, opened_own, shut_after}
 use Rattle.trick_hall.proofs.Turns.{waits_looked, close_at, close_names, tells}
-use Rattle.trick_hall.specs.Answers.{ClosesIn, close_if}
-use Rattle.trick_hall.specs.HallView.{HallView}
-use Rattle.trick_hall.specs.Histories.{Opening}
-use Rattle.trick_hall.specs.Standing.{StandsAt}
-use Rattle.trick_hall.specs.Telling.{HasTold}
-use Rattle.trick_hall.specs.declared.entry.Entry.{Entry}
+use Rattle.trick_hall_kept.specs.Answers.{ClosesIn, close_if}
+use Rattle.trick_hall_kept.specs.HallView.{HallView}
+use Rattle.trick_hall_kept.specs.Histories.{Opening}
+use Rattle.trick_hall_kept.specs.Standing.{StandsAt}
+use Rattle.trick_hall_kept.specs.Telling.{HasTold}
+use Rattle.trick_hall_kept.specs.declared.entry.Entry.{Entry}
 use Rattle.trick_turn.specs.Passes.{own, seen}
 use Rattle.trick_turn.specs.Views.{entries_told}
 use Rattle.trick_hall.proofs.chief.Chief.close.Goals as goal

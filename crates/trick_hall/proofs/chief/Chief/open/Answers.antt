@@ -1,12 +1,12 @@
 use Rattle.std.proofs.Common.{◌∙◌, refl, sym, ap, subst, List, None, ◌++◌, ◌∷◌, []}
-use Rattle.trick_hall.proofs.Entries.{stands_picked}
+use Rattle.trick_hall_kept.proofs.Entries.{stands_picked}
 use Rattle.trick_hall.proofs.Own.{closed_own, not_shut_own, opened_more, shut_more}
 use Rattle.trick_hall.proofs.Turns.{adds, waits_looked, open_at}
-use Rattle.trick_hall.specs.HallView.{HallView}
-use Rattle.trick_hall.specs.Histories.{has_shut}
-use Rattle.trick_hall.specs.Openings.{opened_at}
-use Rattle.trick_hall.specs.Standing.{StandsAt}
-use Rattle.trick_hall.specs.declared.entry.Entry.{Entry}
+use Rattle.trick_hall_kept.specs.HallView.{HallView}
+use Rattle.trick_hall_kept.specs.Histories.{has_shut}
+use Rattle.trick_hall_kept.specs.Openings.{opened_at}
+use Rattle.trick_hall_kept.specs.Standing.{StandsAt}
+use Rattle.trick_hall_kept.specs.declared.entry.Entry.{Entry}
 use Rattle.trick_turn.specs.Passes.{own, seen}
 use Rattle.trick_hall.proofs.chief.Chief.open.Goals as goal
 

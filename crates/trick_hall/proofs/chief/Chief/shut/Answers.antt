@@ -1,9 +1,9 @@
 use Rattle.std.proofs.Common.{◌∙◌, refl, sym, subst, List}
 use Rattle.trick_hall.proofs.Own.{closed_own}
 use Rattle.trick_hall.proofs.Turns.{adds, waits_looked}
-use Rattle.trick_hall.specs.HallView.{HallView}
-use Rattle.trick_hall.specs.Standing.{StandsAt}
-use Rattle.trick_hall.specs.declared.entry.Entry.{Entry}
+use Rattle.trick_hall_kept.specs.HallView.{HallView}
+use Rattle.trick_hall_kept.specs.Standing.{StandsAt}
+use Rattle.trick_hall_kept.specs.declared.entry.Entry.{Entry}
 use Rattle.trick_turn.specs.Passes.{own, seen}
 use Rattle.trick_hall.proofs.chief.Chief.shut.Goals as goal
 

@@ -1,7 +1,7 @@
 use Rattle.std.proofs.Common.{◌+◌, ◌<◌, ◌∙◌, ◌∷◌, length, map, arith, subst, sym, ap}
 use Rattle.std.specs.Prelude.{All}
 use Rattle.trick_hall.proofs.Passes.{first_and_others, first_dealt, others_rest}
-use Rattle.trick_hall.specs.declared.entry.Entry.{Entry}
+use Rattle.trick_hall_kept.specs.declared.entry.Entry.{Entry}
 use Rattle.trick_turn.specs.Passes.{AreDealt, IsPassOf, Rests}
 use Rattle.trick_turn.specs.declared.view.View.{View}
 use Rattle.trick_hall.proofs.hall.Hall.new.Goals as goal

@@ -1,6 +1,6 @@
 use Rattle.std.specs.Option.{option_map}
 use Rattle.trick_turn.specs.Passes.{number_of}
-use Rattle.trick_hall.specs.declared.entry.Entry.TheVariants.{Commit}
+use Rattle.trick_hall_kept.specs.declared.entry.Entry.TheVariants.{Commit}
 use Rattle.trick_hall.proofs.hand.Hand.commit.Given as goal
 
 abbrev pub ghosts-end_commit : goal.ghosts-end_commit

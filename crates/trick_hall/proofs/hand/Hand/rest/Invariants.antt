@@ -1,5 +1,5 @@
 use Rattle.std.proofs.Common.{◌≡◌}
-use Rattle.trick_hall.specs.Telling.{HasLooked}
+use Rattle.trick_hall_kept.specs.Telling.{HasLooked}
 use Rattle.trick_hall.proofs.hand.Hand.rest.Given as goal
 
 abbrev pub invariant-loop : goal.invariant-loop

@@ -1,13 +1,13 @@
 use Rattle.std.proofs.Common.{◌≡◌, ◌∙◌, rules, refl, sym, ap, subst, List, Option, ◌++◌}
 use Rattle.std.specs.Option.{option_map}
-use Rattle.trick_hall.proofs.Entries.{stands_picked}
-use Rattle.trick_hall.proofs.Committings.{tried_commit}
+use Rattle.trick_hall_kept.proofs.Entries.{stands_picked}
+use Rattle.trick_hall_kept.proofs.Committings.{tried_commit}
 use Rattle.trick_hall.proofs.Turns.{claims_looked, commit_at, names_pass}
-use Rattle.trick_hall.specs.Answers.{job_committed}
-use Rattle.trick_hall.specs.HallView.{HallView}
-use Rattle.trick_hall.specs.Standing.{StandsAt}
-use Rattle.trick_hall.specs.declared.entry.Entry.{Entry}
-use Rattle.trick_hall.specs.declared.entry.Entry.TheVariants.{Commit}
+use Rattle.trick_hall_kept.specs.Answers.{job_committed}
+use Rattle.trick_hall_kept.specs.HallView.{HallView}
+use Rattle.trick_hall_kept.specs.Standing.{StandsAt}
+use Rattle.trick_hall_kept.specs.declared.entry.Entry.{Entry}
+use Rattle.trick_hall_kept.specs.declared.entry.Entry.TheVariants.{Commit}
 use Rattle.trick_lang.specs.declared.job.JobId.{JobId}
 use Rattle.trick_turn.specs.Passes.{number_of, seen}
 use Rattle.trick_turn.specs.Views.{entries_told}

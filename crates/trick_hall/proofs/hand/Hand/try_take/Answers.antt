@@ -1,14 +1,14 @@
 use Rattle.std.proofs.Common.{◌≡◌, ◌∙◌, rules, refl, sym, ap, subst, List, Option, ◌++◌}
 use Rattle.std.specs.Option.{IfSome, option_map}
-use Rattle.trick_hall.proofs.Entries.{stands_picked}
-use Rattle.trick_hall.proofs.Takings.{tried_take}
+use Rattle.trick_hall_kept.proofs.Entries.{stands_picked}
+use Rattle.trick_hall_kept.proofs.Takings.{tried_take}
 use Rattle.trick_hall.proofs.Turns.{claims_looked, names_pass, take_at}
-use Rattle.trick_hall.specs.Answers.{job_taken}
-use Rattle.trick_hall.specs.HallView.{HallView}
-use Rattle.trick_hall.specs.Histories.{after}
-use Rattle.trick_hall.specs.Standing.{StandsAt}
-use Rattle.trick_hall.specs.declared.entry.Entry.{Entry}
-use Rattle.trick_hall.specs.declared.entry.Entry.TheVariants.{Take}
+use Rattle.trick_hall_kept.specs.Answers.{job_taken}
+use Rattle.trick_hall_kept.specs.HallView.{HallView}
+use Rattle.trick_hall_kept.specs.Histories.{after}
+use Rattle.trick_hall_kept.specs.Standing.{StandsAt}
+use Rattle.trick_hall_kept.specs.declared.entry.Entry.{Entry}
+use Rattle.trick_hall_kept.specs.declared.entry.Entry.TheVariants.{Take}
 use Rattle.trick_lang.specs.declared.job.JobId.{JobId}
 use Rattle.trick_turn.specs.Passes.{number_of, seen}
 use Rattle.trick_turn.specs.Views.{entries_told}

@@ -1,6 +1,6 @@
 use Rattle.std.specs.Option.{option_map}
 use Rattle.trick_turn.specs.Passes.{number_of}
-use Rattle.trick_hall.specs.declared.entry.Entry.TheVariants.{Take}
+use Rattle.trick_hall_kept.specs.declared.entry.Entry.TheVariants.{Take}
 use Rattle.trick_hall.proofs.hand.Hand.try_take.Given as goal
 
 abbrev pub ghosts-end_take : goal.ghosts-end_take

@@ -1,5 +1,0 @@
-use Rattle.std.proofs.Common.{rules}
-use Rattle.trick_hall.proofs.answers.HandTook.job_taken.Goals as goal
-
-pub returns-in-Took : goal.returns-in-Took
-returns-in-Took c = search rules

@@ -1,8 +1,0 @@
-use Rattle.std.proofs.Common.{ap, true}
-use Rattle.trick_hall.proofs.Tics.{shuts}
-use Rattle.trick_hall.specs.HallView.{HallView}
-use Rattle.trick_hall.proofs.kept.Kept.shut.Goals as goal
-
-pub returns : goal.returns
-returns g c = λ plan log stands none.
-    shuts plan log c.args.self.now _ stands none (ap (λ (hall : HallView). record hall { shut = true }) c.self.view_is)
