@@ -67,7 +67,8 @@ fn read_file<R: Files>(rt: &R, alloc: Global, name: &Word) -> io::Result<Option<
 fn make_empty<R: Files>(rt: &R, name: &Word) -> io::Result<()> {
     let path = path_of(name)?;
     is_there(rt, path)?;
-    fs::create(rt, path).map(drop)
+    fs::create(rt, path)?;
+    Ok(())
 }
 
 /// Opens a file so that all that is written goes to its end. It is made where there is none.

@@ -15,7 +15,7 @@ use Rattle.trick_outside.specs.declared.stop.Stop.TheVariants.{Memory}
 use Rattle.trick_outside.specs.declared.stop.Stop.{Stop}
 use Rattle.trick_exec_laws.specs.Left.{Left, untouched}
 use Rattle.trick_exec_alone.specs.declared.summary.Summary.{Summary}
-use Rattle.trick_serve_door.specs.Taking.{Hosts}
+use Rattle.trick_serve_seats.specs.Taking.{Hosts}
 use Rattle.trick_serve.specs.Served.{HasServedRun, IsStoppedServed}
 use Rattle.trick_serve.specs.Serving.{moment, outside}
 use Rattle.trick_exec_tic.specs.Steps.{steps_of}

@@ -8,7 +8,7 @@ use Rattle.trick_model.specs.declared.entry.Entry.{Entry}
 use Rattle.trick_outside.specs.Causes.{RoseBy}
 use Rattle.trick_outside.specs.declared.stop.Stop.{Stop}
 use Rattle.trick_exec_alone.specs.declared.summary.Summary.{Summary}
-use Rattle.trick_serve_door.specs.Taking.{Hosts}
+use Rattle.trick_serve_seats.specs.Taking.{Hosts}
 use Rattle.trick_serve.specs.Served.{HasServedRun, IsStoppedServed, IsWholeServed}
 use Rattle.trick_serve.specs.Serving.{Moment, Outside, moment}
 

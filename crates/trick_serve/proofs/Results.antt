@@ -22,7 +22,7 @@ use Rattle.trick_exec_alone.specs.declared.summary.Summary.{Summary}
 use Rattle.trick_serve_source.specs.Calls.{View, Went}
 use Rattle.trick_serve_clients.specs.Tended.{HasTended}
 use Rattle.trick_serve_clients.specs.declared.closing.Closed.{Closed}
-use Rattle.trick_serve_door.specs.Taking.{Hosts as DoorHosts}
+use Rattle.trick_serve_seats.specs.Taking.{Hosts as DoorHosts}
 use Rattle.trick_serve_facts.specs.Joins.{JoinsAreInOrder}
 use Rattle.trick_serve.proofs.Counting.{joins_counted}
 use Rattle.trick_serve.proofs.Stopping.{ran_stops}

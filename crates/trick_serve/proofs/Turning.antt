@@ -19,8 +19,8 @@ use Rattle.trick_exec_alone.specs.declared.summary.Summary.{Summary}
 use Rattle.trick_serve_source.specs.Calls.{View, Went}
 use Rattle.trick_serve_source.specs.Rolls.{ways_of}
 use Rattle.trick_serve_source.specs.declared.served.Served.{Served}
-use Rattle.trick_serve_door.specs.declared.arrival.Comes.{Comes}
-use Rattle.trick_serve_door.specs.declared.departure.Departure.{Departure}
+use Rattle.trick_serve_seats.specs.declared.arrival.Comes.{Comes}
+use Rattle.trick_serve_seats.specs.declared.departure.Departure.{Departure}
 use Rattle.trick_serve_facts.proofs.Tales.{handed_serves}
 use Rattle.trick_serve_facts.specs.Serves.{GiveNothing, IsServedRun}
 use Rattle.trick_serve.specs.Ran.{HasRun}

@@ -1,6 +1,6 @@
 -- What a served run works with.
 use Rattle.trick_outside.specs.declared.shelf.Shelf.{Ghosts as ShelfGhosts}
-use Rattle.trick_serve_door.specs.Taking.{Hosts}
+use Rattle.trick_serve_seats.specs.Taking.{Hosts}
 
 -- the shelf, and the door with the links of its clients and who admits their threads
 pub record Outside (F D I O S : Type 0) : Type 1 where

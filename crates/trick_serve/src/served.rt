@@ -8,7 +8,7 @@ ghost use Rattle.trick_model.specs.PlanOf.{plan_of};
 ghost use Rattle.trick_model.specs.State.{seen};
 ghost use Rattle.trick_model.specs.ValidState.{IsStateOf};
 ghost use Rattle.trick_outside.specs.declared.stop.Stop.TheVariants.{Memory as WantOfMemory};
-ghost use Rattle.trick_serve_door.specs.Taking.{hosts};
+ghost use Rattle.trick_serve_seats.specs.Taking.{hosts};
 ghost use Rattle.trick_serve.specs.Served.{HasServedRun};
 ghost use Rattle.trick_serve.specs.Serving.{moment, outside};
 

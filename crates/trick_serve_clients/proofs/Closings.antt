@@ -6,10 +6,10 @@ use Rattle.std.specs.Arc.{arc_value}
 use Rattle.trick_outside.specs.Visits.{Visit}
 use Rattle.trick_outside.specs.Visits as visit
 use Rattle.trick_serve_source.specs.Calls.{View}
-use Rattle.trick_serve_source.specs.Clients.{AreOfClients, IsLast, IsSilent, client_queues, clients_of, has_lack, has_over}
+use Rattle.trick_serve_hearing.specs.Clients.{AreOfClients, IsLast, IsSilent, client_queues, clients_of, has_lack, has_over}
 use Rattle.trick_serve_source.specs.Rolls.{view_of}
-use Rattle.trick_serve_source.specs.Sides.{nobody, queues_of, side}
-use Rattle.trick_serve_source.specs.declared.seat.Seat.{Seat}
+use Rattle.trick_serve_hearing.specs.Sides.{nobody, queues_of, side}
+use Rattle.trick_serve_hearing.specs.declared.seat.Seat.{Seat}
 use Rattle.trick_serve_source.specs.declared.served.Finished.{Finished}
 use Rattle.trick_serve_source.specs.declared.served.Served.{Served}
 use Rattle.trick_serve_clients.proofs.Lateness.{no_others}
@@ -22,20 +22,20 @@ use Rattle.trick_serve_clients.specs.Opened.{HasBegun}
 use Rattle.trick_serve_clients.specs.Over.{AreOver}
 use Rattle.trick_serve_clients.specs.Tended.{HasNoMore, HasTended, IsLastAnswer, IsTended, IsTendedSeat}
 use Rattle.trick_serve_clients.specs.declared.closing.Closed.{Closed as ClosedValue}
-use Rattle.trick_serve_door.specs.Accepted.{HasAccepted}
-use Rattle.trick_serve_door.specs.Departures.{left_of}
-use Rattle.trick_serve_door.specs.Pairs.{AllFit}
+use Rattle.trick_serve_seats.specs.Accepted.{HasAccepted}
+use Rattle.trick_serve_seats.specs.Departures.{left_of}
+use Rattle.trick_serve_seats.specs.Pairs.{AllFit}
 use Rattle.trick_serve_door.specs.Returns.{backs_of}
-use Rattle.trick_serve_door.specs.Seats.{IsPast}
-use Rattle.trick_serve_door.specs.Taking.{Hosts, IsEnd, Start, start_of}
-use Rattle.trick_serve_door.specs.Told.{told_clients, told_end, told_first}
-use Rattle.trick_serve_door.specs.declared.arrival.Arrival.{Arrival}
-use Rattle.trick_serve_door.specs.declared.arrival.Comes.{Comes}
-use Rattle.trick_serve_door.specs.declared.arrival.Comes.TheVariants.{Closed, Over, OutOfMemory}
-use Rattle.trick_serve_door.specs.declared.ask.End.{End}
-use Rattle.trick_serve_door.specs.declared.ask.End.TheVariants as end
-use Rattle.trick_serve_door.specs.declared.departure.Departure.TheVariants.{Run, Session}
-use Rattle.trick_serve_door.specs.declared.departure.Departure.{Departure}
+use Rattle.trick_serve_seats.specs.Seats.{IsPast}
+use Rattle.trick_serve_seats.specs.Taking.{Hosts, IsEnd, Start, start_of}
+use Rattle.trick_serve_seats.specs.Told.{told_clients, told_end, told_first}
+use Rattle.trick_serve_seats.specs.declared.arrival.Arrival.{Arrival}
+use Rattle.trick_serve_seats.specs.declared.arrival.Comes.{Comes}
+use Rattle.trick_serve_seats.specs.declared.arrival.Comes.TheVariants.{Closed, Over, OutOfMemory}
+use Rattle.trick_serve_seats.specs.declared.ask.End.{End}
+use Rattle.trick_serve_seats.specs.declared.ask.End.TheVariants as end
+use Rattle.trick_serve_seats.specs.declared.departure.Departure.TheVariants.{Run, Session}
+use Rattle.trick_serve_seats.specs.declared.departure.Departure.{Departure}
 use Rattle.trick_serve_door.specs.declared.ending.Ends.{Ends}
 use Rattle.trick_serve_door.specs.declared.taking.Accepting.{Accepting}
 use Rattle.trick_serve_door.specs.declared.taking.Taken.{Taken}

@@ -8,15 +8,15 @@ use Rattle.std.specs.Prelude.{◌||◌, All, MatchOption}
 use Rattle.trick_outside.specs.Visits.{Back, Visit}
 use Rattle.trick_outside.specs.declared.link_in.LinkIn.{Ghosts as InGhosts}
 use Rattle.trick_outside.specs.declared.link_out.LinkOut.{Ghosts as OutGhosts}
-use Rattle.trick_serve_source.specs.declared.seat.Seat.{Seat}
+use Rattle.trick_serve_hearing.specs.declared.seat.Seat.{Seat}
 use Rattle.trick_serve_clients.specs.Ending.{AreEnded, EndsAll, IsEndedBy}
 use Rattle.trick_serve_clients.specs.Ends.{AreItsEnds, ends_left, seat_ends}
 use Rattle.trick_serve_clients.specs.declared.ending.EndsLeft.{EndsLeft}
-use Rattle.trick_serve_door.specs.Pairs.{AllFit}
+use Rattle.trick_serve_seats.specs.Pairs.{AllFit}
 use Rattle.trick_serve_door.specs.Returns.{backs_of}
 use Rattle.trick_serve_door.specs.declared.ending.SessionEnd.{SessionEnd}
 use Rattle.trick_serve_door.specs.declared.ending.Ends.{Ends}
-use Rattle.trick_serve_door.specs.declared.past.Past.{Past}
+use Rattle.trick_serve_seats.specs.declared.past.Past.{Past}
 
 -- the links of one session more
 backs_more : {I O : Type 0} (number : ℕ) (sessions : List (SessionEnd I O)) (session : SessionEnd I O)

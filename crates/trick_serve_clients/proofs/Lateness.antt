@@ -3,13 +3,13 @@ use Rattle.std.proofs.Common.{◌≡◌, ◌≢◌, ◌∙◌, ⊎_elim, ℕ, �
 use Rattle.std.proofs.lemmas.Bool.{cases_lt}
 use Rattle.std.proofs.lemmas.List.{length-map, map_push}
 use Rattle.std.specs.Prelude.{IfSome}
-use Rattle.trick_serve_source.proofs.Seating.{clients_more}
-use Rattle.trick_serve_source.specs.Clients.{clients_of}
+use Rattle.trick_serve_hearing.proofs.Seating.{clients_more}
+use Rattle.trick_serve_hearing.specs.Clients.{clients_of}
 use Rattle.trick_serve_clients.specs.Ends.{ends_of}
 use Rattle.trick_serve_clients.specs.Late.{AreKept, HasComeLate}
-use Rattle.trick_serve_door.specs.declared.arrival.Arrival.{Arrival}
-use Rattle.trick_serve_door.specs.declared.arrival.Comes.{Comes}
-use Rattle.trick_serve_door.specs.declared.arrival.Comes.TheVariants.{Client, Closed}
+use Rattle.trick_serve_seats.specs.declared.arrival.Arrival.{Arrival}
+use Rattle.trick_serve_seats.specs.declared.arrival.Comes.{Comes}
+use Rattle.trick_serve_seats.specs.declared.arrival.Comes.TheVariants.{Client, Closed}
 use Rattle.trick_serve_door.specs.declared.ending.Ends.{Ends}
 
 -- What had been taken before, and then this.

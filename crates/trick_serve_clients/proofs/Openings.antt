@@ -2,15 +2,15 @@
 use Rattle.std.proofs.Common.{◌≡◌, ◌∙◌, ◌≤◌, false, [], ap, sym, subst}
 use Rattle.std.specs.Arc.{arc_value}
 use Rattle.trick_outside.specs.Causes.{Rose}
-use Rattle.trick_serve_source.specs.Rules.{sessions_by}
+use Rattle.trick_serve_hearing.specs.Rules.{sessions_by}
 use Rattle.trick_serve_source.specs.declared.served.Served.{Served}
 use Rattle.trick_serve_clients.specs.Opened.{AreUnused, HasBegun, IsOpenHere, IsUnserved, start_with}
 use Rattle.trick_serve_clients.specs.declared.opening.ClientsHere.{ClientsHere}
 use Rattle.trick_serve_clients.specs.declared.opening.Ways.{Ways}
 use Rattle.trick_serve_door.specs.Asking.{IsAsking}
-use Rattle.trick_serve_door.specs.Taking.{Hosts}
-use Rattle.trick_serve_door.specs.declared.arrival.Comes.{Comes}
-use Rattle.trick_serve_door.specs.declared.departure.Departure.{Departure}
+use Rattle.trick_serve_seats.specs.Taking.{Hosts}
+use Rattle.trick_serve_seats.specs.declared.arrival.Comes.{Comes}
+use Rattle.trick_serve_seats.specs.declared.departure.Departure.{Departure}
 use Rattle.trick_serve_door.specs.declared.taking.Accepting.{Accepting}
 use Rattle.trick_serve_door.specs.declared.taking.Taken.{Taken}
 use Rattle.trick_serve_door.specs.declared.running.RunningAcceptor.{RunningAcceptor}

@@ -4,14 +4,14 @@ use Rattle.std.proofs.lemmas.Bool.{false≢true}
 use Rattle.std.proofs.lemmas.List.Elements.{All-head}
 use Rattle.std.specs.Prelude.{All}
 use Rattle.trick_outside.specs.Visits.{Back, Ended, Failed, Gave, NotYet, OutOfMemory, Visit, clients}
-use Rattle.trick_serve_source.specs.Clients.{IsSilent, clients_of, has_lack, has_over}
-use Rattle.trick_serve_door.specs.Taking.{IsEnd}
-use Rattle.trick_serve_door.specs.Told.{GivesFirst, IsOpen, links_of, told_clients, told_end, told_first}
-use Rattle.trick_serve_door.specs.declared.arrival.Arrival.{Arrival}
-use Rattle.trick_serve_door.specs.declared.arrival.Comes.{Comes}
-use Rattle.trick_serve_door.specs.declared.arrival.Comes.TheVariants as comes
-use Rattle.trick_serve_door.specs.declared.ask.End.{End}
-use Rattle.trick_serve_door.specs.declared.ask.End.TheVariants as end
+use Rattle.trick_serve_hearing.specs.Clients.{IsSilent, clients_of, has_lack, has_over}
+use Rattle.trick_serve_seats.specs.Taking.{IsEnd}
+use Rattle.trick_serve_seats.specs.Told.{GivesFirst, IsOpen, links_of, told_clients, told_end, told_first}
+use Rattle.trick_serve_seats.specs.declared.arrival.Arrival.{Arrival}
+use Rattle.trick_serve_seats.specs.declared.arrival.Comes.{Comes}
+use Rattle.trick_serve_seats.specs.declared.arrival.Comes.TheVariants as comes
+use Rattle.trick_serve_seats.specs.declared.ask.End.{End}
+use Rattle.trick_serve_seats.specs.declared.ask.End.TheVariants as end
 
 module _ {I O : Type 0} where
   -- None of this tells that the acceptor is closed.

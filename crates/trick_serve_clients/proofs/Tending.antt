@@ -7,19 +7,19 @@ use Rattle.std.specs.Arc.{arc_value}
 use Rattle.std.specs.List.{slice_get}
 use Rattle.trick_outside.specs.declared.link_in.LinkIn.{Ghosts as InGhosts}
 use Rattle.trick_outside.specs.declared.link_out.LinkOut.{Ghosts as OutGhosts}
-use Rattle.trick_serve_source.specs.Clients.{client_queues, seat_queues}
-use Rattle.trick_serve_source.specs.Sides.{Queues, Side, nobody, queues_of, side, side_of}
-use Rattle.trick_serve_source.specs.declared.seat.Seat.{Seat}
+use Rattle.trick_serve_hearing.specs.Clients.{client_queues, seat_queues}
+use Rattle.trick_serve_hearing.specs.Sides.{Queues, Side, nobody, queues_of, side, side_of}
+use Rattle.trick_serve_hearing.specs.declared.seat.Seat.{Seat}
 use Rattle.trick_serve_clients.proofs.Endings.{NoneLacks}
 use Rattle.trick_serve_clients.specs.Ending.{AreEnded}
 use Rattle.trick_serve_clients.specs.Ends.{AreItsEnds, ends_of, seat_ends}
 use Rattle.trick_serve_clients.specs.Tended.{IsTended, IsTendedSeat}
-use Rattle.trick_serve_door.specs.Pairs.{AllFit}
-use Rattle.trick_serve_door.specs.Seats.{IsPast}
-use Rattle.trick_serve_door.specs.declared.arrival.Arrival.{Arrival}
+use Rattle.trick_serve_seats.specs.Pairs.{AllFit}
+use Rattle.trick_serve_seats.specs.Seats.{IsPast}
+use Rattle.trick_serve_seats.specs.declared.arrival.Arrival.{Arrival}
 use Rattle.trick_serve_door.specs.declared.ending.SessionEnd.{SessionEnd}
 use Rattle.trick_serve_door.specs.declared.ending.Ends.{Ends}
-use Rattle.trick_serve_door.specs.declared.past.Past.{Past}
+use Rattle.trick_serve_seats.specs.declared.past.Past.{Past}
 use Rattle.trick_wire.specs.Ends.{put_by, taken_by}
 use Rattle.trick_wire.specs.HasHeard.{HasHeard}
 use Rattle.trick_wire.specs.HasWritten.{HasWritten, IsCauseOf}

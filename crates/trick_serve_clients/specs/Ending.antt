@@ -5,11 +5,11 @@ use Rattle.trick_outside.specs.Visits.{Visit}
 use Rattle.trick_outside.specs.declared.link_in.LinkIn.{Ghosts as InGhosts}
 use Rattle.trick_outside.specs.declared.link_out.LinkOut.{Ghosts as OutGhosts}
 use Rattle.trick_serve_door.specs.Returns.{backs_of}
-use Rattle.trick_serve_door.specs.Seats.{IsPast}
-use Rattle.trick_serve_door.specs.declared.arrival.Arrival.{Arrival}
+use Rattle.trick_serve_seats.specs.Seats.{IsPast}
+use Rattle.trick_serve_seats.specs.declared.arrival.Arrival.{Arrival}
 use Rattle.trick_serve_door.specs.declared.ending.SessionEnd.{SessionEnd}
 use Rattle.trick_serve_door.specs.declared.ending.Ends.{Ends}
-use Rattle.trick_serve_door.specs.declared.past.Past.{Past}
+use Rattle.trick_serve_seats.specs.declared.past.Past.{Past}
 use Rattle.trick_wire.specs.Ends.{put_by, taken_by}
 use Rattle.trick_wire.specs.HasHeard.{HasHeard}
 use Rattle.trick_wire.specs.HasWritten.{HasWritten, IsCauseOf}

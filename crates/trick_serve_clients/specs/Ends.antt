@@ -1,10 +1,10 @@
 -- The ends of a client's queues that its caller has.
 use Rattle.std.specs.Prelude.{List, ◌++◌, map, reverse}
-use Rattle.trick_serve_source.specs.declared.seat.Seat.{Seat}
+use Rattle.trick_serve_hearing.specs.declared.seat.Seat.{Seat}
 use Rattle.trick_serve_clients.specs.declared.ending.EndsLeft.{EndsLeft}
-use Rattle.trick_serve_door.specs.declared.arrival.Arrival.{Arrival}
+use Rattle.trick_serve_seats.specs.declared.arrival.Arrival.{Arrival}
 use Rattle.trick_serve_door.specs.declared.ending.Ends.{Ends}
-use Rattle.trick_serve_door.specs.declared.past.Past.{Past}
+use Rattle.trick_serve_seats.specs.declared.past.Past.{Past}
 use Rattle.trick_wire.specs.Ends.{AreEnds}
 
 -- the ends that came with a client

@@ -1,10 +1,10 @@
 -- Clients that come as the run ends.
 use Rattle.std.specs.Prelude.{◌≡◌, ◌≢◌, ◌≤◌, List, [], ◌∷◌, ◌++◌, length, map}
-use Rattle.trick_serve_source.specs.Clients.{clients_of}
+use Rattle.trick_serve_hearing.specs.Clients.{clients_of}
 use Rattle.trick_serve_clients.specs.Ends.{ends_of}
-use Rattle.trick_serve_door.specs.declared.arrival.Arrival.{Arrival}
-use Rattle.trick_serve_door.specs.declared.arrival.Comes.{Comes}
-use Rattle.trick_serve_door.specs.declared.arrival.Comes.TheVariants.{Closed}
+use Rattle.trick_serve_seats.specs.declared.arrival.Arrival.{Arrival}
+use Rattle.trick_serve_seats.specs.declared.arrival.Comes.{Comes}
+use Rattle.trick_serve_seats.specs.declared.arrival.Comes.TheVariants.{Closed}
 use Rattle.trick_serve_door.specs.declared.ending.Ends.{Ends}
 
 -- Of the clients among these the ends of the first ones were kept, and those of all, unless there are more than 64.

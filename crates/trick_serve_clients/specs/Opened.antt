@@ -1,18 +1,18 @@
 -- How the clients of a run are opened.
 use Rattle.std.specs.Prelude.{◌≡◌, ◌≤◌, false, []}
 use Rattle.trick_outside.specs.Causes.{Rose}
-use Rattle.trick_serve_source.specs.Rules.{sessions_by}
+use Rattle.trick_serve_hearing.specs.Rules.{sessions_by}
 use Rattle.trick_serve_source.specs.declared.served.Served.{Served}
 use Rattle.trick_serve_clients.specs.declared.opening.Clients.{Clients}
 use Rattle.trick_serve_clients.specs.declared.opening.ClientsHere.{ClientsHere}
 use Rattle.trick_serve_clients.specs.declared.opening.Opened.{Opened}
 use Rattle.trick_serve_clients.specs.declared.opening.Opened.TheVariants as opened
 use Rattle.trick_serve_clients.specs.declared.opening.Ways.{Ways}
-use Rattle.trick_serve_door.specs.Accepted.{HasAccepted}
+use Rattle.trick_serve_seats.specs.Accepted.{HasAccepted}
 use Rattle.trick_serve_door.specs.Asking.{IsAsking}
-use Rattle.trick_serve_door.specs.Taking.{Hosts, Start, start_of}
-use Rattle.trick_serve_door.specs.declared.arrival.Comes.{Comes}
-use Rattle.trick_serve_door.specs.declared.departure.Departure.{Departure}
+use Rattle.trick_serve_seats.specs.Taking.{Hosts, Start, start_of}
+use Rattle.trick_serve_seats.specs.declared.arrival.Comes.{Comes}
+use Rattle.trick_serve_seats.specs.declared.departure.Departure.{Departure}
 use Rattle.trick_serve_door.specs.declared.taking.Accepting.{Accepting}
 use Rattle.trick_serve_door.specs.declared.taking.Taken.{Taken}
 use Rattle.trick_serve_door.specs.Running.{MatchRunning}

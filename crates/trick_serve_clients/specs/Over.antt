@@ -1,13 +1,13 @@
 -- What is known once the source of entries and its acceptor are over.
 use Rattle.std.specs.Prelude.{◌≡◌, ◌≤◌, true, false, List, [], length}
 use Rattle.trick_serve_source.specs.Calls.{View}
-use Rattle.trick_serve_source.specs.Clients.{AreOfClients, IsLast, IsSilent, has_lack}
+use Rattle.trick_serve_hearing.specs.Clients.{AreOfClients, IsLast, IsSilent, has_lack}
 use Rattle.trick_serve_source.specs.declared.served.Finished.{Finished}
 use Rattle.trick_serve_clients.specs.Late.{HasComeLate}
-use Rattle.trick_serve_door.specs.Accepted.{HasAccepted}
-use Rattle.trick_serve_door.specs.Departures.{left_of}
-use Rattle.trick_serve_door.specs.Taking.{Hosts, Start}
-use Rattle.trick_serve_door.specs.declared.arrival.Comes.{Comes}
+use Rattle.trick_serve_seats.specs.Accepted.{HasAccepted}
+use Rattle.trick_serve_seats.specs.Departures.{left_of}
+use Rattle.trick_serve_seats.specs.Taking.{Hosts, Start}
+use Rattle.trick_serve_seats.specs.declared.arrival.Comes.{Comes}
 use Rattle.trick_serve_door.specs.declared.ending.Ends.{Ends}
 use Rattle.trick_serve_door.specs.declared.taking.Taken.{Taken}
 use Rattle.trick_wire.specs.Ends.{AreEnds, put_by, taken_by}

@@ -7,15 +7,15 @@ use Rattle.trick_outside.specs.Visits as visit
 use Rattle.trick_outside.specs.declared.link_in.LinkIn.{Ghosts as InGhosts}
 use Rattle.trick_outside.specs.declared.link_out.LinkOut.{Ghosts as OutGhosts}
 use Rattle.trick_serve_source.specs.Calls.{View}
-use Rattle.trick_serve_source.specs.Clients.{client_queues}
-use Rattle.trick_serve_source.specs.Sides.{Side, nobody, side}
+use Rattle.trick_serve_hearing.specs.Clients.{client_queues}
+use Rattle.trick_serve_hearing.specs.Sides.{Side, nobody, side}
 use Rattle.trick_serve_clients.specs.declared.closing.Closed.{Closed}
 use Rattle.trick_serve_door.specs.Returns.{backs_of}
-use Rattle.trick_serve_door.specs.Taking.{Hosts}
-use Rattle.trick_serve_door.specs.Told.{GivesFirst, IsOpen, links_of, refused_of}
-use Rattle.trick_serve_door.specs.declared.arrival.Arrival.{Arrival}
+use Rattle.trick_serve_seats.specs.Taking.{Hosts}
+use Rattle.trick_serve_seats.specs.Told.{GivesFirst, IsOpen, links_of, refused_of}
+use Rattle.trick_serve_seats.specs.declared.arrival.Arrival.{Arrival}
 use Rattle.trick_serve_door.specs.declared.ending.SessionEnd.{SessionEnd}
-use Rattle.trick_serve_door.specs.declared.past.Past.{Past}
+use Rattle.trick_serve_seats.specs.declared.past.Past.{Past}
 use Rattle.trick_serve_facts.specs.Tales.{IsEndOf}
 use Rattle.trick_wire.specs.declared.heard.WriteStop.TheVariants as stop
 

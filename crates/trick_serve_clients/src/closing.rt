@@ -7,7 +7,7 @@ ghost use Rattle.trick_serve_clients.specs.Opened.{HasBegun, start_with};
 ghost use Rattle.trick_serve_clients.specs.Over.{AreOver};
 ghost use Rattle.trick_serve_clients.specs.Tended.{HasTended};
 ghost use Rattle.trick_serve_door.specs.Asking.{IsAsking};
-ghost use Rattle.trick_serve_door.specs.Taking.{Start, hosts};
+ghost use Rattle.trick_serve_seats.specs.Taking.{Start, hosts};
 ghost use Rattle.trick_wire.specs.Ends.{AreEnds, put_by, taken_by};
 
 use crate::ending::{EndsLeft, end_all};

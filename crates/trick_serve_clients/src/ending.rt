@@ -3,7 +3,7 @@
 ghost use Rattle.std.specs.Prelude.{◌≡◌, ◌≢◌, ◌≤◌, ◌∷◌, ◌++◌, [], List, MatchOption, map, vec_len};
 ghost use Rattle.trick_serve_clients.specs.Ends.{AreItsEnds, ends_left, seat_ends};
 ghost use Rattle.trick_serve_clients.specs.Ending.{EndsAll, IsEndedBy};
-ghost use Rattle.trick_serve_door.specs.Pairs.{AllFit};
+ghost use Rattle.trick_serve_seats.specs.Pairs.{AllFit};
 
 use std::sync::Wait;
 use trick_outside::{Door, LinkIn, LinkOut};

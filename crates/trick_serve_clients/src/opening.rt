@@ -3,7 +3,7 @@
 ghost use Rattle.std.specs.Prelude.{◌≡◌, IfOk};
 ghost use Rattle.trick_serve_clients.specs.Opened.{AreUnused, IsOpenedBy, start_with};
 ghost use Rattle.trick_serve_door.specs.Asking.{IsAsking};
-ghost use Rattle.trick_serve_door.specs.Taking.{hosts};
+ghost use Rattle.trick_serve_seats.specs.Taking.{hosts};
 
 use crate::late::Room;
 use std::alloc::{AllocError, Global};

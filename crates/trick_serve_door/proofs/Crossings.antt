@@ -3,10 +3,10 @@ use denote.Param.Send.{IsSend, sendable}
 use denote.RattleType.{RattleType}
 use Rattle.std.proofs.Crossing.{crosses}
 use Rattle.trick_base.proofs.items.Items.TheSendSync as items
-use Rattle.trick_serve_door.proofs.departure.Departure.TheSendSync as departure
-use Rattle.trick_serve_door.proofs.past.Past.TheSendSync as past
-use Rattle.trick_serve_door.specs.contracts.arrival.Arrival as Arrival
-use Rattle.trick_serve_door.specs.contracts.arrival.Comes as Comes
+use Rattle.trick_serve_seats.proofs.departure.Departure.TheSendSync as departure
+use Rattle.trick_serve_seats.proofs.past.Past.TheSendSync as past
+use Rattle.trick_serve_seats.specs.contracts.arrival.Arrival as Arrival
+use Rattle.trick_serve_seats.specs.contracts.arrival.Comes as Comes
 use Rattle.trick_serve_door.specs.contracts.taking.Accepting as Accepting
 use Rattle.trick_serve_door.specs.contracts.taking.Taken as Taken
 use Rattle.trick_turn.proofs.sleep.Bell.TheSendSync as bell

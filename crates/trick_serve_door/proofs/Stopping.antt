@@ -1,14 +1,14 @@
 -- A caller that asks the door itself: what it knows before a call, and at its end.
 use Rattle.std.proofs.Common.{◌≡◌, [], Option, Some, None, append-nil, refl, sym}
-use Rattle.trick_serve_door.proofs.Calls.{accepted}
-use Rattle.trick_serve_door.specs.Accepted.{HasAccepted}
+use Rattle.trick_serve_seats.proofs.Calls.{accepted}
+use Rattle.trick_serve_seats.specs.Accepted.{HasAccepted}
 use Rattle.trick_serve_door.specs.Asking.{AsksOn}
-use Rattle.trick_serve_door.specs.Seats.{IsPast}
-use Rattle.trick_serve_door.specs.Taking.{HasClosed, Hosts, IsTaking, Start}
-use Rattle.trick_serve_door.specs.declared.ask.Acceptor.{Acceptor}
-use Rattle.trick_serve_door.specs.declared.ask.End.{End}
-use Rattle.trick_serve_door.specs.declared.ask.End.TheVariants.{Closed}
-use Rattle.trick_serve_door.specs.declared.past.Past.{Past}
+use Rattle.trick_serve_seats.specs.Seats.{IsPast}
+use Rattle.trick_serve_seats.specs.Taking.{HasClosed, Hosts, IsTaking, Start}
+use Rattle.trick_serve_seats.specs.declared.ask.Acceptor.{Acceptor}
+use Rattle.trick_serve_seats.specs.declared.ask.End.{End}
+use Rattle.trick_serve_seats.specs.declared.ask.End.TheVariants.{Closed}
+use Rattle.trick_serve_seats.specs.declared.past.Past.{Past}
 use Rattle.trick_wire.specs.Ends.{put_by}
 
 module _ {D I O S R : Type 0} (h : Hosts D I O S) (start : Start D I O S) where

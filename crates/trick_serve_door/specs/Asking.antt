@@ -1,11 +1,11 @@
 -- How far a caller is that asks the door itself.
 use Rattle.std.specs.Prelude.{Option, Some, None, IfSome, []}
-use Rattle.trick_serve_door.specs.Seats.{AreFresh, IsPast}
-use Rattle.trick_serve_door.specs.Taking.{HasEnded, HasToldEnd, Hosts, IsTaking, Start}
-use Rattle.trick_serve_door.specs.declared.ask.Acceptor.{Acceptor}
-use Rattle.trick_serve_door.specs.declared.ask.End.{End}
+use Rattle.trick_serve_seats.specs.Seats.{AreFresh, IsPast}
+use Rattle.trick_serve_seats.specs.Taking.{HasEnded, HasToldEnd, Hosts, IsTaking, Start}
+use Rattle.trick_serve_seats.specs.declared.ask.Acceptor.{Acceptor}
+use Rattle.trick_serve_seats.specs.declared.ask.End.{End}
 use Rattle.trick_serve_door.specs.declared.asking.Asking.{Asking}
-use Rattle.trick_serve_door.specs.declared.past.Past.{Past}
+use Rattle.trick_serve_seats.specs.declared.past.Past.{Past}
 
 -- It asks the door no more, for this reason, and the caller was told so.
 pub record HasStopped {D I O S R : Type 0} (h : Hosts D I O S) (start : Start D I O S) (why : End) (door : D)

@@ -1,9 +1,7 @@
 //! The door of a run whose acceptor was refused a thread: its caller asks it himself.
 
-use crate::ask::{Acceptor, End};
-use crate::past::Past;
-use crate::queues::Queues;
 use trick_outside::Door;
+use trick_serve_seats::{Acceptor, End, Past, Queues};
 
 /// The door of a run as its caller asks it himself: where the acceptor was refused a thread. No thread is started for
 /// the clients, each of which leaves at once.

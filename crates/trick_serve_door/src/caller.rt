@@ -1,15 +1,14 @@
 //! How a caller asks the door himself.
 
-ghost use Rattle.trick_serve_door.specs.Accepted.{HasAccepted};
+ghost use Rattle.trick_serve_seats.specs.Accepted.{HasAccepted};
 ghost use Rattle.trick_serve_door.specs.Asking.{IsAsking, KeepsAsking};
-ghost use Rattle.trick_serve_door.specs.Taking.{Start, hosts, start_of};
+ghost use Rattle.trick_serve_seats.specs.Taking.{Start, hosts, start_of};
 
 use crate::Asking;
-use crate::acceptor::Teller;
-use crate::ask::{Acceptor, look};
 use crate::taking::{Accepting, Taken};
 use std::sync::Wait;
 use trick_outside::{Door, Spawner};
+use trick_serve_seats::{Acceptor, Teller, look};
 
 impl<D: Door + Drop, S: Spawner + Drop, R: Wait + Copy + Drop> Asking<D, S, R>
 where

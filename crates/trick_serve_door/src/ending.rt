@@ -2,14 +2,14 @@
 
 ghost use Rattle.std.specs.Prelude.{◌≡◌, ◌≤◌, ◌∷◌, [], false, true};
 ghost use Rattle.trick_outside.specs.Causes.{Rose};
-ghost use Rattle.trick_serve_door.specs.Seats.{IsPast};
+ghost use Rattle.trick_serve_seats.specs.Seats.{IsPast};
 ghost use Rattle.trick_wire.specs.Ends.{AreEnds, HasBoth, given_to, put_by, taken_by};
 ghost use Rattle.trick_wire.specs.HasHeard.{HasHeard};
 ghost use Rattle.trick_wire.specs.HasWritten.{HasWritten, IsCauseOf};
 
-use crate::{Arrival, Past};
 use std::sync::Wait;
 use trick_outside::{LinkIn, LinkOut};
+use trick_serve_seats::{Arrival, Past};
 use trick_wire::{Heard, Message, Putter, ReadStop, Taker, WriteStop, end_reader, end_writer};
 
 /// The caller's ends of a session.

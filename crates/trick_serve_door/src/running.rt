@@ -43,8 +43,8 @@ where
     D::Out: Drop,
 {
     ghost use Rattle.std.specs.Prelude.{◌≡◌};
-    ghost use Rattle.trick_serve_door.specs.Accepted.{HasAccepted};
-    ghost use Rattle.trick_serve_door.specs.Taking.{hosts, start_of};
+    ghost use Rattle.trick_serve_seats.specs.Accepted.{HasAccepted};
+    ghost use Rattle.trick_serve_seats.specs.Taking.{hosts, start_of};
     ghost use Rattle.trick_serve_door.specs.Running.{MatchOutcome};
 
     ghost kept_by = { λ promise outcome. MatchOutcome outcome

@@ -6,8 +6,8 @@
 
 ghost use Rattle.std.specs.Prelude.{◌≡◌, ◌≤◌, IfErr, IfOk};
 ghost use Rattle.trick_outside.specs.Causes.{Rose};
-ghost use Rattle.trick_serve_door.specs.Accepted.{HasAccepted};
-ghost use Rattle.trick_serve_door.specs.Taking.{hosts, start_of};
+ghost use Rattle.trick_serve_seats.specs.Accepted.{HasAccepted};
+ghost use Rattle.trick_serve_seats.specs.Taking.{hosts, start_of};
 ghost use Rattle.trick_serve_door.specs.Running.{MatchOutcome, MatchRunning};
 
 use crate::{Accepting, AcceptorThread, Accepts, Outcome, RunningAcceptor, Taken, accept};

@@ -1,19 +1,15 @@
 //! The acceptor, from its start to the end of the run.
 
 ghost use Rattle.std.specs.Prelude.{[]};
-ghost use Rattle.trick_serve_door.specs.Accepted.{HasAccepted};
-ghost use Rattle.trick_serve_door.specs.Seats.{IsSeated};
-ghost use Rattle.trick_serve_door.specs.Taking.{HasEnded, IsTaking, Start, hosts, start_of};
+ghost use Rattle.trick_serve_seats.specs.Accepted.{HasAccepted};
+ghost use Rattle.trick_serve_seats.specs.Seats.{IsSeated};
+ghost use Rattle.trick_serve_seats.specs.Taking.{HasEnded, IsTaking, Start, hosts, start_of};
 
-use crate::acceptor::{Teller, take_all_in};
-use crate::ask::{Acceptor, End, ask};
-use crate::past::Past;
-use crate::seat::Seated;
-use crate::{Comes, Departure};
 use std::alloc::Global;
 use std::sync::{Arc, Wait};
 use std::thread::Threads;
 use trick_outside::{Door, Spawner};
+use trick_serve_seats::{Acceptor, Comes, Departure, End, Past, Seated, Teller, ask, take_all_in};
 use trick_turn::Bell;
 use trick_wire::{Putter, Taker};
 

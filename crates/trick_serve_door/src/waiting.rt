@@ -1,8 +1,8 @@
 //! How an acceptor in a thread is waited for.
 
 ghost use Rattle.std.specs.Prelude.{◌≡◌};
-ghost use Rattle.trick_serve_door.specs.Accepted.{HasAccepted};
-ghost use Rattle.trick_serve_door.specs.Taking.{hosts, start_of};
+ghost use Rattle.trick_serve_seats.specs.Accepted.{HasAccepted};
+ghost use Rattle.trick_serve_seats.specs.Taking.{hosts, start_of};
 ghost use Rattle.trick_serve_door.specs.Running.{MatchRunning};
 
 use crate::{AcceptorThread, Outcome, RunningAcceptor, Taken, accept};

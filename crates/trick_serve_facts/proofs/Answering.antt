@@ -6,9 +6,9 @@ use Rattle.trick_model.specs.Session.{Message}
 use Rattle.trick_model.specs.declared.entry.Entry.{Entry}
 use Rattle.trick_model.specs.declared.session.Session.{Session}
 use Rattle.trick_serve_source.specs.Calls.{Answers, Breaks, Call, DoAll, Does, Hands, IsAnswered, IsGiven, Looks, View, Went, answer_of, answers_of}
-use Rattle.trick_serve_source.specs.Life.{Happening, Happens, Hears, IsSeated, IsSlow, IsTold, Lives, Misses, entries_of_all, own}
-use Rattle.trick_serve_source.specs.Sides.{Queues, Side, nobody, side, side_of}
-use Rattle.trick_serve_source.specs.declared.seat.Seat.{Seat}
+use Rattle.trick_serve_hearing.specs.Life.{Happening, Happens, Hears, IsSeated, IsSlow, IsTold, Lives, Misses, entries_of_all, own}
+use Rattle.trick_serve_hearing.specs.Sides.{Queues, Side, nobody, side, side_of}
+use Rattle.trick_serve_hearing.specs.declared.seat.Seat.{Seat}
 use Rattle.trick_serve_facts.proofs.Keeping.{handed_seated, whole_calls}
 use Rattle.trick_exec_sources.specs.Turns.{Answer}
 

@@ -15,10 +15,10 @@ use Rattle.trick_model.specs.declared.entry.Entry.{Entry}
 use Rattle.trick_model.specs.declared.session.Session.{Session}
 use Rattle.trick_outside.specs.Causes.{Rose}
 use Rattle.trick_serve_source.specs.Calls.{View}
-use Rattle.trick_serve_source.specs.Ended.{has_end, is_end}
-use Rattle.trick_serve_source.specs.Life.{own}
-use Rattle.trick_serve_source.specs.Sides.{Queues, Side, nobody, side}
-use Rattle.trick_serve_source.specs.declared.seat.Seat.{Seat}
+use Rattle.trick_serve_hearing.specs.Ended.{has_end, is_end}
+use Rattle.trick_serve_hearing.specs.Life.{own}
+use Rattle.trick_serve_hearing.specs.Sides.{Queues, Side, nobody, side}
+use Rattle.trick_serve_hearing.specs.declared.seat.Seat.{Seat}
 use Rattle.trick_serve_facts.proofs.HangUps.{HasHungUp, hung_up_along, hung_up_none}
 use Rattle.trick_serve_facts.proofs.Keeping.{AllShown, HoldsAlong, IsKept, IsShown, ShownIn, run_keeps}
 use Rattle.trick_serve_facts.proofs.Lives.{entries_kept, lines_join}

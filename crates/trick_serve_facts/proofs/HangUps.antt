@@ -11,8 +11,8 @@ use Rattle.trick_model.specs.declared.entry.Cause.TheVariants as cause
 use Rattle.trick_model.specs.declared.entry.Entry.{Entry}
 use Rattle.trick_model.specs.declared.entry.Entry.TheVariants.{Join, Said, Leave, Publish}
 use Rattle.trick_model.specs.declared.session.Session.{Session}
-use Rattle.trick_serve_source.specs.Life.{Happening, Hears, IsSeated, IsSlow, IsTold, Misses, entries_of, is_exit, is_idle, leave_of, own}
-use Rattle.trick_serve_source.specs.Sides.{Side}
+use Rattle.trick_serve_hearing.specs.Life.{Happening, Hears, IsSeated, IsSlow, IsTold, Misses, entries_of, is_exit, is_idle, leave_of, own}
+use Rattle.trick_serve_hearing.specs.Sides.{Side}
 use Rattle.trick_serve_facts.proofs.Keeping.{HoldsAlong, IsKept, IsShown, own_given}
 use Rattle.trick_serve_facts.specs.HangUps.{HangsUpIn}
 use Rattle.trick_serve_facts.specs.Life.{life}

@@ -9,9 +9,9 @@ use Rattle.trick_model.specs.Turn.{is_frozen, turn}
 use Rattle.trick_model.specs.declared.entry.Entry.{Entry}
 use Rattle.trick_model.specs.declared.mode.Mode.{Mode}
 use Rattle.trick_exec_meaning.specs.Answers.{list_answer}
-use Rattle.trick_serve_source.proofs.Placing.{side_past}
+use Rattle.trick_serve_hearing.proofs.Placing.{side_past}
 use Rattle.trick_serve_source.specs.Calls.{Answers, Breaks, Call, DoAll, Hands, IsAnswered, Looks, View, Went, answers_of}
-use Rattle.trick_serve_source.specs.Sides.{Side}
+use Rattle.trick_serve_hearing.specs.Sides.{Side}
 use Rattle.trick_serve_facts.proofs.Clients.{others_absent}
 use Rattle.trick_serve_facts.proofs.Joins.{joins_in_order}
 use Rattle.trick_serve_facts.proofs.Outcomes.{clients_served}

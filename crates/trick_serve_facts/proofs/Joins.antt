@@ -9,10 +9,10 @@ use Rattle.trick_model.specs.declared.entry.Cause.{Cause}
 use Rattle.trick_model.specs.declared.entry.Entry.{Entry}
 use Rattle.trick_model.specs.declared.entry.Entry.TheVariants.{Join, Said, Leave, Publish}
 use Rattle.trick_exec_meaning.specs.Answers.{given}
-use Rattle.trick_serve_source.proofs.Placing.{side_at, side_past}
-use Rattle.trick_serve_source.specs.Life.{leave_of, own}
-use Rattle.trick_serve_source.specs.Sides.{Queues, Side, nobody, queues_of, side, side_of}
-use Rattle.trick_serve_source.specs.declared.seat.Seat.{Seat}
+use Rattle.trick_serve_hearing.proofs.Placing.{side_at, side_past}
+use Rattle.trick_serve_hearing.specs.Life.{leave_of, own}
+use Rattle.trick_serve_hearing.specs.Sides.{Queues, Side, nobody, queues_of, side, side_of}
+use Rattle.trick_serve_hearing.specs.declared.seat.Seat.{Seat}
 use Rattle.trick_serve_facts.proofs.Clients.{lives_at_end}
 use Rattle.trick_serve_facts.specs.Joins.{JoinsAreInOrder, numbers_from}
 use Rattle.trick_serve_facts.specs.Life.{HasEntries, life}

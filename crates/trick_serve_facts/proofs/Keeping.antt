@@ -19,10 +19,10 @@ use Rattle.trick_model.specs.declared.session.Session.{Session}
 use Rattle.trick_exec_meaning.specs.Answers.{list_answer}
 use Rattle.trick_serve_source.specs.CallLaws.{whole_before as whole_one}
 use Rattle.trick_serve_source.specs.Calls.{Answers, Breaks, Call, DoAll, Does, Hands, IsAnswered, Looks, View, Went, answer_of, answers_of, message_of, messages_of}
-use Rattle.trick_serve_source.specs.Life.{Can, Goes, Happening, Happens, HangsUp, Lives, after, entries_of, entries_of_all, is_of, own}
-use Rattle.trick_serve_source.specs.Messages.{IsHanded}
-use Rattle.trick_serve_source.specs.Sides.{Queues, Side, nobody, queues_of, side, side_of}
-use Rattle.trick_serve_source.specs.declared.seat.Seat.{Seat}
+use Rattle.trick_serve_hearing.specs.Life.{Can, Goes, Happening, Happens, HangsUp, Lives, after, entries_of, entries_of_all, is_of, own}
+use Rattle.trick_serve_hearing.specs.Messages.{IsHanded}
+use Rattle.trick_serve_hearing.specs.Sides.{Queues, Side, nobody, queues_of, side, side_of}
+use Rattle.trick_serve_hearing.specs.declared.seat.Seat.{Seat}
 use Rattle.trick_serve_facts.specs.Serves.{Serves, all_entries, given_by, given_in, no_turn, one_more}
 use Rattle.trick_exec_sources.specs.Turns.{Answer}
 

@@ -23,13 +23,13 @@ use Rattle.trick_model.specs.declared.entry.Entry.{Entry}
 use Rattle.trick_model.specs.declared.entry.Entry.TheVariants.{Join, Said, Leave, Publish}
 use Rattle.trick_model.specs.declared.session.Session.{Session}
 use Rattle.trick_exec_meaning.specs.Answers.{given, list_answer}
-use Rattle.trick_serve_source.proofs.Living.{left_stays}
+use Rattle.trick_serve_hearing.proofs.Living.{left_stays}
 use Rattle.trick_serve_source.specs.Calls.{Answers, Breaks, Call, DoAll, Does, Hands, IsAnswered, IsGiven, Looks, View, Went, answers_of}
-use Rattle.trick_serve_source.specs.Life.{Can, Happening, Happens, Hears, IsSeated, IsSlow, IsTold, Lives, Misses, after, entries_of_all, leaves, own}
-use Rattle.trick_serve_source.specs.Messages.{IsHanded}
-use Rattle.trick_serve_source.specs.Rules.{AreQuick}
-use Rattle.trick_serve_source.specs.Sides.{Queues, Side, nobody, queues_of, side}
-use Rattle.trick_serve_source.specs.declared.seat.Seat.{Seat}
+use Rattle.trick_serve_hearing.specs.Life.{Can, Happening, Happens, Hears, IsSeated, IsSlow, IsTold, Lives, Misses, after, entries_of_all, leaves, own}
+use Rattle.trick_serve_hearing.specs.Messages.{IsHanded}
+use Rattle.trick_serve_hearing.specs.Rules.{AreQuick}
+use Rattle.trick_serve_hearing.specs.Sides.{Queues, Side, nobody, queues_of, side}
+use Rattle.trick_serve_hearing.specs.declared.seat.Seat.{Seat}
 use Rattle.trick_serve_facts.proofs.Answering.{HasGiven, given_went, same_sessions}
 use Rattle.trick_serve_facts.proofs.Clients.{always}
 use Rattle.trick_serve_facts.proofs.Joins.{RiseAbove, given_joins, joins_rise, rise_lower}

@@ -12,10 +12,10 @@ use Rattle.trick_model.specs.declared.entry.Cause.TheVariants as cause
 use Rattle.trick_model.specs.declared.entry.Entry.{Entry}
 use Rattle.trick_model.specs.declared.entry.Entry.TheVariants.{Join, Said, Leave}
 use Rattle.trick_model.specs.declared.session.Session.{Session}
-use Rattle.trick_serve_source.specs.Ended.{has_end}
-use Rattle.trick_serve_source.specs.Life.{Can, CanSit, Happening, Hears, HangsUp, IsSeated, IsSlow, IsTold, Misses, after, entries_of, is_exit, leave_by, leave_of, leaves, own, said_of}
-use Rattle.trick_serve_source.specs.Messages.{IsHanded}
-use Rattle.trick_serve_source.specs.Sides.{Queues, Side, nobody}
+use Rattle.trick_serve_hearing.specs.Ended.{has_end}
+use Rattle.trick_serve_hearing.specs.Life.{Can, CanSit, Happening, Hears, HangsUp, IsSeated, IsSlow, IsTold, Misses, after, entries_of, is_exit, leave_by, leave_of, leaves, own, said_of}
+use Rattle.trick_serve_hearing.specs.Messages.{IsHanded}
+use Rattle.trick_serve_hearing.specs.Sides.{Queues, Side, nobody}
 use Rattle.trick_serve_facts.proofs.Keeping.{IsKept}
 use Rattle.trick_serve_facts.specs.Life.{AskBy, AskNothing, HasEntries, HasLived, HasReason, is_fault, is_long_line, is_write_fault, life, lines_in}
 use Rattle.trick_wire.specs.declared.heard.Heard.{Heard}

@@ -3,9 +3,9 @@ use Rattle.std.proofs.Common.{◌≡◌, ◌≢◌, ◌∙◌, inl, inr, ℕ, Bo
 use Rattle.std.proofs.lemmas.Bool.{false≢true}
 use Rattle.trick_model.specs.declared.entry.Entry.{Entry}
 use Rattle.trick_model.specs.declared.session.Session.{Session}
-use Rattle.trick_serve_source.specs.Life.{Can, CanSit, Happening, Hears, IsSeated, IsSlow, IsTold, Misses, after}
-use Rattle.trick_serve_source.specs.Messages.{IsHanded}
-use Rattle.trick_serve_source.specs.Sides.{Side, nobody}
+use Rattle.trick_serve_hearing.specs.Life.{Can, CanSit, Happening, Hears, IsSeated, IsSlow, IsTold, Misses, after}
+use Rattle.trick_serve_hearing.specs.Messages.{IsHanded}
+use Rattle.trick_serve_hearing.specs.Sides.{Side, nobody}
 use Rattle.trick_serve_facts.proofs.Keeping.{IsKept}
 use Rattle.trick_serve_facts.specs.Messages.{HasMessages}
 use Rattle.trick_wire.specs.Ends.{HasWaiting}

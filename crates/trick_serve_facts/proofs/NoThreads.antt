@@ -11,10 +11,10 @@ use Rattle.trick_model.specs.declared.entry.Cause.TheVariants as cause
 use Rattle.trick_model.specs.declared.entry.Entry.{Entry}
 use Rattle.trick_model.specs.declared.entry.Entry.TheVariants.{Join, Said, Leave, Publish}
 use Rattle.trick_exec_meaning.specs.Answers.{given}
-use Rattle.trick_serve_source.proofs.Placing.{side_past}
-use Rattle.trick_serve_source.specs.Life.{is_of, leave_of, own}
-use Rattle.trick_serve_source.specs.Sides.{Queues, Side, side}
-use Rattle.trick_serve_source.specs.declared.seat.Seat.{Seat}
+use Rattle.trick_serve_hearing.proofs.Placing.{side_past}
+use Rattle.trick_serve_hearing.specs.Life.{is_of, leave_of, own}
+use Rattle.trick_serve_hearing.specs.Sides.{Queues, Side, side}
+use Rattle.trick_serve_hearing.specs.declared.seat.Seat.{Seat}
 use Rattle.trick_serve_facts.proofs.Clients.{lives_at_end}
 use Rattle.trick_serve_facts.proofs.Joins.{place_of}
 use Rattle.trick_serve_facts.proofs.Keeping.{own_given, own_join}

@@ -8,8 +8,8 @@ use Rattle.trick_model.specs.State.{State}
 use Rattle.trick_model.specs.declared.entry.Cause.{Cause}
 use Rattle.trick_model.specs.declared.entry.Entry.{Entry}
 use Rattle.trick_serve_source.specs.Calls.{View}
-use Rattle.trick_serve_source.specs.Life.{own}
-use Rattle.trick_serve_source.specs.Sides.{Queues, Side, side}
+use Rattle.trick_serve_hearing.specs.Life.{own}
+use Rattle.trick_serve_hearing.specs.Sides.{Queues, Side, side}
 use Rattle.trick_serve_facts.proofs.Clients.{fault_is, heard_is, hung_up_at_end, lives_at_end, messages_at_end}
 use Rattle.trick_serve_facts.proofs.HangUps.{HasHungUp, hung_up_by}
 use Rattle.trick_serve_facts.proofs.LastTurns.{dropped_last}

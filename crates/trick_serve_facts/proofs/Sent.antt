@@ -6,9 +6,9 @@ use Rattle.trick_model.specs.Session.{Message}
 use Rattle.trick_model.specs.declared.entry.Entry.{Entry}
 use Rattle.trick_model.specs.declared.session.Session.{Session}
 use Rattle.trick_serve_source.specs.Calls.{Answers, Breaks, Call, DoAll, Does, Hands, IsAnswered, Looks, View, Went, message_of, messages_of}
-use Rattle.trick_serve_source.specs.Life.{Happening, Happens, Lives, after}
-use Rattle.trick_serve_source.specs.Sides.{Side, side}
-use Rattle.trick_serve_source.specs.declared.seat.Seat.{Seat}
+use Rattle.trick_serve_hearing.specs.Life.{Happening, Happens, Lives, after}
+use Rattle.trick_serve_hearing.specs.Sides.{Side, side}
+use Rattle.trick_serve_hearing.specs.declared.seat.Seat.{Seat}
 use Rattle.trick_serve_facts.proofs.Keeping.{messages_join, one_to}
 use Rattle.trick_serve_facts.proofs.Messages.{messages_handed, messages_happen, messages_none, same_messages}
 use Rattle.trick_serve_facts.specs.Messages.{HasMessages}

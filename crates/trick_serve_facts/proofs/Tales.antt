@@ -14,10 +14,10 @@ use Rattle.trick_outside.specs.declared.link_out.LinkOut.{Ghosts as OutGhosts}
 use Rattle.trick_exec_meaning.specs.Answers.{list_answer}
 use Rattle.trick_exec_meaning.specs.Ran as ran
 use Rattle.trick_serve_source.specs.Calls.{View, Went}
-use Rattle.trick_serve_source.specs.Sides.{Side}
-use Rattle.trick_serve_door.specs.declared.arrival.Arrival.{Arrival}
+use Rattle.trick_serve_hearing.specs.Sides.{Side}
+use Rattle.trick_serve_seats.specs.declared.arrival.Arrival.{Arrival}
 use Rattle.trick_serve_door.specs.declared.ending.SessionEnd.{SessionEnd}
-use Rattle.trick_serve_door.specs.declared.past.Past.{Past}
+use Rattle.trick_serve_seats.specs.declared.past.Past.{Past}
 use Rattle.trick_serve_facts.specs.Clients.{EndSays}
 use Rattle.trick_serve_facts.specs.Life.{is_write_fault}
 use Rattle.trick_serve_facts.specs.Serves.{Serves, no_turn, one_more}

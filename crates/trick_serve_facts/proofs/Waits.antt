@@ -20,11 +20,11 @@ use Rattle.trick_model.specs.declared.session.Session.{Session}
 use Rattle.trick_exec_meaning.specs.Answers.{list_answer, no_more}
 use Rattle.trick_exec_meaning.specs.Ran.{last_answer}
 use Rattle.trick_serve_source.specs.Calls.{Answers, Breaks, Call, DoAll, Does, Hands, IsAnswered, Looks, View, Went, answers_of}
-use Rattle.trick_serve_source.specs.Ended.{has_end, is_end}
-use Rattle.trick_serve_source.specs.Life.{Can, Happening, Happens, Hears, IsSeated, IsSlow, IsTold, Lives, Misses, after, entries_of, entries_of_all, leave_after, leave_by, leave_of, leaves, own, said_of}
-use Rattle.trick_serve_source.specs.Messages.{IsHanded}
-use Rattle.trick_serve_source.specs.Sides.{Queues, Side, nobody, side}
-use Rattle.trick_serve_source.specs.declared.seat.Seat.{Seat}
+use Rattle.trick_serve_hearing.specs.Ended.{has_end, is_end}
+use Rattle.trick_serve_hearing.specs.Life.{Can, Happening, Happens, Hears, IsSeated, IsSlow, IsTold, Lives, Misses, after, entries_of, entries_of_all, leave_after, leave_by, leave_of, leaves, own, said_of}
+use Rattle.trick_serve_hearing.specs.Messages.{IsHanded}
+use Rattle.trick_serve_hearing.specs.Sides.{Queues, Side, nobody, side}
+use Rattle.trick_serve_hearing.specs.declared.seat.Seat.{Seat}
 use Rattle.trick_serve_facts.proofs.Clients.{heard_to_end, lives_at_end}
 use Rattle.trick_serve_facts.proofs.Keeping.{whole_before, whole_calls}
 use Rattle.trick_serve_facts.specs.Clients.{EndSays, LinkTale}

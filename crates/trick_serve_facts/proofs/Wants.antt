@@ -13,9 +13,9 @@ use Rattle.trick_model.specs.declared.entry.Entry.{Entry}
 use Rattle.trick_model.specs.declared.entry.Entry.TheVariants.{Join, Said, Leave, Publish}
 use Rattle.trick_model.specs.declared.session.Session.{Session}
 use Rattle.trick_serve_source.specs.Calls.{View}
-use Rattle.trick_serve_source.specs.Life.{Can, Happening, Hears, IsSeated, IsSlow, IsTold, Misses, after, entries_of, leave_of, own}
-use Rattle.trick_serve_source.specs.Messages.{IsHanded}
-use Rattle.trick_serve_source.specs.Sides.{Queues, Side, nobody, side}
+use Rattle.trick_serve_hearing.specs.Life.{Can, Happening, Hears, IsSeated, IsSlow, IsTold, Misses, after, entries_of, leave_of, own}
+use Rattle.trick_serve_hearing.specs.Messages.{IsHanded}
+use Rattle.trick_serve_hearing.specs.Sides.{Queues, Side, nobody, side}
 use Rattle.trick_serve_facts.proofs.Clients.{always, at_end, lives_at_end}
 use Rattle.trick_serve_facts.proofs.Keeping.{IsKept}
 use Rattle.trick_serve_facts.proofs.Lives.{last_passes}

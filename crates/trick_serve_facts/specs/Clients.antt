@@ -11,8 +11,8 @@ use Rattle.trick_model.specs.declared.entry.Cause.TheVariants as cause
 use Rattle.trick_model.specs.declared.entry.Entry.{Entry}
 use Rattle.trick_outside.specs.Causes.{Rose}
 use Rattle.trick_serve_source.specs.Calls.{View}
-use Rattle.trick_serve_source.specs.Life.{own}
-use Rattle.trick_serve_source.specs.Sides.{Queues, Side, side}
+use Rattle.trick_serve_hearing.specs.Life.{own}
+use Rattle.trick_serve_hearing.specs.Sides.{Queues, Side, side}
 use Rattle.trick_serve_facts.specs.HangUps.{HangsUpIn}
 use Rattle.trick_serve_facts.specs.LastTurns.{AreOfLastTurn}
 use Rattle.trick_serve_facts.specs.Life.{AskBy, is_write_fault, life}

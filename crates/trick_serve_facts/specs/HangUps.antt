@@ -6,7 +6,7 @@ use Rattle.trick_model.specs.State.{World}
 use Rattle.trick_model.specs.declared.entry.Cause.TheVariants as cause
 use Rattle.trick_model.specs.declared.entry.Entry.{Entry}
 use Rattle.trick_model.specs.declared.entry.Entry.TheVariants.{Leave}
-use Rattle.trick_serve_source.specs.Life.{is_idle, own}
+use Rattle.trick_serve_hearing.specs.Life.{is_idle, own}
 
 -- In one of these turns session n hung up: its leave is its only entry of that turn, and as the turn begins the session
 -- is paused or has no variables.

@@ -9,8 +9,8 @@ use Rattle.trick_model.specs.Turn.{is_frozen, turn}
 use Rattle.trick_model.specs.declared.entry.Entry.{Entry}
 use Rattle.trick_exec_meaning.specs.Answers.{IsSuccession}
 use Rattle.trick_serve_source.specs.Calls.{View}
-use Rattle.trick_serve_source.specs.Sides.{Queues, side}
-use Rattle.trick_serve_source.specs.declared.seat.Seat.{Seat}
+use Rattle.trick_serve_hearing.specs.Sides.{Queues, side}
+use Rattle.trick_serve_hearing.specs.declared.seat.Seat.{Seat}
 use Rattle.trick_serve_facts.specs.Clients.{EndSays, HasServed, IsAbsent, LinkTale}
 use Rattle.trick_serve_facts.specs.Joins.{numbers_from}
 use Rattle.trick_serve_facts.specs.Serves.{IsServedRun, all_entries}

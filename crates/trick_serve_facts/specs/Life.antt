@@ -5,9 +5,9 @@ use Rattle.trick_model.specs.declared.entry.Cause.{Cause}
 use Rattle.trick_model.specs.declared.entry.Cause.TheVariants as cause
 use Rattle.trick_model.specs.declared.entry.Entry.{Entry}
 use Rattle.trick_model.specs.declared.entry.Entry.TheVariants.{Join, Said}
-use Rattle.trick_serve_source.specs.Ended.{has_end}
-use Rattle.trick_serve_source.specs.Life.{is_exit, leave_of, leaves}
-use Rattle.trick_serve_source.specs.Sides.{Queues, Side, nobody}
+use Rattle.trick_serve_hearing.specs.Ended.{has_end}
+use Rattle.trick_serve_hearing.specs.Life.{is_exit, leave_of, leaves}
+use Rattle.trick_serve_hearing.specs.Sides.{Queues, Side, nobody}
 use Rattle.trick_wire.specs.declared.heard.Heard.{Heard}
 use Rattle.trick_wire.specs.declared.heard.Heard.TheVariants as heard
 use Rattle.trick_wire.specs.declared.heard.WriteStop.{WriteStop}

@@ -1,6 +1,6 @@
 -- The messages to one session: which of them were put into its outbox.
 use Rattle.std.specs.Prelude.{◌≡◌, ◌≢◌, ℕ, true, false, List, [], ◌++◌, Some}
-use Rattle.trick_serve_source.specs.Sides.{Queues, Side}
+use Rattle.trick_serve_hearing.specs.Sides.{Queues, Side}
 use Rattle.trick_wire.specs.Ends.{HasWaiting}
 
 -- The outbox of a session was full at one moment, and messages were left out.

@@ -7,7 +7,7 @@ use Rattle.trick_model.specs.Session.{Message}
 use Rattle.trick_model.specs.State.{State}
 use Rattle.trick_model.specs.declared.entry.Entry.{Entry}
 use Rattle.trick_serve_source.specs.Calls.{View, Went}
-use Rattle.trick_serve_source.specs.Sides.{Queues, side}
+use Rattle.trick_serve_hearing.specs.Sides.{Queues, side}
 use Rattle.trick_serve_facts.specs.Clients.{EndSays, LinkTale}
 use Rattle.trick_exec_sources.specs.Turns.{Answer}
 use Rattle.trick_wire.specs.HasWritten.{HasWritten, text_of}

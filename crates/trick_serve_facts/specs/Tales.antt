@@ -3,11 +3,11 @@ use Rattle.std.specs.Prelude.{◌≤◌}
 use Rattle.trick_outside.specs.Causes.{Rose}
 use Rattle.trick_outside.specs.declared.link_in.LinkIn.{Ghosts as InGhosts}
 use Rattle.trick_outside.specs.declared.link_out.LinkOut.{Ghosts as OutGhosts}
-use Rattle.trick_serve_source.specs.Sides.{Side}
-use Rattle.trick_serve_door.specs.Seats.{IsPast}
-use Rattle.trick_serve_door.specs.declared.arrival.Arrival.{Arrival}
+use Rattle.trick_serve_hearing.specs.Sides.{Side}
+use Rattle.trick_serve_seats.specs.Seats.{IsPast}
+use Rattle.trick_serve_seats.specs.declared.arrival.Arrival.{Arrival}
 use Rattle.trick_serve_door.specs.declared.ending.SessionEnd.{SessionEnd}
-use Rattle.trick_serve_door.specs.declared.past.Past.{Past}
+use Rattle.trick_serve_seats.specs.declared.past.Past.{Past}
 use Rattle.trick_serve_facts.specs.Clients.{LinkTale}
 use Rattle.trick_wire.specs.HasHeard.{HasHeard}
 use Rattle.trick_wire.specs.HasWritten.{HasWritten, IsCauseOf}

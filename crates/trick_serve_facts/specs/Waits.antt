@@ -9,8 +9,8 @@ use Rattle.trick_model.specs.declared.entry.Cause.{Cause}
 use Rattle.trick_model.specs.declared.entry.Entry.{Entry}
 use Rattle.trick_exec_meaning.specs.Ran.{last_answer}
 use Rattle.trick_serve_source.specs.Calls.{View}
-use Rattle.trick_serve_source.specs.Life.{own}
-use Rattle.trick_serve_source.specs.Sides.{Queues, side}
+use Rattle.trick_serve_hearing.specs.Life.{own}
+use Rattle.trick_serve_hearing.specs.Sides.{Queues, side}
 use Rattle.trick_serve_facts.specs.Clients.{EndSays, LinkTale}
 use Rattle.trick_serve_facts.specs.Life.{life}
 use Rattle.trick_serve_facts.specs.Serves.{IsServedRun, all_entries}

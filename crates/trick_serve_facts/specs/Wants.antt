@@ -6,8 +6,8 @@ use Rattle.trick_model.specs.declared.entry.Cause.{Cause}
 use Rattle.trick_model.specs.declared.entry.Cause.TheVariants as cause
 use Rattle.trick_model.specs.declared.entry.Entry.{Entry}
 use Rattle.trick_serve_source.specs.Calls.{View}
-use Rattle.trick_serve_source.specs.Life.{own}
-use Rattle.trick_serve_source.specs.Sides.{Queues, side}
+use Rattle.trick_serve_hearing.specs.Life.{own}
+use Rattle.trick_serve_hearing.specs.Sides.{Queues, side}
 use Rattle.trick_serve_facts.specs.Life.{life}
 use Rattle.trick_serve_facts.specs.Serves.{IsServedRun, all_entries}
 use Rattle.trick_wire.specs.declared.heard.WriteStop.TheVariants as stop

@@ -14,7 +14,7 @@ use Rattle.trick_model.specs.declared.entry.Entry.{Entry}
 use Rattle.trick_outside.specs.Causes.{RoseBy}
 use Rattle.trick_exec_laws.specs.Left.{in_note_order, journal_lists}
 use Rattle.trick_exec_laws.specs.Noting.{NotedDoSame}
-use Rattle.trick_serve_door.specs.Taking.{Hosts}
+use Rattle.trick_serve_seats.specs.Taking.{Hosts}
 use Rattle.trick_serve_facts.specs.Clients.{LinkTale}
 use Rattle.trick_serve_facts.specs.Joins.{JoinsFirst}
 use Rattle.trick_serve_facts.specs.NoThreads.{no_thread_leaves}

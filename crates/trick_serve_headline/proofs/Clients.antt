@@ -12,7 +12,7 @@ use Rattle.trick_model.specs.Turn.{turn}
 use Rattle.trick_model.specs.declared.entry.Entry.{Entry}
 use Rattle.trick_exec_laws.specs.Left.{in_note_order, journal_lists}
 use Rattle.trick_exec_laws.specs.Noting.{NotedDoSame}
-use Rattle.trick_serve_source.specs.Life.{is_idle}
+use Rattle.trick_serve_hearing.specs.Life.{is_idle}
 use Rattle.trick_serve_facts.specs.HangUps.{HangsUpIn}
 use Rattle.trick_serve_facts.specs.LastTurns.{AreOfLastTurn}
 

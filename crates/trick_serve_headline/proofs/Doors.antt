@@ -7,8 +7,8 @@ use Rattle.std.specs.Prelude.{All}
 use Rattle.trick_serve_headline.specs.Clients.{EndsOver, IsAsk}
 use Rattle.trick_outside.specs.Visits.{Back, Ended as HasEnded, Failed, Gave, NotYet, OutOfMemory, Visit, clients}
 use Rattle.trick_serve_clients.specs.Tended.{IsLastAnswer}
-use Rattle.trick_serve_door.specs.Told.{IsOpen, links_of}
-use Rattle.trick_serve_door.specs.declared.arrival.Arrival.{Arrival}
+use Rattle.trick_serve_seats.specs.Told.{IsOpen, links_of}
+use Rattle.trick_serve_seats.specs.declared.arrival.Arrival.{Arrival}
 
 pub none_some : {X : Type 0} (one : X) → None ≡ Some one → ⊥
 none_some one is = cc

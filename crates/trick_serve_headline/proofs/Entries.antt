@@ -12,7 +12,7 @@ use Rattle.trick_model.specs.declared.entry.Entry.{Entry}
 use Rattle.trick_model.specs.declared.entry.Entry.TheVariants.{Join, Said, Leave, Publish}
 use Rattle.trick_exec_laws.proofs.Notes.{lines_in, lines_noted, others_in}
 use Rattle.trick_exec_laws.specs.Left.{in_note_order}
-use Rattle.trick_serve_source.specs.Life.{own}
+use Rattle.trick_serve_hearing.specs.Life.{own}
 use Rattle.trick_serve_facts.proofs.Keeping.{own_given}
 use Rattle.trick_serve_facts.specs.NoThreads.{is_no_thread}
 

@@ -11,8 +11,8 @@ use Rattle.trick_model.specs.declared.entry.Entry.{Entry}
 use Rattle.trick_model.specs.declared.mode.Mode.TheVariants as mode
 use Rattle.trick_outside.specs.Visits.{Ended as HasEnded, Gave, NotYet, Visit, clients}
 use Rattle.trick_serve_clients.specs.Tended.{HasTended}
-use Rattle.trick_serve_door.specs.Taking.{Hosts}
-use Rattle.trick_serve_door.specs.Told.{IsOpen}
+use Rattle.trick_serve_seats.specs.Taking.{Hosts}
+use Rattle.trick_serve_seats.specs.Told.{IsOpen}
 use Rattle.trick_serve_facts.specs.Clients.{LinkTale}
 use Rattle.trick_serve_facts.specs.Joins.{JoinsFirst}
 use Rattle.trick_serve_facts.specs.NoThreads.{no_thread_leaves}

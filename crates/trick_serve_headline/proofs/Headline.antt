@@ -13,7 +13,7 @@ use Rattle.trick_model.specs.declared.entry.Entry.{Entry}
 use Rattle.trick_outside.specs.declared.shelf.Shelf.{Ghosts}
 use Rattle.trick_exec_alone.specs.Replay.{lists_for}
 use Rattle.trick_exec_laws.specs.Noting.{NotedDoSame}
-use Rattle.trick_serve_door.specs.Taking.{Hosts}
+use Rattle.trick_serve_seats.specs.Taking.{Hosts}
 
 pub keep : {F D I O S : Type 0} → NotedDoSame → WrittenJournals → TurnsAreCounted → RunsWriteRemainders → (shelf : Ghosts F) (h : Hosts D I O S) → RunsKeepHeadline shelf h
 keep noted journals counted rests shelf h plan s lists old new door now spawner after accepted begins ends ran =

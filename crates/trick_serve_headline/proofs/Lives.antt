@@ -3,7 +3,7 @@ use Rattle.std.proofs.Common.{◌≡◌, ◌∙◌, ℕ, List, [], ◌∷◌, �
 use Rattle.trick_model.specs.declared.entry.Cause.{Cause}
 use Rattle.trick_model.specs.declared.entry.Entry.TheVariants.{Join, Said, Leave, Publish}
 use Rattle.trick_model.specs.declared.entry.Entry.{Entry}
-use Rattle.trick_serve_source.specs.Life.{leave_of}
+use Rattle.trick_serve_hearing.specs.Life.{leave_of}
 use Rattle.trick_serve_facts.specs.Life.{life}
 
 -- the lines among entries, in order

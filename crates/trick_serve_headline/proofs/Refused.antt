@@ -5,11 +5,11 @@ use Rattle.std.proofs.lemmas.Option.{same_Some}
 use Rattle.std.specs.List.{slice_get}
 use Rattle.trick_serve_headline.proofs.Doors.{none_some}
 use Rattle.trick_outside.specs.Causes.{RoseBy}
-use Rattle.trick_serve_source.specs.Clients.{client_queues}
-use Rattle.trick_serve_source.specs.Sides.{Queues, queues_of, side}
-use Rattle.trick_serve_source.specs.declared.seat.Seat.{Seat}
-use Rattle.trick_serve_door.specs.Told.{refused_of}
-use Rattle.trick_serve_door.specs.declared.arrival.Arrival.{Arrival}
+use Rattle.trick_serve_hearing.specs.Clients.{client_queues}
+use Rattle.trick_serve_hearing.specs.Sides.{Queues, queues_of, side}
+use Rattle.trick_serve_hearing.specs.declared.seat.Seat.{Seat}
+use Rattle.trick_serve_seats.specs.Told.{refused_of}
+use Rattle.trick_serve_seats.specs.declared.arrival.Arrival.{Arrival}
 use Rattle.trick_serve_facts.specs.NoThreads.{refused_seats}
 
 -- The seat at this place is of the client that arrived there.

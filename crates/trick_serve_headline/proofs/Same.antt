@@ -11,7 +11,7 @@ use Rattle.trick_model.specs.Turn.{turn}
 use Rattle.trick_model.specs.declared.entry.Entry.{Entry}
 use Rattle.trick_exec_laws.specs.Left.{in_note_order, journal_lists}
 use Rattle.trick_exec_laws.specs.Noting.{NotedDoSame}
-use Rattle.trick_serve_source.specs.Life.{own}
+use Rattle.trick_serve_hearing.specs.Life.{own}
 use Rattle.trick_serve_facts.proofs.Keeping.{own_join}
 use Rattle.trick_serve_facts.specs.IsServed.{FreezeHasEntries}
 use Rattle.trick_serve_facts.specs.Serves.{all_entries}

@@ -3,7 +3,7 @@ use Rattle.std.proofs.Common.{◌≡◌, ◌∙◌, ℕ, ◌+◌, List, [], ◌�
 use Rattle.trick_serve_headline.specs.Clients.{IsSentOf}
 use Rattle.trick_serve_headline.specs.Stopped.{FrontsAreSent}
 use Rattle.trick_model.specs.Files.{messages_to}
-use Rattle.trick_serve_door.specs.Taking.{Hosts}
+use Rattle.trick_serve_seats.specs.Taking.{Hosts}
 use Rattle.trick_serve_facts.proofs.Keeping.{messages_join}
 use Rattle.trick_serve_facts.specs.Clients.{LinkTale}
 use Rattle.trick_wire.specs.HasWritten.{text_of}

@@ -16,12 +16,12 @@ use Rattle.trick_model.specs.declared.entry.Entry.{Entry}
 use Rattle.trick_exec_meaning.specs.Answers.{IsSuccession}
 use Rattle.trick_exec_meaning.specs.Ran.{last_answer}
 use Rattle.trick_serve_source.specs.Calls.{View}
-use Rattle.trick_serve_source.specs.Clients.{client_queues}
-use Rattle.trick_serve_source.specs.Sides.{side}
+use Rattle.trick_serve_hearing.specs.Clients.{client_queues}
+use Rattle.trick_serve_hearing.specs.Sides.{side}
 use Rattle.trick_serve_clients.specs.Tended.{HasNoMore, HasTended, IsTendedSeat}
 use Rattle.trick_serve_clients.specs.declared.closing.Closed.{Closed}
-use Rattle.trick_serve_door.specs.Taking.{Hosts}
-use Rattle.trick_serve_door.specs.Told.{refused_of}
+use Rattle.trick_serve_seats.specs.Taking.{Hosts}
+use Rattle.trick_serve_seats.specs.Told.{refused_of}
 use Rattle.trick_serve_door.specs.declared.ending.SessionEnd.{SessionEnd}
 use Rattle.trick_serve_facts.specs.Clients.{HasServed}
 use Rattle.trick_serve_facts.specs.IsServed.{RunsAreServed}

@@ -11,12 +11,12 @@ use Rattle.trick_model.specs.Files.{messages_to}
 use Rattle.trick_model.specs.Session.{Message}
 use Rattle.trick_outside.specs.Visits.{Visit, clients}
 use Rattle.trick_serve_source.specs.Calls.{View, Went}
-use Rattle.trick_serve_source.specs.Clients.{client_queues}
-use Rattle.trick_serve_source.specs.Sides.{Side, nobody, side}
+use Rattle.trick_serve_hearing.specs.Clients.{client_queues}
+use Rattle.trick_serve_hearing.specs.Sides.{Side, nobody, side}
 use Rattle.trick_serve_clients.specs.Tended.{HasTended, IsTended, IsTendedSeat}
 use Rattle.trick_serve_clients.specs.declared.closing.Closed.{Closed}
-use Rattle.trick_serve_door.specs.Taking.{Hosts}
-use Rattle.trick_serve_door.specs.Told.{IsOpen, links_of}
+use Rattle.trick_serve_seats.specs.Taking.{Hosts}
+use Rattle.trick_serve_seats.specs.Told.{IsOpen, links_of}
 use Rattle.trick_serve_door.specs.declared.ending.SessionEnd.{SessionEnd}
 use Rattle.trick_serve_facts.proofs.Tales.{end_says}
 use Rattle.trick_serve_facts.specs.Clients.{EndSays}

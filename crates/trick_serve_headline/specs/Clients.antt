@@ -14,9 +14,9 @@ use Rattle.trick_outside.specs.Links.{Took}
 use Rattle.trick_outside.specs.Visits.{Back, Ended as HasEnded, Failed, Gave, NotYet, OutOfMemory, Visit, clients}
 use Rattle.trick_outside.specs.declared.link_in.LinkIn.{Ghosts as InGhosts}
 use Rattle.trick_outside.specs.declared.link_out.LinkOut.{Ghosts as OutGhosts}
-use Rattle.trick_serve_source.specs.Sides.{Queues}
+use Rattle.trick_serve_hearing.specs.Sides.{Queues}
 use Rattle.trick_serve_door.specs.Returns.{backs_of}
-use Rattle.trick_serve_door.specs.Taking.{Hosts}
+use Rattle.trick_serve_seats.specs.Taking.{Hosts}
 use Rattle.trick_serve_door.specs.declared.ending.SessionEnd.{SessionEnd}
 use Rattle.trick_serve_facts.specs.Clients.{HasServed, IsAbsent, LinkTale}
 use Rattle.trick_serve_facts.specs.IsServed.{FreezeHasEntries}

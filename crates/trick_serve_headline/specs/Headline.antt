@@ -25,7 +25,7 @@ use Rattle.trick_exec_alone.specs.Replay.{lists_for}
 use Rattle.trick_exec_laws.specs.Waiting.{NoneWaitsLonger}
 use Rattle.trick_exec_meaning.specs.Answers.{IsSuccession}
 use Rattle.trick_exec_meaning.specs.Rounds.{AreChosen}
-use Rattle.trick_serve_door.specs.Taking.{Hosts}
+use Rattle.trick_serve_seats.specs.Taking.{Hosts}
 
 -- ---- what was run
 

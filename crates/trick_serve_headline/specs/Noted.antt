@@ -7,8 +7,8 @@ use Rattle.trick_model.specs.Run.{opened}
 use Rattle.trick_model.specs.State.{State}
 use Rattle.trick_model.specs.declared.entry.Entry.{Entry}
 use Rattle.trick_exec_laws.specs.Left.{journal_lists}
-use Rattle.trick_serve_source.specs.Life.{own}
-use Rattle.trick_serve_source.specs.Sides.{Queues}
+use Rattle.trick_serve_hearing.specs.Life.{own}
+use Rattle.trick_serve_hearing.specs.Sides.{Queues}
 use Rattle.trick_serve_facts.specs.Clients.{HasServed, LinkTale}
 use Rattle.trick_serve_facts.specs.IsServed.{FreezeHasEntries}
 use Rattle.trick_serve_facts.specs.Serves.{all_entries}

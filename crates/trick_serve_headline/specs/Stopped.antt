@@ -9,7 +9,7 @@ use Rattle.trick_model.specs.Session.{Message}
 use Rattle.trick_model.specs.State.{State, World}
 use Rattle.trick_model.specs.declared.entry.Entry.{Entry}
 use Rattle.trick_exec_laws.specs.Left.{Left}
-use Rattle.trick_serve_door.specs.Taking.{Hosts}
+use Rattle.trick_serve_seats.specs.Taking.{Hosts}
 
 -- A run that was given these lists, and had handed over these messages, left its files so. In each whole run that goes on
 -- from what the whole lines of its journal tell, each client was sent a first part of its session text.

@@ -12,7 +12,7 @@ use Rattle.trick_exec_meaning.specs.Ran.{last_answer}
 use Rattle.trick_serve_source.specs.Calls.{View, Went}
 use Rattle.trick_serve_clients.specs.Tended.{HasTended}
 use Rattle.trick_serve_clients.specs.declared.closing.Closed.{Closed}
-use Rattle.trick_serve_door.specs.Taking.{Hosts}
+use Rattle.trick_serve_seats.specs.Taking.{Hosts}
 use Rattle.trick_serve_facts.specs.Serves.{IsServedRun}
 use Rattle.trick_exec_sources.specs.Turns.{Answer}
 

@@ -6,7 +6,7 @@ ghost use Rattle.trick_serve_headline.specs.Headline.{RunsKeepHeadline};
 ghost use Rattle.trick_serve_headline.specs.Noted.{ClientsAreServedAsNoted, RunsAreTheSameAsNoted};
 ghost use Rattle.trick_serve_headline.specs.Stopped.{FrontsAreSent};
 ghost use Rattle.trick_serve_headline.specs.Tended.{SentToClients, ServesTended};
-ghost use Rattle.trick_serve_door.specs.Taking.{hosts};
+ghost use Rattle.trick_serve_seats.specs.Taking.{hosts};
 
 use trick_outside::{Door, Shelf, Spawner};
 

@@ -4,10 +4,10 @@ use Rattle.std.proofs.lemmas.Bool.{cases_lt}
 use Rattle.std.proofs.lemmas.List.{ext_get_or, get_or_default}
 use Rattle.std.specs.List.{All, filter}
 use Rattle.std.specs.Prelude.{not}
-use Rattle.trick_serve_source.proofs.Placing.{filter_all, side_at}
-use Rattle.trick_serve_source.specs.Rules.{AreCalm, AreQuick, is_live, sessions_by}
-use Rattle.trick_serve_source.specs.Sides.{Side, side, side_of}
-use Rattle.trick_serve_source.specs.declared.seat.Seat.{Seat}
+use Rattle.trick_serve_hearing.proofs.Placing.{filter_all, side_at}
+use Rattle.trick_serve_hearing.specs.Rules.{AreCalm, AreQuick, is_live, sessions_by}
+use Rattle.trick_serve_hearing.specs.Sides.{Side, side, side_of}
+use Rattle.trick_serve_hearing.specs.declared.seat.Seat.{Seat}
 use Rattle.trick_exec_sources.specs.Turns.{in_next}
 
 -- what is asked of a session

@@ -4,11 +4,11 @@ use Rattle.std.proofs.lemmas.List.{length-append, length_push}
 use Rattle.std.proofs.lemmas.List.Elements.{filter-append}
 use Rattle.std.specs.List.{filter}
 use Rattle.std.specs.Prelude.{OnErr, OnOk, not}
-use Rattle.trick_serve_source.specs.Rules.{is_live}
-use Rattle.trick_serve_source.specs.declared.seat.Seat.{Seat}
-use Rattle.trick_serve_door.specs.Departures.{left_of}
-use Rattle.trick_serve_door.specs.declared.departure.Departure.{Departure}
-use Rattle.trick_serve_door.specs.declared.departure.Departure.TheVariants.{Run, Session}
+use Rattle.trick_serve_hearing.specs.Rules.{is_live}
+use Rattle.trick_serve_hearing.specs.declared.seat.Seat.{Seat}
+use Rattle.trick_serve_seats.specs.Departures.{left_of}
+use Rattle.trick_serve_seats.specs.declared.departure.Departure.{Departure}
+use Rattle.trick_serve_seats.specs.declared.departure.Departure.TheVariants.{Run, Session}
 
 told_more : (items : List Departure) (told : Departure) → left_of (items ++ told ∷ []) ≡ left_of items + left_of (told ∷ [])
 told_more [] told = omega arith

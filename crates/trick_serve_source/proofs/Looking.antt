@@ -11,21 +11,21 @@ use Rattle.trick_model.specs.Turn.{is_frozen}
 use Rattle.trick_model.specs.declared.entry.Entry.{Entry}
 use Rattle.trick_model.specs.declared.mode.Mode.{Mode}
 use Rattle.trick_model.specs.declared.session.Session.{Session}
-use Rattle.trick_serve_source.proofs.Gathering.{begins}
+use Rattle.trick_serve_hearing.proofs.Gathering.{begins}
 use Rattle.std.proofs.lemmas.Bool.Decides.{eqb_tells, nat_tests}
 use Rattle.std.proofs.lemmas.List.{nil_from_length}
-use Rattle.trick_serve_source.proofs.Living.{lives_none}
-use Rattle.trick_serve_source.proofs.Placing.{filter_twice, live_same}
-use Rattle.trick_serve_source.specs.Messages.{IsHanded}
+use Rattle.trick_serve_hearing.proofs.Living.{lives_none}
+use Rattle.trick_serve_hearing.proofs.Placing.{filter_twice, live_same}
+use Rattle.trick_serve_hearing.specs.Messages.{IsHanded}
 use Rattle.trick_serve_source.specs.CallLaws.{went_join, went_none, went_one}
 use Rattle.trick_serve_source.specs.Calls.{Answers, Breaks, Hands, IsQuiet, Looks, View, Went}
-use Rattle.trick_serve_source.specs.Life.{Lives, own}
+use Rattle.trick_serve_hearing.specs.Life.{Lives, own}
 use Rattle.trick_serve_source.specs.Looks.{Came, HasFound, HasGiven, HasLooked, HasLost, HasNoMore}
 use Rattle.trick_serve_source.specs.Rolls.{IsGathered, view, view_of}
-use Rattle.trick_serve_source.specs.Rules.{AreQuick, AreSeated, Keeps, is_live, sessions_by}
-use Rattle.trick_serve_source.specs.Sides.{Side, side}
+use Rattle.trick_serve_hearing.specs.Rules.{AreQuick, AreSeated, Keeps, is_live, sessions_by}
+use Rattle.trick_serve_hearing.specs.Sides.{Side, side}
 use Rattle.trick_serve_source.specs.declared.roll.Roll.{Roll}
-use Rattle.trick_serve_source.specs.declared.seat.Seat.{Seat}
+use Rattle.trick_serve_hearing.specs.declared.seat.Seat.{Seat}
 use Rattle.trick_serve_source.specs.declared.served.Served.{Served}
 use Rattle.trick_exec_sources.specs.Turns.{Sessions, has_line, in_next, owes_after}
 

@@ -7,8 +7,8 @@ use Rattle.std.specs.Prelude.{◌||◌, IsTrue}
 use Rattle.trick_model.specs.Session.{Message}
 use Rattle.trick_model.specs.declared.entry.Entry.{Entry}
 use Rattle.trick_serve_source.specs.Calls.{Answers, Breaks, Call, DoAll, Does, Hands, IsAnswered, Looks, View, Went, WentOn, answer_of, answers_of, message_of, messages_of}
-use Rattle.trick_serve_source.specs.Rules.{AreSeated}
-use Rattle.trick_serve_source.specs.declared.seat.Seat.{Seat}
+use Rattle.trick_serve_hearing.specs.Rules.{AreSeated}
+use Rattle.trick_serve_hearing.specs.declared.seat.Seat.{Seat}
 use Rattle.trick_exec_sources.specs.Turns.{Answer, is_among}
 
 answers_join : (early late : List Call) → answers_of (early ++ late) ≡ answers_of early ++ answers_of late

@@ -5,12 +5,12 @@ use Rattle.trick_model.specs.Session.{Message}
 use Rattle.trick_model.specs.Turn.{is_frozen}
 use Rattle.trick_model.specs.declared.entry.Entry.{Entry}
 use Rattle.trick_model.specs.declared.session.Session.{Session}
-use Rattle.trick_serve_source.specs.Life.{AllLive, Lives}
-use Rattle.trick_serve_source.specs.Messages.{IsHanded}
-use Rattle.trick_serve_source.specs.Rules.{AreQuick, Keeps}
-use Rattle.trick_serve_source.specs.Ended.{has_end}
-use Rattle.trick_serve_source.specs.Sides.{side}
-use Rattle.trick_serve_source.specs.declared.seat.Seat.{Seat}
+use Rattle.trick_serve_hearing.specs.Life.{AllLive, Lives}
+use Rattle.trick_serve_hearing.specs.Messages.{IsHanded}
+use Rattle.trick_serve_hearing.specs.Rules.{AreQuick, Keeps}
+use Rattle.trick_serve_hearing.specs.Ended.{has_end}
+use Rattle.trick_serve_hearing.specs.Sides.{side}
+use Rattle.trick_serve_hearing.specs.declared.seat.Seat.{Seat}
 use Rattle.trick_exec_sources.specs.Turns.{Answer, Sessions, in_next}
 
 -- The source of entries at one moment: its seats, its sessions, whether no client comes any more, whether there was no

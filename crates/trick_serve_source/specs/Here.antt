@@ -6,7 +6,7 @@ use Rattle.trick_serve_source.specs.Calls.{WentOn}
 use Rattle.trick_serve_source.specs.Rolls.{view_of, ways_of}
 use Rattle.trick_serve_source.specs.declared.here.ServedHere.{ServedHere}
 use Rattle.trick_serve_door.specs.Asking.{KeepsAsking}
-use Rattle.trick_serve_door.specs.Taking.{Hosts}
+use Rattle.trick_serve_seats.specs.Taking.{Hosts}
 use Rattle.trick_exec_sources.specs.Turns.{Answer}
 
 -- From the first moment to the second just these answers were given, and these messages handed over, by the same

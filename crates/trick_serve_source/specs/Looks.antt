@@ -6,10 +6,10 @@ use Rattle.std.specs.declared.vec.Vec.{Vec}
 use Rattle.trick_model.specs.declared.entry.Entry.{Entry}
 use Rattle.trick_model.specs.declared.session.Session.{Session}
 use Rattle.trick_serve_source.specs.Calls.{StaysSilent, View, Went}
-use Rattle.trick_serve_source.specs.Life.{AllLive, Lives}
+use Rattle.trick_serve_hearing.specs.Life.{AllLive, Lives}
 use Rattle.trick_serve_source.specs.Rolls.{AreEnded, IsGathered}
-use Rattle.trick_serve_source.specs.Rules.{AreQuick, Keeps, sessions_by}
-use Rattle.trick_serve_source.specs.Sides.{side}
+use Rattle.trick_serve_hearing.specs.Rules.{AreQuick, Keeps, sessions_by}
+use Rattle.trick_serve_hearing.specs.Sides.{side}
 use Rattle.trick_serve_source.specs.declared.roll.Roll.{Roll}
 use Rattle.trick_exec_sources.specs.Turns.{in_next}
 

@@ -9,15 +9,15 @@ use Rattle.trick_model.specs.declared.entry.Entry.{Entry}
 use Rattle.trick_model.specs.declared.entry.Entry.TheVariants.{Join, Leave}
 use Rattle.trick_model.specs.declared.session.Session.{Session}
 use Rattle.trick_serve_source.specs.Calls.{View}
-use Rattle.trick_serve_source.specs.Gathering.{Gathers}
-use Rattle.trick_serve_source.specs.Rules.{sessions_by}
-use Rattle.trick_serve_source.specs.Ended.{has_end}
-use Rattle.trick_serve_source.specs.Sides.{side}
+use Rattle.trick_serve_hearing.specs.Gathering.{Gathers}
+use Rattle.trick_serve_hearing.specs.Rules.{sessions_by}
+use Rattle.trick_serve_hearing.specs.Ended.{has_end}
+use Rattle.trick_serve_hearing.specs.Sides.{side}
 use Rattle.trick_serve_source.specs.declared.roll.Roll.{Roll}
-use Rattle.trick_serve_source.specs.declared.seat.Seat.{Seat}
+use Rattle.trick_serve_hearing.specs.declared.seat.Seat.{Seat}
 use Rattle.trick_serve_source.specs.declared.served.Served.{Served}
-use Rattle.trick_serve_door.specs.declared.arrival.Comes.{Comes}
-use Rattle.trick_serve_door.specs.declared.departure.Departure.{Departure}
+use Rattle.trick_serve_seats.specs.declared.arrival.Comes.{Comes}
+use Rattle.trick_serve_seats.specs.declared.departure.Departure.{Departure}
 use Rattle.trick_wire.specs.declared.queue.Shared.{Shared}
 
 -- its list was gathered from these seats and sessions

@@ -1,7 +1,7 @@
 //! Who brings the clients of a source of entries.
 
 ghost use Rattle.trick_serve_door.specs.Asking.{KeepsAsking};
-ghost use Rattle.trick_serve_door.specs.Taking.{hosts};
+ghost use Rattle.trick_serve_seats.specs.Taking.{hosts};
 
 use std::sync::Wait;
 use trick_outside::{Door, Spawner};

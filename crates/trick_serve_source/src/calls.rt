@@ -4,24 +4,23 @@ ghost use Rattle.std.specs.Prelude.{◌≡◌, ◌++◌, ◌<◌, ◌+◌, ◌-�
 ghost use Rattle.std.specs.Prelude.{List, OnOk, cond, false, filter, is_ok, length, not, ℕ, true};
 ghost use Rattle.std.specs.Vec.{vec_capacity, vec_len};
 ghost use Rattle.trick_model.specs.declared.session.Session.{Session};
-ghost use Rattle.trick_serve_source.specs.Clients.{KeepQueues, client_queues, seat_queues};
-ghost use Rattle.trick_serve_source.specs.Gathering.{Gathers};
-ghost use Rattle.trick_serve_source.specs.Messages.{IsHanded};
+ghost use Rattle.trick_serve_hearing.specs.Clients.{KeepQueues, client_queues, seat_queues};
+ghost use Rattle.trick_serve_hearing.specs.Gathering.{Gathers};
+ghost use Rattle.trick_serve_hearing.specs.Messages.{IsHanded};
 ghost use Rattle.trick_serve_source.specs.Rolls.{AreEnded, HasRoom, IsGathered, IsSameRoll, seated_entries};
-ghost use Rattle.trick_serve_source.specs.Rules.{AreCalm, AreQuick, is_live};
-ghost use Rattle.trick_serve_source.specs.Sides.{side};
-ghost use Rattle.trick_serve_door.specs.Departures.{left_of};
+ghost use Rattle.trick_serve_hearing.specs.Rules.{AreCalm, AreQuick, is_live};
+ghost use Rattle.trick_serve_hearing.specs.Sides.{side};
+ghost use Rattle.trick_serve_seats.specs.Departures.{left_of};
 ghost use Rattle.trick_wire.specs.Ends.{IsSamePutter, put_by};
 
+use crate::Roll;
 use crate::hang_up::{hang_up_all, is_calm};
-use crate::hear::listen_all;
-use crate::send::hand;
-use crate::{Roll, Seat};
 use std::alloc::{AllocError, Global};
 use std::mem;
 use std::sync::Wait;
 use trick_model::{Cause, Entry, Session};
 use trick_serve_door::{Arrival, Departure};
+use trick_serve_hearing::{Seat, hand, listen_all};
 use trick_wire::{Message, Putter};
 
 /// The greatest number of a session.

@@ -2,9 +2,9 @@
 
 ghost use Rattle.std.specs.Prelude.{◌≡◌, ◌≢◌, ◌≤◌, ◌+◌, [], IfOk, List, Ok, OnOk, ℕ, false, is_ok, length, true};
 ghost use Rattle.trick_model.specs.declared.session.Session.{Session};
-ghost use Rattle.trick_serve_source.specs.Clients.{AreOfClients, IsLast, IsSilent, has_lack};
+ghost use Rattle.trick_serve_hearing.specs.Clients.{AreOfClients, IsLast, IsSilent, has_lack};
 ghost use Rattle.trick_serve_source.specs.Rolls.{IsGathered};
-ghost use Rattle.trick_serve_source.specs.declared.seat.Seat.{Seat};
+ghost use Rattle.trick_serve_hearing.specs.declared.seat.Seat.{Seat};
 ghost use Rattle.trick_wire.specs.Ends.{IsSameTaker, taken_by};
 
 use crate::Roll;

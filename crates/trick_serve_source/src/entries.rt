@@ -4,13 +4,13 @@ ghost use Rattle.std.specs.Prelude.{◌≡◌, ◌≢◌, ◌≤◌, ◌++◌, �
 ghost use Rattle.std.specs.Prelude.{IfOk, None, Ok, OnOk, false, filter, is_ok, length, true};
 ghost use Rattle.trick_model.specs.declared.session.Session.{Session};
 ghost use Rattle.trick_serve_source.specs.Calls.{WentOn};
-ghost use Rattle.trick_serve_source.specs.Clients.{AreOfClients, IsLast, IsSilent, has_lack};
+ghost use Rattle.trick_serve_hearing.specs.Clients.{AreOfClients, IsLast, IsSilent, has_lack};
 ghost use Rattle.trick_serve_source.specs.Looks.{Came, HasFound, HasNoMore};
 ghost use Rattle.trick_serve_source.specs.Rolls.{IsGathered, view_of, ways_of};
-ghost use Rattle.trick_serve_source.specs.Rules.{AreCalm, AreQuick, is_live, sessions_by};
-ghost use Rattle.trick_serve_source.specs.declared.seat.Seat.{Seat};
-ghost use Rattle.trick_serve_door.specs.Departures.{left_of};
-ghost use Rattle.trick_serve_door.specs.declared.departure.Departure.TheVariants.{Run};
+ghost use Rattle.trick_serve_hearing.specs.Rules.{AreCalm, AreQuick, is_live, sessions_by};
+ghost use Rattle.trick_serve_hearing.specs.declared.seat.Seat.{Seat};
+ghost use Rattle.trick_serve_seats.specs.Departures.{left_of};
+ghost use Rattle.trick_serve_seats.specs.declared.departure.Departure.TheVariants.{Run};
 ghost use Rattle.trick_exec_sources.specs.Gap.{IfGap};
 ghost use Rattle.trick_exec_sources.specs.Turns.{Gives, GoesOn, Pays, answered, no_sessions};
 ghost use Rattle.trick_model.specs.State.{seen};
@@ -19,7 +19,7 @@ ghost use Rattle.trick_wire.specs.Ends.{IsSamePutter, IsSameTaker, put_by, taken
 
 use crate::asks::{Asks, Brought};
 use crate::clients::{Took, take_clients};
-use crate::{Finished, Roll, Seat, Served};
+use crate::{Finished, Roll, Served};
 use std::alloc::{AllocError, Global};
 use std::sync::{Arc, Wait};
 use trick_base::Items;
@@ -27,6 +27,7 @@ use trick_exec_sources::{Next, Turns};
 use trick_lang::Cells;
 use trick_model::{Entry, Mode, Session, State};
 use trick_serve_door::{Comes, Departure};
+use trick_serve_hearing::Seat;
 use trick_turn::Bell;
 use trick_wire::{Putter, Taker};
 

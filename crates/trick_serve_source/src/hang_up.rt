@@ -3,15 +3,14 @@
 ghost use Rattle.std.specs.Prelude.{◌≡◌, ◌||◌, ◌++◌, ◌∷◌, ◌<◌, ◌≤◌, [], List, ℕ, OnErr, OnOk, false, is_ok, length, true};
 ghost use Rattle.trick_model.specs.Session.{is_empty};
 ghost use Rattle.trick_model.specs.declared.session.Session.{Session};
-ghost use Rattle.trick_serve_source.specs.Clients.{KeepQueues};
-ghost use Rattle.trick_serve_source.specs.Gathering.{Gathers, HasLooked};
-ghost use Rattle.trick_serve_source.specs.Rules.{AreSeated};
-ghost use Rattle.trick_serve_source.specs.Sides.{side_of};
+ghost use Rattle.trick_serve_hearing.specs.Clients.{KeepQueues};
+ghost use Rattle.trick_serve_hearing.specs.Gathering.{Gathers, HasLooked};
+ghost use Rattle.trick_serve_hearing.specs.Rules.{AreSeated};
+ghost use Rattle.trick_serve_hearing.specs.Sides.{side_of};
 
-use crate::Seat;
-use crate::hear::leave;
 use std::alloc::AllocError;
 use trick_model::{Cause, Entry, Session};
+use trick_serve_hearing::{Seat, leave};
 
 // Whether a session is paused or has no variables.
 fn is_idle(shown: &Session) -> bool

@@ -34,8 +34,8 @@ where
     ghost use Rattle.std.specs.Prelude.{◌<◌, ◌≤◌, None, false, length};
     ghost use Rattle.trick_serve_source.specs.CallLaws.{seated_among};
     ghost use Rattle.trick_serve_source.specs.Here.{went_here_join, went_here_none};
-    ghost use Rattle.trick_serve_source.specs.Rules.{sessions_by};
-    ghost use Rattle.trick_serve_door.specs.Taking.{hosts};
+    ghost use Rattle.trick_serve_hearing.specs.Rules.{sessions_by};
+    ghost use Rattle.trick_serve_seats.specs.Taking.{hosts};
 
     ghost went = { λ old answers messages new. WentHere
         (hosts D.visited D.In.LinkIn D.Out.LinkOut S.failures D.has_client) old new answers messages };

@@ -7,14 +7,10 @@ mod calls;
 mod clients;
 mod entries;
 mod hang_up;
-mod hear;
 mod here;
 mod roll;
-mod seat;
-mod send;
 mod served;
 
 pub use here::ServedHere;
 pub use roll::Roll;
-pub use seat::Seat;
 pub use served::{Finished, Served};

@@ -1,9 +1,9 @@
 //! The sessions by their numbers.
 
-ghost use Rattle.trick_serve_source.specs.Rules.{AreSeated};
+ghost use Rattle.trick_serve_hearing.specs.Rules.{AreSeated};
 
-use crate::Seat;
 use trick_model::Entry;
+use trick_serve_hearing::Seat;
 
 /// The seats of all sessions, the sessions that are live, and the list of the next turn as far as it was gathered.
 #[derive(Drop)]

@@ -1,15 +1,16 @@
 //! The source of entries of a run with clients.
 
 ghost use Rattle.std.specs.Prelude.{◌≡◌, ◌+◌, ◌≤◌, [], false, length, not, true};
-ghost use Rattle.trick_serve_source.specs.Clients.{AreOfClients, IsLast, IsSilent, has_lack};
-ghost use Rattle.trick_serve_source.specs.Rules.{AreSeated};
-ghost use Rattle.trick_serve_door.specs.Departures.{left_of};
+ghost use Rattle.trick_serve_hearing.specs.Clients.{AreOfClients, IsLast, IsSilent, has_lack};
+ghost use Rattle.trick_serve_hearing.specs.Rules.{AreSeated};
+ghost use Rattle.trick_serve_seats.specs.Departures.{left_of};
 ghost use Rattle.trick_wire.specs.Ends.{put_by, taken_by};
 
-use crate::{Roll, Seat};
+use crate::Roll;
 use std::alloc::Global;
 use std::sync::Arc;
 use trick_serve_door::{Comes, Departure};
+use trick_serve_hearing::Seat;
 use trick_turn::Bell;
 use trick_wire::{Putter, Taker};
 

@@ -19,7 +19,7 @@ use Rattle.trick_outside.specs.declared.stop.Stop.TheVariants as stop
 use Rattle.trick_outside.specs.declared.stop.Stop.{Stop}
 use Rattle.trick_exec_alone.specs.Serial.{summary_of}
 use Rattle.trick_exec_alone.specs.declared.summary.Summary.{Summary}
-use Rattle.trick_serve_door.specs.Taking.{Hosts}
+use Rattle.trick_serve_seats.specs.Taking.{Hosts}
 use Rattle.trick_serve_facts.specs.Joins.{numbers_from}
 use Rattle.trick_serve_facts.specs.Serves.{all_entries}
 use Rattle.trick_serve.specs.Served.{HasServedRun, IsWholeServed}

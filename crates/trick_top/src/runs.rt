@@ -6,7 +6,7 @@ ghost use Rattle.trick_phase_jobs.specs.Belongs.{IsMemoryOf};
 ghost use Rattle.trick_model.specs.PlanOf.{plan_of};
 ghost use Rattle.trick_model.specs.State.{seen};
 ghost use Rattle.trick_model.specs.ValidState.{IsStateOf};
-ghost use Rattle.trick_serve_door.specs.Taking.{hosts};
+ghost use Rattle.trick_serve_seats.specs.Taking.{hosts};
 ghost use Rattle.trick_serve.specs.Serving.{moment, outside};
 ghost use Rattle.trick_top_alone.specs.Verdict.{verdict_of};
 ghost use Rattle.trick_top.specs.Firsts.{HasFirst, HasNoFirst};

@@ -3,7 +3,7 @@
 ghost use Rattle.std.specs.Arc.{arc_value};
 ghost use Rattle.std.specs.Prelude.{◌≡◌};
 ghost use Rattle.trick_top_texts.specs.Texts.{IsReady};
-ghost use Rattle.trick_serve_door.specs.Taking.{hosts};
+ghost use Rattle.trick_serve_seats.specs.Taking.{hosts};
 ghost use Rattle.trick_serve.specs.Serving.{moment, outside};
 ghost use Rattle.trick_top_alone.specs.Sources.{contents_of, sources_of};
 ghost use Rattle.trick_top_alone.specs.Verdict.{verdict_of};

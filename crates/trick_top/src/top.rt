@@ -8,7 +8,7 @@ ghost use Rattle.trick_model.specs.declared.plan.Plan.{Plan};
 ghost use Rattle.trick_outside.specs.Causes.{Rose};
 ghost use Rattle.trick_outside.specs.Does.{Went};
 ghost use Rattle.trick_top_texts.specs.Texts.{IsPlanRefused};
-ghost use Rattle.trick_serve_door.specs.Taking.{hosts};
+ghost use Rattle.trick_serve_seats.specs.Taking.{hosts};
 ghost use Rattle.trick_serve.specs.Serving.{moment, outside};
 ghost use Rattle.trick_top_alone.specs.Acts.{last_state, length_verdict};
 ghost use Rattle.trick_top_alone.specs.Aims as aims;

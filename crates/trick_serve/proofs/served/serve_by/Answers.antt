@@ -5,7 +5,7 @@ use Rattle.trick_exec_meaning.specs.Hosts.{at}
 use Rattle.trick_serve_source.specs.Rolls.{view_of}
 use Rattle.trick_serve_source.specs.declared.here.ServedHere.{ServedHere}
 use Rattle.trick_serve_source.specs.declared.served.Served.{Served}
-use Rattle.trick_serve_door.specs.Taking.{Hosts, hosts}
+use Rattle.trick_serve_seats.specs.Taking.{Hosts, hosts}
 use Rattle.trick_serve.proofs.Beginning.{not_begun}
 use Rattle.trick_serve.proofs.Earlier.{served_from}
 use Rattle.trick_serve.proofs.Results.{served_by}

@@ -1,7 +1,7 @@
 use Rattle.std.specs.Arc.{arc_value}
 use Rattle.trick_model.specs.PlanOf.{plan_of}
 use Rattle.trick_model.specs.State.{State, seen}
-use Rattle.trick_serve_door.specs.Taking.{Hosts, hosts}
+use Rattle.trick_serve_seats.specs.Taking.{Hosts, hosts}
 use Rattle.trick_serve.proofs.Beginning.{not_begun}
 use Rattle.trick_serve.proofs.Earlier.{served_from}
 use Rattle.trick_serve.proofs.served.serve_by_crew.Goals as goal

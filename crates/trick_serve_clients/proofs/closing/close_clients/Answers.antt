@@ -1,7 +1,7 @@
 use Rattle.trick_serve_source.specs.Rolls.{view_of}
 use Rattle.trick_serve_clients.proofs.Closings.{accepted, are_over, tended_later}
 use Rattle.trick_serve_clients.proofs.closing.close_clients.Goals as goal
-use Rattle.trick_serve_door.specs.Taking.{Hosts, hosts, start_of}
+use Rattle.trick_serve_seats.specs.Taking.{Hosts, hosts, start_of}
 
 pub end_clients-requires : goal.end_clients-requires
 end_clients-requires g c =

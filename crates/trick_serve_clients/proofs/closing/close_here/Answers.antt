@@ -2,7 +2,7 @@ use Rattle.trick_serve_source.specs.Rolls.{view_of}
 use Rattle.trick_serve_clients.proofs.Closings.{are_over}
 use Rattle.trick_serve_clients.proofs.closing.close_here.Goals as goal
 use Rattle.trick_serve_clients.specs.Opened.{start_with}
-use Rattle.trick_serve_door.specs.Taking.{Hosts, hosts}
+use Rattle.trick_serve_seats.specs.Taking.{Hosts, hosts}
 
 pub end_clients-requires : goal.end_clients-requires
 end_clients-requires g c =

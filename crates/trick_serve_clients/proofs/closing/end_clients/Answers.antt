@@ -3,10 +3,10 @@ use Rattle.trick_serve_clients.proofs.Closings.{has_tended, have_ends}
 use Rattle.trick_serve_clients.proofs.closing.end_clients.Goals as goal
 use Rattle.trick_serve_clients.specs.Ending.{EndsAll}
 use Rattle.trick_serve_clients.specs.Ends.{AreItsEnds}
-use Rattle.trick_serve_door.proofs.Calls.{fit_length}
-use Rattle.trick_serve_door.specs.Pairs.{AllFit}
-use Rattle.trick_serve_door.specs.Seats.{IsPast}
-use Rattle.trick_serve_door.specs.Taking.{Hosts, hosts}
+use Rattle.trick_serve_seats.proofs.Calls.{fit_length}
+use Rattle.trick_serve_seats.specs.Pairs.{AllFit}
+use Rattle.trick_serve_seats.specs.Seats.{IsPast}
+use Rattle.trick_serve_seats.specs.Taking.{Hosts, hosts}
 use Rattle.trick_serve_door.specs.declared.ending.Ends.{Ends}
 
 pub join-requires : goal.join-requires

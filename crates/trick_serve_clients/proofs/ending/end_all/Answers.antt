@@ -2,7 +2,7 @@ use Rattle.std.proofs.Common.{◌∙◌, arith, refl, rules}
 use Rattle.trick_serve_clients.proofs.Endings.{ending_all, ending_fits, ending_more, ending_none}
 use Rattle.trick_serve_clients.proofs.ending.end_all.Goals as goal
 use Rattle.trick_serve_clients.specs.Ends.{ends_left}
-use Rattle.trick_serve_door.proofs.TakingIn.{no_items}
+use Rattle.trick_serve_seats.proofs.TakingIn.{no_items}
 
 pub loop-past-init : goal.loop-past-init
 loop-past-init g c = record {

@@ -1,7 +1,7 @@
 use Rattle.std.proofs.Common.{◌≡◌, ◌∙◌, Some, refl, rules}
 use Rattle.trick_serve_clients.proofs.Lateness.{late_client, late_none, late_other, popped}
 use Rattle.trick_serve_clients.proofs.late.take_late.Goals as goal
-use Rattle.trick_serve_door.specs.declared.arrival.Comes.TheVariants.{Client, Nobody, Over, OutOfMemory}
+use Rattle.trick_serve_seats.specs.declared.arrival.Comes.TheVariants.{Client, Nobody, Over, OutOfMemory}
 use Rattle.trick_wire.specs.Ends.{taken_by}
 
 pub loop-init : goal.loop-init

@@ -1,7 +1,7 @@
 use Rattle.std.proofs.Common.{ap, refl}
 use Rattle.trick_serve_clients.proofs.Openings.{begun_as, opened_here, unserved_by}
 use Rattle.trick_serve_clients.proofs.opening.open_clients.Goals as goal
-use Rattle.trick_serve_door.specs.Taking.{Hosts, hosts}
+use Rattle.trick_serve_seats.specs.Taking.{Hosts, hosts}
 use Rattle.trick_serve_door.specs.declared.taking.Accepting.{Accepting}
 
 pub returns-in-Ok-start_accepting : goal.returns-in-Ok-start_accepting

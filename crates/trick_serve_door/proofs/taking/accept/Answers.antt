@@ -1,7 +1,7 @@
-use Rattle.trick_serve_door.proofs.Calls.{accepted, taking_begins}
+use Rattle.trick_serve_seats.proofs.Calls.{accepted, taking_begins}
 use Rattle.trick_serve_door.proofs.taking.accept.Goals as goal
-use Rattle.trick_serve_door.specs.Seats.{IsSeated}
-use Rattle.trick_serve_door.specs.Taking.{Hosts, Start, hosts, start_of}
+use Rattle.trick_serve_seats.specs.Seats.{IsSeated}
+use Rattle.trick_serve_seats.specs.Taking.{Hosts, Start, hosts, start_of}
 
 pub returns : goal.returns
 returns g c =

@@ -1,9 +1,9 @@
 use Rattle.std.proofs.Common.{[], ◌≤◌, arith, length, refl, rules}
-use Rattle.trick_serve_door.proofs.Calls.{ended_full, ended_here, taking_placed}
+use Rattle.trick_serve_seats.proofs.Calls.{ended_full, ended_here, taking_placed}
 use Rattle.trick_serve_door.proofs.taking.take_clients.Goals as goal
-use Rattle.trick_serve_door.specs.Seats.{IsSeated}
-use Rattle.trick_serve_door.specs.Taking.{Hosts, hosts}
-use Rattle.trick_serve_door.specs.declared.ask.End.TheVariants as end
+use Rattle.trick_serve_seats.specs.Seats.{IsSeated}
+use Rattle.trick_serve_seats.specs.Taking.{Hosts, hosts}
+use Rattle.trick_serve_seats.specs.declared.ask.End.TheVariants as end
 
 pub returns-then-is_full : goal.returns-then-is_full
 returns-then-is_full g c = λ start t.

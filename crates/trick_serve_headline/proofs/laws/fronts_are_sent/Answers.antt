@@ -1,6 +1,6 @@
 use Rattle.trick_serve_headline.proofs.Sent.{fronts_sent}
 use Rattle.trick_serve_headline.proofs.laws.fronts_are_sent.Goals as goal
-use Rattle.trick_serve_door.specs.Taking.{hosts}
+use Rattle.trick_serve_seats.specs.Taking.{hosts}
 
 pub returns : goal.returns
 returns g c = λ p s lists sent before left door now stands were.

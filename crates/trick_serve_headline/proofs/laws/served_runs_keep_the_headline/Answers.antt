@@ -1,6 +1,6 @@
 use Rattle.trick_serve_headline.proofs.Headline.{keep}
 use Rattle.trick_serve_headline.proofs.laws.served_runs_keep_the_headline.Goals as goal
-use Rattle.trick_serve_door.specs.Taking.{hosts}
+use Rattle.trick_serve_seats.specs.Taking.{hosts}
 
 pub returns : goal.returns
 returns g c = λ plan s lists old new door now spawner after accepted begins ends ran.

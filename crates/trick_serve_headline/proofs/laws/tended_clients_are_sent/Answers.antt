@@ -1,6 +1,6 @@
 use Rattle.trick_serve_headline.proofs.Tended.{sent_all}
 use Rattle.trick_serve_headline.proofs.laws.tended_clients_are_sent.Goals as goal
-use Rattle.trick_serve_door.specs.Taking.{hosts}
+use Rattle.trick_serve_seats.specs.Taking.{hosts}
 
 pub returns : goal.returns
 returns g c = λ door spawner old new answers said closed none went tended.

@@ -1,6 +1,6 @@
 use Rattle.trick_serve_headline.proofs.Served.{serves_tended}
 use Rattle.trick_serve_headline.proofs.laws.tended_clients_are_served.Goals as goal
-use Rattle.trick_serve_door.specs.Taking.{hosts}
+use Rattle.trick_serve_seats.specs.Taking.{hosts}
 
 pub returns : goal.returns
 returns g c = λ door spawner p s lists old new closed run last right tended told.

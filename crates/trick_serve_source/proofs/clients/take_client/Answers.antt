@@ -1,11 +1,11 @@
 use Rattle.std.proofs.Common.{rules, ◌≡◌, ◌∙◌, ◌++◌, ◌∷◌, [], List, true, false, ap, arith, length, refl}
 use Rattle.std.specs.Prelude.{is_ok}
-use Rattle.trick_serve_source.proofs.Gathering.{gathers_same}
-use Rattle.trick_serve_source.proofs.Seating.{clients_idle, clients_same, clients_took, first_took, full_some, lack_took, last_over, last_same, last_took, silent_same, silent_took}
+use Rattle.trick_serve_hearing.proofs.Gathering.{gathers_same}
+use Rattle.trick_serve_hearing.proofs.Seating.{clients_idle, clients_same, clients_took, first_took, full_some, lack_took, last_over, last_same, last_took, silent_same, silent_took}
 use Rattle.trick_serve_source.proofs.clients.take_client.Goals as goal
-use Rattle.trick_serve_source.specs.Clients.{client_queues, has_lack, seat_queues}
-use Rattle.trick_serve_source.specs.Sides.{Queues}
-use Rattle.trick_serve_door.specs.declared.arrival.Comes.TheVariants as comes
+use Rattle.trick_serve_hearing.specs.Clients.{client_queues, has_lack, seat_queues}
+use Rattle.trick_serve_hearing.specs.Sides.{Queues}
+use Rattle.trick_serve_seats.specs.declared.arrival.Comes.TheVariants as comes
 use Rattle.trick_wire.specs.Ends.{taken_by}
 
 pub returns-in_err-make_room-clause-gathers : goal.returns-in_err-make_room-clause-gathers

@@ -2,8 +2,8 @@ use Rattle.std.proofs.Common.{rules, ◌≡◌, ◌≢◌, ◌∙◌, arith, Ok,
 use Rattle.std.specs.Prelude.{IfOk, OnOk, is_ok}
 use Rattle.std.specs.declared.alloc.AllocError.{AllocError}
 use Rattle.trick_serve_source.proofs.clients.take_clients.Goals as goal
-use Rattle.trick_serve_source.proofs.Seating.{none_before}
-use Rattle.trick_serve_source.specs.Clients.{IsSilent, has_lack}
+use Rattle.trick_serve_hearing.proofs.Seating.{none_before}
+use Rattle.trick_serve_hearing.specs.Clients.{IsSilent, has_lack}
 use Rattle.trick_serve_source.specs.Rolls.{IsGathered}
 use Rattle.trick_serve_source.specs.declared.clients.Took.{Took}
 use Rattle.trick_serve_source.specs.declared.clients.Took.TheVariants as kind

@@ -1,10 +1,10 @@
 use Rattle.std.proofs.Common.{◌≡◌, ◌≢◌, ◌≤◌, ◌+◌, [], ℕ, List, false, length, true}
 use Rattle.trick_model.specs.declared.session.Session.{Session}
 use Rattle.trick_serve_source.proofs.clients.take_clients.Given as goal
-use Rattle.trick_serve_source.specs.Clients.{AreOfClients, IsLast, IsSilent, has_lack}
+use Rattle.trick_serve_hearing.specs.Clients.{AreOfClients, IsLast, IsSilent, has_lack}
 use Rattle.trick_serve_source.specs.Rolls.{IsGathered}
 use Rattle.trick_serve_source.specs.declared.clients.Took.TheVariants as kind
-use Rattle.trick_serve_source.specs.declared.seat.Seat.{Seat}
+use Rattle.trick_serve_hearing.specs.declared.seat.Seat.{Seat}
 use Rattle.trick_wire.specs.Ends.{IsSameTaker, taken_by}
 
 abbrev pub invariant-loop : goal.invariant-loop

@@ -1,14 +1,14 @@
 use Rattle.std.proofs.Common.{rules, ◌∙◌, ◌∷◌, ◌<◌, ◌≤◌, [], List, ℕ, length, true, ◌-◌, ap, arith, refl, slice_index_or, subst, sym}
 use Rattle.trick_model.specs.declared.entry.Entry.{Entry}
-use Rattle.trick_serve_source.specs.declared.seat.Seat.{Seat}
-use Rattle.trick_serve_source.proofs.Gathering.{AreQuiet, among_at, gathers_any, gathers_looked, gathers_none, idle_there, quiet_looked, quiet_none}
-use Rattle.trick_serve_source.proofs.Placing.{seated_more, side_at}
-use Rattle.trick_serve_source.proofs.Seating.{looked_keeps, queues_set}
+use Rattle.trick_serve_hearing.specs.declared.seat.Seat.{Seat}
+use Rattle.trick_serve_hearing.proofs.Gathering.{AreQuiet, among_at, gathers_any, gathers_looked, gathers_none, idle_there, quiet_looked, quiet_none}
+use Rattle.trick_serve_hearing.proofs.Placing.{seated_more, side_at}
+use Rattle.trick_serve_hearing.proofs.Seating.{looked_keeps, queues_set}
 use Rattle.std.proofs.lemmas.List.{length-set}
 use Rattle.trick_serve_source.proofs.hang_up.hang_up_all.Goals as goal
-use Rattle.trick_serve_source.specs.Gathering.{Gathers, HasLooked}
-use Rattle.trick_serve_source.specs.Rules.{AreSeated}
-use Rattle.trick_serve_source.specs.Sides.{Side, side_of}
+use Rattle.trick_serve_hearing.specs.Gathering.{Gathers, HasLooked}
+use Rattle.trick_serve_hearing.specs.Rules.{AreSeated}
+use Rattle.trick_serve_hearing.specs.Sides.{Side, side_of}
 
 pub loop-at-init : goal.loop-at-init
 loop-at-init c = record {

@@ -1,8 +1,8 @@
 use Rattle.std.proofs.Common.{◌≡◌, length, true}
-use Rattle.trick_serve_source.proofs.Gathering.{AreQuiet}
+use Rattle.trick_serve_hearing.proofs.Gathering.{AreQuiet}
 use Rattle.trick_serve_source.proofs.hang_up.hang_up_all.Given as goal
-use Rattle.trick_serve_source.specs.Clients.{KeepQueues}
-use Rattle.trick_serve_source.specs.Gathering.{Gathers}
+use Rattle.trick_serve_hearing.specs.Clients.{KeepQueues}
+use Rattle.trick_serve_hearing.specs.Gathering.{Gathers}
 
 abbrev pub invariant-loop-at : goal.invariant-loop-at
 invariant-loop-at l = record {

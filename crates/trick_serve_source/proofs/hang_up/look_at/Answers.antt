@@ -4,8 +4,8 @@ use Rattle.std.proofs.lemmas.Bool.Decides.{eqb_tells}
 use Rattle.trick_model.specs.Session.{is_empty}
 use Rattle.trick_model.specs.declared.session.Session.{Session}
 use Rattle.trick_serve_source.proofs.hang_up.look_at.Goals as goal
-use Rattle.trick_serve_source.specs.Life.{is_idle}
-use Rattle.trick_serve_source.specs.Sides.{queues_of}
+use Rattle.trick_serve_hearing.specs.Life.{is_idle}
+use Rattle.trick_serve_hearing.specs.Sides.{queues_of}
 
 idle_one : (n : ℕ) (s : Session) → s.number ≡ n → (s.paused || is_empty s.variables) ≡ true → is_idle n (s ∷ []) ≡ true
 idle_one n s same idle = ⊎_elim

@@ -1,7 +1,7 @@
 use Rattle.std.proofs.Common.{arith, refl}
 use Rattle.trick_serve_clients.proofs.Endings.{left_late, left_seat, none_popped}
 use Rattle.trick_serve_clients.proofs.ending.EndsLeft.next.Goals as goal
-use Rattle.trick_serve_door.proofs.TakingIn.{no_items}
+use Rattle.trick_serve_seats.proofs.TakingIn.{no_items}
 
 pub returns-in-Some : goal.returns-in-Some
 returns-in-Some c = left_seat c.args.self.now (record { seats = c.pop.new.self; late = c.args.self.now.late }) c.in-Some.seat c.into_ends.result c.in-Some.ensures.items refl

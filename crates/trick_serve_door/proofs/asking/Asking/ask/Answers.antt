@@ -1,8 +1,8 @@
 use Rattle.std.proofs.Common.{◌≡◌, IfSome, None, rules, subst, sym}
 use Rattle.trick_serve_door.proofs.Stopping.{asks_on, asks_still}
 use Rattle.trick_serve_door.proofs.asking.Asking.ask.Goals as goal
-use Rattle.trick_serve_door.specs.Seats.{AreFresh}
-use Rattle.trick_serve_door.specs.Taking.{Hosts, hosts}
+use Rattle.trick_serve_seats.specs.Seats.{AreFresh}
+use Rattle.trick_serve_seats.specs.Taking.{Hosts, hosts}
 
 pub returns-then-is_some : goal.returns-then-is_some
 returns-then-is_some g c = λ start t. t

@@ -1,7 +1,7 @@
-use Rattle.trick_serve_door.proofs.Calls.{taking_begins}
+use Rattle.trick_serve_seats.proofs.Calls.{taking_begins}
 use Rattle.trick_serve_door.proofs.asking.Asking.begin.Goals as goal
-use Rattle.trick_serve_door.specs.Seats.{IsPast}
-use Rattle.trick_serve_door.specs.Taking.{Hosts, Start, hosts, start_of}
+use Rattle.trick_serve_seats.specs.Seats.{IsPast}
+use Rattle.trick_serve_seats.specs.Taking.{Hosts, Start, hosts, start_of}
 
 pub returns : goal.returns
 returns g c =

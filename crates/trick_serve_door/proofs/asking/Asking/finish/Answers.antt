@@ -1,6 +1,6 @@
 use Rattle.trick_serve_door.proofs.Stopping.{closes}
 use Rattle.trick_serve_door.proofs.asking.Asking.finish.Goals as goal
-use Rattle.trick_serve_door.specs.Taking.{Hosts, hosts}
+use Rattle.trick_serve_seats.specs.Taking.{Hosts, hosts}
 
 pub returns : goal.returns
 returns g c = λ start t.

@@ -2,11 +2,11 @@ use Rattle.std.proofs.Common.{rules, ◌≡◌, ◌≤◌, List, ℕ, length, tr
 use Rattle.std.proofs.lemmas.List.{take_all}
 use Rattle.std.specs.List.{All}
 use Rattle.std.specs.Prelude.{IsTrue}
-use Rattle.trick_serve_source.proofs.Placing.{kept_where}
+use Rattle.trick_serve_hearing.proofs.Placing.{kept_where}
 use Rattle.trick_serve_source.proofs.roll.Roll.are_over.Goals as goal
-use Rattle.trick_serve_source.specs.Ended.{has_end}
-use Rattle.trick_serve_source.specs.Rules.{is_live}
-use Rattle.trick_serve_source.specs.Sides.{side}
+use Rattle.trick_serve_hearing.specs.Ended.{has_end}
+use Rattle.trick_serve_hearing.specs.Rules.{is_live}
+use Rattle.trick_serve_hearing.specs.Sides.{side}
 
 pub returns : goal.returns
 returns c =

@@ -3,12 +3,12 @@ use Rattle.std.proofs.lemmas.List.{take_all, take_more}
 use Rattle.std.specs.List.{filter}
 use Rattle.std.specs.Prelude.{not}
 use Rattle.trick_serve_source.proofs.Leaving.{dismissed}
-use Rattle.trick_serve_source.proofs.Placing.{side_at}
+use Rattle.trick_serve_hearing.proofs.Placing.{side_at}
 use Rattle.trick_serve_source.proofs.roll.Roll.dismiss.Goals as goal
-use Rattle.trick_serve_source.specs.Rules.{is_live}
-use Rattle.trick_serve_source.specs.Sides.{Side}
-use Rattle.trick_serve_source.specs.declared.seat.Seat.{Seat}
-use Rattle.trick_serve_door.specs.Departures.{left_of}
+use Rattle.trick_serve_hearing.specs.Rules.{is_live}
+use Rattle.trick_serve_hearing.specs.Sides.{Side}
+use Rattle.trick_serve_hearing.specs.declared.seat.Seat.{Seat}
+use Rattle.trick_serve_seats.specs.Departures.{left_of}
 use Rattle.trick_wire.specs.Ends.{put_by}
 
 pub returns-clause-left : goal.returns-clause-left

@@ -1,8 +1,8 @@
 use Rattle.std.proofs.Common.{◌≤◌, ◌+◌, length, take}
 use Rattle.std.specs.List.{filter}
 use Rattle.trick_serve_source.proofs.roll.Roll.dismiss.Given as goal
-use Rattle.trick_serve_source.specs.Rules.{is_live}
-use Rattle.trick_serve_door.specs.Departures.{left_of}
+use Rattle.trick_serve_hearing.specs.Rules.{is_live}
+use Rattle.trick_serve_seats.specs.Departures.{left_of}
 use Rattle.trick_wire.specs.Ends.{IsSamePutter, put_by}
 
 abbrev pub invariant-loop-session : goal.invariant-loop-session

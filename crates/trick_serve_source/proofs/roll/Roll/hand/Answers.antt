@@ -1,9 +1,9 @@
 use Rattle.std.proofs.Common.{◌∙◌, ◌<◌, ◌≤◌, length, ◌-◌, ap, arith, subst, sym}
-use Rattle.trick_serve_source.proofs.Placing.{side_at, side_other, side_set}
-use Rattle.trick_serve_source.proofs.Seating.{handed_keeps, queues_set}
+use Rattle.trick_serve_hearing.proofs.Placing.{side_at, side_other, side_set}
+use Rattle.trick_serve_hearing.proofs.Seating.{handed_keeps, queues_set}
 use Rattle.trick_serve_source.proofs.roll.Roll.hand.Goals as goal
-use Rattle.trick_serve_source.specs.Messages.{IsHanded}
-use Rattle.trick_serve_source.specs.Sides.{Side, queues_of, side, side_of}
+use Rattle.trick_serve_hearing.specs.Messages.{IsHanded}
+use Rattle.trick_serve_hearing.specs.Sides.{Side, queues_of, side, side_of}
 
 pub returns-clause-own : goal.returns-clause-own
 returns-clause-own g c =

@@ -2,7 +2,7 @@ use Rattle.std.proofs.Common.{rules, ◌≡◌, ◌∙◌, ◌<◌, ◌≤◌, �
 use Rattle.std.proofs.lemmas.List.{get_or_default}
 use Rattle.trick_serve_source.proofs.Calm.{IsCalmAt, calm_all, calm_here, calm_more}
 use Rattle.trick_serve_source.proofs.roll.Roll.is_calm.Goals as goal
-use Rattle.trick_serve_source.specs.declared.seat.Seat.{Seat}
+use Rattle.trick_serve_hearing.specs.declared.seat.Seat.{Seat}
 
 pub returns : goal.returns
 returns c =

@@ -1,12 +1,12 @@
 use Rattle.std.proofs.Common.{rules, ◌≡◌, ◌++◌, ◌∷◌, [], List, ℕ, length, true, ◌+◌, ◌∙◌, ap, arith, subst, sym}
-use Rattle.trick_serve_source.specs.declared.seat.Seat.{Seat}
-use Rattle.trick_serve_source.proofs.Gathering.{gathers_joined}
+use Rattle.trick_serve_hearing.specs.declared.seat.Seat.{Seat}
+use Rattle.trick_serve_hearing.proofs.Gathering.{gathers_joined}
 use Rattle.trick_serve_source.proofs.roll.Roll.join.Goals as goal
-use Rattle.trick_serve_source.specs.Gathering.{Gathers}
+use Rattle.trick_serve_hearing.specs.Gathering.{Gathers}
 use Rattle.std.proofs.lemmas.List.{map_push}
 use Rattle.std.specs.Arc.{arc_value}
-use Rattle.trick_serve_source.specs.Clients.{seat_queues}
-use Rattle.trick_serve_source.specs.Sides.{queues_of}
+use Rattle.trick_serve_hearing.specs.Clients.{seat_queues}
+use Rattle.trick_serve_hearing.specs.Sides.{queues_of}
 use Rattle.trick_wire.specs.Ends.{room_of}
 
 pub returns-clause-gathered : goal.returns-clause-gathered

@@ -2,8 +2,8 @@ use Rattle.std.proofs.Common.{List, ℕ, true, subst, sym}
 use Rattle.std.specs.List.{filter}
 use Rattle.std.specs.Prelude.{is_ok}
 use Rattle.trick_serve_source.proofs.roll.Roll.listen.Goals as goal
-use Rattle.trick_serve_source.specs.Gathering.{Gathers}
-use Rattle.trick_serve_source.specs.Rules.{AreQuick, is_live}
+use Rattle.trick_serve_hearing.specs.Gathering.{Gathers}
+use Rattle.trick_serve_hearing.specs.Rules.{AreQuick, is_live}
 
 pub returns-clause-gathered : goal.returns-clause-gathered
 returns-clause-gathered g c = λ there was known so.

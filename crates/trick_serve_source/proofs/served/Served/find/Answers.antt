@@ -3,7 +3,7 @@ use Rattle.std.specs.Prelude.{is_ok}
 use Rattle.trick_serve_source.proofs.Looking.{empty_from, found_more, looked_more}
 use Rattle.trick_serve_source.proofs.served.Served.find.Goals as goal
 use Rattle.trick_serve_source.specs.Rolls.{IsGathered, view_of}
-use Rattle.trick_serve_source.specs.Rules.{is_live}
+use Rattle.trick_serve_hearing.specs.Rules.{is_live}
 use Rattle.std.specs.List.{filter}
 
 pub returns-in_err-look-clause-found : goal.returns-in_err-look-clause-found

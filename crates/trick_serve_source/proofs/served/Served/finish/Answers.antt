@@ -1,7 +1,7 @@
 use Rattle.std.proofs.Common.{arith}
 use Rattle.trick_serve_source.proofs.Leaving.{told_one}
 use Rattle.trick_serve_source.proofs.served.Served.finish.Goals as goal
-use Rattle.trick_serve_door.specs.declared.departure.Departure.TheVariants.{Run}
+use Rattle.trick_serve_seats.specs.declared.departure.Departure.TheVariants.{Run}
 use Rattle.trick_wire.specs.Ends.{put_by}
 
 pub returns-clause-left : goal.returns-clause-left

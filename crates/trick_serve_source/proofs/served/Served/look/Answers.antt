@@ -1,13 +1,13 @@
 use Rattle.std.proofs.Common.{rules, ◌≡◌, ◌∙◌, true, false, Bool, ap, arith, length, refl, subst, sym, Vec, Global, ℕ}
 use Rattle.std.specs.Prelude.{is_ok}
-use Rattle.trick_serve_source.specs.declared.seat.Seat.{Seat}
+use Rattle.trick_serve_hearing.specs.declared.seat.Seat.{Seat}
 use Rattle.trick_serve_source.proofs.Looking.{gathered_as}
-use Rattle.trick_serve_source.proofs.Placing.{seated_more}
-use Rattle.trick_serve_source.proofs.Seating.{last_same, none_before, same_many}
+use Rattle.trick_serve_hearing.proofs.Placing.{seated_more}
+use Rattle.trick_serve_hearing.proofs.Seating.{last_same, none_before, same_many}
 use Rattle.trick_serve_source.proofs.served.Served.look.Goals as goal
-use Rattle.trick_serve_source.specs.Clients.{seat_queues}
+use Rattle.trick_serve_hearing.specs.Clients.{seat_queues}
 use Rattle.trick_serve_source.specs.Rolls.{IsGathered}
-use Rattle.trick_serve_source.specs.Rules.{is_live}
+use Rattle.trick_serve_hearing.specs.Rules.{is_live}
 use Rattle.std.specs.List.{filter}
 use Rattle.trick_wire.specs.Ends.{taken_by}
 
