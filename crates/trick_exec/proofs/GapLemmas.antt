@@ -4,8 +4,8 @@ use Rattle.std.proofs.Math.Nat.{min-le_right}
 use Rattle.std.specs.Prelude.{min, nat_le}
 use Rattle.trick_exec.proofs.GoLemmas.{IsUnder}
 use Rattle.trick_exec.proofs.IdleTurns.{idle_known}
-use Rattle.trick_exec.specs.Known.{AreKnown}
-use Rattle.trick_exec.specs.Worlds.{world_of}
+use Rattle.trick_exec_turn.specs.Known.{AreKnown}
+use Rattle.trick_exec_turn.specs.Worlds.{world_of}
 use Rattle.trick_model.specs.declared.world.World.{World as WorldValue}
 use Rattle.trick_lang.specs.declared.scalar.Scalar.{Scalar}
 use Rattle.trick_model.specs.Plan.{Plan}

@@ -3,9 +3,9 @@ use Rattle.std.proofs.Common.{◌≡◌, ◌∙◌, ℕ, ℤ, ◌<◌, List, [],
 use Rattle.std.proofs.lemmas.Bool.Decides.{nat_tests}
 use Rattle.std.proofs.lemmas.List.Elements.{All-nil}
 use Rattle.std.specs.Prelude.{◌⊎◌, Option, Result, nat_le}
-use Rattle.trick_exec.specs.CameTo.{CameTo}
-use Rattle.trick_exec.specs.Known.{AreKnown}
-use Rattle.trick_exec.specs.Worlds.{world_of}
+use Rattle.trick_exec_turn.specs.CameTo.{CameTo}
+use Rattle.trick_exec_turn.specs.Known.{AreKnown}
+use Rattle.trick_exec_turn.specs.Worlds.{world_of}
 use Rattle.trick_model.specs.declared.world.World.{World as WorldValue}
 use Rattle.trick_model.specs.Plan.{Plan}
 use Rattle.trick_model.specs.Run.{is_shut}

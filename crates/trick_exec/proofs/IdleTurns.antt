@@ -1,8 +1,8 @@
 -- A turn without entries in which nothing is done but that time passes.
 use Rattle.std.proofs.Common.{◌≡◌, ◌∙◌, ℕ, ℤ, List, [], ◌∷◌, Bool, true, false, Ok, ap, inl, length, refl, subst, sym}
-use Rattle.trick_exec.specs.CameTo.{CameTo}
-use Rattle.trick_exec.specs.Known.{AreKnown}
-use Rattle.trick_exec.specs.Worlds.{world_of}
+use Rattle.trick_exec_turn.specs.CameTo.{CameTo}
+use Rattle.trick_exec_turn.specs.Known.{AreKnown}
+use Rattle.trick_exec_turn.specs.Worlds.{world_of}
 use Rattle.trick_model.specs.declared.world.World.{World as WorldValue}
 use Rattle.std.specs.Prelude.{Result}
 use Rattle.trick_model.specs.Files.{turn_writes}

@@ -1,6 +1,6 @@
 -- How the turns of a run, and a run, end.
 use Rattle.std.specs.Prelude.{◌≡◌, ℤ, List, [], None, Some, Ok, Err, Result}
-use Rattle.trick_exec.specs.Worlds.{world_of}
+use Rattle.trick_exec_turn.specs.Worlds.{world_of}
 use Rattle.trick_exec.specs.declared.ended.Ended.{Ended as EndedValue}
 use Rattle.trick_exec.specs.declared.ended.Ended.TheVariants as ended
 use Rattle.trick_phase_jobs.specs.Belongs.{IsMemoryOf}

@@ -1,13 +1,5 @@
 -- A run without clients.
 pub mod Alone
--- The sessions of a world are those that its source knows.
-pub mod Known
--- What a run is lent.
-pub mod Lent
--- Worlds, as values of the code hold them.
-pub mod Worlds
--- What a turn of the code came to.
-pub mod CameTo
 -- How the turns of a run, and a run, end.
 pub mod Ended
 -- A run whose source gives nothing and whose posts are always ready.

@@ -2,7 +2,7 @@
 use Rattle.std.specs.Prelude.{◌≡◌, ℤ, false, List, Ok, Err, None, Result}
 use Rattle.trick_exec.specs.Alone.{RunsAlone}
 use Rattle.trick_exec.specs.Ended.{IsRun}
-use Rattle.trick_exec.specs.Worlds.{world_of}
+use Rattle.trick_exec_turn.specs.Worlds.{world_of}
 use Rattle.trick_exec.specs.declared.ended.Ended.TheVariants as ended
 use Rattle.trick_exec.specs.declared.ended.Ended.{Ended as EndedValue}
 use Rattle.trick_model.specs.Files.{run_writes}

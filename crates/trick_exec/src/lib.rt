@@ -5,15 +5,7 @@
 mod beginning;
 mod ended;
 mod going;
-mod idle;
 pub mod laws;
-mod lent;
-mod lines;
-mod publish;
-mod rest;
-mod sending;
-mod source;
-mod turn;
 mod whole;
 
 pub use beginning::Start;

@@ -6,8 +6,8 @@ ghost use Rattle.trick_exec_posts.specs.Stations.{AreStations};
 ghost use Rattle.trick_exec_posts.specs.declared.station.Station.{Station as StationValue};
 ghost use Rattle.trick_eval.specs.Bench.{IsFor};
 ghost use Rattle.trick_exec.specs.Ended.{Closes, IsRun};
-ghost use Rattle.trick_exec.specs.Lent.{IsSame, MayStart, place};
-ghost use Rattle.trick_exec.specs.Worlds.{world_of};
+ghost use Rattle.trick_exec_turn.specs.Lent.{IsSame, MayStart, place};
+ghost use Rattle.trick_exec_turn.specs.Worlds.{world_of};
 ghost use Rattle.trick_phase_jobs.specs.Belongs.{IsMemoryOf};
 ghost use Rattle.trick_model.specs.Files.{end_writes};
 ghost use Rattle.trick_model.specs.PlanOf.{plan_of};
@@ -22,7 +22,7 @@ ghost use Rattle.trick_exec_tic.specs.Course.{IsCourseOf};
 ghost use Rattle.trick_exec_tic.specs.Steps.{steps_of};
 ghost use Rattle.trick_exec_sources.specs.Turns.{no_sessions};
 
-use crate::lent::{Keeping, Run};
+use crate::going::go;
 use crate::{Ended, Start, World};
 use std::alloc::{AllocError, Global};
 use std::marker::Brand;
@@ -34,6 +34,7 @@ use trick_exec_frame::Equipment;
 use trick_exec_posts::{Station, start_held};
 use trick_exec_sources::Turns;
 use trick_exec_tic::Workers;
+use trick_exec_turn::{Keeping, Run};
 use trick_lang::Cells;
 use trick_model::{Accepted, Plan, State, laws};
 use trick_outside::{Shelf, Stop};
@@ -114,68 +115,57 @@ fn close<M: Cells + Drop, F: Shelf>(
     Ok(world)
 }
 
-impl<'a, F: Shelf, H, P, T, L: Ledger> Run<'a, F, H, P, T, L> {
-    // Ends a run whose turns came to this. Where its source tells a journal that has another end, the run ends
-    // as one that does not fit, and nothing more is written.
-    fn end<M: Cells + Drop>(&mut self, plan: &Plan, world: World<M>) -> Result<Ended<M>, Stop>
-    where
-        T: Turns<M>,
-        requires bench { IsFor plan.now.program self.old.equipment.now.bench.parts }
-        requires memory { IsMemoryOf plan.now.program (M.numbers world.state.memory) (M.scalars world.state.memory) }
-        ensures same { IsSame self.old self.new }
-        ensures workers { self.new.workers.now ≡ self.old.workers.now }
-        ensures closes { Closes F.Shelf T.Turns M.numbers (plan_of plan.now) (world_of M.numbers world)
-            self.old.shelf.now self.new.shelf.now self.old.turns.now self.new.turns.now result }
-    {
-        if let Some((kept, given)) = self.turns.ends(world.state.turn) {
-            return Ok(Ended::Length { kept, given });
-        }
-        let world = close(
-            self.alloc,
-            plan,
-            world,
-            &mut self.equipment.bench,
-            self.shelf,
-        )?;
-        Ok(Ended::Done(world))
+// Ends a run whose turns came to this. Where its source tells a journal that has another end, the run ends
+// as one that does not fit, and nothing more is written.
+fn end<M: Cells + Drop, F: Shelf, H, P, T: Turns<M>, L: Ledger>(
+    run: &mut Run<'_, F, H, P, T, L>,
+    plan: &Plan,
+    world: World<M>,
+) -> Result<Ended<M>, Stop>
+    requires bench { IsFor plan.now.program run.old.equipment.now.bench.parts }
+    requires memory { IsMemoryOf plan.now.program (M.numbers world.state.memory) (M.scalars world.state.memory) }
+    ensures same { IsSame run.old run.new }
+    ensures workers { run.new.workers.now ≡ run.old.workers.now }
+    ensures closes { Closes F.Shelf T.Turns M.numbers (plan_of plan.now) (world_of M.numbers world)
+        run.old.shelf.now run.new.shelf.now run.old.turns.now run.new.turns.now result }
+{
+    if let Some((kept, given)) = run.turns.ends(world.state.turn) {
+        return Ok(Ended::Length { kept, given });
     }
+    let world = close(run.alloc, plan, world, &mut run.equipment.bench, run.shelf)?;
+    Ok(Ended::Done(world))
 }
 
-impl<'a, F: Shelf, H, P: Posts, T, L: Ledger> Run<'a, F, H, P, T, L> {
-    // The whole run from a state: its first files, its turns and its end.
-    fn whole<M: Cells + Drop>(
-        &mut self,
-        accepted: &Accepted,
-        state: State<M>,
-    ) -> Result<Ended<M>, Stop>
-    where
-        H: Phases<M>,
-        T: Turns<M>,
-        requires starts { MayStart H.Phases P.Posts T.Turns accepted.now.plan self.old (seen M.numbers state)
-            (M.scalars state.memory) }
-        ensures same { IsSame self.old self.new }
-        ensures run { IsRun (hosts F.Shelf T.Turns P.Posts) M.numbers (plan_of accepted.now.plan)
-            (seen M.numbers state) (place self.old) (place self.new) result }
-    {
-        laws::runs_join();
-        let alloc = self.alloc;
-        let plan = accepted.plan();
-        hold(self.equipment, &state, self.workers);
-        begin_files(
-            alloc,
-            plan,
-            state.turn,
-            self.equipment.course.logs(),
-            self.shelf,
-        )?;
-        let world = World {
-            state,
-            sessions: Vec::new(alloc),
-        };
-        match self.go(accepted, world)? {
-            Ended::Done(world) => self.end(plan, world),
-            Ended::Length { kept, given } => Ok(Ended::Length { kept, given }),
-        }
+// The whole run from a state: its first files, its turns and its end.
+fn whole<M: Cells + Drop, F: Shelf, H: Phases<M>, P: Posts, T: Turns<M>, L: Ledger>(
+    run: &mut Run<'_, F, H, P, T, L>,
+    accepted: &Accepted,
+    state: State<M>,
+) -> Result<Ended<M>, Stop>
+    requires starts { MayStart H.Phases P.Posts T.Turns accepted.now.plan run.old (seen M.numbers state)
+        (M.scalars state.memory) }
+    ensures same { IsSame run.old run.new }
+    ensures run { IsRun (hosts F.Shelf T.Turns P.Posts) M.numbers (plan_of accepted.now.plan)
+        (seen M.numbers state) (place run.old) (place run.new) result }
+{
+    laws::runs_join();
+    let alloc = run.alloc;
+    let plan = accepted.plan();
+    hold(run.equipment, &state, run.workers);
+    begin_files(
+        alloc,
+        plan,
+        state.turn,
+        run.equipment.course.logs(),
+        run.shelf,
+    )?;
+    let world = World {
+        state,
+        sessions: Vec::new(alloc),
+    };
+    match go(run, accepted, world)? {
+        Ended::Done(world) => end(run, plan, world),
+        Ended::Length { kept, given } => Ok(Ended::Length { kept, given }),
     }
 }
 
@@ -209,7 +199,7 @@ fn run_by<M: Cells + Drop, F: Shelf, H: Phases<M>, P: Posts, T: Turns<M>, L: Led
         return Err(Stop::Memory);
     };
     let mut run = Run::new(&mut keeping, shelf, workers, turns);
-    run.whole(accepted, state)
+    whole(&mut run, accepted, state)
 }
 
 /// Runs a plan from a state over a shelf, workers and a source of entries, until the run is over, and says

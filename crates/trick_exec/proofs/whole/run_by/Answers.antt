@@ -4,7 +4,7 @@ use Rattle.trick_exec_posts.specs.Flight.{IsFree}
 use Rattle.trick_eval.specs.Bench.{IsFor}
 use Rattle.trick_exec.proofs.whole.run_by.Goals as goal
 use Rattle.trick_exec.specs.Ended.{IsRun}
-use Rattle.trick_exec.specs.Lent.{place}
+use Rattle.trick_exec_turn.specs.Lent.{place}
 use Rattle.trick_exec.specs.declared.ended.Ended.{Ended as EndedValue}
 use Rattle.trick_model.specs.PlanOf.{plan_of}
 use Rattle.trick_model.specs.State.{State, seen}
