@@ -32,8 +32,8 @@ use Rattle.trick_serve_seats.specs.Told.{told_clients, told_end, told_first}
 use Rattle.trick_serve_seats.specs.declared.arrival.Arrival.{Arrival}
 use Rattle.trick_serve_seats.specs.declared.arrival.Comes.{Comes}
 use Rattle.trick_serve_seats.specs.declared.arrival.Comes.TheVariants.{Closed, Over, OutOfMemory}
-use Rattle.trick_serve_seats.specs.declared.ask.End.{End}
-use Rattle.trick_serve_seats.specs.declared.ask.End.TheVariants as end
+use Rattle.trick_serve_seats.specs.declared.asks.End.{End}
+use Rattle.trick_serve_seats.specs.declared.asks.End.TheVariants as end
 use Rattle.trick_serve_seats.specs.declared.departure.Departure.TheVariants.{Run, Session}
 use Rattle.trick_serve_seats.specs.declared.departure.Departure.{Departure}
 use Rattle.trick_serve_door.specs.declared.ending.Ends.{Ends}

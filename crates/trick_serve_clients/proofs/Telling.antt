@@ -10,8 +10,8 @@ use Rattle.trick_serve_seats.specs.Told.{GivesFirst, IsOpen, links_of, told_clie
 use Rattle.trick_serve_seats.specs.declared.arrival.Arrival.{Arrival}
 use Rattle.trick_serve_seats.specs.declared.arrival.Comes.{Comes}
 use Rattle.trick_serve_seats.specs.declared.arrival.Comes.TheVariants as comes
-use Rattle.trick_serve_seats.specs.declared.ask.End.{End}
-use Rattle.trick_serve_seats.specs.declared.ask.End.TheVariants as end
+use Rattle.trick_serve_seats.specs.declared.asks.End.{End}
+use Rattle.trick_serve_seats.specs.declared.asks.End.TheVariants as end
 
 module _ {I O : Type 0} where
   -- None of this tells that the acceptor is closed.

@@ -8,7 +8,7 @@ ghost use Rattle.trick_serve_seats.specs.Pairs.{AllFit};
 use std::sync::Wait;
 use trick_outside::{Door, LinkIn, LinkOut};
 use trick_serve_door::{Ends, Past, SessionEnd, end_session};
-use trick_serve_source::Seat;
+use trick_serve_hearing::Seat;
 
 // The ends of the sessions that are not ended yet: of those with seats and of those that came late, each with the last
 // of them first.

@@ -5,9 +5,9 @@ use Rattle.trick_serve_seats.specs.Accepted.{HasAccepted}
 use Rattle.trick_serve_door.specs.Asking.{AsksOn}
 use Rattle.trick_serve_seats.specs.Seats.{IsPast}
 use Rattle.trick_serve_seats.specs.Taking.{HasClosed, Hosts, IsTaking, Start}
-use Rattle.trick_serve_seats.specs.declared.ask.Acceptor.{Acceptor}
-use Rattle.trick_serve_seats.specs.declared.ask.End.{End}
-use Rattle.trick_serve_seats.specs.declared.ask.End.TheVariants.{Closed}
+use Rattle.trick_serve_seats.specs.declared.asks.Acceptor.{Acceptor}
+use Rattle.trick_serve_seats.specs.declared.asks.End.{End}
+use Rattle.trick_serve_seats.specs.declared.asks.End.TheVariants.{Closed}
 use Rattle.trick_serve_seats.specs.declared.past.Past.{Past}
 use Rattle.trick_wire.specs.Ends.{put_by}
 

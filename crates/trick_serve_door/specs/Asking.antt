@@ -2,8 +2,8 @@
 use Rattle.std.specs.Prelude.{Option, Some, None, IfSome, []}
 use Rattle.trick_serve_seats.specs.Seats.{AreFresh, IsPast}
 use Rattle.trick_serve_seats.specs.Taking.{HasEnded, HasToldEnd, Hosts, IsTaking, Start}
-use Rattle.trick_serve_seats.specs.declared.ask.Acceptor.{Acceptor}
-use Rattle.trick_serve_seats.specs.declared.ask.End.{End}
+use Rattle.trick_serve_seats.specs.declared.asks.Acceptor.{Acceptor}
+use Rattle.trick_serve_seats.specs.declared.asks.End.{End}
 use Rattle.trick_serve_door.specs.declared.asking.Asking.{Asking}
 use Rattle.trick_serve_seats.specs.declared.past.Past.{Past}
 

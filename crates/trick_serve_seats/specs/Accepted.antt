@@ -10,7 +10,7 @@ use Rattle.trick_serve_seats.specs.Told.{GivesFirst, IsOpen, links_of, refused_o
 use Rattle.trick_serve_seats.specs.declared.arrival.Arrival.{Arrival}
 use Rattle.trick_serve_seats.specs.declared.arrival.Comes.{Comes}
 use Rattle.trick_serve_seats.specs.declared.arrival.Comes.TheVariants.{Closed}
-use Rattle.trick_serve_seats.specs.declared.ask.End.{End}
+use Rattle.trick_serve_seats.specs.declared.asks.End.{End}
 use Rattle.trick_serve_seats.specs.declared.departure.Departure.{Departure}
 use Rattle.trick_serve_seats.specs.declared.past.Past.{Past}
 use Rattle.trick_wire.specs.Ends.{IsSamePutter, IsSameTaker, put_by, taken_by}

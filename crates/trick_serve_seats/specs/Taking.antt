@@ -10,11 +10,11 @@ use Rattle.trick_serve_seats.specs.Told.{GivesFirst, IsOpen, links_of, refused_o
 use Rattle.trick_serve_seats.specs.declared.arrival.Arrival.{Arrival}
 use Rattle.trick_serve_seats.specs.declared.arrival.Comes.{Comes}
 use Rattle.trick_serve_seats.specs.declared.arrival.Comes.TheVariants.{Client, Closed, Nobody}
-use Rattle.trick_serve_seats.specs.declared.ask.Acceptor.{Acceptor}
-use Rattle.trick_serve_seats.specs.declared.ask.Answer.TheVariants as answer
-use Rattle.trick_serve_seats.specs.declared.ask.Answer.{Answer}
-use Rattle.trick_serve_seats.specs.declared.ask.End.{End}
-use Rattle.trick_serve_seats.specs.declared.ask.End.TheVariants as end
+use Rattle.trick_serve_seats.specs.declared.asks.Acceptor.{Acceptor}
+use Rattle.trick_serve_seats.specs.declared.asks.Answer.TheVariants as answer
+use Rattle.trick_serve_seats.specs.declared.asks.Answer.{Answer}
+use Rattle.trick_serve_seats.specs.declared.asks.End.{End}
+use Rattle.trick_serve_seats.specs.declared.asks.End.TheVariants as end
 use Rattle.trick_serve_seats.specs.declared.departure.Departure.{Departure}
 use Rattle.trick_wire.specs.Ends.{IsSamePutter, IsSameTaker, put_by, taken_by}
 use Rattle.trick_wire.specs.declared.queue.Putter.{Putter}

@@ -4,8 +4,8 @@ use Rattle.trick_outside.specs.Visits.{Back, Ended, Failed, Gave, NotYet, OutOfM
 use Rattle.trick_serve_seats.specs.declared.arrival.Arrival.{Arrival}
 use Rattle.trick_serve_seats.specs.declared.arrival.Comes.{Comes}
 use Rattle.trick_serve_seats.specs.declared.arrival.Comes.TheVariants as comes
-use Rattle.trick_serve_seats.specs.declared.ask.End.{End}
-use Rattle.trick_serve_seats.specs.declared.ask.End.TheVariants as end
+use Rattle.trick_serve_seats.specs.declared.asks.End.{End}
+use Rattle.trick_serve_seats.specs.declared.asks.End.TheVariants as end
 
 module _ {I O : Type 0} where
   -- that no client had come, where that was the first answer

@@ -6,7 +6,7 @@ ghost use Rattle.trick_serve_seats.specs.Seats.{IsPast, IsSeated};
 ghost use Rattle.trick_serve_seats.specs.Told.{told_end};
 ghost use Rattle.trick_wire.specs.Ends.{IsSamePutter, put_by};
 
-use crate::ask::End;
+use crate::asks::End;
 use crate::past::Past;
 use crate::seat::Seated;
 use crate::{Arrival, Comes};

@@ -4,7 +4,7 @@
 
 mod acceptor;
 mod arrival;
-mod ask;
+mod asks;
 mod departure;
 mod fresh;
 mod past;
@@ -14,9 +14,9 @@ mod seat;
 
 pub use acceptor::{Sessions, Teller, take_all_in};
 pub use arrival::{Arrival, Comes};
-pub use ask::{Acceptor, End, ask, look};
+pub use asks::{Acceptor, End, ask, look};
 pub use departure::Departure;
 pub use past::Past;
 pub use places::Places;
 pub use queues::Queues;
-pub use seat::{Seated, seat, turn_away};
+pub use seat::Seated;

@@ -129,7 +129,7 @@ fn begin_reader<
 
 /// Seats a client: starts its writer first, so that a reader that is refused can still be hung up on, and then its
 /// reader.
-pub fn seat<
+pub(crate) fn seat<
     I: LinkIn + Send + Drop + 'static,
     O: LinkOut + Send + Drop + 'static,
     S: Spawner,
@@ -196,7 +196,7 @@ pub fn seat<
 
 /// Seats a client to whom no thread is started: nothing is read of it and nothing written to it, it is hung up on, and
 /// the spawner counts it as refused.
-pub fn turn_away<I: LinkIn, O: LinkOut, S: Spawner>(
+pub(crate) fn turn_away<I: LinkIn, O: LinkOut, S: Spawner>(
     spawner: &mut S,
     queues: Queues,
     links: (I, O),

@@ -3,7 +3,7 @@ use Rattle.trick_serve_seats.proofs.Calls.{ended_full, ended_here, taking_placed
 use Rattle.trick_serve_door.proofs.taking.take_clients.Goals as goal
 use Rattle.trick_serve_seats.specs.Seats.{IsSeated}
 use Rattle.trick_serve_seats.specs.Taking.{Hosts, hosts}
-use Rattle.trick_serve_seats.specs.declared.ask.End.TheVariants as end
+use Rattle.trick_serve_seats.specs.declared.asks.End.TheVariants as end
 
 pub returns-then-is_full : goal.returns-then-is_full
 returns-then-is_full g c = λ start t.
