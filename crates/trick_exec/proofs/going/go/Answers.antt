@@ -215,7 +215,7 @@ returns-in_err-world-in-Entries-clause-turns g c =
     let error = err_from_is_err_and c.from_residual.result c.from_residual.ensures.1 in
     let result : Result (EndedValue g.row.M.Denot) Stop = Err error.0 in
     let old : Place g.row.F.Denot g.row.T.Denot g.row.P.Denot = at c.args.run.now.shelf.now c.args.run.now.turns.now c.args.run.now.workers.now.posts in
-    let new : Place g.row.F.Denot g.row.T.Denot g.row.P.Denot = at c.turn.new.run.shelf.now c.turn.new.run.turns.now c.turn.new.run.workers.now.posts in
+    let new : Place g.row.F.Denot g.row.T.Denot g.row.P.Denot = at c.turn.new.self.shelf.now c.turn.new.self.turns.now c.turn.new.self.workers.now.posts in
     subst (λ (r : Result (EndedValue g.row.M.Denot) Stop). AreTurns h g.M.Cells.numbers p start old new r) (sym error.1)
     (under_stops h laws g.M.Cells.numbers p start result _ error.0 under c.decides-decides.ensures tests.0 tests.1 gave
     c.in_err-world-in-Entries.ensures.came_to refl refl error.2)
@@ -236,7 +236,7 @@ returns-in_err-world-in-Nothing-clause-turns g c =
     let error = err_from_is_err_and c.from_residual-in_err-world-in-Nothing.result c.from_residual-in_err-world-in-Nothing.ensures.1 in
     let result : Result (EndedValue g.row.M.Denot) Stop = Err error.0 in
     let old : Place g.row.F.Denot g.row.T.Denot g.row.P.Denot = at c.args.run.now.shelf.now c.args.run.now.turns.now c.args.run.now.workers.now.posts in
-    let new : Place g.row.F.Denot g.row.T.Denot g.row.P.Denot = at c.turn-in-Nothing.new.run.shelf.now c.turn-in-Nothing.new.run.turns.now c.turn-in-Nothing.new.run.workers.now.posts in
+    let new : Place g.row.F.Denot g.row.T.Denot g.row.P.Denot = at c.turn-in-Nothing.new.self.shelf.now c.turn-in-Nothing.new.self.turns.now c.turn-in-Nothing.new.self.workers.now.posts in
     subst (λ (r : Result (EndedValue g.row.M.Denot) Stop). AreTurns h g.M.Cells.numbers p start old new r) (sym error.1)
     (under_stops h laws g.M.Cells.numbers p start result _ error.0 under c.decides-decides.ensures tests.0 tests.1 gave
     (came_as c.idles.new.world c.loop-turn.world (c.if-idles.ensures.unchanged refl) c.in_err-world-in-Nothing.ensures.came_to) refl refl error.2)

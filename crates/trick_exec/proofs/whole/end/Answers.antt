@@ -18,7 +18,7 @@ returns-in_err-world-clause-closes g c =
     let error = err_from_is_err_and c.from_residual.result c.from_residual.ensures.1 in
     let w : World = world_of g.M.Cells.numbers c.args.world in
     let plain : Result (Unit {0}) Stop = Err error.0 in
-    subst (λ (r : Result (EndedValue g.row.M.Denot) Stop). Closes g.F.Shelf g.T.Turns g.M.Cells.numbers (plan_of c.args.plan.now) w c.args.run.now.shelf.now c.close.new.shelf c.args.run.now.turns.now c.ends.new.run r)
+    subst (λ (r : Result (EndedValue g.row.M.Denot) Stop). Closes g.F.Shelf g.T.Turns g.M.Cells.numbers (plan_of c.args.plan.now) w c.args.run.now.shelf.now c.close.new.shelf c.args.run.now.turns.now c.ends.new.self r)
     (sym error.1) (does_fail plain _ error.0 c.in_err-world.ensures.does refl refl error.2, c.ends.ensures.step)
 
 pub returns-clause-closes : goal.returns-clause-closes

@@ -59,12 +59,12 @@ returns g c =
     let new : Place g.row.F.Denot g.row.T.Denot g.row.P.Denot = at c.shelf-1.given.0 c.turns-1.given.0 c.workers-1.given.0.posts in
     let made = c.new-run.ensures in
     let same = c.whole.ensures.same in
-    let shelf_is : c.shelf-1.given.0 ≡ c.whole.new.self.shelf.now = c.shelf-1.given.1 (sym (same.0 ∙ made.same_shelf)) in
-    let workers_is : c.workers-1.given.0 ≡ c.whole.new.self.workers.now = c.workers-1.given.1 (sym (same.1 ∙ made.same_workers)) in
-    let turns_is : c.turns-1.given.0 ≡ c.whole.new.self.turns.now = c.turns-1.given.1 (sym (same.2 ∙ made.same_turns)) in
+    let shelf_is : c.shelf-1.given.0 ≡ c.whole.new.run.shelf.now = c.shelf-1.given.1 (sym (same.0 ∙ made.same_shelf)) in
+    let workers_is : c.workers-1.given.0 ≡ c.whole.new.run.workers.now = c.workers-1.given.1 (sym (same.1 ∙ made.same_workers)) in
+    let turns_is : c.turns-1.given.0 ≡ c.whole.new.run.turns.now = c.turns-1.given.1 (sym (same.2 ∙ made.same_turns)) in
     let starts : place c.new-run.result ≡ old = λ i. at (made.shelf i) (made.turns i) ((made.workers i).posts) in
-    let ends : place c.whole.new.self ≡ new = λ i. at (sym shelf_is i) (sym turns_is i) ((sym workers_is i).posts) in
+    let ends : place c.whole.new.run ≡ new = λ i. at (sym shelf_is i) (sym turns_is i) ((sym workers_is i).posts) in
     record {
       run = subst (λ (o : Place g.row.F.Denot g.row.T.Denot g.row.P.Denot). IsRun h g.M.Cells.numbers p start old o c.whole.result) ends
-          (subst (λ (o : Place g.row.F.Denot g.row.T.Denot g.row.P.Denot). IsRun h g.M.Cells.numbers p start o (place c.whole.new.self) c.whole.result) starts c.whole.ensures.run);
+          (subst (λ (o : Place g.row.F.Denot g.row.T.Denot g.row.P.Denot). IsRun h g.M.Cells.numbers p start o (place c.whole.new.run) c.whole.result) starts c.whole.ensures.run);
     }
