@@ -68,20 +68,21 @@ fn memory_of(alloc: Global, accepted: &Accepted) -> Result<Memory, AllocError>
 }
 
 // Opens tic 0 with a memory of zeros.
-fn open<P: Planned, R: Wait + Abort>(
+fn open<P: Planned, R: Wait>(
     rt: &R,
     alloc: Global,
     accepted: &Accepted,
     chief: &mut Chief<Memory, P>,
-)
+) -> Result<(), AllocError>
     requires plan { P.plan ≡ Some accepted.now.plan }
     requires closed { opened_at (own chief.old.pass) ≡ None }
     requires not_shut { has_shut (own chief.old.pass) ≡ false }
-    ensures { IsSome (opened_at (own chief.new.pass)) }
+    ensures { IfOk result (λ _. IsSome (opened_at (own chief.new.pass))) }
 {
-    let memory = memory_of(alloc, accepted).expect(rt, "memory");
-    let queues = queues_of(alloc, accepted).expect(rt, "memory");
+    let memory = memory_of(alloc, accepted)?;
+    let queues = queues_of(alloc, accepted)?;
     chief.open(rt, accepted, memory, &accepted.plan().jobs, queues.due(), 0);
+    Ok(())
 }
 
 // The worker of a hand.
@@ -120,7 +121,7 @@ fn driven<P: Planned + Send, R: Threads + Wait + Sync + Abort>(
     let second = worker_of(rt, alloc, accepted, &mut hands);
     let first = worker_of(rt, alloc, accepted, &mut hands);
     let mut faults = Faults::new(alloc).expect(rt, "memory");
-    open(rt, alloc, accepted, &mut chief);
+    open(rt, alloc, accepted, &mut chief).expect(rt, "memory");
     *done = drive(rt, accepted, (first, second, third));
     match chief.close(rt, accepted, &mut faults) {
         Closed::Memory(memory) => {
