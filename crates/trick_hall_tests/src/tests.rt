@@ -12,6 +12,7 @@ use std::alloc::{AllocError, Global};
 use std::marker::Brand;
 use std::process::Abort;
 use std::sync::Wait;
+use std::test::Fail;
 use std::thread::Threads;
 use trick_hall::{Chief, Hall, Hand};
 use trick_lang::{Cell, Cells};
@@ -85,17 +86,20 @@ fn open<P: Planned, R: Wait>(
     Ok(())
 }
 
-// The worker of a hand.
-fn worker_of<P: Planned, R: Abort>(
-    rt: &R,
+// The three workers of a hall with three hands.
+fn workers_of<P: Planned>(
     alloc: Global,
     accepted: &Accepted,
-    hands: &mut Vec<Hand<Memory, P>>,
-) -> Worker<P>
-    ensures { IsBenchFor accepted.now.plan.program result.bench.parts }
+    mut hands: Vec<Hand<Memory, P>>,
+) -> Result<(Worker<P>, Worker<P>, Worker<P>), Fail>
+    ensures first { IfOk result (λ w. IsBenchFor accepted.now.plan.program w.0.bench.parts) }
+    ensures second { IfOk result (λ w. IsBenchFor accepted.now.plan.program w.1.bench.parts) }
+    ensures third { IfOk result (λ w. IsBenchFor accepted.now.plan.program w.2.bench.parts) }
 {
-    let hand = hands.pop().expect(rt, "a hand");
-    Worker::new(alloc, accepted, hand).expect(rt, "memory")
+    let third = Worker::new(alloc, accepted, hands.pop().ok_or("three hands")?)?;
+    let second = Worker::new(alloc, accepted, hands.pop().ok_or("two hands")?)?;
+    let first = Worker::new(alloc, accepted, hands.pop().ok_or("one hand")?)?;
+    Ok((first, second, third))
 }
 
 // The numbers of a memory, by cell.
@@ -107,43 +111,41 @@ fn numbers_of(alloc: Global, memory: &Memory) -> Result<Vec<i64>, AllocError> {
     Ok(numbers)
 }
 
-// Opens a hall, drives it by three threads, and tells the numbers that the close gives, where it gives a memory.
-fn driven<P: Planned + Send, R: Threads + Wait + Sync + Abort>(
+// Opens a hall, drives it by three threads, and tells the numbers that the close gives.
+fn driven<P: Planned + Send, R: Threads + Wait + Sync>(
     rt: &R,
     alloc: Global,
     accepted: &Accepted,
     done: &mut Done,
-) -> Option<Vec<i64>>
+) -> Result<Vec<i64>, Fail>
     requires plan { P.plan ≡ Some accepted.now.plan }
 {
-    let (mut chief, mut hands) = Hall::new::<Memory, P>(alloc, accepted, 3).expect(rt, "memory");
-    let third = worker_of(rt, alloc, accepted, &mut hands);
-    let second = worker_of(rt, alloc, accepted, &mut hands);
-    let first = worker_of(rt, alloc, accepted, &mut hands);
-    let mut faults = Faults::new(alloc).expect(rt, "memory");
-    open(rt, alloc, accepted, &mut chief).expect(rt, "memory");
-    *done = drive(rt, accepted, (first, second, third));
+    let (mut chief, hands) = Hall::new::<Memory, P>(alloc, accepted, 3)?;
+    let workers = workers_of(alloc, accepted, hands)?;
+    let mut faults = Faults::new(alloc)?;
+    open(rt, alloc, accepted, &mut chief)?;
+    *done = drive(rt, accepted, workers);
     match chief.close(rt, accepted, &mut faults) {
         Closed::Memory(memory) => {
             chief.shut(rt);
-            numbers_of(alloc, &memory).ok()
+            Ok(numbers_of(alloc, &memory)?)
         }
-        Closed::Left { count: _ } => None,
+        Closed::Left { count: _ } => Err(Fail::from("no job is left")),
     }
 }
 
 #[test]
-fn three_threads_give_the_fold(rt: HostRuntime) {
+fn three_threads_give_the_fold(rt: HostRuntime) -> Result<(), Fail> {
     let accepted = ready(rt.alloc(), S_DEFINE.as_bytes(), INPUT.as_bytes())
         .ok()
-        .expect(&rt, "an accepted plan");
+        .ok_or("an accepted plan")?;
     let mut done = Done {
         committed: false,
         was_busy: false,
     };
-    let numbers = driven::<Brand, _>(&rt, rt.alloc(), &accepted, &mut done);
-    let numbers = numbers.expect(&rt, "no job is left");
+    let numbers = driven::<Brand, _>(&rt, rt.alloc(), &accepted, &mut done)?;
     assert!(rt; done.committed, "each job is committed");
     assert!(rt; done.was_busy, "some call was busy");
     assert_eq!(rt; numbers.as_slice(), [1, 10, -1].as_slice());
+    Ok(())
 }
