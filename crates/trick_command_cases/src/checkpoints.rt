@@ -1,11 +1,13 @@
 //! Checkpoints, loaded and printed, the bytes of their memories, and threads beside the tics.
 
-use crate::bytes::push_lines;
 use crate::runs::Runs;
+use crate::stage::Stage;
 use std::alloc::{AllocError, Global};
+use trick_cases_report::Report;
 use trick_chkpt::load;
 use trick_chkpt_printer::{jobs_of, print, scope, threads_beside};
 use trick_codes::LoadFault;
+use trick_lang::{Cell, JobId};
 use trick_memory::Memory;
 use trick_model::{Plan, State, Thread};
 
@@ -14,127 +16,193 @@ pub(crate) fn state_of(
     alloc: Global,
     plan: &Plan,
     text: &[u8],
-) -> Result<Result<State<Memory>, LoadFault>, AllocError> {
-    let memory = Memory::new(alloc, plan)?;
-    Ok(load(alloc, plan, text, memory))
+) -> Result<State<Memory>, LoadFault> {
+    match Memory::new(alloc, plan) {
+        Ok(memory) => load(alloc, plan, text, memory),
+        Err(_) => Err(LoadFault::OutOfMemory),
+    }
 }
 
-// How a text is refused.
-fn refused(alloc: Global, fault: LoadFault) -> Result<String, AllocError> {
+// Tells how a text is refused.
+fn tell_fault(fault: LoadFault, report: &mut Report) {
     match fault {
-        LoadFault::OutOfMemory => String::from_str(alloc, "refused OutOfMemory"),
-        LoadFault::Truncated { at } => format!(in alloc; "refused Truncated {at}"),
-        LoadFault::Trailing { at } => format!(in alloc; "refused Trailing {at}"),
-        LoadFault::BadLine { line } => format!(in alloc; "refused BadLine {line}"),
-        LoadFault::WrongPlan { line } => format!(in alloc; "refused WrongPlan {line}"),
-        LoadFault::OutOfRange { line } => format!(in alloc; "refused OutOfRange {line}"),
+        LoadFault::OutOfMemory => report.word("refused OutOfMemory"),
+        LoadFault::Truncated { at } => report.number("refused Truncated ", at as u64, ""),
+        LoadFault::Trailing { at } => report.number("refused Trailing ", at as u64, ""),
+        LoadFault::BadLine { line } => report.number("refused BadLine ", line as u64, ""),
+        LoadFault::WrongPlan { line } => report.number("refused WrongPlan ", line as u64, ""),
+        LoadFault::OutOfRange { line } => report.number("refused OutOfRange ", line as u64, ""),
     }
 }
 
-/// The same in a line.
-pub(crate) fn refusal(alloc: Global, fault: LoadFault) -> Result<String, AllocError> {
-    let refused = refused(alloc, fault)?;
-    format!(in alloc; "> {refused}\n")
+/// Tells the same in a line.
+pub(crate) fn refused(fault: LoadFault, report: &mut Report) {
+    report.word("> ");
+    tell_fault(fault, report);
+    report.word("\n");
 }
 
-// The lines of a state, as it is printed.
-fn printed(alloc: Global, plan: &Plan, state: &State<Memory>) -> Result<String, AllocError> {
-    let mut text = String::new(alloc);
-    push_lines(&mut text, print(alloc, plan, state)?.as_slice())?;
-    Ok(text)
+// Tells the lines of a state, as it is printed.
+fn printed(
+    alloc: Global,
+    plan: &Plan,
+    state: &State<Memory>,
+    report: &mut Report,
+) -> Result<(), AllocError> {
+    let text = print(alloc, plan, state)?;
+    report.lines(text.as_slice());
+    Ok(())
 }
 
-/// The state of a checkpoint as it is printed, or the refusal of the text.
-pub(crate) fn loaded(alloc: Global, plan: &Plan, text: &[u8]) -> Result<String, AllocError> {
-    match state_of(alloc, plan, text)? {
-        Ok(state) => printed(alloc, plan, &state),
-        Err(fault) => refusal(alloc, fault),
-    }
-}
-
-/// The same of a text with other bytes in the place of a line, counted from 1.
-pub(crate) fn loaded_with(
+/// Tells the state of a checkpoint as it is printed, or the refusal of the text.
+pub(crate) fn loaded(
     alloc: Global,
     plan: &Plan,
     text: &[u8],
-    number: usize,
-    other: &[u8],
-) -> Result<String, AllocError> {
+    report: &mut Report,
+) -> Result<(), AllocError> {
+    match state_of(alloc, plan, text) {
+        Ok(state) => printed(alloc, plan, &state, report),
+        Err(fault) => {
+            refused(fault, report);
+            Ok(())
+        }
+    }
+}
+
+// Adds a line and its line feed.
+fn push_line(text: &mut Vec<u8>, line: &[u8]) -> Result<(), AllocError> {
+    text.extend_from_slice(line)?;
+    text.push(b'\n')?;
+    Ok(())
+}
+
+// A text with another line in the place of one, counted from 1.
+fn with_line(alloc: Global, text: &[u8], number: u64, other: &[u8]) -> Result<Vec<u8>, AllocError> {
     let mut bytes = Vec::new(alloc);
     for (index, line) in text.split_inclusive(|byte| *byte == b'\n').enumerate() {
-        if index.saturating_add(1) == number {
-            bytes.extend_from_slice(other)?;
-            bytes.push(b'\n')?;
+        if index.saturating_add(1) as u64 == number {
+            push_line(&mut bytes, other)?;
         } else {
             bytes.extend_from_slice(line)?;
         }
     }
-    loaded(alloc, plan, &bytes)
+    Ok(bytes)
 }
 
-// A line of bytes in hexadecimal.
-fn in_hexadecimal(alloc: Global, bytes: &[u8]) -> Result<String, AllocError> {
-    let mut text = String::from_str(alloc, ">")?;
+/// Loads the text `checkpoint` with another line in the place of one.
+pub(crate) fn loaded_with(
+    stage: Stage,
+    number: u64,
+    other: &[u8],
+    report: &mut Report,
+) -> Result<(), AllocError> {
+    let text = with_line(stage.alloc, stage.texts.named("checkpoint"), number, other)?;
+    loaded(stage.alloc, stage.plan, &text, report)
+}
+
+// Tells bytes in hexadecimal, in a line.
+fn in_hexadecimal(bytes: &[u8], report: &mut Report) {
+    report.word(">");
     for byte in bytes {
-        let byte = *byte;
-        write!(text, " {byte:02x}")?;
+        report.word(" ");
+        report.digits(*byte);
     }
-    text.push_str("\n")?;
-    Ok(text)
+    report.word("\n");
 }
 
-/// The bytes of the memory of a checkpoint, in hexadecimal, or the refusal of the text.
-pub(crate) fn packed(alloc: Global, plan: &Plan, text: &[u8]) -> Result<String, AllocError> {
-    match state_of(alloc, plan, text)? {
-        Ok(state) => in_hexadecimal(alloc, state.memory.bytes()),
-        Err(fault) => refusal(alloc, fault),
+/// Tells the bytes of the memory of a checkpoint, in hexadecimal, or the refusal of the text.
+pub(crate) fn packed(alloc: Global, plan: &Plan, text: &[u8], report: &mut Report) {
+    match state_of(alloc, plan, text) {
+        Ok(state) => in_hexadecimal(state.memory.bytes(), report),
+        Err(fault) => refused(fault, report),
+    }
+}
+
+// How a text is refused.
+fn fault_of(alloc: Global, plan: &Plan, text: &[u8]) -> Option<LoadFault> {
+    match state_of(alloc, plan, text) {
+        Ok(_) => None,
+        Err(fault) => Some(fault),
+    }
+}
+
+// Tells whether a text of so many bytes is loaded, or how it is refused.
+fn tell_outcome(fault: Option<LoadFault>, len: usize, report: &mut Report) {
+    match fault {
+        None => report.word("loaded"),
+        Some(LoadFault::Truncated { at }) if at == len => {
+            report.word("refused Truncated at its length")
+        }
+        Some(fault) => tell_fault(fault, report),
     }
 }
 
 // Whether a text is loaded, or how it is refused.
 fn outcome(alloc: Global, plan: &Plan, text: &[u8]) -> Result<String, AllocError> {
-    match state_of(alloc, plan, text)? {
-        Ok(_) => String::from_str(alloc, "loaded"),
-        Err(LoadFault::Truncated { at }) if at == text.len() => {
-            String::from_str(alloc, "refused Truncated at its length")
-        }
-        Err(fault) => refused(alloc, fault),
-    }
+    let mut told = Report::new(alloc);
+    tell_outcome(fault_of(alloc, plan, text), text.len(), &mut told);
+    told.finish()
 }
 
-/// The same for each beginning of a text but the whole, by its length.
-pub(crate) fn fronts_loaded(alloc: Global, plan: &Plan, text: &[u8]) -> Result<String, AllocError> {
-    let mut runs = Runs::new(alloc);
+/// Tells the same for each beginning of a text but the whole, by its length.
+pub(crate) fn load_fronts(
+    alloc: Global,
+    plan: &Plan,
+    text: &[u8],
+    report: &mut Report,
+) -> Result<(), AllocError> {
+    let mut runs = Runs::new();
     for len in 0..text.len() {
         let (front, _) = text.split_at(len);
-        runs.add(len, outcome(alloc, plan, front)?)?;
+        runs.add(len, outcome(alloc, plan, front)?, report);
     }
-    runs.told(alloc)
+    runs.tell(report);
+    Ok(())
 }
 
-// Adds a thread with the numbers of its jobs, and of the cells that these may read or write.
-fn push_thread(
+// Tells the numbers of jobs.
+fn tell_jobs(jobs: &[JobId], report: &mut Report) {
+    for job in jobs {
+        report.number(" ", u64::from(job.0), "");
+    }
+}
+
+// Tells the numbers of cells.
+fn tell_cells(cells: &[Cell], report: &mut Report) {
+    for cell in cells {
+        report.number(" ", u64::from(cell.0), "");
+    }
+}
+
+// Tells the numbers of jobs, and of the cells that these may read or write.
+fn tell_scope(jobs: &[JobId], cells: &[Cell], report: &mut Report) {
+    report.word(" jobs");
+    tell_jobs(jobs, report);
+    report.word(" cells");
+    tell_cells(cells, report);
+    report.word("\n");
+}
+
+// Tells a thread with the numbers of its jobs, and of the cells that these may read or write.
+fn tell_thread(
     alloc: Global,
-    text: &mut String,
     plan: &Plan,
     thread: Thread,
+    report: &mut Report,
 ) -> Result<(), AllocError> {
-    write!(text, "> thread {} jobs", thread.number)?;
-    for job in &jobs_of(alloc, &plan.program, thread)? {
-        write!(text, " {}", job.0)?;
-    }
-    text.push_str(" cells")?;
-    for cell in &scope(alloc, plan, thread)? {
-        write!(text, " {}", cell.0)?;
-    }
-    text.push_str("\n")
+    let jobs = jobs_of(alloc, &plan.program, thread)?;
+    let cells = scope(alloc, plan, thread)?;
+    report.number("> thread ", u64::from(thread.number), "");
+    tell_scope(&jobs, &cells, report);
+    Ok(())
 }
 
-/// The threads beside the tics.
-pub(crate) fn beside(alloc: Global, plan: &Plan) -> Result<String, AllocError> {
-    let mut text = String::new(alloc);
-    for thread in &threads_beside(alloc, plan)? {
-        push_thread(alloc, &mut text, plan, *thread)?;
+/// Tells the threads beside the tics.
+pub(crate) fn beside(alloc: Global, plan: &Plan, report: &mut Report) -> Result<(), AllocError> {
+    let threads = threads_beside(alloc, plan)?;
+    for thread in &threads {
+        tell_thread(alloc, plan, *thread, report)?;
     }
-    Ok(text)
+    Ok(())
 }

@@ -3,8 +3,9 @@
 ghost use Rattle.std.specs.Prelude.{◌≡◌};
 ghost use Rattle.trick_lang.specs.Effect.{scalars_of};
 
-use crate::bytes::push_named;
+use crate::words::{Words, small};
 use std::alloc::{AllocError, Global};
+use trick_cases_report::Report;
 use trick_command::actions;
 use trick_lang::{Cell, Cells};
 use trick_memory::Memory;
@@ -27,66 +28,67 @@ pub(crate) enum DeedCall {
 }
 
 /// The call of some words.
-pub(crate) fn deed_call(words: &[&str]) -> Option<DeedCall> {
-    match words {
-        ["deeds"] => Some(DeedCall::Deeds),
-        ["deed_stop", tics] => Some(DeedCall::Stop {
-            tics: tics.parse().ok()?,
+pub(crate) fn deed_call(words: Words) -> Option<DeedCall> {
+    match words.name {
+        "deeds" => Some(DeedCall::Deeds),
+        "deed_stop" => Some(DeedCall::Stop { tics: words.first }),
+        "cell" => Some(DeedCall::Cell),
+        "name" => Some(DeedCall::Name {
+            cell: small(words.first),
         }),
-        ["cell"] => Some(DeedCall::Cell),
-        ["name", cell] => Some(DeedCall::Name {
-            cell: cell.parse().ok()?,
-        }),
-        ["store"] => Some(DeedCall::Store),
+        "store" => Some(DeedCall::Store),
         _ => None,
     }
 }
 
-// Adds what an action asks for.
-fn push_deed(text: &mut String, plan: &Plan, action: &Action) -> Result<(), AllocError> {
+// Tells what an action asks for.
+fn tell_deed(deed: Option<Deed>, report: &mut Report) {
+    match deed {
+        Some(deed) => report.code(&deed),
+        None => report.word("nothing"),
+    }
+}
+
+// Tells what actions ask for, each in a line.
+fn asked(plan: &Plan, actions: &[Action], report: &mut Report) {
     let groups = plan.groups.as_slice();
     let events = plan.events.as_slice();
-    match deed_of(&plan.program, groups, events, action) {
-        Some(deed) => write!(text, "> {deed:?}\n"),
-        None => text.push_str("> nothing\n"),
-    }
-}
-
-// What actions ask for, each in a line.
-fn asked(alloc: Global, plan: &Plan, actions: &[Action]) -> Result<String, AllocError> {
-    let mut text = String::new(alloc);
     for action in actions {
-        push_deed(&mut text, plan, action)?;
+        report.word("> ");
+        tell_deed(deed_of(&plan.program, groups, events, action), report);
+        report.word("\n");
     }
-    Ok(text)
 }
 
-// Adds the number of a cell.
-fn push_cell(text: &mut String, word: &str, cell: Option<Cell>) -> Result<(), AllocError> {
-    text.push_str(word)?;
+// Tells the number of a cell.
+fn tell_cell(word: &str, cell: Option<Cell>, report: &mut Report) {
+    report.word(word);
     match cell {
-        Some(cell) => write!(text, " {}", cell.0),
-        None => text.push_str(" none"),
+        Some(cell) => report.number(" ", u64::from(cell.0), ""),
+        None => report.word(" none"),
     }
 }
 
-// The cell of a full name, as the program finds it and as its memory does.
-fn found(alloc: Global, plan: &Plan, name: &[u8]) -> Result<String, AllocError> {
-    let memory = Memory::new(alloc, plan)?;
-    let mut text = String::new(alloc);
-    push_cell(&mut text, "> cell", find_cell(&plan.program, name))?;
-    push_cell(&mut text, ", in memory", memory.find(plan, name))?;
-    text.push_str("\n")?;
-    Ok(text)
+// Tells the cell of a full name, as the program finds it and as its memory does.
+fn tell_found(plan: &Plan, memory: &Memory, name: &[u8], report: &mut Report) {
+    tell_cell("> cell", find_cell(&plan.program, name), report);
+    tell_cell(", in memory", memory.find(plan, name), report);
+    report.word("\n");
 }
 
-// The full name of a cell.
-fn named(alloc: Global, plan: &Plan, cell: u32) -> Result<String, AllocError> {
+// Tells the same with a new memory.
+fn found(alloc: Global, plan: &Plan, name: &[u8], report: &mut Report) -> Result<(), AllocError> {
     let memory = Memory::new(alloc, plan)?;
-    let mut text = String::new(alloc);
-    push_named(&mut text, ">", memory.name(plan, Cell(cell)))?;
-    text.push_str("\n")?;
-    Ok(text)
+    tell_found(plan, &memory, name, report);
+    Ok(())
+}
+
+// Tells the full name of a cell.
+fn named(alloc: Global, plan: &Plan, cell: u32, report: &mut Report) -> Result<(), AllocError> {
+    let memory = Memory::new(alloc, plan)?;
+    report.named(">", memory.name(plan, Cell(cell)));
+    report.word("\n");
+    Ok(())
 }
 
 // Does what an action stores.
@@ -100,58 +102,82 @@ fn store(plan: &Plan, memory: &mut Memory, action: &Action)
     }
 }
 
-// What all cells hold.
-fn held(alloc: Global, memory: &Memory) -> Result<String, AllocError> {
-    let mut text = format!(in alloc; ">")?;
+// Tells what all cells hold.
+fn tell_numbers(memory: &Memory, report: &mut Report) {
+    report.word(">");
     for cell in 0..memory.len() {
-        write!(text, " {}", memory.get(Cell(cell)))?;
+        report.word(" ");
+        report.value(memory.get(Cell(cell)));
     }
-    text.push_str("\n")?;
-    Ok(text)
+    report.word("\n");
 }
 
-// What all cells hold after an action.
-fn stored(alloc: Global, plan: &Plan, action: &Action) -> Result<String, AllocError> {
+// Tells what all cells hold after an action.
+fn stored(
+    alloc: Global,
+    plan: &Plan,
+    action: &Action,
+    report: &mut Report,
+) -> Result<(), AllocError> {
     let mut memory = Memory::new(alloc, plan)?;
     store(plan, &mut memory, action);
-    held(alloc, &memory)
+    tell_numbers(&memory, report);
+    Ok(())
 }
 
-// The same after the first of some actions.
-fn first_stored(alloc: Global, plan: &Plan, actions: &[Action]) -> Result<String, AllocError> {
-    match actions.first() {
-        Some(action) => stored(alloc, plan, action),
-        None => String::from_str(alloc, "> no action\n"),
-    }
-}
-
-// What the actions of a text ask for, or what the first one stores.
+// Tells what actions ask for, or what the first one stores.
 fn of_actions(
     alloc: Global,
     plan: &Plan,
     call: DeedCall,
+    actions: &[Action],
+    report: &mut Report,
+) -> Result<(), AllocError> {
+    match (call, actions) {
+        (DeedCall::Store, [action, ..]) => return stored(alloc, plan, action, report),
+        (DeedCall::Store, []) => report.word("> no action\n"),
+        _ => asked(plan, actions, report),
+    }
+    Ok(())
+}
+
+// Tells the same of the actions of a text.
+fn of_text(
+    alloc: Global,
+    plan: &Plan,
+    call: DeedCall,
     text: &[u8],
-) -> Result<String, AllocError> {
+    report: &mut Report,
+) -> Result<(), AllocError> {
     match actions(alloc, text) {
-        Ok(actions) => match call {
-            DeedCall::Store => first_stored(alloc, plan, actions.as_slice()),
-            _ => asked(alloc, plan, actions.as_slice()),
-        },
-        Err(_) => String::from_str(alloc, "> no action\n"),
+        Ok(actions) => of_actions(alloc, plan, call, actions.as_slice(), report),
+        Err(_) => {
+            report.word("> no action\n");
+            Ok(())
+        }
     }
 }
 
-/// What a call answers with this plan.
+// Tells what a stop after so many tics asks for.
+fn stop(plan: &Plan, tics: u64, report: &mut Report) {
+    asked(plan, &[Action::Stop { at: Some(tics) }], report);
+}
+
+/// Tells what a call comes to with this plan.
 pub(crate) fn answer(
     alloc: Global,
     plan: &Plan,
     call: DeedCall,
     bytes: &[u8],
-) -> Result<String, AllocError> {
+    report: &mut Report,
+) -> Result<(), AllocError> {
     match call {
-        DeedCall::Stop { tics } => asked(alloc, plan, &[Action::Stop { at: Some(tics) }]),
-        DeedCall::Cell => found(alloc, plan, bytes),
-        DeedCall::Name { cell } => named(alloc, plan, cell),
-        DeedCall::Deeds | DeedCall::Store => of_actions(alloc, plan, call, bytes),
+        DeedCall::Stop { tics } => {
+            stop(plan, tics, report);
+            Ok(())
+        }
+        DeedCall::Cell => found(alloc, plan, bytes, report),
+        DeedCall::Name { cell } => named(alloc, plan, cell, report),
+        DeedCall::Deeds | DeedCall::Store => of_text(alloc, plan, call, bytes, report),
     }
 }

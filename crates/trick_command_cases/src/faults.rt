@@ -1,45 +1,45 @@
 //! The faults of a run: how many there were, and which are kept.
 
+use crate::words::{Words, split, split_number};
 use std::alloc::{AllocError, Global};
+use trick_cases_report::Report;
 use trick_lang::{FaultKind, JobFault, JobId};
 use trick_model::{Faults, KEPT_FAULTS};
 
 /// So many faults, one a tic from 0 on, and then so many that are counted alone.
 #[derive(Clone, Copy)]
 pub(crate) struct FaultsCall {
-    pub(crate) added: u64,
-    pub(crate) more: u64,
+    added: u64,
+    more: u64,
 }
 
 /// The call of some words.
-pub(crate) fn faults_call(words: &[&str]) -> Option<FaultsCall> {
-    match words {
-        ["faults", added, "more", more] => Some(FaultsCall {
-            added: added.parse().ok()?,
-            more: more.parse().ok()?,
-        }),
-        _ => None,
+pub(crate) fn faults_call(words: Words) -> Option<FaultsCall> {
+    if words.name != "faults" {
+        return None;
     }
+    let (_, more) = split(words.word);
+    let (more, _) = split_number(more);
+    Some(FaultsCall {
+        added: words.first,
+        more,
+    })
 }
 
-// Adds the count of faults, how many are kept and the last of these.
-fn push_faults(text: &mut String, faults: &Faults) -> Result<(), AllocError> {
-    write!(
-        text,
-        "> {} faults, {} kept",
-        faults.count(),
-        faults.first().len()
-    )?;
+// Tells the count of faults, how many are kept and the last of these.
+fn tell(faults: &Faults, report: &mut Report) {
+    report.number("> ", faults.count(), " faults, ");
+    report.number("", faults.first().len() as u64, " kept");
     if let Some(last) = faults.first().last() {
-        write!(text, ", the last {last:?}")?;
+        report.word(", the last ");
+        report.code(last);
     }
-    text.push_str("\n")
+    report.word("\n");
 }
 
-/// What a call answers.
-pub(crate) fn answer(alloc: Global, call: FaultsCall) -> Result<String, AllocError> {
-    let mut faults = Faults::new(alloc)?;
-    for tic in 0..call.added.min(100_000) {
+// Adds so many faults.
+fn add(faults: &mut Faults, added: u64) {
+    for tic in 0..added.min(100_000) {
         faults.add(JobFault {
             tic,
             job: JobId(3),
@@ -47,11 +47,25 @@ pub(crate) fn answer(alloc: Global, call: FaultsCall) -> Result<String, AllocErr
             line: 7,
         });
     }
-    let mut text = String::new(alloc);
-    push_faults(&mut text, &faults)?;
+}
+
+// Counts so many more, where those are there that are kept.
+fn count_more(faults: &mut Faults, more: u64, report: &mut Report) {
     if faults.count() >= KEPT_FAULTS as u64 {
-        faults.count_more(call.more);
-        push_faults(&mut text, &faults)?;
+        faults.count_more(more);
+        tell(faults, report);
     }
-    Ok(text)
+}
+
+/// Tells what a call comes to.
+pub(crate) fn answer(
+    alloc: Global,
+    call: FaultsCall,
+    report: &mut Report,
+) -> Result<(), AllocError> {
+    let mut faults = Faults::new(alloc)?;
+    add(&mut faults, call.added);
+    tell(&faults, report);
+    count_more(&mut faults, call.more, report);
+    Ok(())
 }

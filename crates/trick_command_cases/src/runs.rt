@@ -1,6 +1,6 @@
 //! What many calls come to, one after the other, with equal ones together.
 
-use std::alloc::{AllocError, Global};
+use trick_cases_report::Report;
 
 // Calls of one outcome, by their numbers.
 #[derive(Drop)]
@@ -11,56 +11,58 @@ struct Run {
 }
 
 impl Run {
-    // Adds its line.
-    fn push(&self, text: &mut String) -> Result<(), AllocError> {
-        let first = self.first;
-        let last = self.last;
-        if first < last {
-            write!(text, "> {first} to {last}: ")?;
-        } else {
-            write!(text, "> {first}: ")?;
+    // Tells it in a line.
+    fn tell(&self, report: &mut Report) {
+        report.number("> ", self.first as u64, "");
+        if self.first < self.last {
+            report.number(" to ", self.last as u64, "");
         }
-        text.push_str(self.outcome.as_str())?;
-        text.push_str("\n")
+        report.word(": ");
+        report.word(self.outcome.as_str());
+        report.word("\n");
     }
 }
 
-/// The outcomes of calls with rising numbers; those of one outcome that follow one another are a run.
+/// Calls with rising numbers, of which those of one outcome that follow one another are a run. The last run is kept.
 #[derive(Drop)]
 pub(crate) struct Runs {
-    runs: Vec<Run>,
+    last: Option<Run>,
 }
 
 impl Runs {
     /// No calls.
-    pub(crate) fn new(alloc: Global) -> Self {
-        Runs {
-            runs: Vec::new(alloc),
+    pub(crate) fn new() -> Runs {
+        Runs { last: None }
+    }
+
+    // Adds the call of a number to the last run, where it has its outcome.
+    fn goes_on(&mut self, number: usize, outcome: &str) -> bool {
+        let Some(run) = &mut self.last else {
+            return false;
+        };
+        if run.outcome.as_str() != outcome {
+            return false;
+        }
+        run.last = number;
+        true
+    }
+
+    /// Adds the call of a number, and tells the run before it where that has another outcome.
+    pub(crate) fn add(&mut self, number: usize, outcome: String, report: &mut Report) {
+        if !self.goes_on(number, outcome.as_str()) {
+            self.tell(report);
+            self.last = Some(Run {
+                outcome,
+                first: number,
+                last: number,
+            });
         }
     }
 
-    /// Adds the call of a number.
-    pub(crate) fn add(&mut self, number: usize, outcome: String) -> Result<(), AllocError> {
-        if let Some(run) = self.runs.last_mut() {
-            if run.outcome.as_str() == outcome.as_str() {
-                run.last = number;
-                return Ok(());
-            }
+    /// Tells the last run in a line: the numbers of its first and of its last call, and the outcome.
+    pub(crate) fn tell(&self, report: &mut Report) {
+        if let Some(run) = &self.last {
+            run.tell(report);
         }
-        self.runs.push(Run {
-            outcome,
-            first: number,
-            last: number,
-        })?;
-        Ok(())
-    }
-
-    /// A line for each run: the numbers of its first and of its last call, and the outcome.
-    pub(crate) fn told(&self, alloc: Global) -> Result<String, AllocError> {
-        let mut text = String::new(alloc);
-        for run in &self.runs {
-            run.push(&mut text)?;
-        }
-        Ok(text)
     }
 }

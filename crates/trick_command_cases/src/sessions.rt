@@ -3,16 +3,24 @@
 ghost use Rattle.std.specs.Prelude.{◌≡◌, ◌<◌, IfSome, true};
 ghost use Rattle.trick_session.specs.Kept.{AreThere, IsSession};
 
-use crate::bytes::push_named;
-use crate::checkpoints::{refusal, state_of};
-use crate::texts::Texts;
+use crate::checkpoints::{refused, state_of};
+use crate::clients::command_of;
+use crate::stage::Stage;
 use std::alloc::{AllocError, Global};
-use trick_base::{Line, Word};
-use trick_command::command;
+use trick_base::Word;
+use trick_cases_report::Report;
 use trick_lang::{Cell, Cells};
 use trick_memory::Memory;
-use trick_model::{Action, Command, Plan, Session, State};
+use trick_model::{Action, Command, Deed, Plan, Session, State};
 use trick_session::{Reply, apply, join, sample};
+
+/// A turn in which the tic went from one number to another, and whether the session leaves with it.
+#[derive(Clone, Copy)]
+pub(crate) struct Turn {
+    pub(crate) from: u64,
+    pub(crate) to: u64,
+    pub(crate) leaving: bool,
+}
 
 // More variables than these are not shown.
 const SHOWN: usize = 10;
@@ -24,8 +32,7 @@ fn say(
     session: &mut Session,
     line: &[u8],
 ) -> Result<Reply, AllocError> {
-    let line = Line::from_bytes(alloc, line)?;
-    let command = command(alloc, &line)?;
+    let command = command_of(alloc, line)?;
     apply(alloc, plan, session, command)
 }
 
@@ -42,113 +49,122 @@ fn say_all(
     Ok(())
 }
 
-// Adds a variable, with its cell where it has one.
-fn push_variable(text: &mut String, variable: &(Word, Option<Cell>)) -> Result<(), AllocError> {
-    push_named(text, "", variable.0.as_slice())?;
+// A session of this number that did the lines of the text `session`.
+fn begun(stage: Stage, number: u32) -> Result<Session, AllocError> {
+    let mut session = join(stage.alloc, number);
+    let lines = stage.texts.named("session");
+    say_all(stage.alloc, stage.plan, &mut session, lines)?;
+    Ok(session)
+}
+
+// Tells a variable, with its cell where it has one.
+fn tell_variable(variable: &(Word, Option<Cell>), report: &mut Report) {
+    report.named("", variable.0.as_slice());
     match variable.1 {
-        Some(cell) => write!(text, " {}", cell.0),
-        None => text.push_str(" no cell"),
+        Some(cell) => report.number(" ", u64::from(cell.0), ""),
+        None => report.word(" no cell"),
     }
 }
 
-// Adds the list of variables, or its first ones and the count of all.
-fn push_list(text: &mut String, session: &Session) -> Result<(), AllocError> {
-    let all = session.variables.as_slice();
+// Tells the list of variables, or its first ones and the count of all.
+fn tell_list(all: &[(Word, Option<Cell>)], report: &mut Report) {
     for variable in all.iter().take(SHOWN) {
-        push_variable(text, variable)?;
+        tell_variable(variable, report);
     }
     if all.len() > SHOWN {
-        write!(text, " .. {} variables", all.len())?;
+        report.number(" .. ", all.len() as u64, " variables");
     }
-    Ok(())
 }
 
-// Adds a session in a line.
-fn push_session(text: &mut String, session: &Session) -> Result<(), AllocError> {
-    let number = session.number;
-    let cycle = session.cycle;
-    let copy = session.copy;
-    write!(text, "> session {number} cycle {cycle} copy {copy}")?;
-    if session.paused {
-        text.push_str(" paused")?;
+// Tells a word where something is so.
+fn tell_if(so: bool, word: &str, report: &mut Report) {
+    if so {
+        report.word(word);
     }
-    if session.send {
-        text.push_str(" send")?;
-    }
-    if session.leaving {
-        text.push_str(" leaving")?;
-    }
-    text.push_str(" list")?;
-    push_list(text, session)?;
-    text.push_str("\n")
 }
 
-// Adds a reply: the message, the deed that is to be done, and whether Freeze is to be left.
-fn push_reply(text: &mut String, reply: &Reply) -> Result<(), AllocError> {
-    if !reply.bytes.is_empty() {
-        push_named(text, "> message", reply.bytes.as_slice())?;
-        text.push_str("\n")?;
-    }
-    if let Some(deed) = reply.act {
-        write!(text, "> act {deed:?}\n")?;
-    }
-    if reply.run {
-        text.push_str("> run\n")?;
-    }
-    Ok(())
+// Tells a session in a line.
+fn tell_session(session: &Session, report: &mut Report) {
+    report.number("> session ", u64::from(session.number), "");
+    report.number(" cycle ", session.cycle, "");
+    report.number(" copy ", u64::from(session.copy), "");
+    tell_if(session.paused, " paused", report);
+    tell_if(session.send, " send", report);
+    tell_if(session.leaving, " leaving", report);
+    report.word(" list");
+    tell_list(session.variables.as_slice(), report);
+    report.word("\n");
 }
 
-// The reply to a command, and the session after it.
-fn told(
-    alloc: Global,
-    plan: &Plan,
+// Tells a message, where there is one.
+fn tell_message(message: &[u8], report: &mut Report) {
+    if !message.is_empty() {
+        report.named("> message", message);
+        report.word("\n");
+    }
+}
+
+// Tells a deed that is to be done, where there is one.
+fn tell_deed(deed: Option<Deed>, report: &mut Report) {
+    if let Some(deed) = deed {
+        report.word("> act ");
+        report.code(&deed);
+        report.word("\n");
+    }
+}
+
+// Tells the reply to a command: the message, the deed, and whether Freeze is to be left; and the session after it.
+fn tell(reply: &Reply, session: &Session, report: &mut Report) {
+    tell_message(reply.bytes.as_slice(), report);
+    tell_deed(reply.act, report);
+    tell_if(reply.run, "> run\n", report);
+    tell_session(session, report);
+}
+
+// Does a command, and tells the reply and the session after it.
+fn answer(
+    stage: Stage,
     session: &mut Session,
     command: Command,
-) -> Result<String, AllocError> {
-    let reply = apply(alloc, plan, session, command)?;
-    let mut text = String::new(alloc);
-    push_reply(&mut text, &reply)?;
-    push_session(&mut text, session)?;
-    Ok(text)
+    report: &mut Report,
+) -> Result<(), AllocError> {
+    let reply = apply(stage.alloc, stage.plan, session, command)?;
+    tell(&reply, session, report);
+    Ok(())
 }
 
-// What a line comes to.
-fn line_told(
-    alloc: Global,
-    plan: &Plan,
+// Does a client's line, and tells the same.
+fn answer_line(
+    stage: Stage,
     session: &mut Session,
     line: &[u8],
-) -> Result<String, AllocError> {
-    let line = Line::from_bytes(alloc, line)?;
-    let command = command(alloc, &line)?;
-    told(alloc, plan, session, command)
+    report: &mut Report,
+) -> Result<(), AllocError> {
+    let command = command_of(stage.alloc, line)?;
+    answer(stage, session, command, report)
 }
 
-/// What a line comes to, once a session of this number joined and did some lines.
+/// Tells what a line comes to, once a session of this number did the lines of the text `session`.
 pub(crate) fn applied(
-    alloc: Global,
-    plan: &Plan,
+    stage: Stage,
     number: u32,
-    lines: &[u8],
     line: &[u8],
-) -> Result<String, AllocError> {
-    let mut session = join(alloc, number);
-    say_all(alloc, plan, &mut session, lines)?;
-    line_told(alloc, plan, &mut session, line)
+    report: &mut Report,
+) -> Result<(), AllocError> {
+    let mut session = begun(stage, number)?;
+    answer_line(stage, &mut session, line, report)
 }
 
-/// The same for what no line can say: to stop after any number of tics.
+/// Tells the same for what no line can say: to stop after any number of tics.
 pub(crate) fn stopped(
-    alloc: Global,
-    plan: &Plan,
+    stage: Stage,
     number: u32,
-    lines: &[u8],
     tics: u64,
-) -> Result<String, AllocError> {
-    let mut session = join(alloc, number);
-    say_all(alloc, plan, &mut session, lines)?;
-    let at = Some(tics);
-    told(alloc, plan, &mut session, Command::Act(Action::Stop { at }))
+    report: &mut Report,
+) -> Result<(), AllocError> {
+    let mut session = begun(stage, number)?;
+    let stop = Command::Act(Action::Stop { at: Some(tics) });
+    answer(stage, &mut session, stop, report)
 }
 
 // Whether a variable is one of so many cells, or none.
@@ -182,56 +198,74 @@ fn is_right(session: &Session, cells: u32) -> bool
     session.cycle >= 1 && are_there(session.variables.as_slice(), cells)
 }
 
-// The sample of a session in a state.
+// Tells a sample.
+fn tell_sample(sample: Option<&[u8]>, report: &mut Report) {
+    match sample {
+        Some(line) => report.named("> message", line),
+        None => report.word("> none"),
+    }
+    report.word("\n");
+}
+
+// Tells the sample of a session in a state.
 fn sample_in(
     alloc: Global,
     session: &Session,
     state: &State<Memory>,
     from: u64,
-) -> Result<String, AllocError> {
+    report: &mut Report,
+) -> Result<(), AllocError> {
     if !is_right(session, state.memory.len()) {
-        return String::from_str(alloc, "> no session of the plan\n");
+        report.word("> no session of the plan\n");
+        return Ok(());
     }
-    let mut text = String::new(alloc);
     match sample(alloc, session, state, from)? {
-        Some(line) => push_named(&mut text, "> message", line.as_slice())?,
-        None => text.push_str("> none")?,
+        Some(line) => tell_sample(Some(line.as_slice()), report),
+        None => tell_sample(None, report),
     }
-    text.push_str("\n")?;
-    Ok(text)
+    Ok(())
 }
 
-// The sample of a session, after a turn in which the tic went from one number to another, in the state of the text
-// `checkpoint`.
+// Tells the sample of a session after a turn, in the state of the text `checkpoint`.
 fn sample_after(
-    alloc: Global,
-    texts: &Texts,
-    plan: &Plan,
+    stage: Stage,
     session: &Session,
-    tics: (u64, u64),
-) -> Result<String, AllocError> {
-    match state_of(alloc, plan, texts.named("checkpoint"))? {
+    turn: Turn,
+    report: &mut Report,
+) -> Result<(), AllocError> {
+    match state_of(stage.alloc, stage.plan, stage.texts.named("checkpoint")) {
         Ok(mut state) => {
-            state.tic = tics.1;
-            sample_in(alloc, session, &state, tics.0)
+            state.tic = turn.to;
+            sample_in(stage.alloc, session, &state, turn.from, report)
         }
-        Err(fault) => refusal(alloc, fault),
+        Err(fault) => {
+            refused(fault, report);
+            Ok(())
+        }
     }
 }
 
-/// What a session is sent at the end of a turn in which the tic went from one number to another, in the state of
-/// the text `checkpoint`, once it did the lines of the text `session` and others.
-pub(crate) fn sampled(
-    alloc: Global,
-    texts: &Texts,
-    plan: &Plan,
-    turn: (u64, u64, bool),
+// Does lines, and then tells the sample after a turn.
+fn sample_of(
+    stage: Stage,
+    session: &mut Session,
+    turn: Turn,
     lines: &[u8],
-) -> Result<String, AllocError> {
-    let (from, to, leaving) = turn;
-    let mut session = join(alloc, 1);
-    say_all(alloc, plan, &mut session, texts.named("session"))?;
-    say_all(alloc, plan, &mut session, lines)?;
-    session.leaving = leaving;
-    sample_after(alloc, texts, plan, &session, (from, to))
+    report: &mut Report,
+) -> Result<(), AllocError> {
+    say_all(stage.alloc, stage.plan, session, lines)?;
+    session.leaving = turn.leaving;
+    sample_after(stage, session, turn, report)
+}
+
+/// Tells what a session is sent at the end of a turn, in the state of the text `checkpoint`, once it did the lines of
+/// the text `session` and others.
+pub(crate) fn sampled(
+    stage: Stage,
+    turn: Turn,
+    lines: &[u8],
+    report: &mut Report,
+) -> Result<(), AllocError> {
+    let mut session = begun(stage, 1)?;
+    sample_of(stage, &mut session, turn, lines, report)
 }

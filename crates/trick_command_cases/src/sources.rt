@@ -1,24 +1,32 @@
 //! A journal as the source of a run's entries, turn by turn.
 
-use crate::bytes::push_lines;
-use crate::checkpoints::{refusal as refusal_of_state, state_of};
-use crate::journals::refusal;
-use crate::texts::Texts;
+use crate::checkpoints::{refused as refused_state, state_of};
+use crate::journals::refused;
+use crate::stage::Stage;
+use crate::words::{Words, small};
 use std::alloc::{AllocError, Global};
+use trick_cases_report::Report;
 use trick_exec_sources::{JournalTurns, Next, Turns};
 use trick_journal::{push_entry_line, read};
 use trick_memory::Memory;
-use trick_model::{Entry, Journal, Mode, Plan, State};
+use trick_model::{Entry, Journal, Mode, State};
+
+/// A turn, and the mode of a run at it.
+#[derive(Clone, Copy)]
+pub(crate) struct At {
+    turn: u64,
+    mode: Mode,
+}
 
 /// Calls of a source of entries.
 #[derive(Clone, Copy)]
 pub(crate) enum SourceCall {
-    /// Reads a journal, and makes it the source of a run that starts at this turn, in this mode.
-    Begin { start: u64, mode: Mode },
+    /// Reads a journal, and makes it the source of a run that starts here.
+    Begin(At),
     /// How many sessions have still to join.
     Joins,
-    /// The entries of a turn, in a mode.
-    Entries { turn: u64, mode: Mode },
+    /// The entries of a turn.
+    Entries(At),
     /// Whether a run may be over at this turn.
     Ends { turn: u64 },
     /// Whether its publications decide.
@@ -27,37 +35,35 @@ pub(crate) enum SourceCall {
     Send { session: u32 },
 }
 
+// The mode of a word, or Run where there is none.
 fn mode_of(word: &str) -> Option<Mode> {
     match word {
-        "Run" => Some(Mode::Run),
+        "" | "Run" => Some(Mode::Run),
         "Freeze" => Some(Mode::Freeze),
         "Shutdown" => Some(Mode::Shutdown),
         _ => None,
     }
 }
 
+// The turn of some words, and their mode.
+fn at_of(words: Words) -> Option<At> {
+    let mode = mode_of(words.word)?;
+    Some(At {
+        turn: words.first,
+        mode,
+    })
+}
+
 /// The call of some words.
-pub(crate) fn source_call(words: &[&str]) -> Option<SourceCall> {
-    match words {
-        ["source", start] => Some(SourceCall::Begin {
-            start: start.parse().ok()?,
-            mode: Mode::Run,
-        }),
-        ["source", start, mode] => Some(SourceCall::Begin {
-            start: start.parse().ok()?,
-            mode: mode_of(mode)?,
-        }),
-        ["joins"] => Some(SourceCall::Joins),
-        ["entries", turn, mode] => Some(SourceCall::Entries {
-            turn: turn.parse().ok()?,
-            mode: mode_of(mode)?,
-        }),
-        ["ends", turn] => Some(SourceCall::Ends {
-            turn: turn.parse().ok()?,
-        }),
-        ["decides"] => Some(SourceCall::Decides),
-        ["send", session] => Some(SourceCall::Send {
-            session: session.parse().ok()?,
+pub(crate) fn source_call(words: Words) -> Option<SourceCall> {
+    match words.name {
+        "source" => Some(SourceCall::Begin(at_of(words)?)),
+        "joins" => Some(SourceCall::Joins),
+        "entries" => Some(SourceCall::Entries(at_of(words)?)),
+        "ends" => Some(SourceCall::Ends { turn: words.first }),
+        "decides" => Some(SourceCall::Decides),
+        "send" => Some(SourceCall::Send {
+            session: small(words.first),
         }),
         _ => None,
     }
@@ -67,126 +73,151 @@ pub(crate) fn source_call(words: &[&str]) -> Option<SourceCall> {
 fn begin_with(
     alloc: Global,
     source: &mut Option<JournalTurns>,
-    at: (u64, Mode),
+    at: At,
     journal: Journal,
-) -> Result<String, AllocError> {
-    *source = Some(JournalTurns::new(alloc, journal, at.0, at.1)?);
-    Ok(String::new(alloc))
+) -> Result<(), AllocError> {
+    *source = Some(JournalTurns::new(alloc, journal, at.turn, at.mode)?);
+    Ok(())
 }
 
-// Reads a journal, and makes it the source. The answer is no byte, or the refusal.
+// Reads a journal, and makes it the source, or tells the refusal.
 fn begin(
-    alloc: Global,
-    plan: &Plan,
+    stage: Stage,
     source: &mut Option<JournalTurns>,
-    at: (u64, Mode),
+    at: At,
     text: &[u8],
-) -> Result<String, AllocError> {
-    match read(alloc, plan, at.0, text) {
-        Ok(journal) => begin_with(alloc, source, at, journal),
-        Err(fault) => refusal(alloc, fault),
+    report: &mut Report,
+) -> Result<(), AllocError> {
+    match read(stage.alloc, stage.plan, at.turn, text) {
+        Ok(journal) => begin_with(stage.alloc, source, at, journal),
+        Err(fault) => {
+            refused(fault, report);
+            Ok(())
+        }
     }
 }
 
-// The entries of a turn, as in a journal.
-fn list(alloc: Global, turn: u64, entries: &[Entry]) -> Result<String, AllocError> {
-    let mut bytes = Vec::new(alloc);
+// The lines of entries of a turn, as in a journal.
+fn lines_of(alloc: Global, turn: u64, entries: &[Entry]) -> Result<Vec<u8>, AllocError> {
+    let mut lines = Vec::new(alloc);
     for entry in entries {
-        push_entry_line(&mut bytes, turn, entry)?;
+        push_entry_line(&mut lines, turn, entry)?;
     }
-    let mut text = String::new(alloc);
-    push_lines(&mut text, &bytes)?;
-    Ok(text)
+    Ok(lines)
 }
 
-// What a source gives in a state.
+// Tells the entries of a turn.
+fn tell_entries(
+    alloc: Global,
+    turn: u64,
+    entries: &[Entry],
+    report: &mut Report,
+) -> Result<(), AllocError> {
+    let lines = lines_of(alloc, turn, entries)?;
+    report.lines(&lines);
+    Ok(())
+}
+
+// Tells the lengths of a journal and of a run.
+fn tell_length(kept: u64, given: u64, report: &mut Report) {
+    report.number("> length ", kept, "");
+    report.number(" ", given, "\n");
+}
+
+// Tells what a source gives in a state.
 fn entries_in(
     alloc: Global,
     source: &mut JournalTurns,
     state: &State<Memory>,
-) -> Result<String, AllocError> {
+    report: &mut Report,
+) -> Result<(), AllocError> {
     match source.entries(alloc, state, &[]) {
-        Next::Entries(entries) => list(alloc, state.turn, &entries),
-        Next::Nothing => Ok(String::new(alloc)),
-        Next::Gap { turns } => format!(in alloc; "> gap {turns}\n"),
-        Next::NoMore => String::from_str(alloc, "> no more\n"),
-        Next::Length { kept, given } => format!(in alloc; "> length {kept} {given}\n"),
-        Next::OutOfMemory => String::from_str(alloc, "> refused OutOfMemory\n"),
+        Next::Entries(entries) => return tell_entries(alloc, state.turn, &entries, report),
+        Next::Nothing => {}
+        Next::Gap { turns } => report.number("> gap ", turns, "\n"),
+        Next::NoMore => report.word("> no more\n"),
+        Next::Length { kept, given } => tell_length(kept, given, report),
+        Next::OutOfMemory => report.word("> refused OutOfMemory\n"),
     }
+    Ok(())
 }
 
-// What a source gives at a turn, in the state of the text `checkpoint` in this mode.
+// Tells what a source gives at a turn, in the state of the text `checkpoint` in this mode.
 fn entries_at(
-    alloc: Global,
-    texts: &Texts,
-    plan: &Plan,
+    stage: Stage,
     source: &mut JournalTurns,
-    at: (u64, Mode),
-) -> Result<String, AllocError> {
-    match state_of(alloc, plan, texts.named("checkpoint"))? {
+    at: At,
+    report: &mut Report,
+) -> Result<(), AllocError> {
+    match state_of(stage.alloc, stage.plan, stage.texts.named("checkpoint")) {
         Ok(mut state) => {
-            state.turn = at.0;
-            state.mode = at.1;
-            entries_in(alloc, source, &state)
+            state.turn = at.turn;
+            state.mode = at.mode;
+            entries_in(stage.alloc, source, &state, report)
         }
-        Err(fault) => refusal_of_state(alloc, fault),
+        Err(fault) => {
+            refused_state(fault, report);
+            Ok(())
+        }
     }
 }
 
-// Whether a run may be over at this turn.
-fn ends(alloc: Global, source: &mut JournalTurns, turn: u64) -> Result<String, AllocError> {
+// Tells whether a run may be over at this turn.
+fn ends(source: &mut JournalTurns, turn: u64, report: &mut Report) {
     match Turns::<Memory>::ends(source, turn) {
-        Some((kept, given)) => format!(in alloc; "> length {kept} {given}\n"),
-        None => String::from_str(alloc, "> ends\n"),
+        Some((kept, given)) => tell_length(kept, given, report),
+        None => report.word("> ends\n"),
     }
 }
 
-// What handing over a message answers.
-fn sent(
-    alloc: Global,
-    source: &mut JournalTurns,
-    session: u32,
-    bytes: &[u8],
-) -> Result<String, AllocError> {
+// Tells whether the publications of a source decide.
+fn decides(source: &JournalTurns, report: &mut Report) {
+    report.word("> ");
+    report.value(Turns::<Memory>::decides(source));
+    report.word("\n");
+}
+
+// Tells what handing over a message answers.
+fn send(source: &mut JournalTurns, session: u32, bytes: &[u8], report: &mut Report) {
     match Turns::<Memory>::send(source, session, bytes) {
-        Ok(()) => String::from_str(alloc, "> sent\n"),
-        Err(_) => String::from_str(alloc, "> refused OutOfMemory\n"),
+        Ok(()) => report.word("> sent\n"),
+        Err(_) => report.word("> refused OutOfMemory\n"),
     }
 }
 
-// What a call of a source answers.
+// Tells what a call of a source comes to.
 fn answer_of(
-    alloc: Global,
-    texts: &Texts,
-    plan: &Plan,
+    stage: Stage,
     source: &mut JournalTurns,
     call: SourceCall,
     bytes: &[u8],
-) -> Result<String, AllocError> {
+    report: &mut Report,
+) -> Result<(), AllocError> {
     match call {
-        SourceCall::Begin { .. } => Ok(String::new(alloc)),
-        SourceCall::Joins => format!(in alloc; "> {}\n", source.joins()),
-        SourceCall::Entries { turn, mode } => entries_at(alloc, texts, plan, source, (turn, mode)),
-        SourceCall::Ends { turn } => ends(alloc, source, turn),
-        SourceCall::Decides => format!(in alloc; "> {}\n", Turns::<Memory>::decides(source)),
-        SourceCall::Send { session } => sent(alloc, source, session, bytes),
+        SourceCall::Begin(_) => {}
+        SourceCall::Joins => report.number("> ", source.joins(), "\n"),
+        SourceCall::Entries(at) => return entries_at(stage, source, at, report),
+        SourceCall::Ends { turn } => ends(source, turn, report),
+        SourceCall::Decides => decides(source, report),
+        SourceCall::Send { session } => send(source, session, bytes, report),
     }
+    Ok(())
 }
 
-/// What a call answers with this plan.
+/// Tells what a call comes to with this plan.
 pub(crate) fn answer(
-    alloc: Global,
-    texts: &Texts,
-    plan: &Plan,
+    stage: Stage,
     source: &mut Option<JournalTurns>,
     call: SourceCall,
     bytes: &[u8],
-) -> Result<String, AllocError> {
-    if let SourceCall::Begin { start, mode } = call {
-        return begin(alloc, plan, source, (start, mode), bytes);
+    report: &mut Report,
+) -> Result<(), AllocError> {
+    if let SourceCall::Begin(at) = call {
+        return begin(stage, source, at, bytes, report);
     }
-    match source {
-        Some(source) => answer_of(alloc, texts, plan, source, call, bytes),
-        None => String::from_str(alloc, "> no source\n"),
-    }
+    let Some(source) = source else {
+        report.word("> no source\n");
+        return Ok(());
+    };
+    answer_of(stage, source, call, bytes, report)
 }

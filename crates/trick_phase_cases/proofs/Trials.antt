@@ -1,27 +1,22 @@
--- Calls of a board leave a board and benches of the plan, and it is known whether a tic is open.
-use Rattle.std.proofs.Common.{◌≡◌, ◌≢◌, ◌∙◌, ℕ, Bool, true, false, List, Option, Some, None, ap, is_some, length, pos, refl, subst, sym, MatchOption}
+-- Calls of a board leave a board and benches of the plan.
+use Rattle.std.proofs.Common.{◌≡◌, ◌≢◌, ◌∙◌, ℕ, true, false, List, Option, Some, None, ap, is_some, length, pos, refl, subst, sym}
 use Rattle.std.proofs.lemmas.List.{length-replicate}
 use Rattle.std.specs.Option.{IfSome}
-use Rattle.trick_phase_board.specs.Answers.{IsFilledBy}
-use Rattle.trick_phase_board.specs.Board.{BoardView, IsBoardOf, Opened, stepped}
+use Rattle.trick_phase_board.specs.Answers.{IfLeft, IfMemory, IsFilledBy}
+use Rattle.trick_phase_board.specs.Board.{BoardView, IsBoardOf, Opened}
+use Rattle.trick_phase_board.specs.declared.answers.Closed.{Closed}
+use Rattle.trick_phase_board.specs.declared.answers.Closed.TheVariants.{Left, Memory}
 use Rattle.trick_phase_board.specs.declared.answers.Commit.{Commit}
-use Rattle.trick_phase_board.specs.declared.answers.Commit.TheVariants.{Committed, Gone, NotTaken, Stale}
+use Rattle.trick_phase_board.specs.declared.answers.Commit.TheVariants.{Committed}
 use Rattle.trick_phase_board.specs.declared.answers.Took.{Took}
-use Rattle.trick_phase_board.specs.declared.answers.Took.TheVariants.{NotYet, ThreadDone, Took as WasTaken}
+use Rattle.trick_phase_board.specs.declared.answers.Took.TheVariants.{Took as WasTaken}
 use Rattle.trick_eval.specs.Bench.{BenchView, IsFor}
 use Rattle.trick_phase_jobs.specs.Belongs.{IsMemoryOf}
 use Rattle.trick_lang.specs.declared.job.JobId.{JobId}
 use Rattle.trick_lang.specs.declared.range.CellRange.{CellRange}
 use Rattle.trick_memory.specs.Stored.{Stored, zeros}
 use Rattle.trick_model.specs.declared.plan.Plan.{Plan}
-use Rattle.trick_phase_schedules.specs.declared.step.Step.{Step}
 use Rattle.trick_phase_cases.specs.Trial.{IsTrial}
-
--- a step leaves the tic open
-pub stepped_open : (plan : Plan) (old new : BoardView) (opened : Option Opened) (x : Step) → is_some opened ≡ true
-    → IfSome opened (λ o. new ≡ stepped plan old o x) → is_some new.opened ≡ true
-stepped_open plan old new None x some is = cc
-stepped_open plan old new (Some o) x some is = ap (λ (b : BoardView). is_some b.opened) is
 
 -- a bench that is filled keeps its parts
 pub filled_parts : (phase : ℕ) (ranges : List CellRange) (old new : BenchView) (job : JobId) (opened : Option Opened)
@@ -30,91 +25,39 @@ pub filled_parts : (phase : ℕ) (ranges : List CellRange) (old new : BenchView)
 filled_parts phase ranges old new job None some is = cc
 filled_parts phase ranges old new job (Some o) some is = ap (λ (b : BenchView). b.parts) is.bench
 
--- an open leaves the tic open
-pub opened_some : (P : Opened → Type 0) (opened : Option Opened) → MatchOption opened ⊥ P → is_some opened ≡ true
-opened_some P None is = absurd is
-opened_some P (Some o) is = refl
+-- a bench after a take has its parts
+pub taken_parts : (r : Took) (phase : ℕ) (ranges : List CellRange) (old new : BenchView) (job : JobId)
+    (opened : Option Opened) → is_some opened ≡ true
+    → (r ≡ WasTaken → IfSome opened (λ o. IsFilledBy phase ranges o.progress.memory old new job))
+    → (r ≢ WasTaken → new ≡ old) → new.parts ≡ old.parts
+taken_parts WasTaken phase ranges old new job opened some filled kept =
+    filled_parts phase ranges old new job opened some (filled refl)
+taken_parts other phase ranges old new job opened some filled kept =
+    ap (λ (b : BenchView). b.parts) (kept (λ e. cc))
 
--- what is as before stays right
-pub kept_trial : (plan : Plan) (old new : BoardView) (is_open : Bool) (bench_old bench_new other : BenchView)
-    → IsTrial plan old is_open bench_old other → new ≡ old → bench_new.parts ≡ bench_old.parts
-    → IsTrial plan new is_open bench_new other
-kept_trial plan old new is_open bench_old bench_new other t board bench = record {
-  board_is = subst (IsBoardOf plan) (sym board) t.board_is;
-  open_is = ap (λ (b : BoardView). is_some b.opened) board ∙ t.open_is;
+-- a bench after a commit has its parts
+pub committed_parts : (r : Commit) (old new : BenchView)
+    → (r ≡ Committed → new ≡ record old { phase = 0; job = None; outcome = None }) → (r ≢ Committed → new ≡ old)
+    → new.parts ≡ old.parts
+committed_parts Committed old new emptied kept = ap (λ (b : BenchView). b.parts) (emptied refl)
+committed_parts other old new emptied kept = ap (λ (b : BenchView). b.parts) (kept (λ e. cc))
+
+-- a board of the plan beside benches that have their parts
+pub right_trial : (plan : Plan) (old new : BoardView) (bench_old bench_new other : BenchView)
+    → IsTrial plan old bench_old other → IsBoardOf plan new → bench_new.parts ≡ bench_old.parts
+    → IsTrial plan new bench_new other
+right_trial plan old new bench_old bench_new other t belongs bench = record {
+  board_is = belongs;
   bench_is = subst (IsFor plan.program) (sym bench) t.bench_is;
   other_is = t.other_is;
 }
 
--- what a step leaves is right
-pub stepped_trial : (plan : Plan) (old new : BoardView) (is_open : Bool) (bench_old bench_new other : BenchView) (x : Step)
-    → IsTrial plan old is_open bench_old other → is_open ≡ true → IfSome old.opened (λ o. new ≡ stepped plan old o x)
-    → bench_new.parts ≡ bench_old.parts → IsBoardOf plan new → IsTrial plan new is_open bench_new other
-stepped_trial plan old new is_open bench_old bench_new other x t open_ is bench belongs = record {
-  board_is = belongs;
-  open_is = stepped_open plan old new old.opened x (t.open_is ∙ open_) is ∙ sym open_;
-  bench_is = subst (IsFor plan.program) (sym bench) t.bench_is;
-  other_is = t.other_is;
-}
-
--- what a take leaves is right
-pub taken_trial : (r : Took) (plan : Plan) (old new : BoardView) (is_open : Bool) (bench_old bench_new other : BenchView)
-    (x : Step) (phase : ℕ) (ranges : List CellRange) (job : JobId)
-    → IsTrial plan old is_open bench_old other → is_open ≡ true
-    → (r ≡ WasTaken → IfSome old.opened (λ o. new ≡ stepped plan old o x))
-    → (r ≡ WasTaken → IfSome old.opened (λ o. IsFilledBy phase ranges o.progress.memory bench_old bench_new job))
-    → (r ≢ WasTaken → (new ≡ old) × (bench_new ≡ bench_old)) → IsBoardOf plan new
-    → IsTrial plan new is_open bench_new other
-taken_trial WasTaken plan old new is_open bench_old bench_new other x phase ranges job t open_ taken filled kept belongs =
-    stepped_trial plan old new is_open bench_old bench_new other x t open_ (taken refl)
-    (filled_parts phase ranges bench_old bench_new job old.opened (t.open_is ∙ open_) (filled refl)) belongs
-taken_trial (NotYet a b) plan old new is_open bench_old bench_new other x phase ranges job t open_ taken filled kept belongs =
-    let same = kept (λ e. cc) in
-    kept_trial plan old new is_open bench_old bench_new other t same.0 (ap (λ (b : BenchView). b.parts) same.1)
-taken_trial ThreadDone plan old new is_open bench_old bench_new other x phase ranges job t open_ taken filled kept belongs =
-    let same = kept (λ e. cc) in
-    kept_trial plan old new is_open bench_old bench_new other t same.0 (ap (λ (b : BenchView). b.parts) same.1)
-
--- what a commit leaves is right
-pub committed_trial : (r : Commit) (plan : Plan) (old new : BoardView) (is_open : Bool) (bench_old bench_new other : BenchView)
-    (x : Step) → IsTrial plan old is_open bench_old other → is_open ≡ true
-    → (r ≡ Committed → IfSome old.opened (λ o. new ≡ stepped plan old o x))
-    → (r ≡ Committed → bench_new ≡ record bench_old { phase = 0; job = None; outcome = None })
-    → (r ≢ Committed → (new ≡ old) × (bench_new ≡ bench_old)) → IsBoardOf plan new
-    → IsTrial plan new is_open bench_new other
-committed_trial Committed plan old new is_open bench_old bench_new other x t open_ done emptied kept belongs =
-    stepped_trial plan old new is_open bench_old bench_new other x t open_ (done refl)
-    (ap (λ (b : BenchView). b.parts) (emptied refl)) belongs
-committed_trial (Stale cell now given) plan old new is_open bench_old bench_new other x t open_ done emptied kept belongs =
-    let same = kept (λ e. cc) in
-    kept_trial plan old new is_open bench_old bench_new other t same.0 (ap (λ (b : BenchView). b.parts) same.1)
-committed_trial (Gone phase given) plan old new is_open bench_old bench_new other x t open_ done emptied kept belongs =
-    let same = kept (λ e. cc) in
-    kept_trial plan old new is_open bench_old bench_new other t same.0 (ap (λ (b : BenchView). b.parts) same.1)
-committed_trial (NotTaken job) plan old new is_open bench_old bench_new other x t open_ done emptied kept belongs =
-    let same = kept (λ e. cc) in
-    kept_trial plan old new is_open bench_old bench_new other t same.0 (ap (λ (b : BenchView). b.parts) same.1)
-
--- what an open leaves is right
-pub opened_trial : (P : Opened → Type 0) (plan : Plan) (old new : BoardView) (is_open : Bool) (bench other : BenchView)
-    → IsTrial plan old is_open bench other → MatchOption new.opened ⊥ P → IsBoardOf plan new
-    → IsTrial plan new true bench other
-opened_trial P plan old new is_open bench other t some belongs = record {
-  board_is = belongs;
-  open_is = opened_some P new.opened some;
-  bench_is = t.bench_is;
-  other_is = t.other_is;
-}
-
--- what a close leaves is right
-pub closed_trial : (plan : Plan) (old new : BoardView) (is_open : Bool) (bench other : BenchView)
-    → IsTrial plan old is_open bench other → new ≡ record old { opened = None } → IsTrial plan new false bench other
-closed_trial plan old new is_open bench other t closed = record {
-  board_is = subst (IsBoardOf plan) (sym closed) (record { tables = t.board_is.tables; many = t.board_is.many; opened = tt });
-  open_is = ap (λ (b : BoardView). is_some b.opened) closed;
-  bench_is = t.bench_is;
-  other_is = t.other_is;
-}
+-- a board after a close is one of the plan
+pub closed_board : {M : Type 0} (r : Closed M) (plan : Plan) (old new : BoardView) (kept : Type 0) → IsBoardOf plan old
+    → IfMemory r (λ _. new ≡ record old { opened = None }) → IfLeft r ((new ≡ old) × kept) → IsBoardOf plan new
+closed_board (Memory m) plan old new kept is closed left =
+    subst (IsBoardOf plan) (sym closed) (record { tables = is.tables; many = is.many; opened = tt })
+closed_board (Left count) plan old new kept is closed left = subst (IsBoardOf plan) (sym left.0) is
 
 -- a board on which no tic is open
 pub closed_none : (opened : Option Opened) → is_some opened ≡ false → opened ≡ None

@@ -1,12 +1,10 @@
 -- What holds of a board and of the benches beside it.
-use Rattle.std.specs.Prelude.{◌≡◌, Bool, is_some}
 use Rattle.trick_phase_board.specs.Board.{BoardView, IsBoardOf}
 use Rattle.trick_eval.specs.Bench.{BenchView, IsFor}
 use Rattle.trick_model.specs.declared.plan.Plan.{Plan}
 
--- The board and both benches are those of the plan, and it is known whether a tic is open.
-pub record IsTrial (plan : Plan) (board : BoardView) (is_open : Bool) (bench other : BenchView) : Type 0 where
+-- The board and both benches are those of the plan.
+pub record IsTrial (plan : Plan) (board : BoardView) (bench other : BenchView) : Type 0 where
   pub board_is : IsBoardOf plan board
-  pub open_is : is_some board.opened ≡ is_open
   pub bench_is : IsFor plan.program bench.parts
   pub other_is : IsFor plan.program other.parts

@@ -4,86 +4,111 @@ ghost use Rattle.std.specs.Prelude.{◌<◌, ◌≡◌, length};
 ghost use Rattle.trick_eval.specs.Bench.{IsFor};
 ghost use Rattle.trick_memory.specs.Stored.{zeros};
 
-use crate::told::told;
+use crate::told::{tell_fault, tell_memory};
 use crate::words::letter_of;
 use std::alloc::{AllocError, Global};
+use trick_cases_report::Report;
 use trick_eval::{Bench, eval};
 use trick_lang::{Cell, Cells, JobId};
 use trick_memory::Memory;
-use trick_model::{Faults, Plan};
+use trick_model::Plan;
+
+// Adds the job of a bench.
+fn tell_job(job: Option<JobId>, report: &mut Report) {
+    match job {
+        Some(job) => {
+            report.word("> job ");
+            report.value(letter_of(job));
+        }
+        None => report.word("> no job"),
+    }
+}
 
 // Adds the job of a bench, its phase, whether it is done, and its fault.
-fn push_bench(text: &mut String, bench: &Bench) -> Result<(), AllocError> {
-    match bench.job() {
-        Some(job) => write!(text, "> job {}", letter_of(job))?,
-        None => text.push_str("> no job")?,
-    }
-    write!(text, ", phase {}, done {}", bench.phase(), bench.done())?;
+fn tell_bench(bench: &Bench, report: &mut Report) {
+    tell_job(bench.job(), report);
+    report.number(", phase ", bench.phase(), ", done ");
+    report.value(bench.done());
     if let Some(fault) = bench.fault() {
-        let letter = letter_of(fault.job);
-        write!(
-            text,
-            ", fault {} {letter} {:?} {}",
-            fault.tic, fault.kind, fault.line
-        )?;
+        report.word(", ");
+        tell_fault(fault, report);
     }
-    text.push_str("\n")
+    report.word("\n");
 }
 
 // Adds where a memory and a bench differ.
-fn push_difference(
-    text: &mut String,
-    difference: Option<(Cell, i64, i64)>,
-) -> Result<(), AllocError> {
-    match difference {
-        Some((cell, now, given)) => write!(text, "> cell {} has {now}, not {given}\n", cell.0),
-        None => text.push_str("> no cell differs\n"),
-    }
+fn tell_difference(difference: Option<(Cell, i64, i64)>, report: &mut Report) {
+    let Some((cell, now, given)) = difference else {
+        report.word("> no cell differs\n");
+        return;
+    };
+    report.number("> cell ", u64::from(cell.0), " has ");
+    report.value(now);
+    report.word(", not ");
+    report.value(given);
+    report.word("\n");
 }
 
 // Fills a bench with a phase and a job, evaluates the job, stores what it does and clears the bench.
-fn carry(
-    text: &mut String,
+fn carry_job(
     plan: &Plan,
     bench: &mut Bench,
     memory: &mut Memory,
     filling: (u64, JobId),
-) -> Result<(), AllocError>
+    report: &mut Report,
+)
     requires bench { IsFor plan.now.program bench.old.parts }
     requires memory { memory.old ≡ zeros plan.now.program.cells }
     requires job { filling.1.0 < length plan.now.program.jobs }
 {
     let program = &plan.program;
     bench.fill(program, filling.0, filling.1, memory);
-    push_bench(text, bench)?;
-    push_difference(text, bench.differs(program, memory))?;
+    tell_bench(bench, report);
+    tell_difference(bench.differs(program, memory), report);
     eval(program, bench);
-    push_bench(text, bench)?;
+    tell_bench(bench, report);
     bench.store(program, memory);
     if memory.len() as usize == program.cells.len() {
-        push_difference(text, bench.differs(program, memory))?;
+        tell_difference(bench.differs(program, memory), report);
     }
     bench.clear();
-    push_bench(text, bench)
+    tell_bench(bench, report);
 }
 
-/// What a bench says of a job of this letter on its way, and the memory after it, which had zeros.
-pub(crate) fn benched(
+// Adds what a bench says of a job on its way, and the memory after it, which had zeros.
+fn carry_with(
+    alloc: Global,
+    plan: &Plan,
+    phase: u64,
+    job: JobId,
+    report: &mut Report,
+) -> Result<(), AllocError>
+    requires { job.0 < length plan.now.program.jobs }
+{
+    let mut memory = Memory::new(alloc, plan)?;
+    let mut bench = Bench::new(alloc, &plan.program)?;
+    tell_bench(&bench, report);
+    carry_job(plan, &mut bench, &mut memory, (phase, job), report);
+    drop(bench);
+    report.word("> ");
+    tell_memory(&memory, report);
+    report.word("\n");
+    drop(memory);
+    Ok(())
+}
+
+/// Adds what a bench says of the job of a letter on its way, and the memory after it, which had zeros.
+pub(crate) fn carry(
     alloc: Global,
     plan: &Plan,
     phase: u64,
     letter: u8,
-) -> Result<String, AllocError> {
+    report: &mut Report,
+) -> Result<(), AllocError> {
     let job = JobId(u32::from(letter.saturating_sub(b'A')));
     if job.0 as usize >= plan.program.jobs.len() {
-        return String::from_str(alloc, "> no such job\n");
+        report.word("> no such job\n");
+        return Ok(());
     }
-    let mut text = String::new(alloc);
-    let mut memory = Memory::new(alloc, plan)?;
-    let mut bench = Bench::new(alloc, &plan.program)?;
-    push_bench(&mut text, &bench)?;
-    carry(&mut text, plan, &mut bench, &mut memory, (phase, job))?;
-    let told = told(alloc, &memory, &Faults::new(alloc)?)?;
-    write!(text, "> {told}\n")?;
-    Ok(text)
+    carry_with(alloc, plan, phase, job, report)
 }

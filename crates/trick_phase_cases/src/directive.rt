@@ -1,4 +1,5 @@
-//! What a line of `stdin` says.
+//! What the words of a call say. The jobs of a plan have the letters A, B, .. in their order. A list of steps is a
+//! word: a capital letter takes a job, and the small letter commits it.
 
 use crate::words::DueJob;
 use crate::yardstick::{Drawing, Form};
@@ -42,49 +43,50 @@ pub(crate) enum Call<'a> {
     },
 }
 
-/// What a line says.
+/// What the words of a call say.
 #[derive(Clone, Copy)]
 pub(crate) enum Directive<'a> {
-    /// An empty line, or a comment.
-    Nothing,
-    /// The head of a section, which is printed.
-    Head,
-    /// A text of this name begins.
-    Text(&'a str),
-    /// A line is added to the text that was begun.
-    Line(&'a str),
-    /// A call is made.
-    Call(Call<'a>),
+    /// A call is made with the plan of the texts.
+    Planned(Call<'a>),
     /// A form is compared with its plain one, on plans that are drawn.
     Drawn(Drawing),
-    /// A line of no form.
+    /// Words of no form.
     Unknown,
+}
+
+// The first letter of a word.
+fn first_letter(word: &str) -> u8 {
+    match word.as_bytes() {
+        [letter, ..] => *letter,
+        [] => b'A',
+    }
 }
 
 // A due job: a letter, and after `:` those of its predecessors.
 fn due_job(word: &str) -> DueJob {
     let (letter, predecessors) = word.split_once(":").unwrap_or((word, ""));
     DueJob {
-        letter: letter.bytes().next().unwrap_or(b'A'),
+        letter: first_letter(letter),
         predecessors,
     }
 }
 
 /// The due jobs of some words.
 pub(crate) fn due_jobs(alloc: Global, words: &str) -> Result<Vec<DueJob>, AllocError> {
-    words
-        .split_whitespace()
-        .map(|word| due_job(word))
-        .collect(alloc)
+    let mut due = Vec::new(alloc);
+    for word in words.split_whitespace() {
+        due.push(due_job(word))?;
+    }
+    Ok(due)
 }
 
-// The number of a word; 0 for another word.
-fn number(word: &str) -> u64 {
+/// The number of a word; 0 for another word.
+pub(crate) fn number(word: &str) -> u64 {
     word.parse::<u64>().unwrap_or(0)
 }
 
-// The first word of a text, and what stands after it.
-fn first_word(text: &str) -> (&str, &str) {
+/// The first word of a text, and what stands after it.
+pub(crate) fn first_word(text: &str) -> (&str, &str) {
     text.split_once(" ").unwrap_or((text, ""))
 }
 
@@ -94,65 +96,64 @@ fn wrong_call(tic: u64, words: &str) -> Call {
     Call::PlayWrong { tic, letters, due }
 }
 
-// The call of a word and what stands after it.
-fn call_of<'a>(name: &str, words: &'a str) -> Option<Call<'a>> {
-    let (first, behind) = first_word(words);
-    let tic = number(first);
+// The call of a name, a number and what stands after these.
+fn numbered<'a>(name: &str, number: u64, behind: &'a str) -> Option<Call<'a>> {
     match name {
-        "play" => Some(Call::Play { tic, word: behind }),
-        "play_all" => Some(Call::PlayAll { tic, due: behind }),
-        "play_wrong" => Some(wrong_call(tic, behind)),
-        "one_phase" => Some(Call::OnePhase { tic }),
-        "one_bench" => Some(Call::OneBench { tic }),
-        "bench" => Some(Call::Bench {
-            phase: tic,
-            letter: behind.bytes().next().unwrap_or(b'A'),
+        "play" => Some(Call::Play {
+            tic: number,
+            word: behind,
         }),
-        "acts" => Some(Call::Acts { name: words }),
+        "play_all" => Some(Call::PlayAll {
+            tic: number,
+            due: behind,
+        }),
+        "play_wrong" => Some(wrong_call(number, behind)),
+        "one_phase" => Some(Call::OnePhase { tic: number }),
+        "one_bench" => Some(Call::OneBench { tic: number }),
+        "bench" => Some(Call::Bench {
+            phase: number,
+            letter: first_letter(behind),
+        }),
         _ => None,
     }
 }
 
-// The plans of a word and what stands after it: the number that they follow from, and how many they are.
-fn drawing_of(name: &str, words: &str) -> Option<Drawing> {
-    let form = match name {
-        "drawn_queues" => Form::Queues,
-        "drawn_boards" => Form::Board,
-        _ => return None,
-    };
+// The call of a name and what stands after it.
+fn call_of<'a>(name: &str, words: &'a str) -> Option<Call<'a>> {
+    if name == "acts" {
+        return Some(Call::Acts { name: words });
+    }
+    let (first, behind) = first_word(words);
+    numbered(name, number(first), behind)
+}
+
+// The form of a name.
+fn form_of(name: &str) -> Option<Form> {
+    match name {
+        "drawn_queues" => Some(Form::Queues),
+        "drawn_boards" => Some(Form::Board),
+        _ => None,
+    }
+}
+
+// The plans that are drawn for a form: the number that they follow from, and how many they are.
+fn drawing(form: Form, words: &str) -> Drawing {
     let (seed, count) = first_word(words);
-    Some(Drawing {
+    Drawing {
         form,
         seed: number(seed),
         count: number(count),
-    })
+    }
 }
 
-// What a line of words says.
-fn of_words(line: &str) -> Directive {
+/// What the words of a call say.
+pub(crate) fn directive_of(line: &str) -> Directive {
     let (name, words) = first_word(line);
-    if name == "text" {
-        return Directive::Text(words);
-    }
-    if let Some(drawing) = drawing_of(name, words) {
-        return Directive::Drawn(drawing);
+    if let Some(form) = form_of(name) {
+        return Directive::Drawn(drawing(form, words));
     }
     match call_of(name, words) {
-        Some(call) => Directive::Call(call),
+        Some(call) => Directive::Planned(call),
         None => Directive::Unknown,
     }
-}
-
-/// What a line says.
-pub(crate) fn directive_of(line: &str) -> Directive {
-    if let Some(text) = line.strip_prefix("| ") {
-        return Directive::Line(text);
-    }
-    if line.starts_with("##") {
-        return Directive::Head;
-    }
-    if line.is_empty() || line.starts_with("#") {
-        return Directive::Nothing;
-    }
-    of_words(line)
 }

@@ -1,6 +1,6 @@
 //! Simulations whose texts are drawn: they follow from numbers that follow from a first one.
 
-use std::alloc::{AllocError, Global};
+use trick_cases_report::Report;
 
 /// Numbers, one after another.
 #[derive(Drop)]
@@ -27,94 +27,89 @@ impl Numbers {
     }
 }
 
-/// The texts of a simulation.
-#[derive(Drop)]
-pub(crate) struct Drawn {
-    pub(crate) s_define: String,
-    pub(crate) input: String,
+// Adds the tic at which a job stops, for some.
+fn draw_stop(numbers: &mut Numbers, text: &mut Report) {
+    if numbers.below(3) != 0 {
+        return;
+    }
+    text.number("0.0000", numbers.below(3), "");
+    text.number("", numbers.below(10), ", ");
 }
 
 // Adds the times of a job: a cycle from 1 to 6 tics, a start up to tic 3, and for some a stop.
-fn push_times(text: &mut String, numbers: &mut Numbers) -> Result<(), AllocError> {
+fn draw_times(numbers: &mut Numbers, text: &mut Report) {
     let cycle = numbers.below(6).saturating_add(1);
-    let start = numbers.below(4);
-    write!(text, "(0.00000{cycle}, 0.00000{start}, ")?;
-    if numbers.below(3) == 0 {
-        let tens = numbers.below(3);
-        let stop = numbers.below(10);
-        write!(text, "0.0000{tens}{stop}, ")?;
+    text.number("(0.00000", cycle, ", ");
+    text.number("0.00000", numbers.below(4), ", ");
+    draw_stop(numbers, text);
+    text.word("\"scheduled\") ");
+}
+
+// Adds the thread of a job; none for the main one.
+fn add_thread(thread: u64, text: &mut Report) {
+    if thread > 0 {
+        text.number("C", thread, " ");
     }
-    text.push_str("\"scheduled\") ")
+}
+
+// Adds a letter between two words.
+fn add_letter(before: &str, letter: u8, after: &str, text: &mut Report) {
+    text.word(before);
+    text.value(char::from(letter));
+    text.word(after);
 }
 
 // Adds a class with a job on this thread, which counts in a cell of its own, and the object of the class.
-fn push_object(
-    text: &mut String,
-    numbers: &mut Numbers,
-    letter: u8,
-    thread: u64,
-) -> Result<(), AllocError> {
-    let class = char::from(letter);
-    let object = char::from(letter.to_ascii_lowercase());
-    write!(
-        text,
-        "class {class} : public Trick::SimObject {{\n  public:\n    long x;\n"
-    )?;
-    write!(text, "    void run() {{ x = x + 1; }}\n    {class}() {{ ")?;
-    if thread > 0 {
-        write!(text, "C{thread} ")?;
-    }
-    push_times(text, numbers)?;
-    write!(text, "run(); }}\n}};\n{class} {object};\n")
+fn draw_object(numbers: &mut Numbers, letter: u8, thread: u64, text: &mut Report) {
+    add_letter("class ", letter, " : public Trick::SimObject {\n", text);
+    text.word("  public:\n    long x;\n    void run() { x = x + 1; }\n");
+    add_letter("    ", letter, "() { ", text);
+    add_thread(thread, text);
+    draw_times(numbers, text);
+    text.word("run(); }\n};\n");
+    add_letter("", letter, " ", text);
+    add_letter("", letter.to_ascii_lowercase(), ";\n", text);
+}
+
+// Adds that the job of a letter waits for that of another.
+fn add_pair(target: u8, depended: u8, text: &mut Report) {
+    text.word("trick.exec_add_depends_on_job('");
+    add_letter("", target.to_ascii_lowercase(), ".run', 1, '", text);
+    add_letter("", depended.to_ascii_lowercase(), ".run', 1)\n", text);
 }
 
 // Adds for each earlier job, with a chance of one in three, that the job of a letter waits for it.
-fn push_pairs(text: &mut String, numbers: &mut Numbers, letter: u8) -> Result<(), AllocError> {
-    let target = char::from(letter.to_ascii_lowercase());
+fn draw_pairs(numbers: &mut Numbers, letter: u8, text: &mut Report) {
     for earlier in b'A'..letter {
-        let depended = char::from(earlier.to_ascii_lowercase());
         if numbers.below(3) == 0 {
-            write!(
-                text,
-                "trick.exec_add_depends_on_job('{target}.run', 1, '{depended}.run', 1)\n"
-            )?;
+            add_pair(letter, earlier, text);
         }
     }
-    Ok(())
 }
 
-// The letter of the last job: from A to H.
-fn last_letter(numbers: &mut Numbers) -> u8 {
-    b'A'.saturating_add(numbers.below(8).min(7) as u8)
+// The letter after that of the last job, which is from A to H.
+fn end_letter(numbers: &mut Numbers) -> u8 {
+    b'B'.saturating_add(numbers.below(8).min(7) as u8)
 }
 
-/// A simulation of one to eight jobs on threads 0 to 3, of which thread 3 may be asynchronous.
-pub(crate) fn drawn_with_threads(
-    alloc: Global,
-    numbers: &mut Numbers,
-) -> Result<Drawn, AllocError> {
-    let mut s_define = String::new(alloc);
+/// Adds the texts of a simulation of one to eight jobs on threads 0 to 3, of which thread 3 may be asynchronous.
+pub(crate) fn draw_with_threads(numbers: &mut Numbers, s_define: &mut Report, input: &mut Report) {
     let mut is_beside = false;
-    for letter in b'A'..last_letter(numbers).saturating_add(1) {
+    for letter in b'A'..end_letter(numbers) {
         let thread = numbers.below(4);
         is_beside = is_beside || thread == 3;
-        push_object(&mut s_define, numbers, letter, thread)?;
+        draw_object(numbers, letter, thread, s_define);
     }
-    let mut input = String::new(alloc);
     if is_beside && numbers.below(2) == 0 {
-        input.push_str("trick.exec_set_thread_process_type(3, trick.PROCESS_TYPE_ASYNC_CHILD)\n")?;
+        input.word("trick.exec_set_thread_process_type(3, trick.PROCESS_TYPE_ASYNC_CHILD)\n");
     }
-    Ok(Drawn { s_define, input })
 }
 
-/// A simulation of one to eight jobs on threads 0 to 3, of which some wait for earlier ones.
-pub(crate) fn drawn_with_pairs(alloc: Global, numbers: &mut Numbers) -> Result<Drawn, AllocError> {
-    let mut s_define = String::new(alloc);
-    let mut input = String::new(alloc);
-    for letter in b'A'..last_letter(numbers).saturating_add(1) {
+/// Adds the texts of a simulation of one to eight jobs on threads 0 to 3, of which some wait for earlier ones.
+pub(crate) fn draw_with_pairs(numbers: &mut Numbers, s_define: &mut Report, input: &mut Report) {
+    for letter in b'A'..end_letter(numbers) {
         let thread = numbers.below(4);
-        push_object(&mut s_define, numbers, letter, thread)?;
-        push_pairs(&mut input, numbers, letter)?;
+        draw_object(numbers, letter, thread, s_define);
+        draw_pairs(numbers, letter, input);
     }
-    Ok(Drawn { s_define, input })
 }

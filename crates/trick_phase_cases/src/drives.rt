@@ -1,102 +1,103 @@
 //! Boards of plans that are drawn, driven beside their plain form.
 
-ghost use Rattle.std.specs.Prelude.{◌≤◌};
+ghost use Rattle.std.specs.Prelude.{◌≡◌, ◌≤◌};
 ghost use Rattle.trick_base.specs.Time.{tic_limit};
 ghost use Rattle.trick_phase_cases.specs.Trial.{IsTrial};
 
 use crate::drawn::Numbers;
-use crate::plain::{Doing, due_at, take};
+use crate::plain::Doing;
 use crate::trial::Trial;
 use std::alloc::{AllocError, Global};
 use trick_lang::JobId;
 use trick_model::Accepted;
+use trick_phase_board::Commit;
 
-// A board that is driven, its due jobs, and what was done of these.
+// A board that is driven, and what was done of its due jobs.
 #[derive(Drop)]
 struct Drive {
     trial: Trial,
-    due: Vec<JobId>,
     doing: Doing,
 }
 
 impl Drive {
     // Takes a job of a thread, and tells whether the answer is that of the plain form.
-    fn take(&mut self, alloc: Global, accepted: &Accepted, thread: u8) -> Result<bool, AllocError>
-        requires { IsTrial accepted.now.plan self.old.trial.board self.old.trial.is_open self.old.trial.bench
-            self.old.trial.other }
-        ensures { IsTrial accepted.now.plan self.new.trial.board self.new.trial.is_open self.new.trial.bench
-            self.new.trial.other }
+    fn take(&mut self, accepted: &Accepted, thread: u8) -> Result<bool, AllocError>
+        requires { IsTrial accepted.now.plan self.old.trial.board self.old.trial.bench self.old.trial.other }
+        ensures { IsTrial accepted.now.plan self.new.trial.board self.new.trial.bench self.new.trial.other }
     {
-        let (want, job) = take(accepted.plan(), &self.due, &self.doing, thread);
-        let want = format!(in alloc; "{want:?}")?;
-        let got = self.trial.take(alloc, accepted, thread)?;
-        if got.as_str() != want.as_str() {
+        let (want, job) = self.doing.take(accepted.plan(), thread);
+        let got = self.trial.take(accepted, thread);
+        if got != Some(want) {
             return Ok(false);
         }
-        if let Some(job) = job {
-            self.doing.taken.push(job)?;
-            return Ok(self.trial.held() == Some(job));
+        match job {
+            Some(job) => self.hold(job),
+            None => Ok(true),
         }
-        Ok(true)
     }
 
-    // Commits the job of the bench, and tells whether it is committed.
-    fn commit(&mut self, alloc: Global, accepted: &Accepted) -> Result<bool, AllocError>
-        requires { IsTrial accepted.now.plan self.old.trial.board self.old.trial.is_open self.old.trial.bench
-            self.old.trial.other }
-        ensures { IsTrial accepted.now.plan self.new.trial.board self.new.trial.is_open self.new.trial.bench
-            self.new.trial.other }
+    // Notes that a job is taken, and tells whether it is in the bench.
+    fn hold(&mut self, job: JobId) -> Result<bool, AllocError>
+        ensures { self.new.trial ≡ self.old.trial }
     {
-        let held = self.trial.held();
-        let got = self.trial.commit(alloc, accepted)?;
-        if let Some(job) = held {
-            self.doing.committed.push(job)?;
-        }
-        Ok(got.as_str() == "Committed")
+        self.doing.taken.push(job)?;
+        Ok(self.trial.held() == Some(job))
+    }
+
+    // Commits a job, which is in the bench, and tells whether it is committed.
+    fn commit(&mut self, accepted: &Accepted, job: JobId) -> Result<bool, AllocError>
+        requires { IsTrial accepted.now.plan self.old.trial.board self.old.trial.bench self.old.trial.other }
+        ensures { IsTrial accepted.now.plan self.new.trial.board self.new.trial.bench self.new.trial.other }
+    {
+        let got = self.trial.commit(accepted);
+        self.doing.committed.push(job)?;
+        Ok(got == Some(Commit::Committed))
     }
 
     // One act that is drawn: a take into an empty bench, a commit of a job in the bench, or the other bench.
-    fn act(
-        &mut self,
-        alloc: Global,
-        accepted: &Accepted,
-        numbers: &mut Numbers,
-    ) -> Result<bool, AllocError>
-        requires { IsTrial accepted.now.plan self.old.trial.board self.old.trial.is_open self.old.trial.bench
-            self.old.trial.other }
-        ensures { IsTrial accepted.now.plan self.new.trial.board self.new.trial.is_open self.new.trial.bench
-            self.new.trial.other }
+    fn act(&mut self, accepted: &Accepted, numbers: &mut Numbers) -> Result<bool, AllocError>
+        requires { IsTrial accepted.now.plan self.old.trial.board self.old.trial.bench self.old.trial.other }
+        ensures { IsTrial accepted.now.plan self.new.trial.board self.new.trial.bench self.new.trial.other }
     {
         if numbers.below(3) == 0 {
             self.trial.swap();
             return Ok(true);
         }
-        if self.trial.held().is_some() {
-            return self.commit(alloc, accepted);
+        match self.trial.held() {
+            Some(job) => self.commit(accepted, job),
+            None => self.take(accepted, numbers.below(4).min(3) as u8),
         }
-        let thread = numbers.below(4).min(3) as u8;
-        self.take(alloc, accepted, thread)
     }
 
-    // Opens a tic, and tells the number of the first of 96 acts at which the board and the plain form differ.
+    // The number of the first of 96 acts at which the board and the plain form differ.
     fn acts(
+        &mut self,
+        accepted: &Accepted,
+        numbers: &mut Numbers,
+    ) -> Result<Option<u64>, AllocError>
+        requires { IsTrial accepted.now.plan self.old.trial.board self.old.trial.bench self.old.trial.other }
+    {
+        for act in 0..96u64 {
+            if !self.act(accepted, numbers)? {
+                return Ok(Some(act));
+            }
+        }
+        Ok(None)
+    }
+
+    // Opens a tic, and does acts.
+    fn tic(
         &mut self,
         alloc: Global,
         accepted: &Accepted,
         tic: u64,
         numbers: &mut Numbers,
     ) -> Result<Option<u64>, AllocError>
-        requires right { IsTrial accepted.now.plan self.old.trial.board self.old.trial.is_open self.old.trial.bench
-            self.old.trial.other }
+        requires right { IsTrial accepted.now.plan self.old.trial.board self.old.trial.bench self.old.trial.other }
         requires tic { tic ≤ tic_limit }
     {
         self.trial.open(alloc, accepted, tic)?;
-        for act in 0..96u64 {
-            if !self.act(alloc, accepted, numbers)? {
-                return Ok(Some(act));
-            }
-        }
-        Ok(None)
+        self.acts(accepted, numbers)
     }
 }
 
@@ -108,12 +109,10 @@ pub(crate) fn first_other_answer(
     numbers: &mut Numbers,
 ) -> Result<Option<u64>, AllocError> {
     let tic = numbers.below(12).min(11);
-    let due = due_at(alloc, accepted.plan(), tic)?;
+    let doing = Doing::new(alloc, accepted.plan(), tic)?;
     let trial = Trial::new(alloc, accepted)?;
-    let doing = Doing {
-        taken: Vec::new(alloc),
-        committed: Vec::new(alloc),
-    };
-    let mut drive = Drive { trial, due, doing };
-    drive.acts(alloc, accepted, tic, numbers)
+    let mut drive = Drive { trial, doing };
+    let place = drive.tic(alloc, accepted, tic, numbers);
+    drop(drive.trial);
+    place
 }

@@ -55,13 +55,6 @@ pub(crate) fn next_due(plan: &Plan, from: u64) -> Option<u64> {
     None
 }
 
-/// The due jobs that were taken, and those of them that were committed.
-#[derive(Drop)]
-pub(crate) struct Doing {
-    pub(crate) taken: Vec<JobId>,
-    pub(crate) committed: Vec<JobId>,
-}
-
 // Whether one job waits for another by a pair of the input.
 fn is_pair(pairs: &[Depends], target: JobId, depended: JobId) -> bool {
     for pair in pairs {
@@ -72,56 +65,78 @@ fn is_pair(pairs: &[Depends], target: JobId, depended: JobId) -> bool {
     false
 }
 
-// The first due job that a job waits for: one that is not committed, and stands before the job on its thread or in a
-// pair with it.
-fn waits_for(plan: &Plan, due: &[JobId], doing: &Doing, job: JobId) -> Option<JobId> {
-    let jobs = plan.program.jobs.as_slice();
-    let thread = jobs.get(job.0 as usize)?.thread;
-    let mut is_before = true;
-    for other in due {
-        is_before = is_before && *other != job;
-        let is_on_thread = jobs.get(other.0 as usize)?.thread == thread;
-        let is_depended = is_pair(plan.depends.as_slice(), job, *other);
-        if !doing.committed.contains(other) && (is_depended || is_before && is_on_thread) {
-            return Some(*other);
-        }
+// The thread of a job; one that no job has where there is no such job.
+fn thread_of(plan: &Plan, job: JobId) -> u8 {
+    match plan.program.jobs.as_slice().get(job.0 as usize) {
+        Some(job) => job.thread,
+        None => u8::MAX,
     }
-    None
 }
 
-// The first due job of a thread that is among the jobs of a list, or that is not.
-fn first_on(
-    plan: &Plan,
-    due: &[JobId],
-    thread: u8,
-    list: &[JobId],
-    is_among: bool,
-) -> Option<JobId> {
-    for job in due {
-        let is_on_thread = plan.program.jobs.as_slice().get(job.0 as usize)?.thread == thread;
-        if is_on_thread && list.contains(job) == is_among {
-            return Some(*job);
-        }
-    }
-    None
+/// The due jobs of a tic, those that were taken, and those of them that were committed.
+#[derive(Drop)]
+pub(crate) struct Doing {
+    due: Vec<JobId>,
+    pub(crate) taken: Vec<JobId>,
+    pub(crate) committed: Vec<JobId>,
 }
 
-/// What a take of a thread comes to, and the job that it takes or waits with.
-pub(crate) fn take(plan: &Plan, due: &[JobId], doing: &Doing, thread: u8) -> (Took, Option<JobId>) {
-    if let Some(job) = first_on(plan, due, thread, &doing.taken, false) {
-        return match waits_for(plan, due, doing, job) {
-            Some(waits_for) => (Took::NotYet { job, waits_for }, None),
-            None => (Took::Took, Some(job)),
-        };
+impl Doing {
+    /// The due jobs of a tic, of which none was taken.
+    pub(crate) fn new(alloc: Global, plan: &Plan, tic: u64) -> Result<Self, AllocError> {
+        let due = due_at(alloc, plan, tic)?;
+        Ok(Doing {
+            due,
+            taken: Vec::new(alloc),
+            committed: Vec::new(alloc),
+        })
     }
-    match first_on(plan, due, thread, &doing.committed, false) {
-        Some(job) => (
-            Took::NotYet {
+
+    // The first due job that a job waits for: one that is not committed, and stands before the job on its thread or in
+    // a pair with it.
+    fn waits_for(&self, plan: &Plan, job: JobId) -> Option<JobId> {
+        let thread = thread_of(plan, job);
+        let mut is_before = true;
+        for other in &self.due {
+            is_before = is_before && *other != job;
+            let is_first = is_before && thread_of(plan, *other) == thread;
+            let is_waited_for = is_first || is_pair(plan.depends.as_slice(), job, *other);
+            if is_waited_for && !self.committed.contains(other) {
+                return Some(*other);
+            }
+        }
+        None
+    }
+
+    // The first due job of a thread that is not among these jobs.
+    fn first_on(&self, plan: &Plan, thread: u8, passed: &[JobId]) -> Option<JobId> {
+        for job in &self.due {
+            if thread_of(plan, *job) == thread && !passed.contains(job) {
+                return Some(*job);
+            }
+        }
+        None
+    }
+
+    // What a take of a thread comes to of which each due job is taken.
+    fn after_last(&self, plan: &Plan, thread: u8) -> Took {
+        match self.first_on(plan, thread, &self.committed) {
+            Some(job) => Took::NotYet {
                 job,
                 waits_for: job,
             },
-            None,
-        ),
-        None => (Took::ThreadDone, None),
+            None => Took::ThreadDone,
+        }
+    }
+
+    /// What a take of a thread comes to, and the job that it takes.
+    pub(crate) fn take(&self, plan: &Plan, thread: u8) -> (Took, Option<JobId>) {
+        let Some(job) = self.first_on(plan, thread, &self.taken) else {
+            return (self.after_last(plan, thread), None);
+        };
+        match self.waits_for(plan, job) {
+            Some(waits_for) => (Took::NotYet { job, waits_for }, None),
+            None => (Took::Took, Some(job)),
+        }
     }
 }

@@ -1,117 +1,101 @@
 //! Lists of steps of a tic, played from a memory of zeros on.
 
 use crate::tally::Tally;
-use crate::told::told;
-use crate::words::{DueJob, advance, can_follow, complete, steps_of};
+use crate::told;
+use crate::words::{DueJob, advance, complete, steps_of};
 use std::alloc::{AllocError, Global};
+use trick_cases_report::Report;
 use trick_memory::Memory;
 use trick_model::Accepted;
 use trick_phase::{Played, play};
+use trick_phase_schedules::Step;
 
-/// What a list of steps comes to: memory and faults, or the place at which it is wrong.
-pub(crate) fn played(
-    alloc: Global,
-    accepted: &Accepted,
-    tic: u64,
-    word: &[u8],
-) -> Result<String, AllocError> {
-    let plan = accepted.plan();
-    let steps = steps_of(alloc, word)?;
-    let memory = Memory::new(alloc, plan)?;
-    match play(alloc, accepted, memory, &plan.jobs, tic, &steps)? {
-        Played::Done { memory, faults } => told(alloc, &memory, &faults),
-        Played::Wrong { at } => format!(in alloc; "wrong at {at}"),
-    }
-}
-
-/// How many schedules of a tic there are, by what they come to. They are made by the rule for schedules: a job is
-/// taken once, after the commits of its predecessors, and then committed.
-pub(crate) fn played_all(
-    alloc: Global,
-    accepted: &Accepted,
-    tic: u64,
-    due: &[DueJob],
-) -> Result<String, AllocError> {
-    let mut tally = Tally::new(alloc);
-    let mut word = Vec::new(alloc);
-    complete(due, &mut word)?;
-    for _schedule in 0..10_000u32 {
-        tally.add(played(alloc, accepted, tic, &word)?)?;
-        advance(due, &mut word)?;
-        if word.is_empty() {
-            break;
-        }
-    }
-    tally.told(alloc, "schedules")
-}
-
-/// Schedules with a wrong step in them: those of a tic with these due jobs, and the letters that are tried.
+/// A tic of a plan, its due jobs, and where memory is taken from.
 #[derive(Clone, Copy)]
-pub(crate) struct Wrong<'a> {
+pub(crate) struct Tic<'a> {
+    pub(crate) alloc: Global,
     pub(crate) accepted: &'a Accepted,
     pub(crate) tic: u64,
     pub(crate) due: &'a [DueJob<'a>],
-    pub(crate) letters: &'a str,
 }
 
-impl Wrong<'_> {
-    // What a list of steps comes to that should be wrong at a place.
-    fn outcome(self, alloc: Global, word: &[u8], at: usize) -> Result<String, AllocError> {
-        let want = format!(in alloc; "wrong at {at}")?;
-        let got = played(alloc, self.accepted, self.tic, word)?;
-        if got.as_str() == want.as_str() {
-            return String::from_str(alloc, "wrong where no schedule goes on");
-        }
-        Ok(got)
+/// Adds what a list of steps came to: memory and faults, or the place at which it is wrong.
+pub(crate) fn tell(played: &Played<Memory>, report: &mut Report) {
+    match played {
+        Played::Done { memory, faults } => told::tell(memory, faults, report),
+        Played::Wrong { at } => report.number("wrong at ", *at as u64, ""),
+    }
+}
+
+/// Adds a line of it.
+pub(crate) fn tell_line(played: Played<Memory>, report: &mut Report) {
+    report.word("> ");
+    tell(&played, report);
+    report.word("\n");
+    drop(played);
+}
+
+impl Tic<'_> {
+    // Plays some steps.
+    fn play(self, steps: &[Step]) -> Result<Played<Memory>, AllocError> {
+        let Tic {
+            alloc,
+            accepted,
+            tic,
+            ..
+        } = self;
+        let plan = accepted.plan();
+        let memory = Memory::new(alloc, plan)?;
+        play(alloc, accepted, memory, &plan.jobs, tic, steps)
     }
 
-    // Counts the lists that go on after the beginning of a schedule with another step than a schedule can have
-    // there, and then with all steps of the schedule.
-    fn count_behind(
-        self,
-        alloc: Global,
-        tally: &mut Tally,
-        before: &[u8],
-        schedule: &[u8],
-    ) -> Result<(), AllocError> {
-        for letter in self.letters.bytes() {
-            if !can_follow(self.due, before, letter) {
-                let mut word = before.to_vec(alloc)?;
-                word.push(letter)?;
-                word.extend_from_slice(schedule)?;
-                tally.add(self.outcome(alloc, &word, before.len())?)?;
+    /// Plays a list of steps.
+    pub(crate) fn played(self, word: &[u8]) -> Result<Played<Memory>, AllocError> {
+        let steps = steps_of(self.alloc, word)?;
+        self.play(&steps)
+    }
+
+    /// Adds what a list of steps comes to.
+    pub(crate) fn tell(self, word: &[u8], report: &mut Report) -> Result<(), AllocError> {
+        tell_line(self.played(word)?, report);
+        Ok(())
+    }
+
+    // What a list of steps comes to, as a text.
+    fn outcome(self, word: &[u8]) -> Result<String, AllocError> {
+        let played = self.played(word)?;
+        let mut report = Report::new(self.alloc);
+        tell(&played, &mut report);
+        drop(played);
+        report.finish()
+    }
+
+    // Counts a list of steps by what it comes to.
+    fn count(self, word: &[u8], tally: &mut Tally) -> Result<(), AllocError> {
+        let outcome = self.outcome(word)?;
+        tally.add(outcome)
+    }
+
+    // Counts all schedules by what they come to. They are made by the rule for schedules: a job is taken once, after
+    // the commits of its predecessors, and then committed.
+    fn count_all(self, word: &mut Vec<u8>, tally: &mut Tally) -> Result<(), AllocError> {
+        complete(self.due, word)?;
+        for _schedule in 0..10_000u32 {
+            self.count(word, tally)?;
+            advance(self.due, word)?;
+            if word.is_empty() {
+                break;
             }
         }
         Ok(())
     }
 
-    // The same for each place of a schedule, with the lists that are cut short there.
-    fn count_along(
-        self,
-        alloc: Global,
-        tally: &mut Tally,
-        schedule: &[u8],
-    ) -> Result<(), AllocError> {
-        for at in 0..schedule.len() {
-            let (before, _) = schedule.split_at(at);
-            self.count_behind(alloc, tally, before, schedule)?;
-            tally.add(self.outcome(alloc, before, at)?)?;
-        }
-        self.count_behind(alloc, tally, schedule, schedule)
-    }
-
-    /// How many such lists there are, by what they come to.
-    pub(crate) fn played(self, alloc: Global) -> Result<String, AllocError> {
-        let mut tally = Tally::new(alloc);
-        let mut word = Vec::new(alloc);
-        complete(self.due, &mut word)?;
-        for _schedule in 0..10_000u32 {
-            if word.is_empty() {
-                break;
-            }
-            self.count_along(alloc, &mut tally, &word)?;
-            advance(self.due, &mut word)?;
-        }
-        tally.told(alloc, "lists")
+    /// Adds how many schedules there are, by what they come to.
+    pub(crate) fn tell_all(self, report: &mut Report) -> Result<(), AllocError> {
+        let mut tally = Tally::new(self.alloc);
+        let mut word = Vec::new(self.alloc);
+        self.count_all(&mut word, &mut tally)?;
+        tally.tell("schedules", report);
+        Ok(())
     }
 }

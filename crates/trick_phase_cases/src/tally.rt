@@ -1,12 +1,13 @@
 //! How often something comes to what.
 
 use std::alloc::{AllocError, Global};
+use trick_cases_report::Report;
 
 // What something comes to, and how often.
 #[derive(Drop)]
 struct Entry {
     outcome: String,
-    count: u32,
+    count: u64,
 }
 
 /// Outcomes in the order in which they came first, each with its count.
@@ -23,27 +24,33 @@ impl Tally {
         }
     }
 
-    /// Counts an outcome.
-    pub(crate) fn add(&mut self, outcome: String) -> Result<(), AllocError> {
+    // Counts an outcome that came before, and tells whether it did.
+    fn counts(&mut self, outcome: &str) -> bool {
         for entry in &mut self.entries {
-            if entry.outcome.as_str() == outcome.as_str() {
+            if entry.outcome.as_str() == outcome {
                 entry.count = entry.count.saturating_add(1);
-                return Ok(());
+                return true;
             }
         }
-        self.entries.push(Entry { outcome, count: 1 })?;
+        false
+    }
+
+    /// Counts an outcome.
+    pub(crate) fn add(&mut self, outcome: String) -> Result<(), AllocError> {
+        if !self.counts(outcome.as_str()) {
+            self.entries.push(Entry { outcome, count: 1 })?;
+        }
         Ok(())
     }
 
-    /// A line for each outcome: its count, what was counted, and the outcome.
-    pub(crate) fn told(&self, alloc: Global, what: &str) -> Result<String, AllocError> {
-        let mut text = String::new(alloc);
+    /// Adds a line for each outcome: its count, what was counted, and the outcome.
+    pub(crate) fn tell(&self, what: &str, report: &mut Report) {
         for entry in &self.entries {
-            let count = entry.count;
-            write!(text, "> {count} {what}: ")?;
-            text.push_str(entry.outcome.as_str())?;
-            text.push_str("\n")?;
+            report.number("> ", entry.count, " ");
+            report.word(what);
+            report.word(": ");
+            report.word(entry.outcome.as_str());
+            report.word("\n");
         }
-        Ok(text)
     }
 }

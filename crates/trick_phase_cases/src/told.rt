@@ -1,24 +1,34 @@
 //! What a tic comes to, as a text.
 
 use crate::words::letter_of;
-use std::alloc::{AllocError, Global};
-use trick_lang::{Cell, Cells};
+use trick_cases_report::Report;
+use trick_lang::{Cell, Cells, JobFault};
 use trick_memory::Memory;
 use trick_model::Faults;
 
-/// The numbers of a memory, by cell, and after them the faults, each with its tic, job, kind and line.
-pub(crate) fn told(alloc: Global, memory: &Memory, faults: &Faults) -> Result<String, AllocError> {
-    let mut text = String::from_str(alloc, "memory")?;
+/// Adds a fault: its tic, job, kind and line.
+pub(crate) fn tell_fault(fault: JobFault, report: &mut Report) {
+    report.number("fault ", fault.tic, " ");
+    report.value(letter_of(fault.job));
+    report.word(" ");
+    report.code(&fault.kind);
+    report.number(" ", u64::from(fault.line), "");
+}
+
+/// Adds the numbers of a memory, by cell.
+pub(crate) fn tell_memory(memory: &Memory, report: &mut Report) {
+    report.word("memory");
     for cell in 0..memory.len() {
-        let number = memory.get(Cell(cell));
-        write!(text, " {number}")?;
+        report.word(" ");
+        report.value(memory.get(Cell(cell)));
     }
+}
+
+/// Adds the numbers of a memory, and after them the faults.
+pub(crate) fn tell(memory: &Memory, faults: &Faults, report: &mut Report) {
+    tell_memory(memory, report);
     for fault in faults.first() {
-        let tic = fault.tic;
-        let letter = letter_of(fault.job);
-        let kind = fault.kind;
-        let line = fault.line;
-        write!(text, " fault {tic} {letter} {kind:?} {line}")?;
+        report.word(" ");
+        tell_fault(*fault, report);
     }
-    Ok(text)
 }

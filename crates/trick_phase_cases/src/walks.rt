@@ -66,5 +66,7 @@ pub(crate) fn first_difference(
 ) -> Result<Option<u64>, AllocError> {
     let start = numbers.below(8);
     let mut queues = Queues::new(alloc, plan, start)?;
-    walk(alloc, plan, &mut queues, start, numbers)
+    let place = walk(alloc, plan, &mut queues, start, numbers);
+    drop(queues);
+    place
 }

@@ -4,6 +4,9 @@ use std::alloc::{AllocError, Global};
 use trick_lang::JobId;
 use trick_phase_schedules::Step;
 
+// The byte after the last letter.
+const END: u8 = b'{';
+
 /// A due job of a tic, and its predecessors, all by their letters.
 #[derive(Clone, Copy)]
 pub(crate) struct DueJob<'a> {
@@ -16,7 +19,7 @@ pub(crate) fn letter_of(job: JobId) -> char {
     char::from(b'A'.saturating_add(job.0.min(25) as u8))
 }
 
-/// The step of a letter.
+// The step of a letter.
 fn step_of(letter: u8) -> Step {
     let job = JobId(u32::from(letter.to_ascii_uppercase().saturating_sub(b'A')));
     if letter.is_ascii_uppercase() {
@@ -28,32 +31,58 @@ fn step_of(letter: u8) -> Step {
 
 /// The steps of a word.
 pub(crate) fn steps_of(alloc: Global, word: &[u8]) -> Result<Vec<Step>, AllocError> {
-    word.iter().map(|letter| step_of(*letter)).collect(alloc)
+    let mut steps = Vec::new(alloc);
+    for letter in word {
+        steps.push(step_of(*letter))?;
+    }
+    Ok(steps)
+}
+
+// The due job of a letter.
+fn job_of<'a>(due: &[DueJob<'a>], letter: u8) -> Option<DueJob<'a>> {
+    for job in due {
+        if job.letter == letter {
+            return Some(*job);
+        }
+    }
+    None
+}
+
+// Whether all of these jobs are committed.
+fn are_committed(before: &[u8], jobs: &str) -> bool {
+    for job in jobs.as_bytes() {
+        if !before.contains(&job.to_ascii_lowercase()) {
+            return false;
+        }
+    }
+    true
 }
 
 /// Whether a step can follow others: it is of a due job and not among them; before a take stand the commits
 /// of the job's predecessors, and before a commit stands the take.
 pub(crate) fn can_follow(due: &[DueJob], before: &[u8], letter: u8) -> bool {
     let take = letter.to_ascii_uppercase();
-    let Some(job) = due.iter().find(|job| job.letter == take) else {
+    let Some(job) = job_of(due, take) else {
         return false;
     };
     if before.contains(&letter) {
         return false;
     }
     if letter == take {
-        job.predecessors
-            .as_bytes()
-            .iter()
-            .all(|job| before.contains(&job.to_ascii_lowercase()))
+        are_committed(before, job.predecessors)
     } else {
         before.contains(&take)
     }
 }
 
-/// The first letter from one on that can follow.
+// The first letter from one on that can follow.
 fn next_letter(due: &[DueJob], before: &[u8], from: u8) -> Option<u8> {
-    (from..=b'z').find(|letter| can_follow(due, before, *letter))
+    for letter in from..END {
+        if can_follow(due, before, letter) {
+            return Some(letter);
+        }
+    }
+    None
 }
 
 /// Goes on with the first letters that can follow, to a whole schedule.

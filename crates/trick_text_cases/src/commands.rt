@@ -1,25 +1,35 @@
 //! What the words of a command line ask for, and the texts of a generated simulation.
 
-use crate::cases::Call;
-use crate::line::push_escaped;
+use crate::call::Call;
 use std::alloc::{AllocError, Global};
 use trick_base::Word;
+use trick_cases_report::Report;
 use trick_gen::make;
 use trick_top_words::{Command, Task, Texts, read_command};
 
-// The words of a text: one blank stands between two words, and two blanks have an empty word between.
-fn words_of(alloc: Global, text: &[u8]) -> Result<Vec<Word>, AllocError> {
+// Adds a word to others.
+fn add_word(alloc: Global, words: &mut Vec<Word>, word: &[u8]) -> Result<(), AllocError> {
+    let word = Word::from_bytes(alloc, word)?;
+    words.push(word)?;
+    Ok(())
+}
+
+// The words of a text: one blank stands between two words, and two blanks have an empty word between. A call without a
+// text has none.
+fn words_of(alloc: Global, call: &Call<'_>) -> Result<Vec<Word>, AllocError> {
     let mut words = Vec::new(alloc);
-    for word in text.split(|byte| *byte == b' ') {
-        words.push(Word::from_bytes(alloc, word)?)?;
+    if call.has_text {
+        for word in call.text.split(|byte| *byte == b' ') {
+            add_word(alloc, &mut words, word)?;
+        }
     }
     Ok(words)
 }
 
 // Adds a name and its value.
-fn push_value(out: &mut String, name: &str, value: &Word) -> Result<(), AllocError> {
-    write!(out, " {name}=")?;
-    push_escaped(out, value.as_slice())
+fn named(name: &str, value: &Word, report: &mut Report) {
+    report.word(name);
+    report.bytes(value.as_slice());
 }
 
 // The word that names what is done with texts.
@@ -33,77 +43,76 @@ fn name_of(task: &Task) -> &'static str {
     }
 }
 
-// Adds the name of a file, where there is one.
-fn push_if_named(out: &mut String, name: &str, value: Option<&Word>) -> Result<(), AllocError> {
-    match value {
-        Some(value) => push_value(out, name, value),
-        None => Ok(()),
+// Adds the checkpoint from which a run goes on, where there is one.
+fn from(from: &Option<Word>, report: &mut Report) {
+    if let Some(name) = from {
+        named(" from=", name, report);
     }
 }
 
 // Adds the name of the journal of a replay.
-fn push_journal(out: &mut String, task: &Task) -> Result<(), AllocError> {
-    match task {
-        Task::Replay { journal } => push_value(out, "journal", journal),
-        _ => Ok(()),
+fn journal(task: &Task, report: &mut Report) {
+    if let Task::Replay { journal } = task {
+        named(" journal=", journal, report);
     }
 }
 
 // Adds the port of a run, where there is one.
-fn push_port(out: &mut String, task: &Task) -> Result<(), AllocError> {
-    match task {
-        Task::Run { port: Some(port) } => write!(out, " port={port}"),
-        _ => Ok(()),
+fn port(task: &Task, report: &mut Report) {
+    if let Task::Run { port: Some(port) } = task {
+        report.number(" port=", u64::from(*port), "");
     }
 }
 
 // Adds what is done with texts, and the names of their files.
-fn push_texts(out: &mut String, about: &Texts) -> Result<(), AllocError> {
-    out.push_str(name_of(&about.task))?;
-    push_value(out, "s_define", &about.s_define)?;
-    push_value(out, "input", &about.input)?;
-    push_journal(out, &about.task)?;
-    push_if_named(out, "from", about.from.as_ref())?;
-    push_port(out, &about.task)
+fn about(about: &Texts, report: &mut Report) {
+    report.word(name_of(&about.task));
+    named(" s_define=", &about.s_define, report);
+    named(" input=", &about.input, report);
+    journal(&about.task, report);
+    from(&about.from, report);
+    port(&about.task, report);
 }
 
 // Adds a command with its files and numbers.
-fn push_command(out: &mut String, command: &Command) -> Result<(), AllocError> {
+fn told(command: &Command, report: &mut Report) {
     match command {
-        Command::Texts(about) => push_texts(out, about),
-        Command::Gen { objects } => write!(out, "gen objects={objects}"),
+        Command::Texts(texts) => about(texts, report),
+        Command::Gen { objects } => report.number("gen objects=", u64::from(*objects), ""),
     }
 }
 
 /// The command that words ask for.
-pub(crate) fn command_of(alloc: Global, call: &Call<'_>) -> Result<String, AllocError> {
-    let words = match &call.text {
-        Some(text) => words_of(alloc, text)?,
-        None => Vec::new(alloc),
-    };
-    let mut out = String::new(alloc);
+pub(crate) fn command_of(
+    alloc: Global,
+    call: &Call<'_>,
+    report: &mut Report,
+) -> Result<(), AllocError> {
+    let words = words_of(alloc, call)?;
     match read_command(alloc, &words)? {
-        Some(command) => push_command(&mut out, &command)?,
-        None => out.push_str("no command")?,
-    }
-    Ok(out)
-}
-
-// Adds the lines of a text, each with a mark before it.
-fn push_lines(out: &mut String, mark: &str, text: &[u8]) -> Result<(), AllocError> {
-    for line in text.split(|byte| *byte == b'\n') {
-        out.push_str(mark)?;
-        push_escaped(out, line)?;
-        out.push_str("\n")?;
+        Some(command) => told(&command, report),
+        None => report.word("no command"),
     }
     Ok(())
 }
 
+// Adds the lines of a text, each with a mark before it.
+fn lines(mark: &str, text: &[u8], report: &mut Report) {
+    for line in text.split(|byte| *byte == b'\n') {
+        report.word(mark);
+        report.bytes(line);
+        report.word("\n");
+    }
+}
+
 /// The texts of a simulation with so many objects.
-pub(crate) fn gen_of(alloc: Global, call: &Call<'_>) -> Result<String, AllocError> {
+pub(crate) fn gen_of(
+    alloc: Global,
+    call: &Call<'_>,
+    report: &mut Report,
+) -> Result<(), AllocError> {
     let made = make(alloc, (call.number(0) % 101) as u32)?;
-    let mut out = String::new(alloc);
-    push_lines(&mut out, "s_define | ", &made.definition)?;
-    push_lines(&mut out, "input | ", &made.input)?;
-    Ok(out)
+    lines("s_define | ", &made.definition, report);
+    lines("input | ", &made.input, report);
+    Ok(())
 }

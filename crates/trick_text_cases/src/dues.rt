@@ -1,9 +1,8 @@
-//! What the arithmetic of due tics answers. A word `1/6/end` stands for what is due from tic 1 on, each 6
-//! tics, up to the greatest tic.
+//! What the arithmetic of due tics answers. A word `1/6/end` stands for what is due from tic 1 on, each 6 tics, up to
+//! the greatest tic.
 
-use crate::cases::{Call, number_of};
-use crate::scans;
-use std::alloc::{AllocError, Global};
+use crate::call::{Call, number_of};
+use trick_cases_report::Report;
 use trick_cycle::{Due, covers, first_shared, is_due, is_in_range, next_due};
 
 // The last tic of a table.
@@ -20,104 +19,111 @@ fn due_of(word: &str) -> Due {
     }
 }
 
-/// What a call of this module answers.
-pub(crate) fn answer(alloc: Global, call: &Call<'_>) -> Result<Option<String>, AllocError> {
-    let [a, b, c] = [call.word(0), call.word(1), call.word(2)];
-    let answer = match call.name {
-        "range" => range_of(alloc, due_of(a))?,
-        "next" => next_of(alloc, due_of(a), number_of(b))?,
-        "nexts" => nexts_of(alloc, due_of(a))?,
-        "shared" => shared_of(alloc, due_of(a), due_of(b))?,
-        "meets" => meets_of(alloc, due_of(a), due_of(b))?,
-        "covers" => covers_of(alloc, due_of(a), due_of(b), due_of(c))?,
-        "covered" => covered_of(alloc, due_of(a), due_of(b), due_of(c))?,
-        "scan" => scans::compared(alloc, a)?,
-        _ => return Ok(None),
-    };
-    Ok(Some(answer))
-}
-
-fn range_of(alloc: Global, due: Due) -> Result<String, AllocError> {
-    let is = if is_in_range(due) { "in" } else { "out of" };
-    format!(in alloc; "{due:?} is {is} range")
-}
-
 // Adds a tic, or a dash for none.
-fn push_tic(out: &mut String, tic: Option<u64>) -> Result<(), AllocError> {
-    if !out.is_empty() {
-        out.push_str(" ")?;
-    }
+fn tic(tic: Option<u64>, report: &mut Report) {
     match tic {
-        Some(tic) => write!(out, "{tic}"),
-        None => out.push_str("-"),
+        Some(tic) => report.value(tic),
+        None => report.word("-"),
     }
 }
 
-// The next due tic, and whether the tic itself is due.
-fn next_of(alloc: Global, due: Due, from: u64) -> Result<String, AllocError> {
+/// Whether a word is in range.
+pub(crate) fn range_of(call: &Call<'_>, report: &mut Report) {
+    let due = due_of(call.word(0));
+    report.code(&due);
+    report.word(if is_in_range(due) {
+        " is in range"
+    } else {
+        " is out of range"
+    });
+}
+
+/// The next due tic, and whether the tic itself is due.
+pub(crate) fn next_of(call: &Call<'_>, report: &mut Report) {
+    let due = due_of(call.word(0));
+    let from = call.number(1);
     if !is_in_range(due) {
-        return format!(in alloc; "out of range");
+        report.word("out of range");
+        return;
     }
-    let mut out = String::new(alloc);
-    push_tic(&mut out, next_due(due, from))?;
-    out.push_str(if is_due(due, from) {
+    tic(next_due(due, from), report);
+    report.word(if is_due(due, from) {
         " due"
     } else {
         " not due"
-    })?;
-    Ok(out)
+    });
 }
 
-// The next due tic from each tic of a table on.
-fn nexts_of(alloc: Global, due: Due) -> Result<String, AllocError> {
-    let mut out = String::new(alloc);
+/// The next due tic from each tic of a table on.
+pub(crate) fn nexts_of(call: &Call<'_>, report: &mut Report) {
+    let due = due_of(call.word(0));
     if !is_in_range(due) {
-        return Ok(out);
+        return;
     }
+    let mut between = "";
     for from in 0..=LAST + 1 {
-        push_tic(&mut out, next_due(due, from))?;
+        report.word(between);
+        tic(next_due(due, from), report);
+        between = " ";
     }
-    Ok(out)
 }
 
-// The first tic that two share, asked both ways.
-fn shared_of(alloc: Global, a: Due, b: Due) -> Result<String, AllocError> {
-    let mut out = String::new(alloc);
-    if !is_in_range(a) || !is_in_range(b) {
-        return Ok(out);
+/// The first tic that two share, asked both ways.
+pub(crate) fn shared_of(call: &Call<'_>, report: &mut Report) {
+    let a = due_of(call.word(0));
+    let b = due_of(call.word(1));
+    if is_in_range(a) && is_in_range(b) {
+        tic(first_shared(a, b), report);
+        report.word(" ");
+        tic(first_shared(b, a), report);
     }
-    push_tic(&mut out, first_shared(a, b))?;
-    push_tic(&mut out, first_shared(b, a))?;
-    Ok(out)
 }
 
-// The first tic that two share, for each stop of the first in a table; the second goes to its own stop, or
-// where that is 0 to what is left of the table.
-fn meets_of(alloc: Global, a: Due, b: Due) -> Result<String, AllocError> {
-    let mut out = String::new(alloc);
+/// The first tic that two share, for each stop of the first in a table; the second goes to its own stop, or where that
+/// is 0 to what is left of the table.
+pub(crate) fn meets_of(call: &Call<'_>, report: &mut Report) {
+    let a = due_of(call.word(0));
+    let b = due_of(call.word(1));
+    let mut between = "";
     for stop in 0..=LAST {
         let rest = if b.stop == 0 { LAST - stop } else { b.stop };
         let a = Due { stop, ..a };
         let b = Due { stop: rest, ..b };
         if is_in_range(a) && is_in_range(b) {
-            push_tic(&mut out, first_shared(a, b))?;
+            report.word(between);
+            tic(first_shared(a, b), report);
+            between = " ";
         }
     }
-    Ok(out)
 }
 
-// Whether one is due wherever two others are, asked both ways.
-fn covers_of(alloc: Global, c: Due, a: Due, b: Due) -> Result<String, AllocError> {
+/// Whether one is due wherever two others are, asked both ways.
+pub(crate) fn covers_of(call: &Call<'_>, report: &mut Report) {
+    let c = due_of(call.word(0));
+    let a = due_of(call.word(1));
+    let b = due_of(call.word(2));
     if !is_in_range(a) || !is_in_range(b) || !is_in_range(c) {
-        return format!(in alloc; "out of range");
+        report.word("out of range");
+        return;
     }
-    format!(in alloc; "{} {}", covers(c, a, b), covers(c, b, a))
+    report.value(covers(c, a, b));
+    report.word(" ");
+    report.value(covers(c, b, a));
 }
 
-// A letter for each stop of the covering one in a table, `y` where it is due wherever both others are.
-// Their stops fall from the end of the table as the other stop rises.
-fn covered_of(alloc: Global, c: Due, a: Due, b: Due) -> Result<String, AllocError> {
-    let mut out = String::new(alloc);
+// Adds a letter, `y` where one is due wherever two others are.
+fn letter(c: Due, a: Due, b: Due, report: &mut Report) {
+    if is_in_range(a) && is_in_range(b) && is_in_range(c) {
+        report.word(if covers(c, a, b) { "y" } else { "n" });
+    }
+}
+
+/// A letter for each stop of the covering one in a table, `y` where it is due wherever both others are. Their stops
+/// fall from the end of the table as the other stop rises.
+pub(crate) fn covered_of(call: &Call<'_>, report: &mut Report) {
+    let c = due_of(call.word(0));
+    let a = due_of(call.word(1));
+    let b = due_of(call.word(2));
     for stop in 0..=LAST {
         let c = Due { stop, ..c };
         let a = Due {
@@ -128,9 +134,6 @@ fn covered_of(alloc: Global, c: Due, a: Due, b: Due) -> Result<String, AllocErro
             stop: LAST - stop / 3,
             ..b
         };
-        if is_in_range(a) && is_in_range(b) && is_in_range(c) {
-            out.push_str(if covers(c, a, b) { "y" } else { "n" })?;
-        }
+        letter(c, a, b, report);
     }
-    Ok(out)
 }

@@ -1,59 +1,86 @@
 //! What the readers of inputs and S_defines answer, with the lines of their refusals.
 
-use crate::cases::Call;
-use crate::line::push_escaped;
+use crate::call::{Call, refused};
 use std::alloc::{AllocError, Global};
+use trick_cases_report::Report;
 use trick_check::resolve;
-use trick_input::{Form, RunForm, read_input};
+use trick_input::{Call as InputCall, Form, RunForm, read_input};
+use trick_lang::syntax::SDefine;
 use trick_sdef::read_sdef;
+use trick_text::TimeFault;
 use trick_top_refusals::{check_line, input_line, s_define_line};
 
-// A line as a text.
-fn text_of(alloc: Global, line: Result<Vec<u8>, AllocError>) -> Result<String, AllocError> {
-    let mut text = String::new(alloc);
-    for byte in line?.as_slice() {
-        text.push(char::from(*byte))?;
+// Adds a line without its line feed.
+fn front(line: &[u8], report: &mut Report) {
+    match line.split_last() {
+        Some((b'\n', front)) => report.bytes(front),
+        _ => report.bytes(line),
     }
-    Ok(text)
+}
+
+// Adds the line of a refusal.
+fn told(line: Result<Vec<u8>, AllocError>, report: &mut Report) {
+    match line {
+        Ok(line) => front(&line, report),
+        Err(_) => report.lack(),
+    }
+}
+
+// Adds the tics of a stop.
+fn stop(time: &Result<u64, TimeFault>, report: &mut Report) {
+    report.word("stop ");
+    match time {
+        Ok(tics) => report.value(*tics),
+        Err(fault) => refused(*fault, report),
+    }
+}
+
+// Adds the name of a cell and the number with which it begins.
+fn assignment(name: &[u8], number: i128, report: &mut Report) {
+    report.bytes(name);
+    report.word(" = ");
+    report.value(number);
 }
 
 // Adds what a line of an input says, where it is an assignment or a stop.
-fn push_form(out: &mut String, form: &Form) -> Result<(), AllocError> {
+fn form(form: &Form, report: &mut Report) {
     match form {
-        Form::Assign { name, number } => {
-            push_escaped(out, name.as_slice())?;
-            write!(out, " = {number}")
-        }
-        Form::Run(RunForm::Stop { time: Ok(tics) }) => write!(out, "stop {tics}"),
-        Form::Run(RunForm::Stop { time: Err(fault) }) => write!(out, "stop refused: {fault}"),
-        _ => out.push_str("another form"),
+        Form::Assign { name, number } => assignment(name.as_slice(), *number, report),
+        Form::Run(RunForm::Stop { time }) => stop(time, report),
+        _ => report.word("another form"),
     }
+}
+
+// Adds the lines of an input.
+fn lines(calls: &[InputCall], report: &mut Report) {
+    for call in calls {
+        report.number("line ", u64::from(call.line), ": ");
+        form(&call.form, report);
+        report.word("\n");
+    }
+    report.number("", calls.len() as u64, " lines");
 }
 
 /// The lines of an input that say something.
-pub(crate) fn input_of(alloc: Global, call: &Call<'_>) -> Result<String, AllocError> {
-    let calls = match read_input(alloc, call.text()) {
-        Ok(calls) => calls,
-        Err(fault) => return text_of(alloc, input_line(alloc, fault)),
-    };
-    let mut out = String::new(alloc);
-    for call in &calls {
-        write!(out, "line {}: ", call.line)?;
-        push_form(&mut out, &call.form)?;
-        out.push_str("\n")?;
+pub(crate) fn input_of(alloc: Global, call: &Call<'_>, report: &mut Report) {
+    match read_input(alloc, call.text) {
+        Ok(calls) => lines(&calls, report),
+        Err(fault) => told(input_line(alloc, fault), report),
     }
-    write!(out, "{} lines", calls.len())?;
-    Ok(out)
+}
+
+// Adds whether an S_define that is read is a program.
+fn resolved(alloc: Global, sdef: &SDefine, report: &mut Report) {
+    match resolve(alloc, sdef).err() {
+        None => report.word("read"),
+        Some(fault) => told(check_line(alloc, &fault), report),
+    }
 }
 
 /// Whether an S_define is read, and the line of its refusal.
-pub(crate) fn s_define_of(alloc: Global, call: &Call<'_>) -> Result<String, AllocError> {
-    let line = match read_sdef(alloc, call.text()) {
-        Ok(sdef) => match resolve(alloc, &sdef).err() {
-            None => return format!(in alloc; "read"),
-            Some(fault) => check_line(alloc, &fault),
-        },
-        Err(fault) => s_define_line(alloc, fault),
-    };
-    text_of(alloc, line)
+pub(crate) fn s_define_of(alloc: Global, call: &Call<'_>, report: &mut Report) {
+    match read_sdef(alloc, call.text) {
+        Ok(sdef) => resolved(alloc, &sdef, report),
+        Err(fault) => told(s_define_line(alloc, fault), report),
+    }
 }

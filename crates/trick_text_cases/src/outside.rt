@@ -2,10 +2,10 @@
 
 ghost use Rattle.std.specs.Prelude.{◌≡◌};
 
-use crate::cases::{Call, number_of};
-use crate::line::push_escaped;
+use crate::call::{Call, number_of};
 use std::alloc::{AllocError, Global};
 use trick_base::Word;
+use trick_cases_report::Report;
 use trick_outside::{
     Got, MemoryShelf, MemorySink, Printed, Shelf, Sink, Stop, Taken1, append, create, get, put,
     write_file,
@@ -27,86 +27,131 @@ impl Held {
         }
     }
 
-    /// What a call of this module answers.
-    pub(crate) fn answer(
+    /// A new shelf.
+    pub(crate) fn shelve(
         &mut self,
         alloc: Global,
         call: &Call<'_>,
-    ) -> Result<Option<String>, AllocError> {
-        let answer = match call.name {
-            "shelf" => {
-                self.shelf = new_shelf(alloc, call)?;
-                shelved(alloc, &self.shelf, "new")?
-            }
-            "sink" => {
-                self.sink = new_sink(alloc, call)?;
-                sunk(alloc, &self.sink, "new")?
-            }
-            "get" => {
-                let name = Word::from_bytes(alloc, call.word(0).as_bytes())?;
-                got(alloc, get(&mut self.shelf, alloc, &name))?
-            }
-            "create" | "append" | "write" => {
-                let name = Word::from_bytes(alloc, call.word(0).as_bytes())?;
-                let said = stop_name(wrote(&mut self.shelf, call, &name));
-                shelved(alloc, &self.shelf, said)?
-            }
-            "put" => {
-                let said = printed_name(put(&mut self.sink, call.text()));
-                sunk(alloc, &self.sink, said)?
-            }
-            "piece" => took(alloc, self.sink.write(call.text()))?,
-            "quiet" => quiet(alloc)?,
-            _ => return Ok(None),
-        };
-        Ok(Some(answer))
+        report: &mut Report,
+    ) -> Result<(), AllocError> {
+        self.shelf = new_shelf(alloc, call.words)?;
+        shelved(&self.shelf, "new", report)
+    }
+
+    /// The file of a name.
+    pub(crate) fn get(
+        &mut self,
+        alloc: Global,
+        call: &Call<'_>,
+        report: &mut Report,
+    ) -> Result<(), AllocError> {
+        let name = Word::from_bytes(alloc, call.word(0).as_bytes())?;
+        got(&get(&mut self.shelf, alloc, &name), report);
+        Ok(())
+    }
+
+    /// A call that writes a file: `create`, `append` or `write`.
+    pub(crate) fn write(
+        &mut self,
+        alloc: Global,
+        call: &Call<'_>,
+        report: &mut Report,
+    ) -> Result<(), AllocError> {
+        let name = Word::from_bytes(alloc, call.word(0).as_bytes())?;
+        let said = stop_name(wrote(&mut self.shelf, call, &name));
+        shelved(&self.shelf, said, report)
+    }
+
+    /// A new sink.
+    pub(crate) fn sink(
+        &mut self,
+        alloc: Global,
+        call: &Call<'_>,
+        report: &mut Report,
+    ) -> Result<(), AllocError> {
+        self.sink = new_sink(alloc, call.words)?;
+        sunk(&self.sink, "new", report);
+        Ok(())
+    }
+
+    /// A text that is put to the sink.
+    pub(crate) fn put(&mut self, call: &Call<'_>, report: &mut Report) -> Result<(), AllocError> {
+        let said = printed_name(put(&mut self.sink, call.text));
+        sunk(&self.sink, said, report);
+        Ok(())
+    }
+
+    /// A piece that the sink takes.
+    pub(crate) fn piece(&mut self, call: &Call<'_>, report: &mut Report) -> Result<(), AllocError> {
+        match self.sink.write(call.text) {
+            Taken1::Took(count) => report.number("took ", count as u64, ""),
+            Taken1::Failed => report.word("failed"),
+            Taken1::OutOfMemory => report.word("no memory"),
+        }
+        Ok(())
     }
 }
 
-// A shelf by its words: the numbers of the calls that fail, and files, as `input=kept`.
-fn new_shelf(alloc: Global, call: &Call<'_>) -> Result<MemoryShelf, AllocError> {
+// The numbers among words, which are of the calls that fail.
+fn failing_of(alloc: Global, words: &str) -> Result<Vec<u64>, AllocError> {
     let mut failing = Vec::new(alloc);
-    for word in &call.words {
+    for word in words.split_terminator(' ') {
         if !word.contains('=') {
             failing.push(number_of(word))?;
         }
     }
-    let mut shelf = if failing.is_empty() {
-        MemoryShelf::new(alloc)
-    } else {
-        MemoryShelf::failing(alloc, failing)
-    };
-    for word in &call.words {
-        if let Some((name, bytes)) = word.split_once('=') {
-            shelf = shelf.with_file(name.as_bytes(), bytes.as_bytes())?;
-        }
+    Ok(failing)
+}
+
+// A shelf without files whose calls of these numbers fail.
+fn empty_shelf(alloc: Global, failing: Vec<u64>) -> MemoryShelf {
+    if failing.is_empty() {
+        return MemoryShelf::new(alloc);
+    }
+    MemoryShelf::failing(alloc, failing)
+}
+
+// A shelf with the file that a word names.
+fn with_word(shelf: MemoryShelf, word: &str) -> Result<MemoryShelf, AllocError> {
+    match word.split_once('=') {
+        Some((name, bytes)) => shelf.with_file(name.as_bytes(), bytes.as_bytes()),
+        None => Ok(shelf),
+    }
+}
+
+// A shelf by its words: the numbers of the calls that fail, and files, as `input=kept`.
+fn new_shelf(alloc: Global, words: &str) -> Result<MemoryShelf, AllocError> {
+    let mut shelf = empty_shelf(alloc, failing_of(alloc, words)?);
+    for word in words.split_terminator(' ') {
+        shelf = with_word(shelf, word)?;
     }
     Ok(shelf)
 }
 
-// A sink by its words: how many bytes of a piece it takes, 0 for all, and the numbers of the writes that
-// fail.
-fn new_sink(alloc: Global, call: &Call<'_>) -> Result<MemorySink, AllocError> {
-    let most = call.number(0) as usize;
-    let mut failing = Vec::new(alloc);
-    for word in call.words.iter().skip(1) {
-        failing.push(number_of(word))?;
-    }
+// An empty sink that takes so many bytes of a piece, 0 for all, and whose writes of these numbers fail.
+fn empty_sink(alloc: Global, most: usize, failing: Vec<u64>) -> MemorySink {
     if most == 0 {
-        return Ok(MemorySink::new(alloc));
+        return MemorySink::new(alloc);
     }
     if failing.is_empty() {
-        return Ok(MemorySink::taking(alloc, most));
+        return MemorySink::taking(alloc, most);
     }
-    Ok(MemorySink::failing(alloc, failing).with_most(most))
+    MemorySink::failing(alloc, failing).with_most(most)
+}
+
+// A sink by its words: how many bytes of a piece it takes, 0 for all, and the numbers of the writes that fail.
+fn new_sink(alloc: Global, words: &str) -> Result<MemorySink, AllocError> {
+    let (most, failing) = words.split_once(' ').unwrap_or((words, ""));
+    let failing = failing_of(alloc, failing)?;
+    Ok(empty_sink(alloc, number_of(most) as usize, failing))
 }
 
 // Makes a call that writes.
 fn wrote(shelf: &mut MemoryShelf, call: &Call<'_>, name: &Word) -> Result<(), Stop> {
     match call.name {
         "create" => create(shelf, name),
-        "append" => append(shelf, name, call.text()),
-        _ => write_file(shelf, name, call.text()),
+        "append" => append(shelf, name, call.text),
+        _ => write_file(shelf, name, call.text),
     }
 }
 
@@ -126,46 +171,53 @@ fn printed_name(printed: Printed) -> &'static str {
     }
 }
 
-fn got(alloc: Global, got: Got) -> Result<String, AllocError> {
+// Adds the bytes of a file that was found.
+fn found(bytes: &[u8], report: &mut Report) {
+    report.word("found [");
+    report.bytes(bytes);
+    report.word("]");
+}
+
+// Adds what a get answered.
+fn got(got: &Got, report: &mut Report) {
     match got {
-        Got::Found(bytes) => {
-            let mut out = format!(in alloc; "found [")?;
-            push_escaped(&mut out, &bytes)?;
-            out.push_str("]")?;
-            Ok(out)
-        }
-        Got::Missing => format!(in alloc; "missing"),
-        Got::Failed => format!(in alloc; "failed"),
-        Got::OutOfMemory => format!(in alloc; "no memory"),
+        Got::Found(bytes) => found(bytes, report),
+        Got::Missing => report.word("missing"),
+        Got::Failed => report.word("failed"),
+        Got::OutOfMemory => report.word("no memory"),
     }
 }
 
-fn took(alloc: Global, taken: Taken1) -> Result<String, AllocError> {
-    match taken {
-        Taken1::Took(count) => format!(in alloc; "took {count}"),
-        Taken1::Failed => format!(in alloc; "failed"),
-        Taken1::OutOfMemory => format!(in alloc; "no memory"),
+// Adds a file.
+fn file(shelf: &MemoryShelf, name: &[u8], report: &mut Report) {
+    report.word(" ");
+    report.bytes(name);
+    report.word("=");
+    report.bytes(shelf.file(name).unwrap_or(b"?"));
+}
+
+// Adds the files of these names.
+fn files(shelf: &MemoryShelf, names: &[Word], report: &mut Report) {
+    for name in names {
+        file(shelf, name.as_slice(), report);
     }
 }
 
-// An answer with the files that a shelf holds after it and how many calls have failed.
-fn shelved(alloc: Global, shelf: &MemoryShelf, said: &str) -> Result<String, AllocError> {
-    let mut out = format!(in alloc; "{said}, {} failed;", shelf.faults())?;
-    for name in &shelf.names()? {
-        out.push_str(" ")?;
-        push_escaped(&mut out, name.as_slice())?;
-        out.push_str("=")?;
-        push_escaped(&mut out, shelf.file(name.as_slice()).unwrap_or(b"?"))?;
-    }
-    Ok(out)
+// Adds an answer with the files that a shelf holds after it and how many calls have failed.
+fn shelved(shelf: &MemoryShelf, said: &str, report: &mut Report) -> Result<(), AllocError> {
+    report.word(said);
+    report.number(", ", shelf.faults(), " failed;");
+    let names = shelf.names()?;
+    files(shelf, &names, report);
+    Ok(())
 }
 
-// An answer with what a sink holds after it and how many writes have failed.
-fn sunk(alloc: Global, sink: &MemorySink, said: &str) -> Result<String, AllocError> {
-    let mut out = format!(in alloc; "{said}, {} failed; [", sink.faults())?;
-    push_escaped(&mut out, sink.bytes())?;
-    out.push_str("]")?;
-    Ok(out)
+// Adds an answer with what a sink holds after it and how many writes have failed.
+fn sunk(sink: &MemorySink, said: &str, report: &mut Report) {
+    report.word(said);
+    report.number(", ", sink.faults(), " failed; [");
+    report.bytes(sink.bytes());
+    report.word("]");
 }
 
 // The count of faults of a shelf that never fails, after calls through the trait.
@@ -186,9 +238,10 @@ fn count_after_putting(alloc: Global) -> u64
     sink.faults()
 }
 
-// The counts of forms that never fail, which are proved to be 0.
-fn quiet(alloc: Global) -> Result<String, AllocError> {
+/// The counts of forms that never fail, which are proved to be 0.
+pub(crate) fn quiet(alloc: Global, report: &mut Report) -> Result<(), AllocError> {
     let name = Word::from_bytes(alloc, b"final.chk")?;
-    let shelf = count_after_writing(alloc, &name);
-    format!(in alloc; "shelf {shelf}, sink {}", count_after_putting(alloc))
+    report.number("shelf ", count_after_writing(alloc, &name), "");
+    report.number(", sink ", count_after_putting(alloc), "");
+    Ok(())
 }

@@ -4,7 +4,7 @@
 ghost use Rattle.std.specs.Prelude.{◌<◌, ◌≤◌};
 ghost use Rattle.trick_cycle.specs.Due.{IsInRange};
 
-use std::alloc::{AllocError, Global};
+use trick_cases_report::Report;
 use trick_cycle::{Due, covers, first_shared, next_due};
 
 // The last tic of a scan.
@@ -48,12 +48,10 @@ fn tally_of(kind: &str) -> Tally {
 /// How many calls are as the scan says: `next` from each tic up to 41; `shared` for all pairs, where the second has
 /// the stop of the first, what it leaves of 40, and 40; `covers` for every 97th of the pairs that are covered, whose
 /// stops fall from 40 as the other one's rises.
-pub(crate) fn compared(alloc: Global, kind: &str) -> Result<String, AllocError> {
+pub(crate) fn compared(kind: &str, report: &mut Report) {
     let tally = tally_of(kind);
-    format!(in alloc;
-        "{} calls, {} answered otherwise",
-        tally.calls, tally.others
-    )
+    report.number("", tally.calls, " calls, ");
+    report.number("", tally.others, " answered otherwise");
 }
 
 // A cycle from 1 to 12 and a start from 0 to 12 by their number, with this stop.

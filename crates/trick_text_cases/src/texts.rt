@@ -1,33 +1,15 @@
 //! What the cutting of texts answers: tokens, their numbers and their lines.
 
-use crate::cases::Call;
-use crate::line::push_escaped;
+use crate::call::{Call, refused};
 use std::alloc::{AllocError, Global};
+use trick_cases_report::Report;
 use trick_text::{
-    FirstFault, Style, TEXT_LIMIT, TextFault, TimeFault, Token, TokenKind, cut, last_line, laws,
-    number_of, seconds, tokens, whole,
+    CutText, FirstFault, Style, TEXT_LIMIT, TextFault, TimeFault, Token, TokenKind, cut, last_line,
+    laws, number_of, seconds, tokens, whole,
 };
 
 // How many tokens of a text are shown at most, and how many bytes of one.
 const SHOWN: usize = 100;
-
-/// What a call of this module answers.
-pub(crate) fn answer(alloc: Global, call: &Call<'_>) -> Result<Option<String>, AllocError> {
-    let text = call.text();
-    let answer = match call.name {
-        "tokens" => shown(alloc, text, style_of(call))?,
-        "lines" => lines(alloc, text, style_of(call))?,
-        "cut" => cut_at(alloc, text, style_of(call))?,
-        "last_line" => last_line_of(alloc, text)?,
-        "whole" => whole_of(alloc, text)?,
-        "seconds" => tics_of(alloc, text)?,
-        "number" => token_number(alloc, text)?,
-        "spelling" => spelled(alloc, call)?,
-        "says" => words_of(alloc, call)?,
-        _ => return Ok(None),
-    };
-    Ok(Some(answer))
-}
 
 // The style that a call names first.
 fn style_of(call: &Call<'_>) -> Style {
@@ -38,129 +20,149 @@ fn style_of(call: &Call<'_>) -> Style {
     }
 }
 
-// Adds a token: a letter of its kind and its first bytes.
-fn push_token(out: &mut String, text: &[u8], token: &Token) -> Result<(), AllocError> {
-    let kind = match token.kind {
+// The letter of a kind.
+fn letter(kind: TokenKind) -> &'static str {
+    match kind {
         TokenKind::Name => "N:",
         TokenKind::Whole => "W:",
         TokenKind::Decimal => "D:",
         TokenKind::Text => "T:",
         TokenKind::Mark => "M:",
-    };
-    if !out.is_empty() {
-        out.push_str(" ")?;
     }
-    out.push_str(kind)?;
+}
+
+// Adds a token: the letter of its kind and its first bytes.
+fn first_bytes(text: &[u8], token: &Token, report: &mut Report) {
+    report.word(letter(token.kind));
     let bytes = text.get(token.start..token.end).unwrap_or(b"");
     match bytes.get(..SHOWN) {
         Some(first) => {
-            push_escaped(out, first)?;
-            write!(out, ".. of {} bytes", bytes.len())
+            report.bytes(first);
+            report.number(".. of ", bytes.len() as u64, " bytes");
         }
-        None => push_escaped(out, bytes),
+        None => report.bytes(bytes),
     }
 }
 
-// The first tokens of a text, and how many there are where not all are shown.
-fn shown(alloc: Global, text: &[u8], style: Style) -> Result<String, AllocError> {
-    let found = match tokens(alloc, text, style) {
-        Ok(found) => found,
-        Err(fault) => return format!(in alloc; "refused: {fault}"),
+// Adds the first tokens of a text, and how many there are where not all are shown.
+fn first_tokens(text: &[u8], found: &[Token], report: &mut Report) {
+    let Some((first, others)) = found.split_first() else {
+        report.word("no token");
+        return;
     };
-    let mut out = String::new(alloc);
-    for token in found.iter().take(SHOWN) {
-        push_token(&mut out, text, token)?;
+    first_bytes(text, first, report);
+    for token in others.iter().take(SHOWN - 1) {
+        report.word(" ");
+        first_bytes(text, token, report);
     }
     if found.len() > SHOWN {
-        write!(out, " .. of {} tokens", found.len())?;
-    }
-    if found.is_empty() {
-        out.push_str("no token")?;
-    }
-    Ok(out)
-}
-
-// The lines of the tokens of a text.
-fn lines(alloc: Global, text: &[u8], style: Style) -> Result<String, AllocError> {
-    let mut out = format!(in alloc; "lines")?;
-    match tokens(alloc, text, style) {
-        Ok(found) => {
-            for token in &found {
-                write!(out, " {}", token.line)?;
-            }
-        }
-        Err(fault) => write!(out, " refused: {fault}")?,
-    }
-    Ok(out)
-}
-
-// How many tokens stand before the first fault of a text, and that fault.
-fn cut_at(alloc: Global, text: &[u8], style: Style) -> Result<String, AllocError> {
-    match cut(alloc, text, style) {
-        Ok(found) => {
-            let count = found.tokens.len();
-            match found.fault {
-                Some(FirstFault { fault, start, line }) => {
-                    format!(in alloc; "{count} tokens, then from {start} in line {line}: {fault}")
-                }
-                None => format!(in alloc; "{count} tokens"),
-            }
-        }
-        Err(fault) => format!(in alloc; "refused: {fault}"),
+        report.number(" .. of ", found.len() as u64, " tokens");
     }
 }
 
-fn last_line_of(alloc: Global, text: &[u8]) -> Result<String, AllocError> {
+/// The first tokens of a text.
+pub(crate) fn tokens_of(alloc: Global, call: &Call<'_>, report: &mut Report) {
+    match tokens(alloc, call.text, style_of(call)) {
+        Ok(found) => first_tokens(call.text, &found, report),
+        Err(fault) => refused(fault, report),
+    }
+}
+
+// Adds the lines of tokens.
+fn lines(found: &[Token], report: &mut Report) {
+    report.word("lines");
+    for token in found {
+        report.number(" ", u64::from(token.line), "");
+    }
+}
+
+/// The lines of the tokens of a text.
+pub(crate) fn lines_of(alloc: Global, call: &Call<'_>, report: &mut Report) {
+    match tokens(alloc, call.text, style_of(call)) {
+        Ok(found) => lines(&found, report),
+        Err(fault) => refused(fault, report),
+    }
+}
+
+// Adds how many tokens stand before the first fault of a text, and that fault.
+fn front(found: &CutText, report: &mut Report) {
+    report.number("", found.tokens.len() as u64, " tokens");
+    if let Some(FirstFault { fault, start, line }) = found.fault {
+        report.number(", then from ", start as u64, " in line ");
+        report.number("", u64::from(line), ": ");
+        report.value(fault);
+    }
+}
+
+/// What stands before the first fault of a text.
+pub(crate) fn cut_of(alloc: Global, call: &Call<'_>, report: &mut Report) {
+    match cut(alloc, call.text, style_of(call)) {
+        Ok(found) => front(&found, report),
+        Err(fault) => refused(fault, report),
+    }
+}
+
+/// The last line of a text.
+pub(crate) fn last_line_of(call: &Call<'_>, report: &mut Report) {
+    let text = call.text;
     if text.len() > TEXT_LIMIT {
-        return format!(in alloc; "too long");
+        report.word("too long");
+        return;
     }
-    format!(in alloc; "{}", last_line(text))
+    report.value(last_line(text));
 }
 
-// What a whole number alone in its text stands for.
-fn whole_of(alloc: Global, text: &[u8]) -> Result<String, AllocError> {
+/// What a whole number alone in its text stands for.
+pub(crate) fn whole_of(alloc: Global, text: &[u8], report: &mut Report) {
     laws::all_are_tokens();
     let Ok(found) = tokens(alloc, text, Style::Command) else {
-        return format!(in alloc; "no tokens");
+        report.word("no tokens");
+        return;
     };
     match found.as_slice() {
-        [token] if token.kind == TokenKind::Whole => { format!(in alloc; "{}", whole(token, text)) }
-        _ => format!(in alloc; "no whole number"),
+        [token] if token.kind == TokenKind::Whole => report.value(whole(token, text)),
+        _ => report.word("no whole number"),
     }
 }
 
-// The tics of a number of seconds, which stands alone in its text.
-fn tics_of(alloc: Global, text: &[u8]) -> Result<String, AllocError> {
+// Adds the tics of a number of seconds.
+fn tics(tics: Result<u64, TimeFault>, report: &mut Report) {
+    match tics {
+        Ok(tics) => report.value(tics),
+        Err(fault) => refused(fault, report),
+    }
+}
+
+/// The tics of a number of seconds, which stands alone in its text.
+pub(crate) fn seconds_of(alloc: Global, text: &[u8], report: &mut Report) {
     laws::all_are_tokens();
     let Ok(found) = tokens(alloc, text, Style::Command) else {
-        return format!(in alloc; "no tokens");
+        report.word("no tokens");
+        return;
     };
-    let tics = match found.as_slice() {
-        [token] if token.kind == TokenKind::Whole => seconds(token, text),
-        [token] if token.kind == TokenKind::Decimal => seconds(token, text),
-        _ => return format!(in alloc; "no number"),
-    };
-    match tics {
-        Ok(tics) => format!(in alloc; "{tics}"),
-        Err(fault) => format!(in alloc; "refused: {fault}"),
+    match found.as_slice() {
+        [token] if token.kind == TokenKind::Whole => tics(seconds(token, text), report),
+        [token] if token.kind == TokenKind::Decimal => tics(seconds(token, text), report),
+        _ => report.word("no number"),
     }
 }
 
-// The number of the token that stands alone in its text.
-fn token_number(alloc: Global, text: &[u8]) -> Result<String, AllocError> {
+/// The number of the token that stands alone in its text.
+pub(crate) fn number_of_token(alloc: Global, text: &[u8], report: &mut Report) {
     laws::all_are_tokens();
     let Ok(found) = tokens(alloc, text, Style::SDefine) else {
-        return format!(in alloc; "no tokens");
+        report.word("no tokens");
+        return;
     };
     match found.as_slice() {
-        [token] => format!(in alloc; "{}", number_of(token, text)),
-        _ => format!(in alloc; "not one token"),
+        [token] => report.value(number_of(token, text)),
+        _ => report.word("not one token"),
     }
 }
 
-// The bytes of a token from one place of its text to another, and those between its quotes.
-fn spelled(alloc: Global, call: &Call<'_>) -> Result<String, AllocError> {
-    let text = call.text();
+/// The bytes of a token from one place of its text to another, and those between its quotes.
+pub(crate) fn spelling_of(call: &Call<'_>, report: &mut Report) {
+    let text = call.text;
     let token = Token {
         kind: TokenKind::Text,
         start: call.number(0) as usize,
@@ -168,27 +170,27 @@ fn spelled(alloc: Global, call: &Call<'_>) -> Result<String, AllocError> {
         line: 1,
     };
     if token.start > token.end || token.end > text.len() {
-        return format!(in alloc; "not in the text");
+        report.word("not in the text");
+        return;
     }
-    let mut out = format!(in alloc; "[")?;
-    push_escaped(&mut out, token.spelling(text))?;
-    out.push_str("] in quotes [")?;
-    push_escaped(&mut out, token.quoted(text))?;
-    out.push_str("]")?;
-    Ok(out)
+    report.word("[");
+    report.bytes(token.spelling(text));
+    report.word("] in quotes [");
+    report.bytes(token.quoted(text));
+    report.word("]");
 }
 
-// What a fault says, by its name and its number.
-fn words_of(alloc: Global, call: &Call<'_>) -> Result<String, AllocError> {
+/// What a fault says, by its name and its number.
+pub(crate) fn fault_of(call: &Call<'_>, report: &mut Report) {
     let at = call.number(1) as usize;
     let line = (call.number(1) % 1000) as u32;
     match call.word(0) {
-        "LongText" => format!(in alloc; "{}", TextFault::LongText { limit: line }),
-        "BadByte" => format!(in alloc; "{}", TextFault::BadByte { at }),
-        "OpenComment" => format!(in alloc; "{}", TextFault::OpenComment { at }),
-        "LongNumber" => format!(in alloc; "{}", TextFault::LongNumber { at }),
-        "InexactTime" => format!(in alloc; "{}", TimeFault::InexactTime { line }),
-        "TimeTooLarge" => format!(in alloc; "{}", TimeFault::TimeTooLarge { line }),
-        _ => format!(in alloc; "{}", TextFault::from(AllocError)),
+        "LongText" => report.value(TextFault::LongText { limit: line }),
+        "BadByte" => report.value(TextFault::BadByte { at }),
+        "OpenComment" => report.value(TextFault::OpenComment { at }),
+        "LongNumber" => report.value(TextFault::LongNumber { at }),
+        "InexactTime" => report.value(TimeFault::InexactTime { line }),
+        "TimeTooLarge" => report.value(TimeFault::TimeTooLarge { line }),
+        _ => report.value(TextFault::from(AllocError)),
     }
 }

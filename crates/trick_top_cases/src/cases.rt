@@ -5,7 +5,7 @@ use crate::escapes::{bytes_of, is_numbered, numbers_of, pieces_of, text_of, word
 use crate::line::{Line, Piece, number};
 use crate::mistake::Mistake;
 use crate::outcome::{Outcome, Setting, outcome_of};
-use crate::report::Report;
+use crate::report::{tell, tell_front};
 use crate::text::{Text, all_filled, find, put};
 use std::alloc::{AllocError, Global};
 use std::mem;
@@ -13,6 +13,7 @@ use std::ops::Range;
 use std::sync::Wait;
 use std::thread::Threads;
 use trick_base::Word;
+use trick_cases_report::Report;
 
 /// What was begun, to which pieces are added: the last of its list.
 #[derive(Clone, Copy)]
@@ -61,10 +62,11 @@ impl<R: Threads + Wait + Copy + Send + Drop + 'static> Cases<R> {
     ) -> Result<(), Mistake> {
         let line = Line::read(text)?;
         if line.is_title() {
-            report.line("")?;
+            report.word("\n");
         }
         if line.is_printed() {
-            report.line(text)?;
+            report.word(text);
+            report.word("\n");
         }
         self.perform(alloc, line, report)
     }
@@ -223,12 +225,12 @@ impl<R: Threads + Wait + Copy + Send + Drop + 'static> Cases<R> {
         report: &mut Report,
     ) -> Result<Outcome, AllocError> {
         let (outcome, seen) = self.outcome(alloc, words, pieces)?;
-        report.outcome(&outcome, self.shown.as_ref())?;
+        tell(report, &outcome, self.shown.as_ref());
         if self.tells_starts {
-            report.starts(seen.starts)?;
+            report.number("starts ", seen.starts, "\n");
         }
         if !seen.is_same {
-            report.line("by threads it comes to something else")?;
+            report.word("by threads it comes to something else\n");
         }
         Ok(outcome)
     }
@@ -303,6 +305,7 @@ impl<R: Threads + Wait + Copy + Send + Drop + 'static> Cases<R> {
     ) -> Result<(), AllocError> {
         let words = self.each.clone()?;
         let (outcome, _seen) = self.outcome(alloc, &words, &[])?;
-        report.front(count, &outcome)
+        tell_front(report, count, &outcome);
+        Ok(())
     }
 }

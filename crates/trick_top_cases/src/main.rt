@@ -14,11 +14,11 @@ mod report;
 mod text;
 
 use crate::cases::Cases;
-use crate::report::Report;
 use std::alloc::{AllocError, Global};
 use std::io;
 use std::sync::Wait;
 use std::thread::Threads;
+use trick_cases_report::Report;
 
 /// What is printed for a line, which has this number, from 0.
 fn told<R: Threads + Wait + Copy + Send + Drop + 'static>(
@@ -29,9 +29,11 @@ fn told<R: Threads + Wait + Copy + Send + Drop + 'static>(
 ) -> Result<String, AllocError> {
     let mut report = Report::new(alloc);
     if let Err(mistake) = cases.take(alloc, line, &mut report) {
-        report.mistake(number.saturating_add(1), mistake)?;
+        report.number("line ", number.saturating_add(1) as u64, ": ");
+        report.word(mistake.text());
+        report.word("\n");
     }
-    Ok(report.into_text())
+    report.finish()
 }
 
 fn main(rt: HostRuntime) -> io::Result<()> {

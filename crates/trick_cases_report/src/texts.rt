@@ -1,7 +1,7 @@
 //! Texts with names.
 
-use crate::bytes::bytes_of;
-use crate::directive::Given;
+use crate::escapes::{add_bytes_of, bytes_of};
+use crate::line::Given;
 use std::alloc::{AllocError, Global};
 
 // A text and its name.
@@ -13,20 +13,20 @@ struct Text {
 
 /// The texts, of which the last one can grow. Of two with one name the later one counts.
 #[derive(Drop)]
-pub(crate) struct Texts {
+pub struct Texts {
     texts: Vec<Text>,
 }
 
 impl Texts {
     /// No texts.
-    pub(crate) fn new(alloc: Global) -> Self {
+    pub fn new(alloc: Global) -> Self {
         Texts {
             texts: Vec::new(alloc),
         }
     }
 
     /// Begins a text.
-    pub(crate) fn begin(&mut self, alloc: Global, name: &str) -> Result<(), AllocError> {
+    pub fn begin(&mut self, alloc: Global, name: &str) -> Result<(), AllocError> {
         let name = String::from_str(alloc, name)?;
         let bytes = Vec::new(alloc);
         self.texts.push(Text { name, bytes })?;
@@ -34,7 +34,7 @@ impl Texts {
     }
 
     /// The text of a name; no byte where there is none.
-    pub(crate) fn named(&self, name: &str) -> &[u8] {
+    pub fn named(&self, name: &str) -> &[u8] {
         let found = self
             .texts
             .iter()
@@ -47,21 +47,17 @@ impl Texts {
     }
 
     /// The bytes that are given.
-    pub(crate) fn given(&self, alloc: Global, given: Given) -> Result<Vec<u8>, AllocError> {
+    pub fn given(&self, alloc: Global, given: Given<'_>) -> Result<Vec<u8>, AllocError> {
         match given {
             Given::Nothing => Ok(Vec::new(alloc)),
             Given::Bytes(text) => bytes_of(alloc, text),
             Given::Named(name) => self.named(name).to_vec(alloc),
-            Given::Line(text) => {
-                let mut bytes = bytes_of(alloc, text)?;
-                bytes.push(b'\n')?;
-                Ok(bytes)
-            }
+            Given::Line(text) => line_of(alloc, text),
         }
     }
 
     /// Adds bytes to the last text, so many times.
-    pub(crate) fn add(&mut self, times: u64, bytes: &[u8]) -> Result<(), AllocError> {
+    pub fn add(&mut self, times: u64, bytes: &[u8]) -> Result<(), AllocError> {
         let Some(text) = self.texts.last_mut() else {
             return Ok(());
         };
@@ -70,4 +66,12 @@ impl Texts {
         }
         Ok(())
     }
+}
+
+// The bytes that a text says, and a line feed.
+fn line_of(alloc: Global, text: &str) -> Result<Vec<u8>, AllocError> {
+    let mut bytes = Vec::new(alloc);
+    add_bytes_of(&mut bytes, text)?;
+    bytes.push(b'\n')?;
+    Ok(bytes)
 }
