@@ -1,8 +1,9 @@
 //! What each of three threads does: it tries until it finds the turn held, and then takes and commits its job.
-ghost use Rattle.std.specs.Prelude.{◌≡◌, IfOk, Some};
+ghost use Rattle.std.specs.Prelude.{◌≡◌, Some};
 ghost use Rattle.trick_eval.specs.Bench.{IsFilled, IsFor as IsBenchFor};
 
-use std::alloc::{AllocError, Global};
+use std::alloc::Global;
+use std::process::Abort;
 use std::sync::Wait;
 use std::thread::{Threads, join, yield_now};
 use trick_eval::{Bench, eval};
@@ -26,14 +27,17 @@ pub(crate) struct Worker<P: Planned> {
 impl<P: Planned> Worker<P> {
     /// A worker with an empty bench.
     pub(crate) fn new(
+        rt: &impl Abort,
         alloc: Global,
         accepted: &Accepted,
         hand: Hand<Memory, P>,
-    ) -> Result<Worker<P>, AllocError>
-        ensures { IfOk result (λ w. IsBenchFor accepted.now.plan.program w.bench.parts) }
+    ) -> Worker<P>
+        ensures { IsBenchFor accepted.now.plan.program result.bench.parts }
     {
-        let bench = Bench::of(alloc, &accepted.plan().program, accepted.accesses())?;
-        Ok(Worker { hand, bench })
+        let bench = Bench::of(alloc, &accepted.plan().program, accepted.accesses()).expect(
+            rt, "memory",
+        );
+        Worker { hand, bench }
     }
 }
 

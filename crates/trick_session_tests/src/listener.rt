@@ -1,6 +1,6 @@
 //! What the sessions of a journal are sent: a source of entries that keeps it.
 
-ghost use Rattle.std.specs.Prelude.{◌≡◌, ℕ, None, IfOk, false};
+ghost use Rattle.std.specs.Prelude.{◌≡◌, ℕ, None, false};
 ghost use Rattle.trick_phase_jobs.specs.Belongs.{IsMemoryOf};
 ghost use Rattle.trick_exec_sources.specs.Replay.{sessions_of};
 ghost use Rattle.trick_model.specs.PlanOf.{plan_of};
@@ -9,8 +9,8 @@ ghost use Rattle.trick_model.specs.ValidState.{IsStateOf};
 ghost use Rattle.trick_exec_sources.specs.Turns.{no_sessions};
 
 use std::alloc::{AllocError, Global};
+use std::process::Abort;
 use std::sync::Arc;
-use std::test::Fail;
 use trick_exec::{Ended, Start, run};
 use trick_exec_alone::{first_state, one_thread};
 use trick_exec_sources::{JournalTurns, Next, Turns};
@@ -78,17 +78,16 @@ impl<M: Cells> Turns<M> for Listener {
 }
 
 // A listener that has heard nothing, before a run that starts at turn 0.
-fn listen(alloc: Global, journal: Journal) -> Result<Listener, AllocError>
-    ensures unknown { IfOk result (λ listener. sessions_of listener.journal ≡ no_sessions) }
-    ensures paid { IfOk result (λ listener. listener.journal.owes ≡ false) }
+fn listen(rt: &(impl Abort + AllocGlobal), journal: Journal) -> Listener
+    ensures unknown { sessions_of result.journal ≡ no_sessions }
+    ensures paid { result.journal.owes ≡ false }
 {
-    let journal = JournalTurns::new(alloc, journal, 0, Mode::Run)?;
-    let heard = Vec::new(alloc);
-    Ok(Listener {
-        alloc,
+    let journal = JournalTurns::new(rt.alloc(), journal, 0, Mode::Run).expect(rt, "memory");
+    Listener {
+        alloc: rt.alloc(),
         journal,
-        heard,
-    })
+        heard: Vec::new(rt.alloc()),
+    }
 }
 
 // Whether a run from a state comes to its end.
@@ -109,7 +108,9 @@ fn comes_to_end<M: Cells + Drop, H: Phases<M>, P: Posts, T: Turns<M>>(
 {
     let mut shelf = MemoryShelf::new(alloc);
     let ended = run(accepted, Start { alloc, state }, &mut shelf, workers, turns);
-    matches!(ended, Ok(Ended::Done(_)))
+    let is_done = matches!(ended, Ok(Ended::Done(_)));
+    drop(ended);
+    is_done
 }
 
 // Whether a run from its start comes to its end.
@@ -141,38 +142,46 @@ fn ends_on_one_thread<T: Turns<Memory>>(
     requires paid { T.owes turns.old ≡ false }
 {
     let mut workers = one_thread::<Memory>(alloc, accepted)?;
-    starts_and_ends(alloc, accepted, &mut workers, turns)
+    let is_at_end = starts_and_ends(alloc, accepted, &mut workers, turns);
+    drop(workers);
+    is_at_end
 }
 
-// What is sent under the journal of a text.
+// What is sent under a journal.
 fn heard_under(
-    alloc: Global,
+    rt: &(impl Abort + AllocGlobal),
     accepted: &Arc<Accepted>,
-    journal: &str,
-) -> Result<Vec<(u32, Vec<u8>)>, Fail> {
-    let journal = read(alloc, accepted.plan(), 0, journal.as_bytes())?;
-    let mut listener = listen(alloc, journal)?;
-    match ends_on_one_thread(alloc, accepted, &mut listener) {
-        Ok(true) => Ok(listener.heard),
-        _ => Err(Fail::from("the run does not come to its end")),
-    }
+    journal: Journal,
+) -> Vec<(u32, Vec<u8>)> {
+    let mut listener = listen(rt, journal);
+    let is_at_end = ends_on_one_thread(rt.alloc(), accepted, &mut listener).expect(rt, "memory");
+    assert!(rt; is_at_end, "the run comes to its end");
+    let Listener { heard, .. } = listener;
+    heard
 }
 
-// The same of a plan that is not shared yet.
-fn heard_of(alloc: Global, accepted: Accepted, journal: &str) -> Result<Vec<(u32, Vec<u8>)>, Fail> {
-    let accepted = Arc::new(alloc, accepted)?;
-    heard_under(alloc, &accepted, journal)
+// The journal of a text.
+fn journal_of(rt: &(impl Abort + AllocGlobal), accepted: &Accepted, text: &str) -> Journal {
+    read(rt.alloc(), accepted.plan(), 0, text.as_bytes())
+        .ok()
+        .expect(rt, "a journal")
+}
+
+// The plan of two texts.
+fn accepted_of(rt: &(impl Abort + AllocGlobal), s_define: &str, input: &str) -> Accepted {
+    ready(rt.alloc(), s_define.as_bytes(), input.as_bytes())
+        .ok()
+        .expect(rt, "an accepted plan")
 }
 
 /// What is sent under the journal of a text.
 pub(crate) fn heard(
-    alloc: Global,
+    rt: &(impl Abort + AllocGlobal),
     s_define: &str,
     input: &str,
     journal: &str,
-) -> Result<Vec<(u32, Vec<u8>)>, Fail> {
-    match ready(alloc, s_define.as_bytes(), input.as_bytes()) {
-        Ok(accepted) => heard_of(alloc, accepted, journal),
-        Err(_) => Err(Fail::from("the plan is refused")),
-    }
+) -> Vec<(u32, Vec<u8>)> {
+    let accepted = accepted_of(rt, s_define, input);
+    let accepted = Arc::new(rt.alloc(), accepted).expect(rt, "memory");
+    heard_under(rt, &accepted, journal_of(rt, &accepted, journal))
 }

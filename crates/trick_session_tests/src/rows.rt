@@ -1,8 +1,7 @@
 //! What the sessions of journals are sent.
 
 use crate::listener::heard;
-use std::alloc::{AllocError, Global};
-use std::test::Fail;
+use std::process::Abort;
 
 /// A number that counts the seconds.
 const COUNTER: &str = "class Counter : public Trick::SimObject {
@@ -18,50 +17,56 @@ Counter counter;
 const RIGHT: &str = "nothing is wrong";
 
 /// What a session was sent.
-fn sent_to(alloc: Global, heard: &[(u32, Vec<u8>)], session: u32) -> Result<Vec<u8>, AllocError> {
-    let mut text = Vec::new(alloc);
+fn sent_to(rt: &(impl Abort + AllocGlobal), heard: &[(u32, Vec<u8>)], session: u32) -> Vec<u8> {
+    let mut text = Vec::new(rt.alloc());
     for (to, bytes) in heard {
         if *to == session {
-            text.extend_from_slice(bytes)?;
+            text.extend_from_slice(bytes).expect(rt, "memory");
         }
     }
-    Ok(text)
+    text
+}
+
+// Whether a session was sent just this text.
+fn is_sent(
+    rt: &(impl Abort + AllocGlobal),
+    heard: &[(u32, Vec<u8>)],
+    session: u32,
+    text: &str,
+) -> bool {
+    sent_to(rt, heard, session).as_slice() == text.as_bytes()
 }
 
 // What is wrong with what was heard, or that nothing is: just these sessions are sent messages, and these.
 fn judged(
-    alloc: Global,
+    rt: &(impl Abort + AllocGlobal),
     heard: &[(u32, Vec<u8>)],
     sessions: &[(u32, &str)],
-) -> Result<&'static str, AllocError> {
+) -> &'static str {
     let mut messages: usize = 0;
     for (session, text) in sessions {
-        if sent_to(alloc, heard, *session)?.as_slice() != text.as_bytes() {
-            return Ok("a session is sent something else");
+        if !is_sent(rt, heard, *session, text) {
+            return "a session is sent something else";
         }
         messages = messages.wrapping_add(text.lines().count());
     }
     // each message is a line
     if heard.len() == messages {
-        Ok(RIGHT)
+        RIGHT
     } else {
-        Ok("another session is sent something")
+        "another session is sent something"
     }
 }
 
-// What is wrong with what sessions are sent under an input and a journal, or that nothing is.
-fn wrong_under(
-    alloc: Global,
-    texts: (&str, &str),
-    sessions: &[(u32, &str)],
-) -> Result<&'static str, Fail> {
-    let (input, journal) = texts;
-    let heard = heard(alloc, COUNTER, input, journal)?;
-    Ok(judged(alloc, &heard, sessions)?)
+// Nothing is wrong with what sessions are sent under an input and a journal.
+fn are_sent(rt: &(impl Abort + AllocGlobal), input: &str, journal: &str, sessions: &[(u32, &str)]) {
+    let heard = heard(rt, COUNTER, input, journal);
+    let wrong = judged(rt, &heard, sessions);
+    assert!(rt; wrong == RIGHT, "{wrong}");
 }
 
 #[test]
-fn a_client_lets_a_run_go_on(rt: HostRuntime) -> Result<(), Fail> {
+fn a_client_lets_a_run_go_on(rt: HostRuntime) {
     // the last frame has one tic, and no sample is due there
     let journal = "tricks journal 1
 from 0
@@ -73,14 +78,16 @@ from 0
 end 4
 ";
     let text = "0\t1\tBAD_REF\n0\t2\tBAD_REF\n0\t3\tBAD_REF\n";
-    let texts = ("trick.stop(3.0)\ntrick.freeze()", journal);
-    let wrong = wrong_under(rt.alloc(), texts, &[(1, text)])?;
-    assert!(rt; wrong == RIGHT, "{wrong}");
-    Ok(())
+    are_sent(
+        &rt,
+        "trick.stop(3.0)\ntrick.freeze()",
+        journal,
+        &[(1, text)],
+    );
 }
 
 #[test]
-fn replies_come_before_the_sample(rt: HostRuntime) -> Result<(), Fail> {
+fn replies_come_before_the_sample(rt: HostRuntime) {
     let journal = "tricks journal 1
 from 0
 0 join 1
@@ -91,14 +98,16 @@ from 0
 end 1
 ";
     let text = "1\t1\n4\tbad command\n0\t0\n";
-    let texts = ("trick.stop(3.0)\ntrick.freeze()", journal);
-    let wrong = wrong_under(rt.alloc(), texts, &[(1, text)])?;
-    assert!(rt; wrong == RIGHT, "{wrong}");
-    Ok(())
+    are_sent(
+        &rt,
+        "trick.stop(3.0)\ntrick.freeze()",
+        journal,
+        &[(1, text)],
+    );
 }
 
 #[test]
-fn sessions_come_and_leave(rt: HostRuntime) -> Result<(), Fail> {
+fn sessions_come_and_leave(rt: HostRuntime) {
     // the first is sampled every two seconds, the second in each frame until it pauses and once as it leaves, and the
     // last in its one frame
     let journal = "tricks journal 1
@@ -128,7 +137,5 @@ end 4
         (2, "1\t0\n0\t1\n0\t3\n"),
         (5, "0\t71\n"),
     ];
-    let wrong = wrong_under(rt.alloc(), ("trick.stop(3.0)", journal), &texts)?;
-    assert!(rt; wrong == RIGHT, "{wrong}");
-    Ok(())
+    are_sent(&rt, "trick.stop(3.0)", journal, &texts);
 }

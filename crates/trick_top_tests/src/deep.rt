@@ -54,8 +54,7 @@ fn other_methods(alloc: Global) -> Result<String, AllocError> {
         let before = k - 1;
         let call = format!(in alloc; "m{before}();")?;
         let body = nested(alloc, BLOCKS, "{", call.as_str(), "}")?;
-        let method = format!(in alloc; "void m{k}() {{{body}}}\n")?;
-        text.push_str(method.as_str())?;
+        write!(text, "void m{k}() {{{body}}}\n")?;
     }
     Ok(text)
 }
@@ -82,29 +81,45 @@ fn words(alloc: Global) -> Result<Vec<Word>, AllocError> {
     Ok(all)
 }
 
+/// A shelf with the texts of the class, which runs for four tics.
+fn shelf_of(alloc: Global, s_define: &[u8]) -> Result<MemoryShelf, AllocError> {
+    MemoryShelf::new(alloc)
+        .with_file(b"s", s_define)?
+        .with_file(b"i", b"trick.stop(3.0)\n")
+}
+
+/// Whether 65 was added in each of four tics.
+fn is_counted(shelf: &MemoryShelf) -> bool {
+    let state = shelf.file(b"final.chk").unwrap_or(&[]);
+    match str::from_utf8(state) {
+        Ok(text) => text.contains("\nk.n = 260;\n"),
+        Err(_) => false,
+    }
+}
+
 /// How a run ended.
-#[derive(Drop)]
+#[derive(Clone, Copy, Drop)]
 struct Ended {
     status: u8,
     counted: bool,
 }
 
-/// Runs the class for four tics, and tells the status and whether 65 was added in each of them.
-fn run_deep(alloc: Global) -> Result<Ended, AllocError> {
-    let s_define = deep_class(alloc)?;
-    let mut shelf = MemoryShelf::new(alloc)
-        .with_file(b"s", s_define.as_bytes())?
-        .with_file(b"i", b"trick.stop(3.0)\n")?;
+/// The run of what stands on a shelf.
+fn run_of(alloc: Global, words: &[Word], shelf: &mut MemoryShelf) -> Ended {
     let mut out = MemorySink::new(alloc);
-    let status = tricks_alone(alloc, &words(alloc)?, &mut shelf, &mut out);
-    let counted = match shelf.file(b"final.chk") {
-        Some(held) => match str::from_utf8(held) {
-            Ok(text) => text.contains("\nk.n = 260;\n"),
-            Err(_) => false,
-        },
-        None => false,
-    };
-    Ok(Ended { status, counted })
+    let status = tricks_alone(alloc, words, shelf, &mut out);
+    Ended {
+        status,
+        counted: is_counted(shelf),
+    }
+}
+
+/// Runs the class.
+fn run_deep(alloc: Global) -> Result<Ended, AllocError> {
+    let words = words(alloc)?;
+    let s_define = deep_class(alloc)?;
+    let mut shelf = shelf_of(alloc, s_define.as_bytes())?;
+    Ok(run_of(alloc, &words, &mut shelf))
 }
 
 #[test]

@@ -1,7 +1,7 @@
 //! Runs with asynchronous threads: what they are published when is told by the journal that the run leaves.
 
 use crate::gates::{HELD_FRAMES, Holding, Trial};
-use crate::runs::{Came, by_one_thread, replays, serve};
+use crate::runs::{Alone, Came, RIGHT, by_one_thread, replays, serve};
 use crate::thread_plans::{HELD, ROUNDS};
 use crate::threads::{shake, without_clients};
 use std::alloc::{AllocError, Global};
@@ -32,36 +32,57 @@ where
     (came, was_held)
 }
 
+// What is wrong with a run whose clerk was held: nothing is published as long, then it is, and its journal gives its
+// files.
+fn wrong_held<R: Abort + AllocGlobal>(rt: &R, came: &Came) -> &'static str {
+    for turn in 0..HELD_FRAMES {
+        if is_published(rt.alloc(), came, turn).expect(rt, "memory") {
+            return "it is published early";
+        }
+    }
+    if !came.notes(b" publish 1\n") {
+        return "it is not published";
+    }
+    if replays(rt.alloc(), HELD, came).expect(rt, "memory") {
+        RIGHT
+    } else {
+        "its files"
+    }
+}
+
 #[test]
 fn a_clerk_that_is_held_publishes_later(rt: HostRuntime) {
-    let alloc = rt.alloc();
     let (came, was_held) = held(rt);
     assert!(rt; came.status == 0 && was_held, "the run goes on meanwhile");
-    for turn in 0..HELD_FRAMES {
-        let is_early = is_published(alloc, &came, turn).expect(&rt, "memory");
-        assert!(rt; !is_early, "nothing is published in turn {turn}");
+    let wrong = wrong_held(&rt, &came);
+    assert!(rt; wrong == RIGHT, "{wrong}");
+}
+
+// What is wrong with a run under a gate that shakes: it has the logs of one thread, and its journal gives its files.
+fn wrong_rounds<R>(rt: R, wanted: &Alone, first: u64) -> &'static str
+where
+    R: Threads + Wait + Clock + Abort + AllocGlobal + Copy + Send + Sync + Drop + 'static,
+{
+    let seen = shake(rt, ROUNDS, first);
+    if seen.came.status != 0 || seen.came.failed.starts != 0 || !seen.is_over {
+        return "its threads";
     }
-    assert!(rt; came.notes(b" publish 1\n"), "it is published later");
-    let is_same = replays(alloc, HELD, &came).expect(&rt, "memory");
-    assert!(rt; is_same, "its journal gives its files");
+    if Some(seen.came.file(b"log_g.csv")) != wanted.file(b"log_g.csv") {
+        return "its log";
+    }
+    if replays(rt.alloc(), ROUNDS, &seen.came).expect(&rt, "memory") {
+        RIGHT
+    } else {
+        "its files"
+    }
 }
 
 #[test]
 fn every_run_with_rounds_is_the_run_of_its_journal(rt: HostRuntime) {
-    let alloc = rt.alloc();
-    let wanted = by_one_thread(alloc, ROUNDS).expect(&rt, "memory");
+    let wanted = by_one_thread(rt.alloc(), ROUNDS).expect(&rt, "memory");
     assert!(rt; wanted.status == 0, "no job faults");
     for run in 0..RUNS {
-        let seen = shake(rt, ROUNDS, run);
-        assert!(rt;
-            seen.came.status == 0 && seen.came.failed.starts == 0 && seen.is_over,
-            "the threads of run {run}"
-        );
-        assert!(rt;
-            Some(seen.came.file(b"log_g.csv")) == wanted.file(b"log_g.csv"),
-            "the logs of run {run} are those of one thread"
-        );
-        let is_same = replays(alloc, ROUNDS, &seen.came).expect(&rt, "memory");
-        assert!(rt; is_same, "the journal of run {run} gives its files");
+        let wrong = wrong_rounds(rt, &wanted, run);
+        assert!(rt; wrong == RIGHT, "run {run}: {wrong}");
     }
 }

@@ -32,6 +32,9 @@ const BAD: &[u8] = b"4\tbad command\n";
 /// What the odd lines are answered: three are bad, and one asks for a name.
 const ODD: &[u8] = b"4\tbad command\n4\tbad command\n4\tbad command\n1\t0\n";
 
+/// Starts of threads that are refused: of who takes the clients, of who reads or writes for one, or of all.
+const REFUSED: [&[u64]; 4] = [&[0], &[1], &[2], &[0, 1, 2, 3, 4, 5, 6, 7]];
+
 // A link with these bytes, of which a read gives so many at most.
 fn link(alloc: Global, bytes: &[u8], most: usize) -> Result<ScriptIn, AllocError> {
     let script = ScriptIn::new(alloc, Vec::from_slice(alloc, bytes)?);
@@ -84,7 +87,6 @@ fn a_client_watches_a_run(rt: HostRuntime) {
 
 #[test]
 fn refused_threads_serve_nobody(rt: HostRuntime) {
-    let alloc = rt.alloc();
     let wants = Wants {
         sent: b"",
         in_journal: b"\n0 join 1\n0 leave 1 NoThread\nend ",
@@ -97,13 +99,8 @@ fn refused_threads_serve_nobody(rt: HostRuntime) {
         said: WATCHES,
         most: 100,
     };
-    let all = vec![in alloc; 0, 1, 2, 3, 4, 5, 6, 7].expect(&rt, "memory");
-    for starts in [
-        vec![in alloc; 0].expect(&rt, "memory"),
-        vec![in alloc; 1].expect(&rt, "memory"),
-        vec![in alloc; 2].expect(&rt, "memory"),
-        all,
-    ] {
+    for starts in REFUSED {
+        let starts = Vec::from_slice(rt.alloc(), starts).expect(&rt, "memory");
         let wrong = talked(rt, talk, starts, &wants);
         assert!(rt; wrong == RIGHT, "{wrong}");
     }

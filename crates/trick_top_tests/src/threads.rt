@@ -2,7 +2,7 @@
 
 use crate::gates::{Meeting, Shaking, Trial};
 use crate::plans::Texts;
-use crate::runs::{Came, Outside, by_one_thread, serve};
+use crate::runs::{Alone, Came, Outside, RIGHT, by_one_thread, serve};
 use crate::thread_plans::{CLERKS, EIGHT};
 use std::alloc::Global;
 use std::collections::VecDeque;
@@ -86,60 +86,117 @@ where
     }
 }
 
+/// Whether two workers are between take and commit at one moment.
+#[derive(Clone, Copy)]
+enum Meets {
+    /// They have to be.
+    Must,
+    /// They cannot be.
+    Never,
+    /// They may be.
+    May,
+}
+
+/// The starts of a run that are refused, by their numbers, and what is wanted of its workers.
+#[derive(Clone, Copy)]
+struct Start {
+    refused: &'static [u64],
+    meets: Meets,
+}
+
+// What is wrong with the threads of a run of which so many starts were refused, or that nothing is.
+fn wrong_threads(seen: &Seen, refused: usize, meets: Meets) -> &'static str {
+    if seen.came.failed.starts != refused as u64 {
+        return "how many starts failed";
+    }
+    if !seen.is_over {
+        return "a worker is left";
+    }
+    match meets {
+        Meets::Must if !seen.have_met => "no two workers at one moment",
+        Meets::Never if seen.have_met => "two workers at one moment",
+        _ => RIGHT,
+    }
+}
+
+// What is wrong with a run, which has to write what one thread writes.
+fn wrong_run<R: Abort>(
+    rt: &R,
+    seen: &Seen,
+    wanted: &Alone,
+    refused: usize,
+    meets: Meets,
+) -> &'static str {
+    let wrong = wrong_threads(seen, refused, meets);
+    if wrong != RIGHT || seen.came.is(wanted).expect(rt, "memory") {
+        return wrong;
+    }
+    "its files"
+}
+
+// What is wrong with a run whose workers wait for one another.
+fn wrong_meeting<R>(rt: R, texts: Texts, wanted: &Alone, start: Start) -> &'static str
+where
+    R: Threads + Wait + Clock + Abort + AllocGlobal + Copy + Send + Sync + Drop + 'static,
+{
+    let refused = Vec::from_slice(rt.alloc(), start.refused).expect(&rt, "memory");
+    let seen = meet(rt, texts, refused);
+    wrong_run(&rt, &seen, wanted, start.refused.len(), start.meets)
+}
+
+// What is wrong with a run under a gate that shakes, beginning with this number.
+fn wrong_shaking<R>(rt: R, texts: Texts, wanted: &Alone, first: u64) -> &'static str
+where
+    R: Threads + Wait + Clock + Abort + AllocGlobal + Copy + Send + Sync + Drop + 'static,
+{
+    let seen = shake(rt, texts, first);
+    wrong_run(&rt, &seen, wanted, 0, Meets::May)
+}
+
+// Whether the log of group g begins so.
+fn has_log(run: &Alone, front: &[u8]) -> bool {
+    run.file(b"log_g.csv").unwrap_or(&[]).starts_with(front)
+}
+
 #[test]
 fn workers_meet_where_threads_start(rt: HostRuntime) {
-    let alloc = rt.alloc();
-    let wanted = by_one_thread(alloc, EIGHT).expect(&rt, "memory");
-    let all = meet(rt, EIGHT, Vec::new(alloc));
-    assert!(rt;
-        all.came.failed.starts == 0 && all.have_met && all.is_over,
-        "two workers at one moment"
-    );
-    let is_same = all.came.is(&wanted).expect(&rt, "memory");
-    assert!(rt; is_same, "with all threads");
-    // Seven workers, and who takes the clients.
-    let none = meet(
-        rt,
-        EIGHT,
-        vec![in alloc; 0, 1, 2, 3, 4, 5, 6, 7].expect(&rt, "memory"),
-    );
-    assert!(rt;
-        none.came.failed.starts == 8 && !none.have_met && none.is_over,
-        "no worker"
-    );
-    let is_same = none.came.is(&wanted).expect(&rt, "memory");
-    assert!(rt; is_same, "with no thread");
-    let some = meet(rt, EIGHT, vec![in alloc; 0, 2, 4, 6].expect(&rt, "memory"));
-    assert!(rt;
-        some.came.failed.starts == 4 && some.have_met && some.is_over,
-        "three workers"
-    );
-    let is_same = some.came.is(&wanted).expect(&rt, "memory");
-    assert!(rt; is_same, "with every second thread");
+    let wanted = by_one_thread(rt.alloc(), EIGHT).expect(&rt, "memory");
+    // Of seven workers, and who takes the clients: all, none, and three workers.
+    let starts = [
+        Start {
+            refused: &[],
+            meets: Meets::Must,
+        },
+        Start {
+            refused: &[0, 1, 2, 3, 4, 5, 6, 7],
+            meets: Meets::Never,
+        },
+        Start {
+            refused: &[0, 2, 4, 6],
+            meets: Meets::Must,
+        },
+    ];
+    for start in starts {
+        let wrong = wrong_meeting(rt, EIGHT, &wanted, start);
+        assert!(rt;
+            wrong == RIGHT,
+            "{} are refused: {wrong}",
+            start.refused.len()
+        );
+    }
 }
 
 #[test]
 fn every_run_writes_the_same_files(rt: HostRuntime) {
     let begin = Instant::now(&rt).ok().expect(&rt, "a clock");
-    let alloc = rt.alloc();
-    let wanted = by_one_thread(alloc, EIGHT).expect(&rt, "memory");
+    let wanted = by_one_thread(rt.alloc(), EIGHT).expect(&rt, "memory");
     assert!(rt; wanted.status == 4, "some job divides by zero");
-    assert!(rt;
-        wanted
-            .file(b"log_g.csv")
-            .unwrap_or(&[])
-            .starts_with(b"tic,a.x\n0,1120934\n"),
-        "the first cell after a tic, by hand"
-    );
+    let has_log = has_log(&wanted, b"tic,a.x\n0,1120934\n");
+    assert!(rt; has_log, "the first cell after a tic, by hand");
     assert!(rt; wanted.file(b"chkpnt_2.chk").is_some(), "a checkpoint");
     for run in 0..RUNS {
-        let seen = shake(rt, EIGHT, run);
-        assert!(rt;
-            seen.came.failed.starts == 0 && seen.is_over,
-            "the threads of run {run}"
-        );
-        let is_same = seen.came.is(&wanted).expect(&rt, "memory");
-        assert!(rt; is_same, "run {run}");
+        let wrong = wrong_shaking(rt, EIGHT, &wanted, run);
+        assert!(rt; wrong == RIGHT, "run {run}: {wrong}");
         let took = begin.elapsed(&rt).ok().expect(&rt, "a clock").as_secs();
         assert!(rt; took < SECONDS, "run {run} hangs");
         if took >= ENOUGH && run >= FEW {
@@ -150,52 +207,42 @@ fn every_run_writes_the_same_files(rt: HostRuntime) {
 
 #[test]
 fn clerks_meet_where_threads_start(rt: HostRuntime) {
-    let alloc = rt.alloc();
-    let wanted = by_one_thread(alloc, CLERKS).expect(&rt, "memory");
+    let wanted = by_one_thread(rt.alloc(), CLERKS).expect(&rt, "memory");
     assert!(rt; wanted.status == 0, "no job faults");
-    assert!(rt;
-        wanted
-            .file(b"log_g.csv")
-            .unwrap_or(&[])
-            .starts_with(b"tic,m.sum,n.sum\n0,0,0\n1,0,0\n"),
-        "nothing is published before a cycle ends"
-    );
-    let all = meet(rt, CLERKS, Vec::new(alloc));
-    assert!(rt;
-        all.came.failed.starts == 0 && all.have_met && all.is_over,
-        "a clerk is at work beside another one, or beside a worker"
-    );
-    let is_same = all.came.is(&wanted).expect(&rt, "memory");
-    assert!(rt; is_same, "with all threads");
-    // A worker, two clerks, and who takes the clients.
-    let none = meet(rt, CLERKS, vec![in alloc; 0, 1, 2, 3].expect(&rt, "memory"));
-    assert!(rt;
-        none.came.failed.starts == 4 && !none.have_met && none.is_over,
-        "no clerk and no worker"
-    );
-    let is_same = none.came.is(&wanted).expect(&rt, "memory");
-    assert!(rt; is_same, "with no thread");
-    let some = meet(rt, CLERKS, vec![in alloc; 0, 2].expect(&rt, "memory"));
-    assert!(rt;
-        some.came.failed.starts == 2 && some.is_over,
-        "one thread of three"
-    );
-    let is_same = some.came.is(&wanted).expect(&rt, "memory");
-    assert!(rt; is_same, "with one thread of three");
+    let has_log = has_log(&wanted, b"tic,m.sum,n.sum\n0,0,0\n1,0,0\n");
+    assert!(rt; has_log, "nothing is published before a cycle ends");
+    // Of a worker, two clerks, and who takes the clients: all, so that a clerk is at work beside another one or beside
+    // a worker; none; and one of the three.
+    let starts = [
+        Start {
+            refused: &[],
+            meets: Meets::Must,
+        },
+        Start {
+            refused: &[0, 1, 2, 3],
+            meets: Meets::Never,
+        },
+        Start {
+            refused: &[0, 2],
+            meets: Meets::May,
+        },
+    ];
+    for start in starts {
+        let wrong = wrong_meeting(rt, CLERKS, &wanted, start);
+        assert!(rt;
+            wrong == RIGHT,
+            "{} are refused: {wrong}",
+            start.refused.len()
+        );
+    }
 }
 
 #[test]
 fn every_run_with_clerks_writes_the_same_files(rt: HostRuntime) {
-    let alloc = rt.alloc();
-    let wanted = by_one_thread(alloc, CLERKS).expect(&rt, "memory");
+    let wanted = by_one_thread(rt.alloc(), CLERKS).expect(&rt, "memory");
     assert!(rt; wanted.file(b"chkpnt_8.chk").is_some(), "a checkpoint");
     for run in 0..CLERK_RUNS {
-        let seen = shake(rt, CLERKS, run);
-        assert!(rt;
-            seen.came.failed.starts == 0 && seen.is_over,
-            "the threads of run {run}"
-        );
-        let is_same = seen.came.is(&wanted).expect(&rt, "memory");
-        assert!(rt; is_same, "run {run}");
+        let wrong = wrong_shaking(rt, CLERKS, &wanted, run);
+        assert!(rt; wrong == RIGHT, "run {run}: {wrong}");
     }
 }

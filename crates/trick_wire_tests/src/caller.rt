@@ -2,7 +2,8 @@
 
 ghost use Rattle.trick_wire.specs.Ends.{IsSamePutter, IsSameTaker};
 
-use std::alloc::{AllocError, Global};
+use std::alloc::Global;
+use std::process::Abort;
 use std::rt::Clock;
 use std::sync::{Arc, Wait};
 use trick_turn::Bell;
@@ -21,12 +22,7 @@ pub struct Ends {
 /// What is done with a client while its reader and its writer run.
 pub trait Caller {
     /// Listens and sends.
-    fn talk<R: Wait + Clock>(
-        &mut self,
-        rt: &R,
-        alloc: Global,
-        ends: &mut Ends,
-    ) -> Result<(), AllocError>
+    fn talk<R: Wait + Clock + Abort>(&mut self, rt: &R, alloc: Global, ends: &mut Ends)
         ensures inbox { IsSameTaker ends.old.inbox ends.new.inbox }
         ensures outbox { IsSamePutter ends.old.outbox ends.new.outbox }
         ensures causes { IsSameTaker ends.old.causes ends.new.causes };

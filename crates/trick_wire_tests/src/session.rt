@@ -1,8 +1,9 @@
 //! One session, from its links to what was heard and sent.
 
-ghost use Rattle.std.specs.Prelude.{◌≡◌, List, ℕ};
+ghost use Rattle.std.specs.Prelude.{◌≡◌, [], List, ℕ};
 ghost use Rattle.trick_outside.specs.Causes.{Rose};
-ghost use Rattle.trick_wire.specs.Ends.{taken_by};
+ghost use Rattle.trick_outside.specs.Works.{Runs};
+ghost use Rattle.trick_wire.specs.Ends.{AreEnds, put_by, taken_by};
 ghost use Rattle.trick_wire.specs.HasHeard.{HasHeard};
 
 use crate::caller::{Caller, Ends};
@@ -11,7 +12,7 @@ use std::process::Abort;
 use std::rt::Clock;
 use std::sync::{Arc, Wait};
 use std::thread::Threads;
-use trick_outside::{Begun, LinkIn, LinkOut, ThreadSpawner, start};
+use trick_outside::{Begun, LinkIn, LinkOut, Running, ThreadSpawner, Work, start};
 use trick_turn::Bell;
 use trick_wire::{
     Heard, ReadStop, Reader, Taker, WriteStop, Writer, channel, end_reader, end_writer,
@@ -30,17 +31,31 @@ pub struct Served<I, O> {
     pub wrote: WriteStop,
 }
 
-/// Serves one client: its reader and its writer run in threads, and the caller talks to it meanwhile.
-pub fn serve<I, O, C, R>(rt: R, alloc: Global, input: I, output: O, caller: &mut C) -> Served<I, O>
+// Work that runs in a thread.
+fn begun<W: Work + 'static, R: Threads + Abort>(rt: &R, alloc: Global, work: W) -> Running<W>
 where
-    I: LinkIn + Send + Drop + 'static,
-    O: LinkOut + Send + Drop + 'static,
-    C: Caller,
-    R: Threads + Wait + Clock + Abort + Copy + Send + Drop + 'static,
-    ensures heard { HasHeard (I.holds input) (Rose (I.failures input) (I.failures result.input))
-        (taken_by result.inbox) }
+    W::Out: 'static,
+    ensures { Runs W.promises work result }
 {
-    let mut spawner = ThreadSpawner::new();
+    match start(rt, alloc, &mut ThreadSpawner::new(), work) {
+        Begun::Started(running) => running,
+        Begun::Refused(_) => panic!(rt; "a thread starts"),
+    }
+}
+
+// What serves a client: its reader, its writer, and the ends of its caller.
+fn parts_of<I, O, R: Abort + Copy>(
+    rt: R,
+    alloc: Global,
+    input: I,
+    output: O,
+) -> (Reader<I, R>, Writer<O, R>, Ends)
+    ensures link { result.0.link ≡ input }
+    ensures none { put_by result.0.inbox ≡ [] }
+    ensures inbox { AreEnds result.0.inbox result.2.inbox }
+    ensures outbox { AreEnds result.2.outbox result.1.outbox }
+    ensures causes { AreEnds result.1.causes result.2.causes }
+{
     let bell = Arc::new(alloc, Bell::new()).expect(&rt, "memory");
     let (fills, inbox) = channel(alloc, ROOM).expect(&rt, "memory");
     let (outbox, empties) = channel(alloc, ROOM).expect(&rt, "memory");
@@ -59,19 +74,29 @@ where
         causes: tells,
         bell: Arc::try_clone(&bell).expect(&rt, "memory"),
     };
-    let mut ends = Ends {
+    let ends = Ends {
         inbox,
         outbox,
         causes,
         bell,
     };
-    let Begun::Started(reading) = start(&rt, alloc, &mut spawner, reader) else {
-        panic!(rt; "a reader starts");
-    };
-    let Begun::Started(writing) = start(&rt, alloc, &mut spawner, writer) else {
-        panic!(rt; "a writer starts");
-    };
-    let _talked = caller.talk(&rt, alloc, &mut ends);
+    (reader, writer, ends)
+}
+
+/// Serves one client: its reader and its writer run in threads, and the caller talks to it meanwhile.
+pub fn serve<I, O, C, R>(rt: R, alloc: Global, input: I, output: O, caller: &mut C) -> Served<I, O>
+where
+    I: LinkIn + Send + Drop + 'static,
+    O: LinkOut + Send + Drop + 'static,
+    C: Caller,
+    R: Threads + Wait + Clock + Abort + Copy + Send + Drop + 'static,
+    ensures heard { HasHeard (I.holds input) (Rose (I.failures input) (I.failures result.input))
+        (taken_by result.inbox) }
+{
+    let (reader, writer, mut ends) = parts_of(rt, alloc, input, output);
+    let reading = begun(&rt, alloc, reader);
+    let writing = begun(&rt, alloc, writer);
+    caller.talk(&rt, alloc, &mut ends);
     let Ends {
         mut inbox,
         outbox,
