@@ -55,10 +55,21 @@ fn takes_word(name: &str) -> bool {
     matches!(name, "faults" | "source" | "entries" | "sample" | "read")
 }
 
+// How many numbers a call of this name has.
+fn numbers_of(name: &str) -> u8 {
+    match name {
+        "cut_in_two" | "sample" | "stop" => 2,
+        "apply" | "deed_stop" | "ends" | "entries" | "faults" | "load_with" => 1,
+        "name" | "read" | "read_fronts" | "send" | "source" => 1,
+        _ => 0,
+    }
+}
+
 /// The call that a line says, where its words are those of a call.
 pub(crate) fn call_of(line: &str) -> Option<Call> {
     let words = Words::read(line);
-    if words.word.is_empty() || takes_word(words.name) {
+    let may_stand = words.word.is_empty() || takes_word(words.name);
+    if may_stand && words.numbers == numbers_of(words.name) {
         return call_by(words);
     }
     None

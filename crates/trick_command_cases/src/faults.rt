@@ -1,6 +1,6 @@
 //! The faults of a run: how many there were, and which are kept.
 
-use crate::words::{Words, split, split_number};
+use crate::words::{Words, split};
 use std::alloc::{AllocError, Global};
 use trick_cases_report::Report;
 use trick_lang::{FaultKind, JobFault, JobId};
@@ -13,13 +13,21 @@ pub(crate) struct FaultsCall {
     more: u64,
 }
 
+// How many more a word asks for, as `more 7`; none where it has no byte.
+fn more_of(word: &str) -> Option<u64> {
+    match split(word) {
+        ("", "") => Some(0),
+        ("more", count) => count.parse().ok(),
+        _ => None,
+    }
+}
+
 /// The call of some words.
 pub(crate) fn faults_call(words: Words) -> Option<FaultsCall> {
     if words.name != "faults" {
         return None;
     }
-    let (_, more) = split(words.word);
-    let (more, _) = split_number(more);
+    let more = more_of(words.word)?;
     Some(FaultsCall {
         added: words.first,
         more,

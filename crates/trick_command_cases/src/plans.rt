@@ -35,12 +35,16 @@ pub(crate) enum PlanCall<'w> {
 }
 
 // The turn of some words.
-fn turn_of(words: Words) -> Turn {
-    Turn {
+fn turn_of(words: Words) -> Option<Turn> {
+    let leaving = words.word == "leaving";
+    if !leaving && !words.word.is_empty() {
+        return None;
+    }
+    Some(Turn {
         from: words.first,
         to: words.second,
-        leaving: words.word == "leaving",
-    }
+        leaving,
+    })
 }
 
 /// The call of some words.
@@ -53,7 +57,7 @@ pub(crate) fn plan_call(words: Words) -> Option<PlanCall> {
             number: small(words.first),
             tics: words.second,
         }),
-        "sample" => Some(PlanCall::Sample(turn_of(words))),
+        "sample" => Some(PlanCall::Sample(turn_of(words)?)),
         "read" => Some(PlanCall::Read {
             start: words.first,
             front: words.word,

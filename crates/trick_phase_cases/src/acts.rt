@@ -33,27 +33,38 @@ enum Act {
 }
 
 // The act that fills a bench.
-fn fill_of(words: &str) -> Act {
+fn fill_of(words: &str) -> Option<Act> {
     let (phase, job) = first_word(words);
-    Act::Fill {
-        phase: number(phase),
-        job: number(job).min(1_000) as u32,
+    let phase = number(phase)?;
+    let job = number(job)?.min(1_000) as u32;
+    Some(Act::Fill { phase, job })
+}
+
+// The act of a name and what stands after it.
+fn act_with(name: &str, words: &str) -> Option<Act> {
+    match name {
+        "open" => Some(Act::Open {
+            tic: number(words)?,
+        }),
+        "take" => Some(Act::Take {
+            thread: number(words)?.min(255) as u8,
+        }),
+        "fill" => fill_of(words),
+        _ => None,
     }
 }
 
-// The act of a line. One of no form is to look.
-fn act_of(line: &str) -> Act {
-    let (name, words) = first_word(line);
-    match name {
-        "open" => Act::Open { tic: number(words) },
-        "take" => Act::Take {
-            thread: number(words).min(255) as u8,
-        },
-        "fill" => fill_of(words),
-        "commit" => Act::Commit,
-        "close" => Act::Close,
-        "swap" => Act::Swap,
-        _ => Act::Look,
+// The act of a line, where it says one.
+fn act_of(line: &str) -> Option<Act> {
+    match line {
+        "commit" => Some(Act::Commit),
+        "close" => Some(Act::Close),
+        "swap" => Some(Act::Swap),
+        "look" => Some(Act::Look),
+        _ => {
+            let (name, words) = first_word(line);
+            act_with(name, words)
+        }
     }
 }
 
@@ -166,6 +177,24 @@ fn do_act(
     Ok(())
 }
 
+// Does the act that a line says, and adds what it answers.
+fn do_line(
+    trial: &mut Trial,
+    alloc: Global,
+    accepted: &Accepted,
+    line: &str,
+    report: &mut Report,
+) -> Result<(), AllocError>
+    requires { IsTrial accepted.now.plan trial.old.board trial.old.bench trial.old.other }
+    ensures { IsTrial accepted.now.plan trial.new.board trial.new.bench trial.new.other }
+{
+    let Some(act) = act_of(line) else {
+        report.word("no act");
+        return Ok(());
+    };
+    do_act(trial, alloc, accepted, act, report)
+}
+
 // Does the acts of some lines, and adds what each answers.
 fn do_lines(
     trial: &mut Trial,
@@ -179,7 +208,7 @@ fn do_lines(
     for line in lines.lines() {
         report.word(line);
         report.word(" > ");
-        do_act(trial, alloc, accepted, act_of(line), report)?;
+        do_line(trial, alloc, accepted, line, report)?;
         report.word("\n");
     }
     Ok(())

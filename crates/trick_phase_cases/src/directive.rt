@@ -80,9 +80,9 @@ pub(crate) fn due_jobs(alloc: Global, words: &str) -> Result<Vec<DueJob>, AllocE
     Ok(due)
 }
 
-/// The number of a word; 0 for another word.
-pub(crate) fn number(word: &str) -> u64 {
-    word.parse::<u64>().unwrap_or(0)
+/// The number of a word.
+pub(crate) fn number(word: &str) -> Option<u64> {
+    word.parse::<u64>().ok()
 }
 
 /// The first word of a text, and what stands after it.
@@ -108,8 +108,8 @@ fn numbered<'a>(name: &str, number: u64, behind: &'a str) -> Option<Call<'a>> {
             due: behind,
         }),
         "play_wrong" => Some(wrong_call(number, behind)),
-        "one_phase" => Some(Call::OnePhase { tic: number }),
-        "one_bench" => Some(Call::OneBench { tic: number }),
+        "one_phase" if behind.is_empty() => Some(Call::OnePhase { tic: number }),
+        "one_bench" if behind.is_empty() => Some(Call::OneBench { tic: number }),
         "bench" => Some(Call::Bench {
             phase: number,
             letter: first_letter(behind),
@@ -124,7 +124,7 @@ fn call_of<'a>(name: &str, words: &'a str) -> Option<Call<'a>> {
         return Some(Call::Acts { name: words });
     }
     let (first, behind) = first_word(words);
-    numbered(name, number(first), behind)
+    numbered(name, number(first)?, behind)
 }
 
 // The form of a name.
@@ -137,23 +137,26 @@ fn form_of(name: &str) -> Option<Form> {
 }
 
 // The plans that are drawn for a form: the number that they follow from, and how many they are.
-fn drawing(form: Form, words: &str) -> Drawing {
+fn drawing(form: Form, words: &str) -> Option<Drawing> {
     let (seed, count) = first_word(words);
-    Drawing {
-        form,
-        seed: number(seed),
-        count: number(count),
+    let seed = number(seed)?;
+    let count = number(count)?;
+    Some(Drawing { form, seed, count })
+}
+
+// The call of a name and what stands after it, or the drawing of plans.
+fn read_words<'a>(name: &str, words: &'a str) -> Option<Directive<'a>> {
+    match form_of(name) {
+        Some(form) => Some(Directive::Drawn(drawing(form, words)?)),
+        None => Some(Directive::Planned(call_of(name, words)?)),
     }
 }
 
 /// What the words of a call say.
 pub(crate) fn directive_of(line: &str) -> Directive {
     let (name, words) = first_word(line);
-    if let Some(form) = form_of(name) {
-        return Directive::Drawn(drawing(form, words));
-    }
-    match call_of(name, words) {
-        Some(call) => Directive::Planned(call),
+    match read_words(name, words) {
+        Some(directive) => directive,
         None => Directive::Unknown,
     }
 }
