@@ -1,12 +1,11 @@
 //! Whether a command comes to the same where its run is by threads, and how many threads it asks for.
 
-use crate::outcome::{Outcome, Setting, in_threads_of, replay_of};
+use crate::outcome::{Given, Outcome, in_threads_of, replay_of};
 use crate::text::{Text, find};
 use std::alloc::{AllocError, Global};
 use std::sync::Wait;
 use std::thread::Threads;
 use trick_base::Word;
-use trick_outside::{ListSpawner, Spawner};
 
 /// All starts that there can be.
 const ALL: &[u64] = &[0, 1, 2, 3, 4, 5, 6, 7, 8, 9, 10, 11, 12, 13, 14];
@@ -74,39 +73,50 @@ fn has_logs_of(run: &Outcome, other: &Outcome) -> bool {
     true
 }
 
-/// Whether a run came to what its own journal comes to on one thread.
+/// The words of a replay under the journal that a run wrote.
+fn replay_words(alloc: Global, others: &[Word]) -> Result<Vec<Word>, AllocError> {
+    let mut words = words_for(alloc, b"replay", others)?;
+    words.push(Word::from_bytes(alloc, JOURNAL)?)?;
+    Ok(words)
+}
+
+/// Whether a run, whose words after the command are given, came to what its own journal comes to on one thread.
 fn is_replayed(
     alloc: Global,
-    others: &[Word],
-    given: (&Setting, &[Text]),
+    given: Given,
     run: &Outcome,
     journal: &Text,
 ) -> Result<bool, AllocError> {
-    let mut words = words_for(alloc, b"replay", others)?;
-    words.push(Word::from_bytes(alloc, JOURNAL)?)?;
-    let replay = replay_of(alloc, &words, given, journal)?;
-    Ok(replay.is_same(run))
+    let words = replay_words(alloc, given.words)?;
+    let replay = replay_of(alloc, given.with_words(&words), journal);
+    drop(words);
+    let replay = replay?;
+    let is_same = replay.is_same(run);
+    drop(replay);
+    Ok(is_same)
 }
 
-/// Whether a run by threads came to what it is to: to the same as on one thread. With an asynchronous thread, whose
-/// rounds are published when they are done, it has the status and the logs of that run, and all else as its own journal
-/// says; but where no start is admitted each round is done when it is asked for, as on one thread.
+/// Whether a run has the status and the logs of another one.
+fn is_alike(run: &Outcome, other: &Outcome) -> bool {
+    run.status == other.status && has_logs_of(run, other) && has_logs_of(other, run)
+}
+
+/// Whether a run by threads, whose words after the command are given, came to what it is to: to the same as on one
+/// thread. With an asynchronous thread, whose rounds are published when they are done, it has the status and the logs
+/// of that run, and all else as its own journal says; but where no start is admitted each round is done when it is
+/// asked for, as on one thread.
 fn is_right(
     alloc: Global,
-    others: &[Word],
-    done: (&Setting, &[Text], &Outcome),
+    given: Given,
+    outcome: &Outcome,
     run: &Outcome,
     refused: &[u64],
 ) -> Result<bool, AllocError> {
-    let (setting, before, outcome) = done;
     // A journal that was there already, and was written as it is, is not among the files that are new.
-    let journal = find(&run.written, JOURNAL).or(find(before, JOURNAL));
+    let journal = find(&run.written, JOURNAL).or(find(given.before, JOURNAL));
     match journal {
-        Some(journal) if refused.len() < ALL.len() && has_rounds(before) => {
-            let is_alike = run.status == outcome.status
-                && has_logs_of(run, outcome)
-                && has_logs_of(outcome, run);
-            Ok(is_alike && is_replayed(alloc, others, (setting, before), run, journal)?)
+        Some(journal) if refused.len() < ALL.len() && has_rounds(given.before) => {
+            Ok(is_alike(run, outcome) && is_replayed(alloc, given, run, journal)?)
         }
         _ => Ok(outcome.is_same(run)),
     }
@@ -117,33 +127,50 @@ fn is_right(
 pub(crate) struct ByThreads {
     /// It comes to what it is to, whichever starts are refused.
     pub(crate) is_same: bool,
-    /// How many threads it asks to start.
+    /// How many of the starts that it asks for are refused.
     pub(crate) starts: u64,
 }
 
-/// What a run on one thread that came to this comes to by threads, as many as are admitted. Other commands are not run
-/// by threads.
+/// What a run, whose words after the command are given, comes to by threads where these starts are refused.
+fn refusing<R: Threads + Wait + Copy + Send + Drop + 'static>(
+    rt: R,
+    alloc: Global,
+    given: Given,
+    outcome: &Outcome,
+    refused: &[u64],
+) -> Result<ByThreads, AllocError> {
+    let words = words_for(alloc, b"run", given.words)?;
+    let done = in_threads_of(rt, alloc, given.with_words(&words), refused);
+    drop(words);
+    let (run, starts) = done?;
+    let is_same = is_right(alloc, given, outcome, &run, refused);
+    drop(run);
+    Ok(ByThreads {
+        is_same: is_same?,
+        starts,
+    })
+}
+
+/// What a run on one thread that came to this comes to by threads, as many as are admitted, with the number of threads
+/// that it asks for. Other commands are not run by threads.
 pub(crate) fn by_threads<R: Threads + Wait + Copy + Send + Drop + 'static>(
     rt: R,
     alloc: Global,
-    words: &[Word],
-    done: (&Setting, &[Text], &Outcome),
+    given: Given,
+    outcome: &Outcome,
 ) -> Result<ByThreads, AllocError> {
-    let (setting, before, _outcome) = done;
     let mut seen = ByThreads {
         is_same: true,
         starts: 0,
     };
-    let Some(others) = serial_words(words) else {
+    let Some(others) = serial_words(given.words) else {
         return Ok(seen);
     };
-    let words = words_for(alloc, b"run", others)?;
     for refused in REFUSED {
-        let spawner = ListSpawner::refusing(Vec::from_slice(alloc, refused)?);
-        let (run, spawner) = in_threads_of(rt, alloc, &words, (setting, before), spawner)?;
-        seen.is_same = seen.is_same && is_right(alloc, others, done, &run, refused)?;
+        let run = refusing(rt, alloc, given.with_words(others), outcome, refused)?;
+        seen.is_same = seen.is_same && run.is_same;
         // Where all starts are refused, the last time, each that was asked for is counted.
-        seen.starts = spawner.faults();
+        seen.starts = run.starts;
     }
     Ok(seen)
 }

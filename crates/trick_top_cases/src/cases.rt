@@ -2,14 +2,13 @@
 
 use crate::by_threads::{ByThreads, by_threads};
 use crate::escapes::{bytes_of, is_numbered, numbers_of, pieces_of, text_of, words_of};
-use crate::line::{Line, Piece, number};
+use crate::line::{Line, ONCE, Piece, Times, number};
 use crate::mistake::Mistake;
-use crate::outcome::{Outcome, Setting, outcome_of};
+use crate::outcome::{Given, Outcome, Setting, outcome_of};
 use crate::report::{tell, tell_front};
 use crate::text::{Text, all_filled, find, put};
 use std::alloc::{AllocError, Global};
 use std::mem;
-use std::ops::Range;
 use std::sync::Wait;
 use std::thread::Threads;
 use trick_base::Word;
@@ -21,6 +20,13 @@ enum Begun {
     Nothing,
     Text,
     File,
+}
+
+/// A piece as it is written, and what stands after it.
+#[derive(Clone, Copy)]
+struct Written<'l> {
+    text: &'l str,
+    end: &'static [u8],
 }
 
 /// The texts with names, the case with its files, and how its next command is done.
@@ -113,10 +119,11 @@ impl<R: Threads + Wait + Copy + Send + Drop + 'static> Cases<R> {
     /// Begins a text or a file.
     fn begin(&mut self, alloc: Global, begun: Begun, name: &str) -> Result<(), Mistake> {
         let text = Text::new(alloc, bytes_of(alloc, name)?, Vec::new(alloc));
-        match begun {
-            Begun::Text => put(&mut self.texts, text)?,
-            _ => put(&mut self.files, text)?,
-        }
+        let texts = match begun {
+            Begun::Text => &mut self.texts,
+            _ => &mut self.files,
+        };
+        put(texts, text)?;
         self.begun = begun;
         Ok(())
     }
@@ -137,17 +144,19 @@ impl<R: Threads + Wait + Copy + Send + Drop + 'static> Cases<R> {
     }
 
     /// Adds a piece so many times.
-    fn add(&mut self, alloc: Global, times: Range<u64>, piece: Piece) -> Result<(), Mistake> {
+    fn add(&mut self, alloc: Global, times: Times, piece: Piece) -> Result<(), Mistake> {
         match piece {
-            Piece::Line(text) => self.add_part(alloc, times, text, b"\n"),
-            Piece::Part(text) => self.add_part(alloc, times, text, b""),
+            Piece::Line(text) => self.add_part(alloc, times, Written { text, end: b"\n" }),
+            Piece::Part(text) => self.add_part(alloc, times, Written { text, end: b"" }),
             Piece::Named(name) => self.add_named(alloc, times, name),
         }
     }
 
-    fn add_named(&mut self, alloc: Global, times: Range<u64>, name: &str) -> Result<(), Mistake> {
+    fn add_named(&mut self, alloc: Global, times: Times, name: &str) -> Result<(), Mistake> {
         let named = self.named(alloc, name)?;
-        self.add_times(alloc, times, &named, b"")
+        let done = self.add_times(alloc, times, &named, b"");
+        drop(named);
+        done
     }
 
     /// The bytes and holes of the text of this name.
@@ -157,52 +166,88 @@ impl<R: Threads + Wait + Copy + Send + Drop + 'static> Cases<R> {
         Ok(named.copied(alloc)?)
     }
 
-    fn add_part(
-        &mut self,
-        alloc: Global,
-        times: Range<u64>,
-        text: &str,
-        end: &[u8],
-    ) -> Result<(), Mistake> {
-        if is_numbered(text) {
-            return self.add_numbered(alloc, times, text, end);
+    fn add_part(&mut self, alloc: Global, times: Times, written: Written) -> Result<(), Mistake> {
+        if is_numbered(written.text) {
+            return self.add_numbered(alloc, times, written);
         }
-        let piece = text_of(alloc, text, 0)?;
-        self.add_times(alloc, times, &piece, end)
+        self.add_written(alloc, times, written, 0)
     }
 
     /// Adds a piece so many times, each with its number.
     fn add_numbered(
         &mut self,
         alloc: Global,
-        times: Range<u64>,
-        text: &str,
-        end: &[u8],
+        times: Times,
+        written: Written,
     ) -> Result<(), Mistake> {
-        for time in times {
-            let piece = text_of(alloc, text, time)?;
-            self.add_times(alloc, 0..1, &piece, end)?;
+        for time in times.first..times.end {
+            self.add_written(alloc, ONCE, written, time)?;
         }
         Ok(())
+    }
+
+    /// Adds a piece with this number so many times.
+    fn add_written(
+        &mut self,
+        alloc: Global,
+        times: Times,
+        written: Written,
+        time: u64,
+    ) -> Result<(), Mistake> {
+        let piece = text_of(alloc, written.text, time)?;
+        let done = self.add_times(alloc, times, &piece, written.end);
+        drop(piece);
+        done
     }
 
     /// Adds the same piece so many times, and its end after it.
     fn add_times(
         &mut self,
         alloc: Global,
-        times: Range<u64>,
+        times: Times,
         piece: &Text,
         end: &[u8],
     ) -> Result<(), Mistake> {
         let last = self.last()?;
-        for _time in times {
+        for _time in times.first..times.end {
             last.add_text(alloc, piece)?;
             last.add(end)?;
         }
         Ok(())
     }
 
-    /// What a command comes to, with these pieces in the holes; and what it comes to by threads.
+    /// What a command comes to, and what it comes to by threads.
+    fn both(&self, alloc: Global, given: Given) -> Result<(Outcome, ByThreads), AllocError> {
+        let outcome = outcome_of(alloc, given)?;
+        match by_threads(self.rt, alloc, given, &outcome) {
+            Ok(seen) => Ok((outcome, seen)),
+            Err(error) => {
+                drop(outcome);
+                Err(error)
+            }
+        }
+    }
+
+    /// The same with these pieces in the holes.
+    fn with_pieces(
+        &self,
+        alloc: Global,
+        words: &[Word],
+        setting: &Setting,
+        pieces: &[Vec<u8>],
+    ) -> Result<(Outcome, ByThreads), AllocError> {
+        let before = all_filled(alloc, &self.files, pieces)?;
+        let given = Given {
+            words,
+            setting,
+            before: &before,
+        };
+        let done = self.both(alloc, given);
+        drop(before);
+        done
+    }
+
+    /// The same as the setting says, which is used up.
     fn outcome(
         &mut self,
         alloc: Global,
@@ -210,10 +255,9 @@ impl<R: Threads + Wait + Copy + Send + Drop + 'static> Cases<R> {
         pieces: &[Vec<u8>],
     ) -> Result<(Outcome, ByThreads), AllocError> {
         let setting = mem::replace(&mut self.setting, Setting::new(alloc));
-        let before = all_filled(alloc, &self.files, pieces)?;
-        let outcome = outcome_of(alloc, words, &setting, &before)?;
-        let seen = by_threads(self.rt, alloc, words, (&setting, &before, &outcome))?;
-        Ok((outcome, seen))
+        let done = self.with_pieces(alloc, words, &setting, pieces);
+        drop(setting);
+        done
     }
 
     /// Does a command with these pieces in the holes, and reports what it comes to.
@@ -238,8 +282,9 @@ impl<R: Threads + Wait + Copy + Send + Drop + 'static> Cases<R> {
     /// Does a command, and keeps the files that it wrote.
     fn run(&mut self, alloc: Global, words: &str, report: &mut Report) -> Result<(), Mistake> {
         let words = words_of(alloc, words)?;
-        let outcome = self.tell(alloc, &words, &[], report)?;
-        self.keep(outcome)?;
+        let outcome = self.tell(alloc, &words, &[], report);
+        drop(words);
+        self.keep(outcome?)?;
         Ok(())
     }
 
@@ -253,26 +298,41 @@ impl<R: Threads + Wait + Copy + Send + Drop + 'static> Cases<R> {
     /// Does a command, and keeps nothing.
     fn attempt(&mut self, alloc: Global, words: &str, report: &mut Report) -> Result<(), Mistake> {
         let words = words_of(alloc, words)?;
-        self.tell(alloc, &words, &[], report)?;
+        let outcome = self.tell(alloc, &words, &[], report);
+        drop(words);
+        drop(outcome?);
         Ok(())
     }
 
     /// Does the command of `each` with these pieces in the holes, and keeps nothing.
+    fn attempt_each(
+        &mut self,
+        alloc: Global,
+        pieces: &[Vec<u8>],
+        report: &mut Report,
+    ) -> Result<(), Mistake> {
+        let words = self.each.clone()?;
+        let outcome = self.tell(alloc, &words, pieces, report);
+        drop(words);
+        drop(outcome?);
+        Ok(())
+    }
+
+    /// The same with the pieces of a line.
     fn with(&mut self, alloc: Global, pieces: &str, report: &mut Report) -> Result<(), Mistake> {
         let pieces = pieces_of(alloc, pieces)?;
-        let words = self.each.clone()?;
-        self.tell(alloc, &words, &pieces, report)?;
-        Ok(())
+        let done = self.attempt_each(alloc, &pieces, report);
+        drop(pieces);
+        done
     }
 
     /// Does the command of `each` with each beginning of a file and a piece behind it, and keeps nothing.
     fn fronts(&mut self, alloc: Global, rest: &str, report: &mut Report) -> Result<(), Mistake> {
         let (name, piece) = rest.split_once(' ').unwrap_or((rest, ""));
-        let piece = bytes_of(alloc, piece)?;
         let whole = self.file(alloc, name)?;
-        self.each_front(alloc, &whole, &piece, report)?;
+        let done = self.each_front(alloc, &whole, piece, report);
         put(&mut self.files, whole)?;
-        Ok(())
+        done
     }
 
     /// The file of this name without what follows a hole.
@@ -286,11 +346,12 @@ impl<R: Threads + Wait + Copy + Send + Drop + 'static> Cases<R> {
         &mut self,
         alloc: Global,
         whole: &Text,
-        piece: &[u8],
+        piece: &str,
         report: &mut Report,
-    ) -> Result<(), AllocError> {
+    ) -> Result<(), Mistake> {
+        let piece = bytes_of(alloc, piece)?;
         for count in 0..whole.bytes.len() {
-            put(&mut self.files, whole.front(alloc, count, piece)?)?;
+            put(&mut self.files, whole.front(alloc, count, &piece)?)?;
             self.tell_front(alloc, count, report)?;
         }
         Ok(())
@@ -304,8 +365,11 @@ impl<R: Threads + Wait + Copy + Send + Drop + 'static> Cases<R> {
         report: &mut Report,
     ) -> Result<(), AllocError> {
         let words = self.each.clone()?;
-        let (outcome, _seen) = self.outcome(alloc, &words, &[])?;
+        let done = self.outcome(alloc, &words, &[]);
+        drop(words);
+        let (outcome, _seen) = done?;
         tell_front(report, count, &outcome);
+        drop(outcome);
         Ok(())
     }
 }

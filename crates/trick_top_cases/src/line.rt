@@ -1,7 +1,16 @@
 //! The lines of the input, and how they are read.
 
 use crate::mistake::Mistake;
-use std::ops::Range;
+
+/// How many times a piece comes: with the numbers from the first one up to the end, which does not belong to them.
+#[derive(Clone, Copy)]
+pub(crate) struct Times {
+    pub(crate) first: u64,
+    pub(crate) end: u64,
+}
+
+/// Once, with the number 0.
+pub(crate) const ONCE: Times = Times { first: 0, end: 1 };
 
 /// A piece of a text that is begun.
 #[derive(Clone, Copy)]
@@ -15,7 +24,7 @@ pub(crate) enum Piece<'a> {
 }
 
 /// A line of the input.
-#[derive(Drop)]
+#[derive(Clone, Copy)]
 pub(crate) enum Line<'a> {
     /// `# Why` says something to the reader of the input; so does an empty line.
     Comment,
@@ -29,7 +38,7 @@ pub(crate) enum Line<'a> {
     File(&'a str),
     /// `1000* : +1` adds a piece so many times to what is begun, with the numbers from 0, `1..1000* : +1`
     /// with those from 1, and `: +1` once.
-    Pieces(Range<u64>, Piece<'a>),
+    Pieces(Times, Piece<'a>),
     /// `@` is a hole of the file, in which each `- long n;` puts its piece; so is `\1` within a line, and `\2`
     /// or `@ 2` is one for the second piece of `- long @ n`.
     Hole(u64),
@@ -115,17 +124,20 @@ fn command_or_piece<'a>(mark: &str, rest: &'a str) -> Result<Line<'a>, Mistake> 
 /// A piece, with how many times it comes.
 fn pieces<'a>(mark: &str, rest: &'a str) -> Result<Line<'a>, Mistake> {
     let Some(times) = mark.strip_suffix('*') else {
-        return Ok(Line::Pieces(0..1, marked(mark, rest)?));
+        return Ok(Line::Pieces(ONCE, marked(mark, rest)?));
     };
-    let times = range(times)?;
+    let times = times_of(times)?;
     let (mark, rest) = halves(rest);
     Ok(Line::Pieces(times, marked(mark, rest)?))
 }
 
 /// The numbers from 0, or from the first of two, up to the last one, which does not belong to them.
-fn range(text: &str) -> Result<Range<u64>, Mistake> {
+fn times_of(text: &str) -> Result<Times, Mistake> {
     let (first, end) = text.split_once("..").unwrap_or(("0", text));
-    Ok(number(first)?..number(end)?)
+    Ok(Times {
+        first: number(first)?,
+        end: number(end)?,
+    })
 }
 
 /// The number that a text is.

@@ -6,7 +6,8 @@ use std::sync::Wait;
 use std::thread::Threads;
 use trick_base::Word;
 use trick_outside::{
-    EndedDoor, MemoryOut, MemoryShelf, MemorySink, NoGate, ScriptIn, Shelf, Sink, Spawner,
+    EndedDoor, ListSpawner, MemoryOut, MemoryShelf, MemorySink, NoGate, ScriptIn, Shelf, Sink,
+    Spawner,
 };
 use trick_top::tricks;
 use trick_top_alone::tricks_alone;
@@ -49,6 +50,26 @@ pub(crate) fn is_among(names: Option<&Vec<Word>>, name: &[u8]) -> bool {
     }
 }
 
+/// A command, and what it is done with.
+#[derive(Clone, Copy)]
+pub(crate) struct Given<'g> {
+    pub(crate) words: &'g [Word],
+    pub(crate) setting: &'g Setting,
+    /// The files that are there before it.
+    pub(crate) before: &'g [Text],
+}
+
+impl<'g> Given<'g> {
+    /// Another command with the same.
+    pub(crate) fn with_words(self, words: &'g [Word]) -> Given<'g> {
+        Given {
+            words,
+            setting: self.setting,
+            before: self.before,
+        }
+    }
+}
+
 /// What a command came to.
 #[derive(Drop)]
 pub(crate) struct Outcome {
@@ -79,6 +100,67 @@ fn are_same(one: &[Text], other: &[Text]) -> bool {
 }
 
 impl Outcome {
+    /// This status, where nothing failed, was printed or written.
+    fn new(alloc: Global, status: u8) -> Outcome {
+        Outcome {
+            status,
+            shelf_faults: 0,
+            sink_faults: 0,
+            printed: Vec::new(alloc),
+            written: Vec::new(alloc),
+            same: Vec::new(alloc),
+        }
+    }
+
+    /// Adds a file of the shelf where it is new or has other bytes than before, and its name where the command was not
+    /// given it.
+    fn add_file(
+        &mut self,
+        alloc: Global,
+        given: Given,
+        name: &[u8],
+        bytes: &[u8],
+    ) -> Result<(), AllocError> {
+        if !is_same(given.before, name, bytes) {
+            self.written.push(Text::from_bytes(alloc, name, bytes)?)?;
+        } else if !given.setting.has(name) {
+            self.same.push(Vec::from_slice(alloc, name)?)?;
+        }
+        Ok(())
+    }
+
+    /// Adds these files of the shelf.
+    fn add_files(
+        &mut self,
+        alloc: Global,
+        given: Given,
+        shelf: &MemoryShelf,
+        names: &[Vec<u8>],
+    ) -> Result<(), AllocError> {
+        for name in names {
+            let bytes = shelf.file(name).unwrap_or(&[]);
+            self.add_file(alloc, given, name, bytes)?;
+        }
+        Ok(())
+    }
+
+    /// Adds what the command did to its shelf and its sink.
+    fn add(
+        &mut self,
+        alloc: Global,
+        given: Given,
+        shelf: &MemoryShelf,
+        sink: &MemorySink,
+    ) -> Result<(), AllocError> {
+        self.shelf_faults = shelf.faults();
+        self.sink_faults = sink.faults();
+        self.printed.extend_from_slice(sink.bytes())?;
+        let names = names_of(alloc, shelf)?;
+        let done = self.add_files(alloc, given, shelf, &names);
+        drop(names);
+        done
+    }
+
     /// Whether another command came to the same.
     pub(crate) fn is_same(&self, other: &Outcome) -> bool {
         self.status == other.status
@@ -128,102 +210,89 @@ fn is_same(before: &[Text], name: &[u8], bytes: &[u8]) -> bool {
     }
 }
 
-/// The files of a shelf that are new or have other bytes than before.
-fn written(alloc: Global, shelf: &MemoryShelf, before: &[Text]) -> Result<Vec<Text>, AllocError> {
-    let mut written = Vec::new(alloc);
-    for name in names_of(alloc, shelf)? {
-        let bytes = shelf.file(&name).unwrap_or(&[]);
-        if !is_same(before, &name, bytes) {
-            let bytes = Vec::from_slice(alloc, bytes)?;
-            written.push(Text::new(alloc, name, bytes))?;
-        }
-    }
-    Ok(written)
-}
-
-/// The names of the files of a shelf that a command was not given, and that are as they were before.
-fn same(
-    alloc: Global,
-    shelf: &MemoryShelf,
-    setting: &Setting,
-    before: &[Text],
-) -> Result<Vec<Vec<u8>>, AllocError> {
-    let mut same = Vec::new(alloc);
-    for name in names_of(alloc, shelf)? {
-        let bytes = shelf.file(&name).unwrap_or(&[]);
-        if !setting.has(&name) && is_same(before, &name, bytes) {
-            same.push(name)?;
-        }
-    }
-    Ok(same)
-}
-
 /// What a command with this status did to its shelf and its sink.
 fn told(
     alloc: Global,
-    given: (&Setting, &[Text]),
+    given: Given,
     shelf: &MemoryShelf,
     sink: &MemorySink,
     status: u8,
 ) -> Result<Outcome, AllocError> {
-    let (setting, before) = given;
-    Ok(Outcome {
-        status,
-        shelf_faults: shelf.faults(),
-        sink_faults: sink.faults(),
-        printed: Vec::from_slice(alloc, sink.bytes())?,
-        written: written(alloc, shelf, before)?,
-        same: same(alloc, shelf, setting, before)?,
-    })
+    let mut outcome = Outcome::new(alloc, status);
+    if let Err(error) = outcome.add(alloc, given, shelf, sink) {
+        drop(outcome);
+        return Err(error);
+    }
+    Ok(outcome)
 }
 
-/// What a command comes to where there are these files.
-pub(crate) fn outcome_of(
-    alloc: Global,
-    words: &[Word],
-    setting: &Setting,
-    before: &[Text],
-) -> Result<Outcome, AllocError> {
-    let mut shelf = shelf_of(alloc, setting, before)?;
-    let mut sink = sink_of(alloc, setting)?;
-    let status = tricks_alone(alloc, words, &mut shelf, &mut sink);
-    told(alloc, (setting, before), &shelf, &sink, status)
+/// What a command comes to on this shelf.
+fn outcome_on(alloc: Global, given: Given, shelf: &mut MemoryShelf) -> Result<Outcome, AllocError> {
+    let mut sink = sink_of(alloc, given.setting)?;
+    let status = tricks_alone(alloc, given.words, shelf, &mut sink);
+    let outcome = told(alloc, given, shelf, &sink, status);
+    drop(sink);
+    outcome
 }
 
-/// What a replay under this journal comes to where there are these files beside it.
+/// What a command comes to.
+pub(crate) fn outcome_of(alloc: Global, given: Given) -> Result<Outcome, AllocError> {
+    let mut shelf = shelf_of(alloc, given.setting, given.before)?;
+    let outcome = outcome_on(alloc, given, &mut shelf);
+    drop(shelf);
+    outcome
+}
+
+/// What a replay comes to with this journal beside the files.
 pub(crate) fn replay_of(
     alloc: Global,
-    words: &[Word],
-    given: (&Setting, &[Text]),
+    given: Given,
     journal: &Text,
 ) -> Result<Outcome, AllocError> {
-    let (setting, before) = given;
-    let shelf = shelf_of(alloc, setting, before)?;
+    let shelf = shelf_of(alloc, given.setting, given.before)?;
     let mut shelf = shelf.with_file(&journal.name, &journal.bytes)?;
-    let mut sink = sink_of(alloc, setting)?;
-    let status = tricks_alone(alloc, words, &mut shelf, &mut sink);
-    told(alloc, given, &shelf, &sink, status)
+    let outcome = outcome_on(alloc, given, &mut shelf);
+    drop(shelf);
+    outcome
 }
 
-/// What a command comes to where there are these files and what it runs is run by threads; and the spawner after it.
-pub(crate) fn in_threads_of<S, R>(
+/// What a command comes to by threads on this shelf, where these starts are refused; and how many were.
+fn in_threads_on<R: Threads + Wait + Copy + Send + Drop + 'static>(
     rt: R,
     alloc: Global,
-    words: &[Word],
-    given: (&Setting, &[Text]),
-    spawner: S,
-) -> Result<(Outcome, S), AllocError>
-where
-    S: Spawner + Send + Drop + 'static,
-    R: Threads + Wait + Copy + Send + Drop + 'static,
-{
-    let (setting, before) = given;
-    let mut shelf = shelf_of(alloc, setting, before)?;
-    let mut sink = sink_of(alloc, setting)?;
+    given: Given,
+    shelf: &mut MemoryShelf,
+    refused: &[u64],
+) -> Result<(Outcome, u64), AllocError> {
+    let spawner = ListSpawner::refusing(Vec::from_slice(alloc, refused)?);
+    let mut sink = sink_of(alloc, given.setting)?;
     let door: EndedDoor<ScriptIn, MemoryOut> = EndedDoor::new();
     let finished = tricks(
-        rt, alloc, words, &mut shelf, &mut sink, door, spawner, NoGate,
+        rt,
+        alloc,
+        given.words,
+        shelf,
+        &mut sink,
+        door,
+        spawner,
+        NoGate,
     );
-    let outcome = told(alloc, given, &shelf, &sink, finished.status)?;
-    Ok((outcome, finished.spawner))
+    let starts = finished.spawner.faults();
+    let outcome = told(alloc, given, shelf, &sink, finished.status);
+    drop(finished);
+    drop(sink);
+    Ok((outcome?, starts))
+}
+
+/// What a command comes to by threads, where these starts are refused; and how many were.
+pub(crate) fn in_threads_of<R: Threads + Wait + Copy + Send + Drop + 'static>(
+    rt: R,
+    alloc: Global,
+    given: Given,
+    refused: &[u64],
+) -> Result<(Outcome, u64), AllocError> {
+    let mut shelf = shelf_of(alloc, given.setting, given.before)?;
+    let done = in_threads_on(rt, alloc, given, &mut shelf, refused);
+    drop(shelf);
+    done
 }

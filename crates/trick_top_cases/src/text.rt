@@ -30,6 +30,13 @@ impl Text {
         }
     }
 
+    /// A text of this name with these bytes.
+    pub(crate) fn from_bytes(alloc: Global, name: &[u8], bytes: &[u8]) -> Result<Text, AllocError> {
+        let name = Vec::from_slice(alloc, name)?;
+        let bytes = Vec::from_slice(alloc, bytes)?;
+        Ok(Text::new(alloc, name, bytes))
+    }
+
     /// Its first bytes, at most so many, and a piece behind them, under its name.
     pub(crate) fn front(
         &self,
@@ -46,7 +53,11 @@ impl Text {
     /// Its bytes and holes, without its name.
     pub(crate) fn copied(&self, alloc: Global) -> Result<Text, AllocError> {
         let mut copy = Text::new(alloc, Vec::new(alloc), Vec::new(alloc));
-        copy.add_text(alloc, self)?;
+        let done = copy.add_text(alloc, self);
+        if let Err(error) = done {
+            drop(copy);
+            return Err(error);
+        }
         Ok(copy)
     }
 

@@ -105,21 +105,27 @@ struct Ended {
 }
 
 /// The run of what stands on a shelf.
-fn run_of(alloc: Global, words: &[Word], shelf: &mut MemoryShelf) -> Ended {
+fn run_of(alloc: Global, shelf: &mut MemoryShelf) -> Result<Ended, AllocError> {
+    let words = words(alloc)?;
     let mut out = MemorySink::new(alloc);
-    let status = tricks_alone(alloc, words, shelf, &mut out);
-    Ended {
+    let status = tricks_alone(alloc, &words, shelf, &mut out);
+    drop(out);
+    drop(words);
+    Ok(Ended {
         status,
         counted: is_counted(shelf),
-    }
+    })
 }
 
 /// Runs the class.
 fn run_deep(alloc: Global) -> Result<Ended, AllocError> {
-    let words = words(alloc)?;
     let s_define = deep_class(alloc)?;
-    let mut shelf = shelf_of(alloc, s_define.as_bytes())?;
-    Ok(run_of(alloc, &words, &mut shelf))
+    let shelf = shelf_of(alloc, s_define.as_bytes());
+    drop(s_define);
+    let mut shelf = shelf?;
+    let ended = run_of(alloc, &mut shelf);
+    drop(shelf);
+    ended
 }
 
 #[test]

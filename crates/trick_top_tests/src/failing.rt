@@ -119,7 +119,9 @@ fn run_with<R: Threads + Wait + Clock + Abort + AllocGlobal + Copy + Send + Sync
 ) -> Seen {
     let alloc = rt.alloc();
     let came = serve(rt, FROZEN, outside(alloc, failing).expect(&rt, "memory"));
-    seen_of(alloc, &came).expect(&rt, "memory")
+    let seen = seen_of(alloc, &came);
+    drop(came);
+    seen.expect(&rt, "memory")
 }
 
 // This call, and all that might come after it.
@@ -190,15 +192,9 @@ fn door_of_two(alloc: Global, call: u64) -> Result<ScriptDoor<TestIn, MemoryOut>
     Ok(ScriptDoor::new(alloc, clients))
 }
 
-// What is wrong with a run of two clients, of which the first one's link fails at this read.
-fn beside<R: Threads + Wait + Clock + Abort + AllocGlobal + Copy + Send + Sync + Drop + 'static>(
-    rt: R,
-    call: u64,
-) -> Result<&'static str, AllocError> {
-    let alloc = rt.alloc();
-    let outside = Outside::at(alloc, door_of_two(alloc, call)?);
-    let came = serve(rt, FROZEN, outside);
-    if came.status != 0 || !replays(alloc, FROZEN, &came)? {
+// What is wrong with a run of two clients, of which the first one's link failed.
+fn wrong_beside(alloc: Global, came: &Came) -> Result<&'static str, AllocError> {
+    if came.status != 0 || !replays(alloc, FROZEN, came)? {
         return Ok("its end");
     }
     if came.sent_to(2) != Some(WATCHED) {
@@ -214,10 +210,23 @@ fn beside<R: Threads + Wait + Clock + Abort + AllocGlobal + Copy + Send + Sync +
     Ok(RIGHT)
 }
 
+// What is wrong with a run of two clients, of which the first one's link fails at this read.
+fn beside<R: Threads + Wait + Clock + Abort + AllocGlobal + Copy + Send + Sync + Drop + 'static>(
+    rt: R,
+    call: u64,
+) -> &'static str {
+    let alloc = rt.alloc();
+    let door = door_of_two(alloc, call).expect(&rt, "memory");
+    let came = serve(rt, FROZEN, Outside::at(alloc, door));
+    let wrong = wrong_beside(alloc, &came);
+    drop(came);
+    wrong.expect(&rt, "memory")
+}
+
 #[test]
 fn a_link_that_fails_ends_its_session_alone(rt: HostRuntime) {
     for call in 0..2 {
-        let wrong = beside(rt, call).expect(&rt, "memory");
+        let wrong = beside(rt, call);
         assert!(rt; wrong == RIGHT, "read {call}: {wrong}");
     }
 }

@@ -4,6 +4,7 @@
 use crate::plans::Texts;
 use crate::runs::{Alone, Came, RIGHT, replay_of, replays};
 use std::alloc::{AllocError, Global};
+use trick_base::Word;
 
 /// The two lines with which each journal begins.
 const FIRST: &[u8] = b"tricks journal 1\nfrom 0\n";
@@ -24,39 +25,69 @@ fn joined(alloc: Global, first: &[u8], last: &[u8]) -> Result<Vec<u8>, AllocErro
     Ok(bytes)
 }
 
+// These lines of a journal, with the end that is right where this refusal says that theirs is too far.
+fn up_to(alloc: Global, lines: &[u8], printed: &[u8]) -> Result<Vec<u8>, AllocError> {
+    let Some(turns) = printed.strip_prefix(TOO_FAR) else {
+        return Vec::from_slice(alloc, lines);
+    };
+    let mut whole = joined(alloc, lines, b"end ")?;
+    whole.extend_from_slice(turns)?;
+    Ok(whole)
+}
+
 // The run under these lines of a journal, replayed. It has an end, or is replayed up to where it is over.
 fn under(alloc: Global, texts: Texts, lines: &[u8]) -> Result<Alone, AllocError> {
     let far = joined(alloc, lines, FAR)?;
     let other = replay_of(alloc, texts, &far)?;
-    let Some(turns) = other.printed.strip_prefix(TOO_FAR) else {
-        return replay_of(alloc, texts, lines);
-    };
-    let end = joined(alloc, b"end ", turns)?;
-    let whole = joined(alloc, lines, &end)?;
-    replay_of(alloc, texts, &whole)
+    let whole = up_to(alloc, lines, &other.printed);
+    drop(other);
+    replay_of(alloc, texts, &whole?)
+}
+
+// Whether each of these files that a run left is a beginning of another run's.
+fn are_all_fronts(names: &[Word], came: &Came, other: &Alone) -> bool {
+    for name in names {
+        match other.file(name.as_slice()) {
+            Some(whole) if whole.starts_with(came.file(name.as_slice())) => {}
+            _ => return false,
+        }
+    }
+    true
 }
 
 // Whether each file that a run left is a beginning of that of its journal's lines.
 fn are_fronts(came: &Came, other: &Alone) -> Result<bool, AllocError> {
-    for name in came.names()? {
-        let name = name.as_slice();
-        match other.file(name) {
-            Some(whole) if whole.starts_with(came.file(name)) => {}
-            _ => return Ok(false),
-        }
-    }
-    Ok(other.status == 0)
+    let names = came.names()?;
+    let are_all = are_all_fronts(&names, came, other);
+    drop(names);
+    Ok(are_all && other.status == 0)
 }
 
-// Whether no run began: there is no other file than the two texts and an empty journal.
-fn is_untouched(came: &Came) -> Result<bool, AllocError> {
-    for name in came.names()? {
+// The same of the run under the lines of its journal, replayed.
+fn is_front(alloc: Global, texts: Texts, came: &Came, lines: &[u8]) -> Result<bool, AllocError> {
+    let other = under(alloc, texts, lines)?;
+    let are_all = are_fronts(came, &other);
+    drop(other);
+    are_all
+}
+
+// Whether there is no other file than the two texts and an empty journal.
+fn has_no_run(names: &[Word], came: &Came) -> bool {
+    for name in names {
         let is_given = name.is(b"s") || name.is(b"i");
         if !is_given && !(name.is(b"journal.txt") && came.file(b"journal.txt").is_empty()) {
-            return Ok(false);
+            return false;
         }
     }
-    Ok(came.sent().unwrap_or(&[]).is_empty())
+    true
+}
+
+// Whether no run began: there is no file of it, and the client was sent nothing.
+fn is_untouched(came: &Came) -> Result<bool, AllocError> {
+    let names = came.names()?;
+    let has_no_run = has_no_run(&names, came);
+    drop(names);
+    Ok(has_no_run && came.sent().unwrap_or(&[]).is_empty())
 }
 
 // What is wrong with the files of a run.
@@ -66,7 +97,7 @@ fn wrong_files(alloc: Global, texts: Texts, came: &Came) -> Result<&'static str,
     } else {
         let lines = came.file(b"journal.txt");
         if lines.starts_with(FIRST) {
-            are_fronts(came, &under(alloc, texts, lines)?)?
+            is_front(alloc, texts, came, lines)?
         } else {
             is_untouched(came)?
         }

@@ -3,7 +3,7 @@
 use crate::gates::{HELD_FRAMES, Holding, Trial};
 use crate::runs::{Alone, Came, RIGHT, by_one_thread, replays, serve};
 use crate::thread_plans::{HELD, ROUNDS};
-use crate::threads::{shake, without_clients};
+use crate::threads::{Seen, shake, without_clients};
 use std::alloc::{AllocError, Global};
 use std::process::Abort;
 use std::rt::Clock;
@@ -29,6 +29,7 @@ where
     let trial = Trial::Hold(Arc::try_clone(&gate).expect(&rt, "memory"));
     let came = serve(rt, HELD, without_clients(alloc, trial, Vec::new(alloc)));
     let was_held = gate.was_held();
+    drop(gate);
     (came, was_held)
 }
 
@@ -55,26 +56,34 @@ fn a_clerk_that_is_held_publishes_later(rt: HostRuntime) {
     let (came, was_held) = held(rt);
     assert!(rt; came.status == 0 && was_held, "the run goes on meanwhile");
     let wrong = wrong_held(&rt, &came);
+    drop(came);
     assert!(rt; wrong == RIGHT, "{wrong}");
 }
 
-// What is wrong with a run under a gate that shakes: it has the logs of one thread, and its journal gives its files.
-fn wrong_rounds<R>(rt: R, wanted: &Alone, first: u64) -> &'static str
-where
-    R: Threads + Wait + Clock + Abort + AllocGlobal + Copy + Send + Sync + Drop + 'static,
-{
-    let seen = shake(rt, ROUNDS, first);
+// What is wrong with what is seen of a run: it has the logs of one thread, and its journal gives its files.
+fn wrong_seen<R: Abort + AllocGlobal>(rt: &R, seen: &Seen, wanted: &Alone) -> &'static str {
     if seen.came.status != 0 || seen.came.failed.starts != 0 || !seen.is_over {
         return "its threads";
     }
     if Some(seen.came.file(b"log_g.csv")) != wanted.file(b"log_g.csv") {
         return "its log";
     }
-    if replays(rt.alloc(), ROUNDS, &seen.came).expect(&rt, "memory") {
+    if replays(rt.alloc(), ROUNDS, &seen.came).expect(rt, "memory") {
         RIGHT
     } else {
         "its files"
     }
+}
+
+// What is wrong with a run under a gate that shakes.
+fn wrong_rounds<R>(rt: R, wanted: &Alone, first: u64) -> &'static str
+where
+    R: Threads + Wait + Clock + Abort + AllocGlobal + Copy + Send + Sync + Drop + 'static,
+{
+    let seen = shake(rt, ROUNDS, first);
+    let wrong = wrong_seen(&rt, &seen, wanted);
+    drop(seen);
+    wrong
 }
 
 #[test]
@@ -85,4 +94,5 @@ fn every_run_with_rounds_is_the_run_of_its_journal(rt: HostRuntime) {
         let wrong = wrong_rounds(rt, &wanted, run);
         assert!(rt; wrong == RIGHT, "run {run}: {wrong}");
     }
+    drop(wanted);
 }

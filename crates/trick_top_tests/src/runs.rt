@@ -195,15 +195,22 @@ impl Came {
     }
 }
 
-// Whether a shelf has all files of another, with their bytes.
-fn has_all(shelf: &MemoryShelf, other: &MemoryShelf) -> Result<bool, AllocError> {
-    for name in other.names()? {
-        let name = name.as_slice();
-        if shelf.file(name) != other.file(name) {
-            return Ok(false);
+// Whether two shelves have the same files of these names.
+fn have_same(names: &[Word], shelf: &MemoryShelf, other: &MemoryShelf) -> bool {
+    for name in names {
+        if shelf.file(name.as_slice()) != other.file(name.as_slice()) {
+            return false;
         }
     }
-    Ok(true)
+    true
+}
+
+// Whether a shelf has all files of another, with their bytes.
+fn has_all(shelf: &MemoryShelf, other: &MemoryShelf) -> Result<bool, AllocError> {
+    let names = other.names()?;
+    let have_same = have_same(&names, shelf, other);
+    drop(names);
+    Ok(have_same)
 }
 
 /// These words.
@@ -252,6 +259,7 @@ where
     let finished = tricks(
         rt, alloc, &words, &mut shelf, &mut sink, door, spawner, gate,
     );
+    drop(words);
     let printed = Vec::from_slice(alloc, sink.bytes()).expect(&rt, "memory");
     let failed = Failures {
         shelf: shelf.faults(),
@@ -259,6 +267,7 @@ where
         door: finished.door.faults(),
         starts: finished.spawner.faults(),
     };
+    drop(sink);
     Came {
         status: finished.status,
         printed,
@@ -288,36 +297,48 @@ fn on_one_thread(alloc: Global, words: &[Word], shelf: MemoryShelf) -> Result<Al
     let mut shelf = shelf;
     let mut sink = MemorySink::new(alloc);
     let status = tricks_alone(alloc, words, &mut shelf, &mut sink);
-    let printed = Vec::from_slice(alloc, sink.bytes())?;
-    Ok(Alone {
-        status,
-        printed,
-        shelf,
-    })
+    let printed = Vec::from_slice(alloc, sink.bytes());
+    drop(sink);
+    match printed {
+        Ok(printed) => Ok(Alone {
+            status,
+            printed,
+            shelf,
+        }),
+        Err(error) => {
+            drop(shelf);
+            Err(error)
+        }
+    }
+}
+
+// The same with these words, and then with the texts of a plan and other files.
+fn with_words(alloc: Global, texts: &[&[u8]], shelf: MemoryShelf) -> Result<Alone, AllocError> {
+    let words = words(alloc, texts)?;
+    let done = on_one_thread(alloc, &words, shelf);
+    drop(words);
+    done
 }
 
 /// The run of a plan on one thread.
 pub(crate) fn by_one_thread(alloc: Global, texts: Texts) -> Result<Alone, AllocError> {
-    let words = words(alloc, &[b"serial", b"s", b"i"])?;
-    on_one_thread(alloc, &words, with_texts(MemoryShelf::new(alloc), texts)?)
+    let shelf = with_texts(MemoryShelf::new(alloc), texts)?;
+    with_words(alloc, &[b"serial", b"s", b"i"], shelf)
 }
 
 /// The replay of a journal of a plan.
 pub(crate) fn replay_of(alloc: Global, texts: Texts, journal: &[u8]) -> Result<Alone, AllocError> {
-    let words = words(alloc, &[b"replay", b"s", b"i", b"j"])?;
     let shelf = with_texts(MemoryShelf::new(alloc), texts)?.with_file(b"j", journal)?;
-    on_one_thread(alloc, &words, shelf)
+    with_words(alloc, &[b"replay", b"s", b"i", b"j"], shelf)
 }
 
 /// Whether the journal that a run of a plan wrote, replayed, gives the same files.
 pub(crate) fn replays(alloc: Global, texts: Texts, came: &Came) -> Result<bool, AllocError> {
     let other = replay_of(alloc, texts, came.file(b"journal.txt"))?;
-    for name in came.names()? {
-        if other.file(name.as_slice()) != Some(came.file(name.as_slice())) {
-            return Ok(false);
-        }
-    }
-    Ok(other.status == 0)
+    let has_all = has_all(&other.shelf, &came.shelf);
+    let is_ended = other.status == 0;
+    drop(other);
+    Ok(has_all? && is_ended)
 }
 
 /// What is wrong with a run of a plan, or that nothing is. Its journal, replayed, has to give its files.

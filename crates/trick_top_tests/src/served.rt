@@ -62,7 +62,9 @@ fn talked<R: Threads + Wait + Clock + Abort + AllocGlobal + Copy + Send + Sync +
     let mut outside = Outside::at(alloc, door);
     outside.starts = refused;
     let came = serve(rt, talk.texts, outside);
-    judged(alloc, talk.texts, &came, wants).expect(&rt, "memory")
+    let wrong = judged(alloc, talk.texts, &came, wants);
+    drop(came);
+    wrong.expect(&rt, "memory")
 }
 
 #[test]
@@ -254,7 +256,9 @@ fn tells_of_its_door<
         vec![in alloc; 0].expect(&rt, "memory"),
     );
     let came = serve(rt, RECORDED, Outside::at(alloc, door));
-    came.has_printed(b"ended turns=4 tic=3000001 faults=0 sessions=0 door=failed\n")
+    let is_told = came.has_printed(b"ended turns=4 tic=3000001 faults=0 sessions=0 door=failed\n");
+    drop(came);
+    is_told
 }
 
 #[test]
@@ -263,14 +267,19 @@ fn a_door_that_fails_is_told(rt: HostRuntime) {
     assert!(rt; is_told, "its line");
 }
 
+// The port that a run with this word for one wants.
+fn wanted_port(alloc: Global, port: &[u8]) -> Result<Option<u16>, AllocError> {
+    let words = words(alloc, &[b"run", b"s", b"i", b"--port", port])?;
+    let wanted = port_wanted(alloc, &words);
+    drop(words);
+    wanted
+}
+
 #[test]
 fn a_port_is_wanted_where_words_name_one(rt: HostRuntime) {
-    let alloc = rt.alloc();
-    let named = words(alloc, &[b"run", b"s", b"i", b"--port", b"7000"]).expect(&rt, "memory");
-    let wanted = port_wanted(alloc, &named).expect(&rt, "memory");
+    let wanted = wanted_port(rt.alloc(), b"7000").expect(&rt, "memory");
     assert!(rt; wanted == Some(7000), "the port that is named");
-    let wrong = words(alloc, &[b"run", b"s", b"i", b"--port", b"0"]).expect(&rt, "memory");
-    let wanted = port_wanted(alloc, &wrong).expect(&rt, "memory");
+    let wanted = wanted_port(rt.alloc(), b"0").expect(&rt, "memory");
     assert!(rt; wanted.is_none(), "0 is no port");
 }
 
@@ -289,10 +298,15 @@ fn met<R: Threads + Wait + Clock + Abort + AllocGlobal + Copy + Send + Sync + Dr
     let mut outside = Outside::at(alloc, door_of(alloc, input).expect(&rt, "memory"));
     outside.gate = Trial::Wait(Arc::try_clone(&signals).expect(&rt, "memory"));
     let came = serve(rt, BESIDE, outside);
-    if !signals.have_met() {
-        return "the job and the link do not meet";
+    let have_met = signals.have_met();
+    let wrong = judged(alloc, BESIDE, &came, wants);
+    drop(came);
+    drop(signals);
+    if have_met {
+        wrong.expect(&rt, "memory")
+    } else {
+        "the job and the link do not meet"
     }
-    judged(alloc, BESIDE, &came, wants).expect(&rt, "memory")
 }
 
 #[test]

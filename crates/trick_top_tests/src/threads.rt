@@ -141,7 +141,9 @@ where
 {
     let refused = Vec::from_slice(rt.alloc(), start.refused).expect(&rt, "memory");
     let seen = meet(rt, texts, refused);
-    wrong_run(&rt, &seen, wanted, start.refused.len(), start.meets)
+    let wrong = wrong_run(&rt, &seen, wanted, start.refused.len(), start.meets);
+    drop(seen);
+    wrong
 }
 
 // What is wrong with a run under a gate that shakes, beginning with this number.
@@ -150,7 +152,9 @@ where
     R: Threads + Wait + Clock + Abort + AllocGlobal + Copy + Send + Sync + Drop + 'static,
 {
     let seen = shake(rt, texts, first);
-    wrong_run(&rt, &seen, wanted, 0, Meets::May)
+    let wrong = wrong_run(&rt, &seen, wanted, 0, Meets::May);
+    drop(seen);
+    wrong
 }
 
 // Whether the log of group g begins so.
@@ -184,6 +188,7 @@ fn workers_meet_where_threads_start(rt: HostRuntime) {
             start.refused.len()
         );
     }
+    drop(wanted);
 }
 
 #[test]
@@ -203,6 +208,7 @@ fn every_run_writes_the_same_files(rt: HostRuntime) {
             break;
         }
     }
+    drop(wanted);
 }
 
 #[test]
@@ -235,6 +241,7 @@ fn clerks_meet_where_threads_start(rt: HostRuntime) {
             start.refused.len()
         );
     }
+    drop(wanted);
 }
 
 #[test]
@@ -245,4 +252,5 @@ fn every_run_with_clerks_writes_the_same_files(rt: HostRuntime) {
         let wrong = wrong_shaking(rt, CLERKS, &wanted, run);
         assert!(rt; wrong == RIGHT, "run {run}: {wrong}");
     }
+    drop(wanted);
 }
